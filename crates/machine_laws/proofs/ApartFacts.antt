@@ -98,7 +98,7 @@ alone-walk s a apart = record {
       alone-of s a p (polls n (record p { tasks = more })) h refl refl refl refl all.1;
   uses = λ came more p free h none is quiet first.
       absurd (not-first p.tasks h.tasks (first (ap (λ (x : Settings). x.apart) h.settings ∙ apart)));
-  stays = λ p free h still. h;
+  stays = λ p free h still settled. h;
 }
 
 alone-takes : (s : Settings) (a : ApplicationView) (p : ProcessorView) → s.apart ≡ true → Goes s p → Alone s a p → Alone s a (takes_up p)

@@ -3,7 +3,7 @@ use Rattle.std.proofs.Common.{◌≡◌, ℕ, ◌+◌, ◌-◌, Bool, true, fals
 use Rattle.std.specs.{Option.option_map_or, Prelude.{if◌then◌else◌, option_map}}
 use Rattle.{machine_words.specs.declared.settings.Settings.Settings, device_places.specs.Places.{at, changed}}
 use Rattle.{machine_laws.specs.Fates.delivery_of, poll_runs.specs.declared.bench.{Next.TheVariants.{Gone, Repoll}, Once.Once}}
-use Rattle.std.{specs.Prelude.◌==◌, proofs.Common.◌∷◌}
+use Rattle.std.{specs.Prelude.{◌==◌, nat_lt}, proofs.Common.◌∷◌}
 use Rattle.machine_model.specs.declared.{processor.ProcessorCounts.ProcessorCounts, tasks.Task.TheVariants.Thread}
 use Rattle.machine_model.specs.{Kept.polled_by, Softirq.polled_once, Waits.held}
 use Rattle.std.proofs.Common.{ap}
@@ -18,11 +18,11 @@ pub record Looks (Q : Devices → Work → Type 0) (s : Settings) (now m given :
       → Q (changed (without_next s.backlog) m devices) (Packet (record { device = m; came = came; given = given }))
   pub none : next_packet_at s.backlog (at m devices) ≡ None
       → Q (changed (polled now given s) m (changed (without_next s.backlog) m devices)) Nothing
-  pub full : Q (changed (polled now given s) m devices) Nothing
+  pub full : nat_lt given s.weight ≡ false → Q (changed (polled now given s) m devices) Nothing
 
 -- what holds of what is delivered, of the devices and of the work as what is under way ends
 pub record Ends (Q : Option (ℕ × ℕ) → Devices → Work → Type 0) (p : ProcessorView) : Type 0 where
-  pub rest : polled_by p.work ≡ None → Q None p.devices Nothing
+  pub rest : polled_by p.work ≡ None → ((m : ℕ) → p.work ≡ Interrupt m → is_polling p.settings ≡ true) → Q None p.devices Nothing
   pub silent : (m : ℕ) → p.work ≡ Interrupt m → is_polling p.settings ≡ false → next_packet_at false (at m p.devices) ≡ None
       → Q None (changed raised_again m p.devices) Nothing
   pub lone : (m came : ℕ) → p.work ≡ Interrupt m → is_polling p.settings ≡ false → next_packet_at false (at m p.devices) ≡ Some came
@@ -49,7 +49,7 @@ pub ends-looks : (Q : Devices → Work → Type 0) (n given : ℕ) (p : Processo
 ends-looks Q n given p nothing l =
     let q : ProcessorView = record p { devices = changed (without_next p.settings.backlog) n p.devices } in
     looks-by (λ r. Q r.devices r.work) n given p (λ came is less. l.some came is) (λ none. ends-polled Q n given q nothing (l.none none))
-    (λ full. ends-polled Q n given p nothing l.full)
+    (λ full. ends-polled Q n given p nothing (l.full full))
 
 ends-packet : (Q : Devices → Work → Type 0) (n came given : ℕ) (p : ProcessorView) → p.work ≡ Nothing
     → Looks Q p.settings p.clock n given (changed (delivered p.clock came) n p.devices)
@@ -71,7 +71,7 @@ ends-work : (Q : Option (ℕ × ℕ) → Devices → Work → Type 0) (w : Work)
     → let q : ProcessorView = record p { clock = p.ends; work = Nothing; counts = counts } in
     Q (delivery_of w p) (ends_by w q).devices (ends_by w q).work
 unfolding ends_interrupt
-ends-work Q Nothing p counts is e = e.rest (ap polled_by is)
+ends-work Q Nothing p counts is e = e.rest (ap polled_by is) (λ m same. cc (is, same))
 ends-work Q (Interrupt m) p counts is e = by (is_polling p.settings) refl
   where
     q : ProcessorView
@@ -83,14 +83,14 @@ ends-work Q (Interrupt m) p counts is e = by (is_polling p.settings) refl
     by : (b : Bool) → is_polling p.settings ≡ b
         → Q (if b then None else option_map (λ (came : ℕ). (m, came)) o) (if b then q else ends_interrupt m q).devices
         (if b then q else ends_interrupt m q).work
-    by true polling = e.rest (ap polled_by is)
+    by true polling = e.rest (ap polled_by is) (λ k same. polling)
     by false lone = ends-lone Q m q o refl (λ none. e.silent m is lone none) (λ came some. e.lone m came is lone some)
 ends-work Q (Poll m) p counts is e =
     ends-looks (Q None) m 0 (record p { clock = p.ends; work = Nothing; counts = counts }) refl (e.poll m is)
 ends-work Q (Packet hand) p counts is e =
     ends-packet (Q (Some (hand.device, hand.came))) hand.device hand.came (hand.given + 1)
     (record p { clock = p.ends; work = Nothing; counts = counts }) refl (e.packet hand is)
-ends-work Q (Use came) p counts is e = e.rest (ap polled_by is)
+ends-work Q (Use came) p counts is e = e.rest (ap polled_by is) (λ m same. cc (is, same))
 
 -- what is under way ends
 pub ends : (Q : Option (ℕ × ℕ) → Devices → Work → Type 0) (p : ProcessorView) → Ends Q p

@@ -64,7 +64,7 @@ seen-walk g b n x = record {
   settle = λ tasks p h is. record { seen = h.seen };
   thread = λ m more p free h threaded is. record { seen = h.seen };
   uses = λ came more p free h none is quiet first. record { seen = h.seen };
-  stays = λ p free h still. h;
+  stays = λ p free h still settled. h;
 }
 
 pub seen-takes : {A : Type 0} (s : Settings) (g : Option DeviceView → A) → Blind g → (n : ℕ) (p : ProcessorView) → Goes s p
@@ -131,7 +131,7 @@ hand-walk n = record {
   settle = λ tasks p h is. record { settings = refl };
   thread = λ m more p free h threaded is. record { none = refl };
   uses = λ came more p free h none is quiet first. record { none = refl };
-  stays = λ p free h still. record { none = rw free.nothing refl };
+  stays = λ p free h still settled. record { none = rw free.nothing refl };
 }
 
 idle-hand : (n : ℕ) (w : Work) → is_busy w ≡ false → hand_of n w ≡ []
@@ -292,7 +292,7 @@ looks-hold s n m given now xs ds plain is = record {
   none = λ none.
       at-kept queued (polled now given s) m n (changed (without_next s.backlog) m ds) (queued-polled now given s)
       ∙ (look-none s.backlog m n ds plain none ∙ is);
-  full = at-kept queued (polled now given s) m n ds (queued-polled now given s) ∙ is;
+  full = λ most. at-kept queued (polled now given s) m n ds (queued-polled now given s) ∙ is;
 }
 
 looks-more : (s : Settings) (n m given now : ℕ) (more xs : List ℕ) (ds : Devices)
@@ -300,7 +300,7 @@ looks-more : (s : Settings) (n m given now : ℕ) (more xs : List ℕ) (ds : Dev
 looks-more s n m given now more xs ds l = record {
   some = λ came next. ap (λ (ys : List ℕ). more ++ ys) (l.some came next);
   none = λ none. ap (λ (ys : List ℕ). more ++ ys) (l.none none);
-  full = ap (λ (ys : List ℕ). more ++ ys) l.full;
+  full = λ most. ap (λ (ys : List ℕ). more ++ ys) (l.full most);
 }
 
 -- nothing is taken without a backlog, nor without polling
@@ -326,7 +326,7 @@ no-hand n (Use came) none = refl
 ends-hold : (n : ℕ) (p : ProcessorView) → IsPlain p.settings n p.devices
     → Ends (λ o ds w. packet_for n o ++ holds n ds w ≡ holds n p.devices p.work) p
 ends-hold n p plain = record {
-  rest = λ none. ap (λ (xs : List ℕ). xs ++ all) (sym (no-hand n p.work none));
+  rest = λ none polls. ap (λ (xs : List ℕ). xs ++ all) (sym (no-hand n p.work none));
   silent = λ m is lone none. at-kept queued raised_again m n p.devices queued-raised ∙ without (Interrupt m) is refl;
   lone = λ m came is lone next.
       let one = changed (without_next false) m p.devices in
@@ -503,7 +503,7 @@ looks-plain s n m given now ds single is =
     record {
       some = λ came some. next;
       none = λ none. at-kept taken_in (polled now given s) m n (changed (without_next s.backlog) m ds) (taken-polled now given s) ∙ next;
-      full = at-kept taken_in (polled now given s) m n ds (taken-polled now given s) ∙ is;
+      full = λ most. at-kept taken_in (polled now given s) m n ds (taken-polled now given s) ∙ is;
     }
 
 backed : (a b : Bool) → (a && b) ≡ false → (b ≡ false → ⊥) → a ≡ false
@@ -519,7 +519,7 @@ ends-plain s n p goes plain is =
     λ m polls. ap (λ (x : Settings). x.backlog) settings
     ∙ backed s.backlog (is_polling s) plain (λ lone. cc (goes.polled lone, polls)) in
     ends (λ o ds w. taken_in (at n ds) ≡ []) p (record {
-      rest = λ none. is;
+      rest = λ none polls. is;
       silent = λ m work lone none. at-kept taken_in raised_again m n p.devices (λ d. refl) ∙ is;
       lone = λ m came work lone next.
           let one = changed (without_next false) m p.devices in

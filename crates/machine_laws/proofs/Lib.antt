@@ -11,4 +11,6 @@ pub mod LeastFacts
 pub mod ApplicationFacts
 pub mod ApartFacts
 pub mod OtherFacts
+pub mod StandFacts
+pub mod EmptyFacts
 pub mod LifeFacts

@@ -189,7 +189,7 @@ use-walk xs r v = record {
     waits = h.waits;
     alone = λ other same. none;
   };
-  stays = λ p free h still. use-stays xs r v p free.nothing h;
+  stays = λ p free h still settled. use-stays xs r v p free.nothing h;
 }
 
 idle-unused : (w : Work) → is_busy w ≡ false → used_by w ≡ []

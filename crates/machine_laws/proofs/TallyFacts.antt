@@ -116,7 +116,7 @@ looks-given s n m given now batch old ds g =
       none = λ none.
           given-then now batch old (tally (at n ds)) (tally (at n (changed (polled now given s) m (changed (without_next s.backlog) m ds)))) g
           (at-kept tally (polled now given s) m n (changed (without_next s.backlog) m ds) (tally-polled now given s) ∙ next);
-      full =
+      full = λ most.
           given-then now batch old (tally (at n ds)) (tally (at n (changed (polled now given s) m ds))) g
           (at-kept tally (polled now given s) m n ds (tally-polled now given s));
     }
@@ -136,7 +136,7 @@ if-true false xs is = cc is
 ends-given : (n : ℕ) (p : ProcessorView) → (at n p.devices ≡ None → hand_of n p.work ≡ [])
     → Ends (λ o ds w. Given p.ends (packet_for n o) (tally (at n p.devices)) (tally (at n ds))) p
 ends-given n p there = record {
-  rest = λ none. given-none p.ends old old refl;
+  rest = λ none polls. given-none p.ends old old refl;
   silent = λ m is lone none.
       given-none p.ends old (tally (at n (changed raised_again m p.devices))) (at-kept tally raised_again m n p.devices tally-raised);
   lone = λ m came is lone next.
@@ -165,7 +165,7 @@ ends-given n p there = record {
 
 ends-there : (n : ℕ) (p : ProcessorView) → Ends (λ o ds w. is_some (at n ds) ≡ is_some (at n p.devices)) p
 ends-there n p = record {
-  rest = λ none. refl;
+  rest = λ none polls. refl;
   silent = λ m is lone none. at-kept is_some raised_again m n p.devices (λ d. refl);
   lone = λ m came is lone next.
       let one = changed (without_next false) m p.devices in
@@ -188,7 +188,7 @@ ends-there n p = record {
           some = λ came some. next;
           none = λ none.
               at-kept is_some (polled p.ends given p.settings) m n (changed (without_next backlog) m ds) (λ d. refl) ∙ next;
-          full = at-kept is_some (polled p.ends given p.settings) m n ds (λ d. refl) ∙ is;
+          full = λ most. at-kept is_some (polled p.ends given p.settings) m n ds (λ d. refl) ∙ is;
         }
 
 there-blind : Blind {A = Bool} is_some

@@ -231,7 +231,7 @@ timed-walk s t = record {
       timed-begins s t (Poll n) p.settings.poll (record p { tasks = more })
       (base-of s t p (record p { tasks = more }) h.base refl refl refl refl refl) refl (λ hand same. cc same) (λ came same. cc same);
   uses = λ came more p free h none is quiet first. timed-uses s t came more p h is quiet;
-  stays = λ p free h still. timed-stays s t p free.nothing still.quiet h;
+  stays = λ p free h still settled. timed-stays s t p free.nothing still.quiet h;
 }
 
 pub record Ready (s : Settings) (t : ℕ) (p : ProcessorView) : Type 0 where
@@ -342,7 +342,7 @@ looks-kept s t m given ds fits plain timers came = record {
         (λ n. subst (λ (xs : List ℕ). AllByRecursion (λ x. x ≤ t) xs) (sym (look-none s.backlog m n ds (plain n) none)) (came n));
     hand = λ hand same. cc same;
   };
-  full = record {
+  full = λ most. record {
     timers = lates-polled t t given s m ds (omega arith) fits timers;
     came = came-changed t (polled t given s) m ds (queued-polled t given s) came;
     hand = λ hand same. cc same;
@@ -356,7 +356,7 @@ ends-kept p fits plain timers came =
     let untaken : (n : ℕ) → p.settings.backlog ≡ false → taken_in (at n p.devices) ≡ [] =
     λ n single. plain n (unbacked p.settings.backlog (is_polling p.settings) single) in
     record {
-      rest = λ none. record { timers = timers; came = came; hand = λ hand same. cc same };
+      rest = λ none polls. record { timers = timers; came = came; hand = λ hand same. cc same };
       silent = λ m is lone none. record {
         timers = lates-raised t m p.devices timers;
         came = came-changed t raised_again m p.devices queued-raised came;
@@ -619,7 +619,7 @@ clock-walk c = record {
   settle = λ tasks p h is. record { clock = h.clock };
   thread = λ n more p free h threaded is. record { clock = h.clock };
   uses = λ came more p free h none is quiet first. record { clock = h.clock };
-  stays = λ p free h still. h;
+  stays = λ p free h still settled. h;
 }
 
 pub clock-takes : (s : Settings) (p : ProcessorView) → Goes s p → (takes_up p).clock ≡ p.clock

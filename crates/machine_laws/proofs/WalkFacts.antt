@@ -44,6 +44,11 @@ started p = record p { softirq = begun p.clock p.settings.budget p.settings.weig
 abbrev pub polls_or : ProcessorView → Option ℕ → ProcessorView → ProcessorView
 polls_or other asked p = option_map_or (λ number. polls number p) asked other
 
+-- with threads, an idle application has been removed from the front of the tasks
+abbrev pub IsSettled : (ProcessorView → Type 0) → ProcessorView → Type 0
+IsSettled P p = p.settings.threaded ≡ true
+    → (before : List Task) × (p.tasks ≡ runnable (length p.application.socket.items == 0) before) × P (record p { tasks = before })
+
 pub record Walk (P Q : ProcessorView → Type 0) : Type 0 where
   pub interrupt : (n : ℕ) (p : ProcessorView) → Free p → P p → asks_at (at n p.devices) ≡ true → Q (interrupts n p)
   pub next : (p : ProcessorView) → Free p → P p → P (nexted p)
@@ -59,7 +64,7 @@ pub record Walk (P Q : ProcessorView → Type 0) : Type 0 where
       → Q (polls n (record p { tasks = more }))
   pub uses : (came : ℕ) (more : List ℕ) (p : ProcessorView) → Free p → P p → p.rest ≡ None → p.application.socket.items ≡ came ∷ more
       → position asks_at p.devices ≡ None → (p.settings.apart ≡ true → IsFirst p.tasks) → Q (uses (came ∷ more) p)
-  pub stays : (p : ProcessorView) → Free p → P p → Still p → Q p
+  pub stays : (p : ProcessorView) → Free p → P p → Still p → IsSettled P p → Q p
 
 pub either : (Q : ProcessorView → Type 0) (b : Bool) (x y : ProcessorView) → (b ≡ true → Q x) → (b ≡ false → Q y) → Q (if b then x else y)
 either Q true x y first second = first refl
@@ -81,14 +86,14 @@ pub record Out (p : ProcessorView) : Type 0 where
 
 walk-uses : (P Q : ProcessorView → Type 0) → Walk P Q → (items : List ℕ) (p : ProcessorView) → p.application.socket.items ≡ items
     → Free p → P p → p.rest ≡ None → position asks_at p.devices ≡ None → (p.settings.apart ≡ true → IsFirst p.tasks)
-    → (p.application.socket.items ≡ [] → Still p) → Q (uses items p)
-walk-uses P Q w [] p is free held none quiet first still = w.stays p free held (still is)
-walk-uses P Q w (came ∷ more) p is free held none quiet first still = w.uses came more p free held none is quiet first
+    → (p.application.socket.items ≡ [] → Still p) → IsSettled P p → Q (uses items p)
+walk-uses P Q w [] p is free held none quiet first still settled = w.stays p free held (still is) settled
+walk-uses P Q w (came ∷ more) p is free held none quiet first still settled = w.uses came more p free held none is quiet first
 
 walk-tasks : (P Q : ProcessorView → Type 0) → Walk P Q → (tasks : List Task) (p : ProcessorView) → Out p → P (record p { tasks = tasks })
-    → p.settings.threaded ≡ true
+    → p.settings.threaded ≡ true → P p → tasks ≡ runnable (length p.application.socket.items == 0) p.tasks
     → Q (runs (slice_get tasks 0) (record p { tasks = after_first tasks }))
-walk-tasks P Q w [] p out held threaded =
+walk-tasks P Q w [] p out held threaded before is =
     let q : ProcessorView = record p { tasks = [] } in
     w.stays q (record { nothing = out.free.nothing; unasked = out.free.unasked }) held (record {
       quiet = out.quiet;
@@ -97,8 +102,8 @@ walk-tasks P Q w [] p out held threaded =
       rest = out.rest;
       socket = λ single. absurd (cc (single, threaded));
       tasks = λ t. tt;
-    })
-walk-tasks P Q w (Application ∷ more) p out held threaded =
+    }) (λ t. (p.tasks, is, before))
+walk-tasks P Q w (Application ∷ more) p out held threaded before is =
     let q : ProcessorView = record p { tasks = Application ∷ more } in
     walk-uses P Q w p.application.socket.items q refl (record { nothing = out.free.nothing; unasked = out.free.unasked }) held out.rest out.quiet
     (λ apart. tt)
@@ -109,8 +114,8 @@ walk-tasks P Q w (Application ∷ more) p out held threaded =
       rest = out.rest;
       socket = λ single. absurd (cc (single, threaded));
       tasks = λ t. empty;
-    })
-walk-tasks P Q w (Thread n ∷ more) p out held threaded =
+    }) (λ t. (p.tasks, is, before))
+walk-tasks P Q w (Thread n ∷ more) p out held threaded before is =
     let q : ProcessorView = record p { tasks = Thread n ∷ more } in
     w.thread n more q (record { nothing = out.free.nothing; unasked = out.free.unasked }) held threaded refl
 
@@ -118,7 +123,7 @@ walk-first : (P Q : ProcessorView → Type 0) → Walk P Q → (p : ProcessorVie
 unfolding runs_first
 walk-first P Q w p out held threaded =
     let tasks = runnable (length p.application.socket.items == 0) p.tasks in
-    walk-tasks P Q w tasks p out (w.settle tasks p held refl) threaded
+    walk-tasks P Q w tasks p out (w.settle tasks p held refl) threaded held refl
 
 walk-out : (P Q : ProcessorView → Type 0) → Walk P Q → (p : ProcessorView) → Out p → P p → Q (leaves_softirq None p)
 walk-out P Q w p out held =
@@ -132,7 +137,7 @@ walk-out P Q w p out held =
       rest = out.rest;
       socket = λ s own. absurd (cc (apart, own));
       tasks = λ t. absurd (cc (single, t));
-    }))
+    }) (λ t. absurd (cc (single, t))))
     (λ own. walk-uses P Q w p.application.socket.items p refl out.free held out.rest out.quiet
     (λ apart. absurd (cc (apart, own)))
     (λ empty. record {
@@ -142,7 +147,7 @@ walk-out P Q w p out held =
       rest = out.rest;
       socket = λ s o. empty;
       tasks = λ t. absurd (cc (single, t));
-    })))
+    }) (λ t. absurd (cc (single, t)))))
 
 walk-leaves : (P Q : ProcessorView → Type 0) → Walk P Q → (o : Option Rest) (p : ProcessorView) → p.rest ≡ o → Free p → P p
     → position asks_at p.devices ≡ None → p.softirq.run ≡ None

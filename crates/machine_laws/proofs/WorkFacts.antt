@@ -296,7 +296,7 @@ work-walk s = record {
       (record p { application = record p.application { socket = buffer more p.application.socket.capacity } })
       (record { settings = h.settings; run = h.run; soft = h.soft; threads = h.threads })
       (asked-idle s.threaded (asked_in p.softirq.run) free.unasked) (λ no. refl) (fits s);
-  stays = λ p free h still. record {
+  stays = λ p free h still settled. record {
     rests = h;
     asked = rw free.nothing (asked-idle s.threaded (asked_in p.softirq.run) free.unasked);
     polled = λ no. rw free.nothing refl;

@@ -2,3 +2,4 @@ pub mod Lives
 pub mod Fates
 pub mod Times
 pub mod Applications
+pub mod Deferrals

@@ -5,6 +5,7 @@
 #![tactic(auto)]
 
 ghost use Rattle.machine_laws.specs.Applications.{ApplicationEnds, ApplicationIsFed, ApplicationServes, ReceivingIsApart};
+ghost use Rattle.machine_laws.specs.Deferrals.{EmptyPollsAreFew};
 ghost use Rattle.machine_laws.specs.Fates.{DeliversInOrder, TellsOfDevice, TellsOfUse, UsesInOrder};
 ghost use Rattle.machine_laws.specs.Lives.{ArrivesAsOne, EachLives, RunsAsOne};
 ghost use Rattle.machine_laws.specs.Times.{ClocksNeverFall, NoWaitIsLess, WorksWithin};
@@ -78,4 +79,9 @@ pub fn application_ends()
 /// With any other application on a processor of its own, all else of the receiving processor is the same.
 pub fn receiving_is_apart()
     ensures { ReceivingIsApart }
+{}
+
+/// After its last packet at most `defer-hard-irqs` polls of a device give nothing, or one if that is 0.
+pub fn empty_polls_are_few()
+    ensures { EmptyPollsAreFew }
 {}
