@@ -1,89 +1,174 @@
 -- What is true of each processor stays so.
-use Rattle.std.proofs.Common.{rules, ◌≡◌, ◌∙◌, ℕ, ◌≤◌, Bool, true, false, Option, Some, None, List, length, refl, sym, arith}
-use Rattle.std.{proofs.lemmas.Grind.common_steps, specs.Prelude.if◌then◌else◌}
+use Rattle.std.proofs.Common.{◌≡◌, ◌∙◌, ℕ, ◌+◌, ◌<◌, ◌≤◌, Bool, true, false, Option, Some, None, length, refl, sym, arith}
+use Rattle.std.{proofs.lemmas.Grind.common_steps, specs.Prelude.{◌==◌, if◌then◌else◌, is_some}}
 use Rattle.machine_words.specs.declared.settings.Settings.{Settings}
 use Rattle.{poll_runs.specs.declared.bench.Next.TheVariants.{Gone, Repoll}, device_places.specs.Places.{at, changed}}
-use Rattle.machine_model.specs.{Device.{DeviceView, after_packet, ended_poll, interrupted}, Devices.{Devices, batch_at, is_handed_at}}
-use Rattle.machine_model.specs.{Kept.{Kept, is_poll, masks}, Softirq.{SoftirqView, asked_in, begun, ended, next_of, pushed, told}}
-use Rattle.machine_model.{specs.declared.processor.Work.{Work, TheVariants.Poll}, proofs.ListedFacts.{asked-told, listed-begun}}
-use Rattle.machine_model.proofs.{ListedFacts.{listed-ended, listed-pushed, listed-told, next-keeps, weight-told}, PlacesFacts.masks-ended}
-use Rattle.machine_model.proofs.PlacesFacts.{masks-interrupted, masks-same, packet-by}
+use Rattle.poll_runs.specs.declared.bench.Once.{Once}
+use Rattle.machine_model.specs.{Device.{polled}, Devices.{Devices}, Processor.is_polling, Shown.{held_in, listed}}
+use Rattle.machine_model.specs.Kept.{Kept, all_scheduled, given_by, has_list, polled_by}
+use Rattle.machine_model.specs.Softirq.{RunView, SoftirqView, asked_in, begun, ended, next_of, polled_once, pushed}
+use Rattle.machine_model.specs.declared.processor.Work.{Work, TheVariants.{Nothing, Poll}}
+use Rattle.machine_model.proofs.ListedFacts.{asked-polled, listed-begun, listed-ended, listed-polled, listed-pushed, next-keeps}
+use Rattle.machine_model.proofs.{ListedFacts.weight-polled, PlacesFacts.{scheduled-polled}}
 
--- devices change, none is unmasked
-pub kept-devices : (s : Settings) (w : Work) (ds es : Devices) (q : SoftirqView) (b : List ℕ) → Kept s w ds q b → masks ds ≤ masks es
-    → Kept s w es q b
-kept-devices s w ds es q b k more = record { few = omega (arith, k.few, more); asked = k.asked; weight = k.weight; within = k.within }
+pub if-none : (b : Bool) (o : Option ℕ) → o ≡ None → (if b then None else o) ≡ None
+if-none true o none = refl
+if-none false o none = none
 
-pub kept-changed : (s : Settings) (w : Work) (ds : Devices) (q : SoftirqView) (b : List ℕ) (f : DeviceView → DeviceView) (n : ℕ)
-    → Kept s w ds q b → ((d : DeviceView) → (f d).masked ≡ d.masked) → Kept s w (changed f n ds) q b
-kept-changed s w ds q b f n k same = kept-devices s w ds (changed f n ds) q b k (omega (arith, masks-same f n ds same))
+-- devices change, and at least as many are scheduled
+pub kept-devices : (s : Settings) (w : Work) (ds es : Devices) (q : SoftirqView) → Kept s w ds q → all_scheduled ds ≤ all_scheduled es
+    → Kept s w es q
+kept-devices s w ds es q k more =
+    record { few = omega (arith, k.few, more); unused = k.unused; asked = k.asked; weight = k.weight; within = k.within }
 
-batch-few : (weight : ℕ) (o : Option DeviceView) → length (batch_at weight o) ≤ weight
-batch-few weight o = grind (arith, common_steps)
+-- other work, of the same device if it is a poll
+pub kept-work : (s : Settings) (w v : Work) (ds : Devices) (q : SoftirqView) → Kept s w ds q → polled_by v ≡ polled_by w
+    → given_by v < s.weight → Kept s v ds q
+kept-work s w v ds q k same within =
+    record { few = k.few; unused = k.unused; asked = rw same k.asked; weight = k.weight; within = within }
 
--- packets are taken out of a ring, at most the weight
-pub kept-taken : (s : Settings) (w : Work) (ds : Devices) (q : SoftirqView) (b : List ℕ) (f : DeviceView → DeviceView) (n count : ℕ)
-    → Kept s w ds q b → ((d : DeviceView) → (f d).masked ≡ d.masked) → count ≤ s.weight
-    → Kept s w (changed f n ds) q (batch_at count (at n ds))
-kept-taken s w ds q b f n count k same within = grind (arith, common_steps, batch-few, masks-same)
+-- with threads any device may be polled
+pub kept-thread : (s : Settings) (w v : Work) (ds : Devices) (q : SoftirqView) → Kept s w ds q → s.threaded ≡ true
+    → given_by v < s.weight → Kept s v ds q
+kept-thread s w v ds q k threaded within =
+    record { few = k.few; unused = k.unused; asked = rw threaded (rw threaded at k.asked); weight = k.weight; within = within }
 
--- other work, of which none is asked
-pub kept-work : (s : Settings) (w v : Work) (ds : Devices) (q : SoftirqView) (b : List ℕ) → Kept s w ds q b → asked_in q.run ≡ None
-    → Kept s v ds q b
-kept-work s w v ds q b k none = record { few = k.few; asked = λ not. none; weight = k.weight; within = k.within }
+list-is : (s : Settings) → is_polling s ≡ true → s.threaded ≡ false → has_list s ≡ true
+list-is s polling threaded = grind (arith, common_steps)
 
--- another number is asked, or none
-pub kept-next : (s : Settings) (w v : Work) (ds : Devices) (q : SoftirqView) (b : List ℕ) → Kept s w ds q b → asked_in q.run ≡ None
-    → (is_poll v ≡ false → asked_in (next_of q).run ≡ None) → Kept s v ds (next_of q) b
-kept-next s w v ds q b k none asked =
-    let same = next-keeps q none in
+no-list : (s : Settings) → is_polling s ≡ false → has_list s ≡ false
+no-list s polling = grind (arith, common_steps)
+
+-- without polling the devices may change as they like
+pub kept-lone : (s : Settings) (w : Work) (ds es : Devices) (q : SoftirqView) → Kept s w ds q → is_polling s ≡ false → Kept s w es q
+kept-lone s w ds es q k lone =
+    let none : listed q ≡ 0 = k.unused (no-list s lone) in
+    record { few = omega (arith, none); unused = k.unused; asked = k.asked; weight = k.weight; within = k.within }
+
+pub kept-pushed : (s : Settings) (w : Work) (ds : Devices) (q : SoftirqView) (n : ℕ) → Kept s w ds q → is_polling s ≡ true
+    → s.threaded ≡ false → listed q < all_scheduled ds → Kept s w ds (pushed n q)
+kept-pushed s w ds q n k polling threaded few =
+    let list = list-is s polling threaded in
     record {
-      few = omega (arith, k.few, same.listed);
-      asked = asked;
-      weight = λ some. same.weight ∙ k.weight (sym same.some ∙ some);
+      few = omega (arith, few, listed-pushed n q);
+      unused = λ none. cc (list, none);
+      asked = k.asked;
+      weight = k.weight;
       within = k.within;
     }
 
-pub kept-begun : (s : Settings) (w : Work) (ds : Devices) (q : SoftirqView) (b : List ℕ) (moment : ℕ) → Kept s w ds q b → q.run ≡ None
-    → Kept s w ds (begun moment s.budget s.weight s.window q) b
-kept-begun s w ds q b moment k none = grind (arith, common_steps, listed-begun)
+-- a run begins
+pub kept-begun : (s : Settings) (w : Work) (ds : Devices) (q : SoftirqView) (moment : ℕ) → Kept s w ds q → q.run ≡ None
+    → polled_by w ≡ None → is_polling s ≡ true → s.threaded ≡ false → Kept s w ds (begun moment s.budget s.weight s.window q)
+kept-begun s w ds q moment k none idle polling threaded =
+    let list = list-is s polling threaded in
+    record {
+      few = omega (arith, k.few, listed-begun moment s.budget s.weight s.window q none);
+      unused = λ not. cc (list, not);
+      asked = rw (threaded, idle) refl;
+      weight = λ some. refl;
+      within = k.within;
+    }
+
+-- the run asks for a device, or for none
+pub kept-next : (s : Settings) (w v : Work) (ds : Devices) (q : SoftirqView) → Kept s w ds q → asked_in q.run ≡ None
+    → asked_in (next_of q).run ≡ (if s.threaded then None else polled_by v) → given_by v < s.weight → Kept s v ds (next_of q)
+kept-next s w v ds q k none asked within =
+    let same = next-keeps q none in
+    record {
+      few = omega (arith, k.few, same.listed);
+      unused = λ not. same.listed ∙ k.unused not;
+      asked = asked;
+      weight = λ some. same.weight ∙ k.weight (sym same.some ∙ some);
+      within = within;
+    }
 
 pub run-ended : (q : SoftirqView) → (ended q).run ≡ None
 unfolding ended
 run-ended q = refl
 
-pub kept-ended : (s : Settings) (w : Work) (ds : Devices) (q : SoftirqView) (b : List ℕ) → Kept s w ds q b → asked_in q.run ≡ None
-    → Kept s w ds (ended q) b
-unfolding ended
-kept-ended s w ds q b k none = grind (arith, common_steps, listed-ended)
+pub kept-ended : (s : Settings) (w : Work) (ds : Devices) (q : SoftirqView) → Kept s w ds q → asked_in q.run ≡ None
+    → polled_by w ≡ None → Kept s w ds (ended q)
+kept-ended s w ds q k none idle =
+    let same = listed-ended q none in
+    record {
+      few = omega (arith, k.few, same);
+      unused = λ not. same ∙ k.unused not;
+      asked = rw (run-ended q) (sym (if-none s.threaded (polled_by w) idle));
+      weight = λ some. absurd (cc (run-ended q, some));
+      within = k.within;
+    }
 
--- a number is pushed whose device was masked, and no other is
-pub kept-pushed : (s : Settings) (w v : Work) (ds es : Devices) (q : SoftirqView) (b : List ℕ) (polling : Bool) (n : ℕ) → Kept s w ds q b
+-- a poll of the run ends
+pub kept-polled : (s : Settings) (w : Work) (ds : Devices) (q : SoftirqView) (now given n : ℕ) → Kept s w ds q → s.threaded ≡ false
+    → asked_in q.run ≡ Some n → 1 ≤ s.weight
+    → Kept s Nothing (changed (polled now given s) n ds)
+    (polled_once (record { work = given; next = if given == s.weight then Repoll else Gone }) q)
+kept-polled s w ds q now given n k threaded asked least =
+    let once : Once = record { work = given; next = if given == s.weight then Repoll else Gone } in
+    let count = listed-polled (given == s.weight) given n q asked in
+    let same = weight-polled once q in
+    record {
+      few = omega (arith, k.few, count, scheduled-polled now given s n ds);
+      unused = λ not. omega (arith, count, k.unused not);
+      asked = asked-polled once q ∙ (rw threaded refl);
+      weight = λ some. same.0 ∙ k.weight (sym same.1 ∙ some);
+      within = least;
+    }
+
+-- a poll of a thread ends
+pub kept-alone : (s : Settings) (w : Work) (ds es : Devices) (q : SoftirqView) → Kept s w ds q → s.threaded ≡ true → 1 ≤ s.weight
+    → Kept s Nothing es q
+kept-alone s w ds es q k threaded least =
+    let none : listed q ≡ 0 = k.unused (threads s threaded) in
+    record {
+      few = omega (arith, none);
+      unused = k.unused;
+      asked = rw threaded (rw threaded at k.asked);
+      weight = k.weight;
+      within = least;
+    }
+  where
+    threads : (s : Settings) → s.threaded ≡ true → has_list s ≡ false
+    threads s threaded = grind (arith, common_steps)
+
+-- a list that isn't empty is one of a machine without threads
+pub list-unthreaded : (s : Settings) (w : Work) (ds : Devices) (q : SoftirqView) → Kept s w ds q → 0 < length q.list
+    → s.threaded ≡ false
+list-unthreaded s w ds q k some = by s.threaded refl
+  where
+    threads : s.threaded ≡ true → has_list s ≡ false
+    threads threaded = grind (arith, common_steps)
+
+    by : (b : Bool) → s.threaded ≡ b → b ≡ false
+    by true threaded = absurd (omega (arith, some, k.unused (threads threaded)))
+    by false threaded = refl
+
+-- while nothing is polled nothing is asked
+pub kept-idle : (s : Settings) (w : Work) (ds : Devices) (q : SoftirqView) → Kept s w ds q → polled_by w ≡ None
     → asked_in q.run ≡ None
-    → es ≡ changed (interrupted polling) n ds → is_handed_at polling (at n ds) ≡ true → Kept s v es (pushed n q) b
-kept-pushed s w v ds es q b polling n k none is handed = grind (arith, common_steps, listed-pushed, masks-interrupted)
+kept-idle s w ds q k idle = k.asked ∙ if-none s.threaded (polled_by w) idle
 
-pub kept-unpushed : (s : Settings) (w v : Work) (ds es : Devices) (q : SoftirqView) (b : List ℕ) (polling : Bool) (n : ℕ) → Kept s w ds q b
-    → asked_in q.run ≡ None
-    → es ≡ changed (interrupted polling) n ds → is_handed_at polling (at n ds) ≡ false → Kept s v es q b
-kept-unpushed s w v ds es q b polling n k none is handed = grind (arith, common_steps, masks-interrupted)
+-- the run's device is the one that is polled
+pub kept-asks : (s : Settings) (w : Work) (ds : Devices) (q : SoftirqView) (n : ℕ) → Kept s w ds q → s.threaded ≡ false
+    → polled_by w ≡ Some n → asked_in q.run ≡ Some n
+kept-asks s w ds q n k threaded polled = k.asked ∙ rw (threaded, polled) refl
 
--- a poll ends
-pub kept-told : (s : Settings) (w : Work) (ds : Devices) (q : SoftirqView) (b : List ℕ) (full : Bool) (work n : ℕ) → Kept s w ds q b
-    → asked_in q.run ≡ Some n
-    → Kept s w (changed (ended_poll full) n ds) (told (record { work = work; next = if full then Repoll else Gone }) q) b
-kept-told s w ds q b full work n k asked = search (rules, asked-told, listed-told, masks-ended, weight-told)
+asked-listed : (q : SoftirqView) (n : ℕ) → asked_in q.run ≡ Some n → 1 ≤ listed q
+asked-listed q n asked = by q.run asked
+  where
+    by : (run : Option RunView) → asked_in run ≡ Some n → 1 ≤ length q.list + held_in run
+    by None asked = cc asked
+    by (Some r) asked = rw asked (omega arith)
 
--- a poll begins
-pub kept-poll : (s : Settings) (w : Work) (ds : Devices) (q : SoftirqView) (b : List ℕ) (f : DeviceView → DeviceView) (n : ℕ)
-    → Kept s w ds q b → ((d : DeviceView) → (f d).masked ≡ d.masked) → Kept s Poll (changed f n ds) q (batch_at s.weight (at n ds))
-kept-poll s w ds q b f n k same = grind (arith, common_steps, batch-few, masks-same)
+-- a run that asks for a device is one of a machine without threads
+pub asks-unthreaded : (s : Settings) (w : Work) (ds : Devices) (q : SoftirqView) (n : ℕ) → Kept s w ds q → asked_in q.run ≡ None
+    → asked_in (next_of q).run ≡ Some n → s.threaded ≡ false
+asks-unthreaded s w ds q n k none asked = by s.threaded refl
+  where
+    threads : s.threaded ≡ true → has_list s ≡ false
+    threads threaded = grind (arith, common_steps)
 
-packet-masks : (moment : ℕ) (d : DeviceView) → (after_packet moment d).masked ≡ d.masked
-packet-masks moment d = packet-by (λ room e. e.masked ≡ d.masked) moment d (refl, refl)
-
--- a packet comes
-pub kept-packet : (s : Settings) (w : Work) (ds opened es : Devices) (q : SoftirqView) (b : List ℕ) (moment n : ℕ) → Kept s w ds q b
-    → masks ds ≤ masks opened
-    → es ≡ changed (after_packet moment) n opened → Kept s w es q b
-kept-packet s w ds opened es q b moment n k more is = grind (arith, common_steps, kept-devices, masks-same, packet-masks)
+    by : (b : Bool) → s.threaded ≡ b → b ≡ false
+    by true threaded = absurd (omega (arith, asked-listed (next_of q) n asked, (next-keeps q none).listed, k.unused (threads threaded)))
+    by false threaded = refl

@@ -1,196 +1,805 @@
--- How much is left to be done on a processor: each piece of work leaves less.
-use Rattle.std.proofs.Common.{Bool, true, false, Option, Some, None, List, [], ◌++◌, length, take, refl, arith}
-use Rattle.std.{proofs.lemmas.{List.Quantifiers.position-Some, Grind.common_steps}, specs.Prelude.{◌==◌, if◌then◌else◌, is_some, min, not}}
-use Rattle.std.specs.Prelude.{position, sum_by}
-use Rattle.std.proofs.Common.{rules, ◌≡◌, ℕ, ◌+◌, ◌-◌, ◌*◌, ◌<◌, ◌≤◌}
-use Rattle.machine_model.proofs.StepFacts.{ends_polls, polls_or, takes_up_by}
-use Rattle.{poll_runs.specs.Turn.asked_for, device_places.{specs.Places.at, proofs.PlaceFacts.none-of}}
-use Rattle.machine_model.specs.{declared.processor.Work.{Work, TheVariants.{Nothing, Poll}}, Device.{DeviceView, delivered}}
-use Rattle.machine_model.specs.{Device.{ended_interrupt, ended_poll, interrupted, polled, taken}, Kept.IsKept, Softirq.RunView}
-use Rattle.machine_model.specs.{Softirq.{SoftirqView, asked_in, next_of, pushed}, Shown.{held_in, listed}, Processor.ProcessorView}
-use Rattle.machine_model.specs.Processor.{begins, delivers, ends_by, ends_current, ends_interrupt, ends_poll, ends_run, goes_on, interrupts}
-use Rattle.machine_model.specs.{Processor.{is_busy, polls, rests, step, takes_up, uses}, Devices.{Devices, batch_at, raises_at}}
-use Rattle.machine_model.proofs.{EndFacts.asked-ends, ListedFacts.{asked-told, listed-begun, listed-ended, listed-pushed, listed-told}}
-use Rattle.machine_model.proofs.{ListedFacts.next-keeps, KeptFacts.run-ended, PlacesFacts.{at-changed, map_at, sum-at, sum-changed}}
+-- How much is left to be done on a processor: whatever happens leaves less.
+use Rattle.std.proofs.Common.{◌≡◌, ◌∙◌, ℕ, zero, suc, ◌+◌, ◌-◌, ◌*◌, ◌<◌, ◌≤◌, Bool, true, false, Option, Some, None, List, [], ◌∷◌, ◌++◌}
+use Rattle.std.proofs.Common.{◌⊎◌, inl, inr, length, length-append, drop, ap, refl, sym, rules, arith}
+use Rattle.std.proofs.lemmas.{List.Quantifiers.position-Some, Bool.eqb-true, Grind.common_steps}
+use Rattle.std.specs.Prelude.{◌==◌, ◌&&◌, if◌then◌else◌, is_some, nat_le, nat_lt, not, position, slice_get, sum_by}
+use Rattle.std.specs.Option.{option_map, option_map_or}
+use Rattle.{poll_runs.specs.{Polls.is_repoll, Turn.asked_for, declared.bench.Once.Once}, device_places.specs.Places.{at, changed}}
+use Rattle.machine_words.specs.declared.settings.Settings.{Settings}
+use Rattle.machine_model.specs.declared.{device.Phase.{Phase, TheVariants.{Coalescing, Raised, Deferred, Fired}}, devices.Timer.Timer}
+use Rattle.machine_model.specs.declared.processor.{InHand.InHand, Rest.Rest, Upcoming.Upcoming, Work.{Work, TheVariants.{Nothing, Interrupt, Poll, Packet, Use}}}
+use Rattle.machine_model.specs.declared.{processor.Upcoming.TheVariants.{Ends, Expires, Never}, tasks.Task.{Task, TheVariants.{Application, Thread}}}
+use Rattle.machine_model.specs.Device.{DeviceView, completed, delivered, expired, interrupted, is_fired, next_packet, polled, raised_again}
+use Rattle.machine_model.specs.Device.{spliced, timer_of, without_next}
+use Rattle.machine_model.specs.Devices.{Devices, asks_at, is_fired_at, next_packet_at, soonest_from, sooner, timer_at}
+use Rattle.machine_model.specs.Softirq.{RunView, SoftirqView, asked_in, begun, ended, filled, is_spent, next_from, next_of, polled_once, polled_run, pushed}
+use Rattle.machine_model.specs.Waits.{held}
+use Rattle.machine_model.specs.Tasks.{after_first, applications, runnable, with_application}
+use Rattle.machine_model.specs.{Application.{ApplicationView, fed, has_place, used}, Kept.{IsKept, polled_by}, Processor.ProcessorView}
+use Rattle.machine_model.specs.Processor.{begins, begins_run, delivers, delivers_oldest, disturbed, ends_by, ends_current, ends_interrupt, ends_poll}
+use Rattle.machine_model.specs.Processor.{ends_run, goes_on, happens, interrupts, is_busy, is_by, is_due, is_polling, leaves_softirq, looks, polls, rests}
+use Rattle.machine_model.specs.Processor.{runs, runs_first, scheduled, set_aside, spent, step, takes_up, upcoming, uses, woken}
+use Rattle.poll_runs.specs.declared.bench.Next.TheVariants.{Gone, Repoll}
+use Rattle.machine_model.proofs.{ApplicationFacts.fed-few, KeptFacts.if-none, ListedFacts.asked-polled, PlacesFacts.{at-changed, map_at, sum-changed}}
 
 -- ---- devices
 
-abbrev pub flag : Bool → ℕ
-flag true = 2
-flag false = 0
+-- what a packet weighs: more than all that its poll can leave behind
+abbrev pub load : ℕ
+load = 327679
 
-unfoldable pub pot_at : Option DeviceView → ℕ
-pot_at None = 0
-pot_at (Some d) = 3 * length d.ring + flag d.raises
+abbrev pub phase_weight : Phase → ℕ
+phase_weight Raised = 3
+phase_weight Fired = 3
+phase_weight (Coalescing until) = 4
+phase_weight (Deferred until) = 4
+phase_weight _ = 0
 
-unfoldable pub waits_at : Option DeviceView → ℕ
-waits_at None = 0
-waits_at (Some d) = flag (not (length d.ring == 0))
+unfoldable pub weight_of : ℕ → DeviceView → ℕ
+weight_of w d = w * (length d.ring + length d.taken) + 5 * d.deferrals + phase_weight d.phase
 
-flag-most : (b : Bool) → flag b ≤ 2
-flag-most b = grind (arith, common_steps)
+unfoldable pub weight_at : ℕ → Option DeviceView → ℕ
+weight_at w None = 0
+weight_at w (Some d) = weight_of w d
 
-pot-lone : (now : ℕ) (batch : List ℕ) (o : Option DeviceView)
-    → pot_at (map_at ended_interrupt (map_at (delivered now batch) (map_at (taken 1) o))) + length (batch_at 1 o) ≤ pot_at o
-unfolding pot_at map_at ended_interrupt delivered taken
-pot-lone now batch o = grind (arith, common_steps, flag-most)
+abbrev pub weights : ℕ → Devices → ℕ
+weights w devices = sum_by (weight_at w) devices
 
-pot-polled : (weight : ℕ) (o : Option DeviceView) → pot_at (map_at (polled weight) o) + 3 * length (batch_at weight o) ≡ pot_at o
-unfolding pot_at map_at polled taken
-pot-polled weight o = grind (arith, common_steps)
+changed-weights : (w : ℕ) (f : DeviceView → DeviceView) (n : ℕ) (xs : Devices)
+    → weights w (changed f n xs) + weight_at w (at n xs) ≡ weights w xs + weight_at w (map_at f (at n xs))
+changed-weights w f n xs = sum-changed (weight_at w) f n xs
 
-drained : (weight : ℕ) (o : Option DeviceView) → (length (batch_at weight o) == weight) ≡ false → waits_at (map_at (polled weight) o) ≡ 0
-unfolding waits_at map_at polled taken
-drained weight o short = grind (arith, common_steps)
+-- a change that adds at most so much to a device adds at most so much to all
+weights-most : (w more : ℕ) (f : DeviceView → DeviceView) (n : ℕ) (xs : Devices)
+    → weight_at w (map_at f (at n xs)) ≤ weight_at w (at n xs) + more → weights w (changed f n xs) ≤ weights w xs + more
+weights-most w more f n xs most = omega (arith, changed-weights w f n xs, most)
 
-pot-interrupted : (polling : Bool) (o : Option DeviceView) → raises_at o ≡ true → pot_at (map_at (interrupted polling) o) + 2 ≡ pot_at o
-unfolding pot_at map_at interrupted
-pot-interrupted polling o raises = grind (arith, common_steps)
+weights-less : (w less : ℕ) (f : DeviceView → DeviceView) (n : ℕ) (xs : Devices)
+    → weight_at w (map_at f (at n xs)) + less ≤ weight_at w (at n xs) → weights w (changed f n xs) + less ≤ weights w xs
+weights-less w less f n xs most = omega (arith, changed-weights w f n xs, most)
 
-pot-ended : (full : Bool) (now : ℕ) (batch : List ℕ) (o : Option DeviceView)
-    → pot_at (map_at (ended_poll full) (map_at (delivered now batch) o)) ≤ pot_at o + (if full then 0 else waits_at o)
-unfolding pot_at waits_at map_at ended_poll delivered
-pot-ended full now batch o = grind (arith, common_steps)
+asks-three : (phase : Phase) (w : ℕ) (d : DeviceView) → d.phase ≡ phase → asks_at (Some d) ≡ true → phase_weight d.phase ≡ 3
+asks-three phase w d is up = grind (arith, common_steps)
 
-abbrev pub pots : Devices → ℕ
-pots devices = sum_by pot_at devices
+weight-interrupted : (w : ℕ) (polling : Bool) (o : Option DeviceView) → asks_at o ≡ true
+    → weight_at w (map_at (interrupted polling) o) + 3 ≤ weight_at w o
+unfolding map_at weight_at weight_of interrupted
+weight-interrupted w polling None up = grind (arith, common_steps)
+weight-interrupted w polling (Some d) up = grind (arith, common_steps)
 
--- ---- the poll list and the run
+weight-raised : (w : ℕ) (o : Option DeviceView) → weight_at w (map_at raised_again o) ≤ weight_at w o + 3
+unfolding map_at weight_at weight_of
+weight-raised w None = omega arith
+weight-raised w (Some d) = grind (arith, common_steps)
+
+weight-delivered : (w now came : ℕ) (o : Option DeviceView) → weight_at w (map_at (delivered now came) o) ≡ weight_at w o
+unfolding map_at weight_at weight_of
+weight-delivered w now came None = refl
+weight-delivered w now came (Some d) = refl
+
+-- a packet that is taken is one fewer
+drop-first : (xs : List ℕ) (came : ℕ) → slice_get xs 0 ≡ Some came → length (drop 1 xs) + 1 ≡ length xs
+drop-first [] came is = cc is
+drop-first (x ∷ xs) came is = omega arith
+
+drop-none : (xs : List ℕ) → length (drop 1 xs) ≤ length xs
+drop-none xs = grind (arith, common_steps)
+
+one-fewer : (w a r t : ℕ) → a + 1 ≡ r → w * (a + t) + w ≡ w * (r + t)
+one-fewer w a r t is = rw (← is) (omega arith)
+
+fewer : (w a r t : ℕ) → a ≤ r → w * (a + t) ≤ w * (r + t)
+fewer w a r t most = by (r - a) (omega (arith, most))
+  where
+    by : (d : ℕ) → a + d ≡ r → w * (a + t) ≤ w * (r + t)
+    by d is = rw (← is) (omega arith)
+
+weight-next : (w : ℕ) (backlog : Bool) (d : DeviceView) (came : ℕ) → next_packet backlog d ≡ Some came
+    → weight_of w (without_next backlog d) + w ≡ weight_of w d
+unfolding weight_of
+weight-next w true d came is = by (length d.taken == 0) refl is
+  where
+    by : (b : Bool) → (length d.taken == 0) ≡ b → (let e = if b then record d { ring = []; taken = d.ring } else d in slice_get e.taken 0 ≡ Some came)
+        → (let e = if b then record d { ring = []; taken = d.ring } else d in
+        w * (length e.ring + length (drop 1 e.taken)) + 5 * e.deferrals + phase_weight e.phase + w
+        ≡ w * (length d.ring + length d.taken) + 5 * d.deferrals + phase_weight d.phase)
+    by true none is =
+        omega (
+          arith,
+          one-fewer w (length (drop 1 d.ring)) (length d.ring) 0 (drop-first d.ring came is),
+          same (length d.taken) (eqb-true (length d.taken) 0 none),
+        )
+      where
+        same : (t : ℕ) → t ≡ 0 → w * (length d.ring + t) ≡ w * (length d.ring + 0)
+        same t none = rw none refl
+    by false some is = omega (arith, one-fewer w (length (drop 1 d.taken)) (length d.taken) (length d.ring) (drop-first d.taken came is))
+weight-next w false d came is =
+    omega (arith, one-fewer w (length (drop 1 d.ring)) (length d.ring) (length d.taken) (drop-first d.ring came is))
+
+taken-less : (w : ℕ) (backlog : Bool) (o : Option DeviceView) (came : ℕ) → next_packet_at backlog o ≡ Some came
+    → weight_at w (map_at (without_next backlog) o) + w ≤ weight_at w o
+unfolding map_at weight_at
+taken-less w backlog None came is = cc is
+taken-less w backlog (Some d) came is = omega (arith, weight-next w backlog d came is)
+
+weight-looked : (w : ℕ) (backlog : Bool) (d : DeviceView) → weight_of w (without_next backlog d) ≤ weight_of w d
+unfolding weight_of
+weight-looked w true d = by (length d.taken == 0) refl
+  where
+    by : (b : Bool) → (length d.taken == 0) ≡ b
+        → (let e = if b then record d { ring = []; taken = d.ring } else d in
+        w * (length e.ring + length (drop 1 e.taken)) + 5 * e.deferrals + phase_weight e.phase
+        ≤ w * (length d.ring + length d.taken) + 5 * d.deferrals + phase_weight d.phase)
+    by true none =
+        omega (
+          arith,
+          fewer w (length (drop 1 d.ring)) (length d.ring) 0 (drop-none d.ring),
+          same (length d.taken) (eqb-true (length d.taken) 0 none),
+        )
+      where
+        same : (t : ℕ) → t ≡ 0 → w * (length d.ring + t) ≡ w * (length d.ring + 0)
+        same t none = rw none refl
+    by false some = omega (arith, fewer w (length (drop 1 d.taken)) (length d.taken) (length d.ring) (drop-none d.taken))
+weight-looked w false d = omega (arith, fewer w (length (drop 1 d.ring)) (length d.ring) (length d.taken) (drop-none d.ring))
+
+looked-most : (w : ℕ) (backlog : Bool) (o : Option DeviceView) → weight_at w (map_at (without_next backlog) o) ≤ weight_at w o + 0
+unfolding map_at weight_at
+looked-most w backlog None = omega arith
+looked-most w backlog (Some d) = omega (arith, weight-looked w backlog d)
+
+-- a poll that completes may leave deferrals behind, if it gave packets
+weight-completed : (w now given : ℕ) (s : Settings) (d : DeviceView)
+    → weight_of w (completed now given s d) ≤ weight_of w d + (if given == 0 then 0 else 5 * s.defer_hard_irqs)
+unfolding weight_of completed
+weight-completed w now given s d = grind (arith, common_steps)
+
+weight-polled : (w now given : ℕ) (s : Settings) (o : Option DeviceView)
+    → weight_at w (map_at (polled now given s) o)
+    ≤ weight_at w o + (if given == s.weight then 0 else (if given == 0 then 0 else 5 * s.defer_hard_irqs))
+unfolding map_at weight_at weight_of polled
+weight-polled w now given s None = omega arith
+weight-polled w now given s (Some d) = grind (arith, common_steps, weight-completed)
+
+weight-expired : (w at : ℕ) (d : DeviceView) → timer_of d.phase ≡ Some at → weight_of w (expired d) + 1 ≡ weight_of w d
+unfolding weight_of
+weight-expired w at d is = grind (arith, common_steps)
+
+expired-less : (w number : ℕ) (timer : Timer) (o : Option DeviceView) → timer_at number o ≡ Some timer
+    → weight_at w (map_at expired o) + 1 ≤ weight_at w o
+unfolding map_at weight_at
+expired-less w number timer None is = cc is
+expired-less w number timer (Some d) is = by (timer_of d.phase) refl
+  where
+    by : (t : Option ℕ) → timer_of d.phase ≡ t → weight_of w (expired d) + 1 ≤ weight_of w d
+    by None none = absurd (cc (none, is))
+    by (Some at) some = omega (arith, weight-expired w at d some)
+
+-- ---- the soonest timer is that of its device
+
+either : (a b : Option Timer) (timer : Timer) → sooner a b ≡ Some timer → (a ≡ Some timer) ⊎ (b ≡ Some timer)
+either None b timer is = inr is
+either (Some x) None timer is = inl is
+either (Some x) (Some y) timer is = by (nat_le x.at y.at) is
+  where
+    by : (b : Bool) → (if b then Some x else Some y) ≡ Some timer → (Some x ≡ Some timer) ⊎ (Some y ≡ Some timer)
+    by true e = inl e
+    by false e = inr e
+
+named : (number : ℕ) (o : Option DeviceView) (timer : Timer) → timer_at number o ≡ Some timer → timer.device ≡ number
+named number None timer is = cc is
+named number (Some d) timer is = by (timer_of d.phase) is
+  where
+    by : (t : Option ℕ) → option_map (λ at. record { at = at; device = number }) t ≡ Some timer → timer.device ≡ number
+    by None e = cc e
+    by (Some at) e = cc e
+
+pub soonest-is : (number : ℕ) (xs : Devices) (timer : Timer) → soonest_from number xs ≡ Some timer
+    → (number ≤ timer.device) × (timer_at timer.device (at (timer.device - number) xs) ≡ Some timer)
+unfolding soonest_from
+soonest-is number [] timer is = cc is
+soonest-is number (o ∷ more) timer is =
+    by (either (timer_at number o) (soonest_from (number + 1) more) timer is) (λ later. soonest-is (number + 1) more timer later)
+  where
+    by : (timer_at number o ≡ Some timer) ⊎ (soonest_from (number + 1) more ≡ Some timer)
+        → (soonest_from (number + 1) more ≡ Some timer
+        → (number + 1 ≤ timer.device) × (timer_at timer.device (at (timer.device - (number + 1)) more) ≡ Some timer))
+        → (number ≤ timer.device) × (timer_at timer.device (at (timer.device - number) (o ∷ more)) ≡ Some timer)
+    by (inl here) below =
+        let same = named number o timer here in
+        let first : timer.device - number ≡ zero = omega (arith, same) in
+        (omega (arith, same), rw first (ap (λ (n : ℕ). timer_at n o) same ∙ here))
+    by (inr later) below =
+        let rest = below later in
+        let next : timer.device - number ≡ suc (timer.device - (number + 1)) = omega (arith, rest.0) in
+        (omega (arith, rest.0), rw next rest.1)
+
+-- ---- the poll list, the run and the threads
+
+abbrev pub waiting : Option RunView → ℕ
+waiting None = 0
+waiting (Some r) = length r.own + length r.repoll
 
 unfoldable pub entries : SoftirqView → ℕ
-entries q = listed q - length (asked_for (asked_in q.run))
+entries q = length q.list + waiting q.run
 
-held-asked : (run : Option RunView) → length (asked_for (asked_in run)) ≤ held_in run
-held-asked run = grind (arith, common_steps)
-
-entries-listed : (q : SoftirqView) → entries q + length (asked_for (asked_in q.run)) ≡ listed q
+entries-pushed : (n : ℕ) (q : SoftirqView) → entries (pushed n q) ≡ entries q + 1
 unfolding entries
-entries-listed q = omega (arith, held-asked q.run)
+entries-pushed n q = omega (arith, length-append q.list (n ∷ []))
 
--- ---- all
+filled-same : (own repoll list : List ℕ)
+    → length ((filled own repoll list).1)
+    + (length (asked_for (slice_get (filled own repoll list).0 0)) + (length (drop 1 (filled own repoll list).0) + length repoll))
+    ≡ length list + (length own + length repoll)
+filled-same own repoll list = grind (arith, common_steps)
 
-unfoldable pub base : ProcessorView → ℕ
-base p = pots p.devices + (length p.socket.items + entries p.softirq)
+entries-next : (q : SoftirqView) → asked_in q.run ≡ None → entries (next_of q) + length (asked_for (asked_in (next_of q).run)) ≡ entries q
+unfolding entries next_of
+entries-next q none = by q.run none
+  where
+    by : (run : Option RunView) → asked_in run ≡ None
+        → (let r = option_map_or (λ r. if is_spent r then record q { run = run } else next_from (filled r.own r.repoll q.list) r (record q { run = run })) run (record q { run = run }) in
+        length r.list + waiting r.run + length (asked_for (asked_in r.run)) ≡ length q.list + waiting run)
+    by None none = omega arith
+    by (Some r) none = spent (is_spent r)
+      where
+        spent : (b : Bool)
+            → (let v = if b then record q { run = Some r } else next_from (filled r.own r.repoll q.list) r (record q { run = Some r }) in
+            length v.list + waiting v.run + length (asked_for (asked_in v.run)) ≡ length q.list + (length r.own + length r.repoll))
+        spent true = rw none (omega arith)
+        spent false = omega (arith, filled-same r.own r.repoll q.list)
 
-unfoldable pub anomaly : Option ℕ → ProcessorView → ℕ
-anomaly None p = 0
-anomaly (Some n) p = if length p.batch == p.settings.weight then 0 else waits_at (at n p.devices)
+entries-begun : (moment budget weight window : ℕ) (q : SoftirqView) → entries (begun moment budget weight window q) ≤ entries q
+unfolding entries
+entries-begun moment budget weight window q = omega arith
 
-unfoldable pub left_by : Work → ProcessorView → ℕ
-left_by Nothing p = 0
-left_by Poll p = 1 + (2 * length p.batch + anomaly (asked_in p.softirq.run) p)
-left_by _ p = 1
+entries-ended : (q : SoftirqView) → entries (ended q) ≤ entries q
+unfolding entries ended
+entries-ended q = by q.run
+  where
+    by : (run : Option RunView) → length (option_map_or (λ r. r.own ++ q.list ++ r.repoll) run q.list) + 0 ≤ length q.list + waiting run
+    by None = omega arith
+    by (Some r) = omega (arith, length-append (r.own ++ q.list) r.repoll, length-append r.own q.list)
 
-unfoldable pub left : ProcessorView → ℕ
-left p = base p + left_by p.work p
+one-asked : (asked : Option ℕ) → length (asked_for asked) ≤ 1
+one-asked asked = grind (arith, common_steps)
 
--- ---- what ends
+entries-polled : (once : Once) (q : SoftirqView) → entries (polled_once once q) ≤ entries q + (if is_repoll once.next then 1 else 0)
+unfolding entries polled_once
+entries-polled once q = by q.run
+  where
+    by : (run : Option RunView)
+        → length q.list + waiting (option_map (polled_run once) run) ≤ length q.list + waiting run + (if is_repoll once.next then 1 else 0)
+    by None = omega arith
+    by (Some r) = again (is_repoll once.next)
+      where
+        again : (b : Bool) → length q.list + (length r.own + length (r.repoll ++ (if b then asked_for r.asked else [])))
+            ≤ length q.list + (length r.own + length r.repoll) + (if b then 1 else 0)
+        again true = omega (arith, length-append r.repoll (asked_for r.asked), one-asked r.asked)
+        again false = omega (arith, length-append r.repoll [])
 
-delivered-most : (batch items : List ℕ) (capacity : ℕ)
-    → length (items ++ take (min (length batch) (capacity - length items)) batch) ≤ length items + length batch
-delivered-most batch items capacity = grind (arith, common_steps)
+abbrev pub threads : List Task → ℕ
+threads [] = 0
+threads (Application ∷ more) = threads more
+threads (Thread number ∷ more) = threads more + 1
 
-lone-less : (n : ℕ) (p : ProcessorView) → base (ends_interrupt n p) ≤ base p
-unfolding base ends_interrupt delivers
-lone-less n p = grind (arith, common_steps, at-changed, delivered-most, pot-lone, sum-at, sum-changed)
+threads-thread : (xs : List Task) (n : ℕ) → threads (xs ++ Thread n ∷ []) ≡ threads xs + 1
+threads-thread [] n = refl
+threads-thread (Application ∷ more) n = threads-thread more n
+threads-thread (Thread m ∷ more) n = omega (arith, threads-thread more n)
 
-poll-less : (n : ℕ) (p : ProcessorView) → asked_in p.softirq.run ≡ Some n → 1 ≤ p.settings.weight
-    → base (ends_poll n p) < base p + (1 + (2 * length p.batch + anomaly (Some n) p))
-unfolding base ends_poll delivers anomaly
-poll-less n p asked weight =
-    search (rules, asked-told, at-changed, delivered-most, entries-listed, listed-told, pot-ended, sum-at, sum-changed)
+threads-application : (xs : List Task) → threads (xs ++ Application ∷ []) ≡ threads xs
+threads-application [] = refl
+threads-application (Application ∷ more) = threads-application more
+threads-application (Thread m ∷ more) = omega (arith, threads-application more)
 
-ends-polls : (o : Option ℕ) (p : ProcessorView) → asked_in p.softirq.run ≡ o → 1 ≤ p.settings.weight
-    → base (ends_polls o p) < base p + (1 + (2 * length p.batch + anomaly o p))
-ends-polls o p asked weight = grind (arith, common_steps, poll-less)
+with-application : (xs : List Task) → threads (with_application xs) ≡ threads xs
+unfolding with_application
+with-application xs = by (applications xs == 0)
+  where
+    by : (b : Bool) → threads (if b then xs ++ Application ∷ [] else xs) ≡ threads xs
+    by true = threads-application xs
+    by false = refl
 
-ends-lone : (b : Bool) (n : ℕ) (p : ProcessorView) → base (if b then p else ends_interrupt n p) < base p + 1
-ends-lone b n p = grind (arith, common_steps, lone-less)
+if-application : (b : Bool) (xs : List Task) → threads (if b then with_application xs else xs) ≡ threads xs
+if-application true xs = with-application xs
+if-application false xs = refl
 
-ends-less : (w : Work) (p : ProcessorView) → is_busy w ≡ true → 1 ≤ p.settings.weight → base (ends_by w p) < base p + left_by w p
-unfolding left_by base
-ends-less w p busy weight = grind (arith, common_steps, ends-lone, ends-polls)
+same-runnable : (idle : Bool) (xs : List Task) → threads (runnable idle xs) ≡ threads xs
+same-runnable idle xs = grind (arith, common_steps)
+
+abbrev pub is_thread : Option Task → ℕ
+is_thread (Some (Thread number)) = 1
+is_thread _ = 0
+
+after-first : (xs : List Task) → threads (after_first xs) + is_thread (slice_get xs 0) ≡ threads xs
+after-first [] = refl
+after-first (Application ∷ more) = omega arith
+after-first (Thread number ∷ more) = omega arith
+
+-- ---- all that is left, by what a packet weighs
+
+abbrev pub rest_weight : Option Rest → ℕ
+rest_weight None = 0
+rest_weight (Some rest) = 1
+
+unfoldable pub base : ℕ → ProcessorView → ℕ
+base w p = weights w p.devices + length p.application.socket.items + 2 * entries p.softirq + 2 * threads p.tasks + rest_weight p.rest
+
+unfoldable pub left_by : ℕ → Work → ℕ
+left_by w Nothing = 0
+left_by w (Poll number) = 2
+left_by w (Packet packet) = w
+left_by w _ = 1
+
+unfoldable pub left : ℕ → ProcessorView → ℕ
+left w p = base w p + left_by w p.work
+
+by-if : (P : ProcessorView → Type 0) (b : Bool) (x y : ProcessorView) → (b ≡ true → P x) → (b ≡ false → P y) → P (if b then x else y)
+by-if P true x y first second = first refl
+by-if P false x y first second = second refl
+
+idle-left : (w : ℕ) (p : ProcessorView) → p.work ≡ Nothing → left w p ≡ base w p
+unfolding left left_by
+idle-left w p nothing = rw nothing (omega arith)
 
 -- ---- what is taken up
 
--- a number that is asked is one entry less
-next-entries : (q : SoftirqView) → asked_in q.run ≡ None → entries (next_of q) + length (asked_for (asked_in (next_of q).run)) ≡ entries q
-next-entries q none = grind (arith, common_steps, entries-listed, next-keeps)
-
-rests-entries : (q r : SoftirqView) → asked_in q.run ≡ None → asked_in r.run ≡ None → listed r ≡ listed q → entries r ≡ entries q
-rests-entries q r none after same = grind (arith, common_steps, entries-listed)
-
-pushed-entries : (b : Bool) (n : ℕ) (q : SoftirqView) → asked_in q.run ≡ None → entries (if b then pushed n q else q) ≤ entries q + 1
-pushed-entries b n q none = grind (arith, common_steps, entries-listed, listed-pushed)
-
-idle-left : (w : Work) (p : ProcessorView) → w ≡ Nothing → left_by w p ≡ 0
-unfolding left_by
-idle-left w p nothing = grind (arith, common_steps)
-
-interrupts-less : (n : ℕ) (p : ProcessorView) → asked_in p.softirq.run ≡ None → raises_at (at n p.devices) ≡ true
-    → left (interrupts n p) ≤ base p
-unfolding left left_by base interrupts
-interrupts-less n p none raises = grind (arith, common_steps, pot-interrupted, pushed-entries, sum-changed)
-
-short : (b : Bool) (weight : ℕ) (o : Option DeviceView) → (length (batch_at weight o) == weight) ≡ b
-    → (if b then 0 else waits_at (map_at (polled weight) o)) ≡ 0
-short b weight o is = grind (arith, common_steps, drained)
-
-polls-less : (n : ℕ) (p : ProcessorView) → asked_in p.softirq.run ≡ Some n → left (polls n p) ≤ base p + 1
-unfolding left left_by base anomaly polls
-polls-less n p asked = grind (arith, common_steps, at-changed, pot-polled, short, sum-changed)
-
-uses-less : (items : List ℕ) (p : ProcessorView) → p.socket.items ≡ items → p.work ≡ Nothing → left (uses items p) ≤ base p
+schedules-less : (w n time : ℕ) (polling : Bool) (q : ProcessorView)
+    → left w (begins (Interrupt n) time (if polling then scheduled n q else q)) ≤ base w q + 3
 unfolding left left_by base
-uses-less items p is nothing = grind (arith, common_steps, idle-left)
+schedules-less w n time true q =
+    by-if (λ r. left w (begins (Interrupt n) time r) ≤ base w q + 3) q.settings.threaded (record q { tasks = q.tasks ++ Thread n ∷ [] })
+    (record q { softirq = pushed n q.softirq }) (λ e. omega (arith, threads-thread q.tasks n)) (λ e. omega (arith, entries-pushed n q.softirq))
+schedules-less w n time false q = omega arith
 
-left-if : (b : Bool) (x y : ProcessorView) (n : ℕ) → left x ≤ n → left y ≤ n → left (if b then x else y) ≤ n
-left-if b x y n first second = grind (arith, common_steps)
+interrupts-less : (w n : ℕ) (p : ProcessorView) → asks_at (at n p.devices) ≡ true → left w (interrupts n p) ≤ base w p
+unfolding base interrupts
+interrupts-less w n p up =
+    let polling = is_polling p.settings in
+    let time = if polling then p.settings.interrupt else p.settings.interrupt + p.settings.packet in
+    let counts = if is_fired_at (at n p.devices) then record p.counts { timers = held (p.counts.timers + 1) }
+    else record p.counts { interrupts = held (p.counts.interrupts + 1) } in
+    let q = record p { devices = changed (interrupted polling) n p.devices; counts = counts } in
+    omega (
+      arith,
+      schedules-less w n time polling q,
+      weights-less w 3 (interrupted polling) n p.devices (weight-interrupted w polling (at n p.devices) up),
+    )
 
--- a poll that is asked next, or else other work
-asks-less : (o : Option ℕ) (other p : ProcessorView) (most : ℕ) → asked_in p.softirq.run ≡ o → base p + length (asked_for o) ≤ most
-    → left other ≤ most
-    → left (polls_or other o p) ≤ most
-asks-less o other p most asked few rest = grind (arith, common_steps, polls-less)
+uses-less : (w : ℕ) (items : List ℕ) (p : ProcessorView) → p.application.socket.items ≡ items → p.work ≡ Nothing
+    → left w (uses items p) ≤ base w p
+unfolding left left_by base
+uses-less w [] p is nothing = rw nothing (omega arith)
+uses-less w (came ∷ more) p is nothing = rw is (omega arith)
 
-begins-less : (p : ProcessorView) → p.work ≡ Nothing → p.softirq.run ≡ None → left (begins p) ≤ base p
-unfolding left base begins
-begins-less p nothing none = grind (arith, common_steps, asks-less, idle-left, listed-begun, next-entries, rests-entries)
+polls-left : (w n : ℕ) (p : ProcessorView) → left w (polls n p) ≡ base w p + 2
+unfolding left left_by base
+polls-left w n p = refl
 
-rests-less : (p : ProcessorView) → p.work ≡ Nothing → p.softirq.run ≡ None → left (rests p) ≤ base p
-unfolding rests base
-rests-less p nothing none = grind (arith, common_steps, begins-less, left-if, uses-less)
+runs-less : (w : ℕ) (first : Option Task) (p : ProcessorView) → p.work ≡ Nothing → left w (runs first p) ≤ base w p + 2 * is_thread first
+runs-less w None p nothing = omega (arith, idle-left w p nothing)
+runs-less w (Some Application) p nothing = omega (arith, uses-less w p.application.socket.items p refl nothing)
+runs-less w (Some (Thread number)) p nothing = omega (arith, polls-left w number p)
 
-over-less : (late : Bool) (p : ProcessorView) → p.work ≡ Nothing → asked_in p.softirq.run ≡ None → left (rests (ends_run late p)) ≤ base p
+first-less : (w : ℕ) (p : ProcessorView) → p.work ≡ Nothing → left w (runs_first p) ≤ base w p
+unfolding runs_first base
+first-less w p nothing =
+    let tasks = runnable (length p.application.socket.items == 0) p.tasks in
+    omega (
+      arith,
+      runs-less w (slice_get tasks 0) (record p { tasks = after_first tasks }) nothing,
+      fewer tasks
+          (same-runnable (length p.application.socket.items == 0) p.tasks),
+    )
+  where
+    fewer : (tasks : List Task) → threads tasks ≡ threads p.tasks
+        → base w (record p { tasks = after_first tasks }) + 2 * is_thread (slice_get tasks 0) ≡ base w p
+    fewer tasks same = omega (arith, same, after-first tasks)
+
+leaves-less : (w : ℕ) (rest : Option Rest) (p : ProcessorView) → p.rest ≡ rest → p.work ≡ Nothing → left w (leaves_softirq rest p) ≤ base w p
+unfolding left left_by base
+leaves-less w (Some rest) p is nothing = rw is (omega arith)
+leaves-less w None p is nothing = by p.settings.threaded p.settings.apart
+  where
+    by : (threaded apart : Bool) → left w (if threaded then runs_first p else (if apart then p else uses p.application.socket.items p)) ≤ base w p
+    by true apart = first-less w p nothing
+    by false true = omega (arith, idle-left w p nothing)
+    by false false = uses-less w p.application.socket.items p refl nothing
+
+-- a poll of the run's device, or other work
+asks-less : (w most : ℕ) (asked : Option ℕ) (p other : ProcessorView) → base w p + 2 * length (asked_for asked) ≤ most → left w other ≤ most
+    → left w (option_map_or (λ number. polls number p) asked other) ≤ most
+asks-less w most None p other few rest = rest
+asks-less w most (Some number) p other few rest = omega (arith, few, polls-left w number p)
+
+softirq-base : (w : ℕ) (p : ProcessorView) (q : SoftirqView) → base w (record p { softirq = q }) + 2 * entries p.softirq ≡ base w p + 2 * entries q
+unfolding base
+softirq-base w p q = omega arith
+
+unasked : (run : Option RunView) → run ≡ None → asked_in run ≡ None
+unasked run none = rw none refl
+
+begun-unasked : (moment budget weight window : ℕ) (q : SoftirqView) → asked_in (begun moment budget weight window q).run ≡ None
+begun-unasked moment budget weight window q = refl
+
+begins-less : (w : ℕ) (p : ProcessorView) → p.work ≡ Nothing → left w (begins_run p) ≤ base w p
+unfolding begins_run
+begins-less w p nothing =
+    let s = p.settings in
+    let begun_list = begun p.clock s.budget s.weight s.window p.softirq in
+    let q = record p { softirq = next_of begun_list } in
+    let few = entries-next begun_list (begun-unasked p.clock s.budget s.weight s.window p.softirq) in
+    let less = entries-begun p.clock s.budget s.weight s.window p.softirq in
+    let same = softirq-base w p (next_of begun_list) in
+    asks-less w (base w p) (asked_in q.softirq.run) q q (omega (arith, few, less, same)) (omega (arith, few, less, same, idle-left w q nothing))
+
+rests-less : (w : ℕ) (p : ProcessorView) → p.work ≡ Nothing → left w (rests p) ≤ base w p
+unfolding rests
+rests-less w p nothing =
+    by-if (λ q. left w q ≤ base w p) (is_polling p.settings && not (length p.softirq.list == 0)) (begins_run p) (leaves_softirq p.rest p)
+    (λ e. begins-less w p nothing) (λ e. leaves-less w p.rest p refl nothing)
+
+over-base : (w : ℕ) (late : Bool) (p : ProcessorView) → base w (ends_run late p) ≤ base w p
 unfolding base ends_run
-over-less late p nothing none = grind (arith, common_steps, listed-ended, rests-entries, rests-less, run-ended)
+over-base w late p = omega (arith, entries-ended p.softirq)
 
-goes-less : (p : ProcessorView) → p.work ≡ Nothing → asked_in p.softirq.run ≡ None → left (goes_on p) ≤ base p
-unfolding base goes_on
-goes-less p nothing none = grind (arith, common_steps, left, left-if, next-entries, over-less, polls-less)
+over-work : (late : Bool) (p : ProcessorView) → (ends_run late p).work ≡ p.work
+unfolding ends_run
+over-work late p = refl
 
-running-less : (b : Bool) (p : ProcessorView) → is_some p.softirq.run ≡ b → p.work ≡ Nothing → asked_in p.softirq.run ≡ None
-    → left (if b then goes_on p else rests p) ≤ base p
-running-less b p some nothing none = grind (arith, common_steps, goes-less, none-of, rests-less)
+over-less : (w : ℕ) (late : Bool) (p : ProcessorView) → p.work ≡ Nothing → left w (rests (ends_run late p)) ≤ base w p
+over-less w late p nothing =
+    omega (arith, rests-less w (ends_run late p) (over-work late p ∙ nothing), over-base w late p)
 
-takes-by : (o : Option ℕ) (p : ProcessorView) → position raises_at p.devices ≡ o → p.work ≡ Nothing → asked_in p.softirq.run ≡ None
-    → left (takes_up_by o p) ≤ base p
-takes-by (Some n) p lowest nothing none = interrupts-less n p none (position-Some raises_at p.devices n None lowest).1
-takes-by None p lowest nothing none = running-less (is_some p.softirq.run) p refl nothing none
+goes-less : (w : ℕ) (p : ProcessorView) → p.work ≡ Nothing → asked_in p.softirq.run ≡ None → left w (goes_on p) ≤ base w p
+unfolding goes_on
+goes-less w p nothing none =
+    let q = record p { softirq = next_of p.softirq } in
+    let few = entries-next p.softirq none in
+    let same = softirq-base w p (next_of p.softirq) in
+    by-if (λ r. left w r ≤ base w p) (nat_le p.settings.time_limit (p.clock - p.softirq.began)) (rests (ends_run true p))
+    (option_map_or (λ number. polls number q) (asked_in q.softirq.run) (rests (ends_run false q)))
+    (λ e. over-less w true p nothing)
+    (λ e. asks-less w (base w p) (asked_in q.softirq.run) q (rests (ends_run false q)) (omega (arith, few, same))
+    (omega (arith, few, same, over-less w false q nothing)))
 
-pub takes-less : (p : ProcessorView) → p.work ≡ Nothing → asked_in p.softirq.run ≡ None → left (takes_up p) ≤ base p
+idle-less : (w : ℕ) (p : ProcessorView) → p.work ≡ Nothing → asked_in p.softirq.run ≡ None → (lowest : Option ℕ)
+    → position asks_at p.devices ≡ lowest
+    → left w (option_map_or (λ number. interrupts number p) lowest (if is_some p.softirq.run then goes_on p else rests p)) ≤ base w p
+idle-less w p nothing none (Some n) lowest = interrupts-less w n p (position-Some asks_at p.devices n None lowest).1
+idle-less w p nothing none None lowest =
+    by-if (λ q. left w q ≤ base w p) (is_some p.softirq.run) (goes_on p) (rests p) (λ e. goes-less w p nothing none)
+    (λ e. rests-less w p nothing)
+
+idle-is : (work : Work) → is_busy work ≡ false → work ≡ Nothing
+idle-is work idle = grind (arith, common_steps)
+
+-- nothing is asked while nothing is under way
+takes-less : (w : ℕ) (p : ProcessorView) → (p.work ≡ Nothing → asked_in p.softirq.run ≡ None) → left w (takes_up p) ≤ left w p
 unfolding takes_up
-takes-less p nothing none = takes-by (position raises_at p.devices) p refl nothing none
+takes-less w p none =
+    by-if (λ q. left w q ≤ left w p) (is_busy p.work) p
+    (option_map_or (λ number. interrupts number p) (position asks_at p.devices) (if is_some p.softirq.run then goes_on p else rests p))
+    (λ busy. omega arith)
+    (λ idle.
+    let nothing = idle-is p.work idle in
+    omega (arith, idle-less w p nothing (none nothing) (position asks_at p.devices) refl, idle-left w p nothing))
 
-anomaly-same : (o : Option ℕ) (p : ProcessorView) (clock : ℕ) → anomaly o (record p { clock = clock }) ≡ anomaly o p
-unfolding anomaly
-anomaly-same o p clock = grind (arith, common_steps)
+-- ---- what ends
 
-left-same : (w : Work) (p : ProcessorView) (clock : ℕ) → left_by w (record p { clock = clock }) ≡ left_by w p
-unfolding left_by
-left-same w p clock = grind (arith, common_steps, anomaly-same)
+delivers-most : (w n came : ℕ) (p : ProcessorView) → base w (delivers n came p) ≤ base w p + 1
+unfolding base delivers
+delivers-most w n came p =
+    let same = weights-most w 0 (delivered p.clock came) n p.devices (omega (arith, weight-delivered w p.clock came (at n p.devices))) in
+    let wakes = p.settings.threaded && not p.settings.apart && has_place p.application in
+    omega (arith, same, fed-few p.clock came p.settings p.application, if-application wakes p.tasks)
 
--- each step leaves less
-pub step-less : (p : ProcessorView) → IsKept p → is_busy p.work ≡ true → left (step p) < left p
-unfolding base left step ends_current
-step-less p kept busy = grind (arith, common_steps, asked-ends, ends-less, left-same, takes-less)
+oldest-less : (w n : ℕ) (next : Option ℕ) (p : ProcessorView) → 4 ≤ w → next_packet_at false (at n p.devices) ≡ next
+    → base w (delivers_oldest n next p) + (if is_some next then 3 else 0) ≤ base w p
+unfolding base
+oldest-less w n None p least is = omega arith
+oldest-less w n (Some came) p least is =
+    let q = record p { devices = changed (without_next false) n p.devices } in
+    omega (arith, least, delivers-most w n came q, taken)
+  where
+    taken : base w (record p { devices = changed (without_next false) n p.devices }) + w ≤ base w p
+    taken = omega (arith, weights-less w w (without_next false) n p.devices (taken-less w false (at n p.devices) came is))
+
+raised-none : (w : ℕ) (o : Option DeviceView) → next_packet_at false o ≡ None → weight_at w (map_at raised_again o) ≤ weight_at w o + 0
+unfolding map_at weight_at weight_of
+raised-none w None none = omega arith
+raised-none w (Some d) none = by d.ring none
+  where
+    by : (ring : List ℕ) → slice_get ring 0 ≡ None
+        → w * (length ring + length d.taken) + 5 * d.deferrals + phase_weight (if length ring == 0 then d.phase else Raised)
+        ≤ w * (length ring + length d.taken) + 5 * d.deferrals + phase_weight d.phase + 0
+    by [] none = omega arith
+    by (x ∷ xs) none = cc none
+
+raised-base : (w more n : ℕ) (p : ProcessorView) → weight_at w (map_at raised_again (at n p.devices)) ≤ weight_at w (at n p.devices) + more
+    → base w (record p { devices = changed raised_again n p.devices }) ≤ base w p + more
+unfolding base
+raised-base w more n p most = omega (arith, weights-most w more raised_again n p.devices most)
+
+lone-less : (w n : ℕ) (p : ProcessorView) → load ≤ w → base w (ends_interrupt n p) ≤ base w p
+unfolding ends_interrupt
+lone-less w n p least = by (next_packet_at false (at n p.devices)) refl
+  where
+    by : (next : Option ℕ) → next_packet_at false (at n p.devices) ≡ next
+        → (let q = delivers_oldest n next p in base w (record q { devices = changed raised_again n q.devices }) ≤ base w p)
+    by None is = omega (arith, raised-base w 0 n p (raised-none w (at n p.devices) is))
+    by (Some came) is =
+        let q = delivers_oldest n (Some came) p in
+        omega (arith, raised-base w 3 n q (weight-raised w (at n q.devices)), oldest-less w n (Some came) p (omega (arith, least)) is)
+
+-- a poll ends: what its device may still do, and its next poll
+abbrev pub extra : ℕ → ℕ
+extra given = if given == 0 then 0 else 327677
+
+after-poll : (w n given : ℕ) (full : Bool) (q : ProcessorView)
+    → (let once : Once = record { work = given; next = if full then Repoll else Gone } in
+    base w (if q.settings.threaded then record q { tasks = if full then Thread n ∷ q.tasks else q.tasks }
+    else record q { softirq = polled_once once q.softirq })
+    ≤ base w q + (if full then 2 else 0))
+unfolding base
+after-poll w n given true q =
+    let once : Once = record { work = given; next = Repoll } in
+    by-if (λ r. base w r ≤ base w q + 2) q.settings.threaded (record q { tasks = Thread n ∷ q.tasks })
+    (record q { softirq = polled_once once q.softirq }) (λ e. omega arith) (λ e. omega (arith, entries-polled once q.softirq))
+after-poll w n given false q =
+    let once : Once = record { work = given; next = Gone } in
+    by-if (λ r. base w r ≤ base w q + 0) q.settings.threaded (record q { tasks = q.tasks })
+    (record q { softirq = polled_once once q.softirq }) (λ e. omega arith) (λ e. omega (arith, entries-polled once q.softirq))
+
+bound : (defer : ℕ) (full none : Bool) → defer ≤ 65535 → (full ≡ true → none ≡ true → ⊥)
+    → (if full then 2 else 0) + (if full then 0 else (if none then 0 else 5 * defer)) ≤ (if none then 0 else 327677)
+bound defer true true most not = absurd (not refl refl)
+bound defer true false most not = omega arith
+bound defer false true most not = omega arith
+bound defer false false most not = omega (arith, most)
+
+poll-less : (w n given : ℕ) (p : ProcessorView) → base w (ends_poll n given p) ≤ base w p + extra given
+unfolding base ends_poll
+poll-less w n given p =
+    let s = p.settings in
+    let full = given == s.weight in
+    let counts = record p.counts { polls = held (p.counts.polls + 1); work = held (p.counts.work + given) } in
+    let q = record p { devices = changed (polled p.clock given s) n p.devices; counts = counts } in
+    omega (
+      arith,
+      after-poll w n given full q,
+      weights-most w (if full then 0 else (if given == 0 then 0 else 5 * s.defer_hard_irqs)) (polled p.clock given s) n p.devices
+          (weight-polled w p.clock given s (at n p.devices)),
+      bound s.defer_hard_irqs full (given == 0) s.defer_hard_irqs_in
+          (λ full none. omega (arith, eqb-true given s.weight full, eqb-true given 0 none, s.weight_in.0)),
+    )
+
+poll-work : (n given : ℕ) (p : ProcessorView) → (ends_poll n given p).work ≡ p.work
+unfolding ends_poll
+poll-work n given p = by-if (λ q. q.work ≡ p.work) p.settings.threaded _ _ (λ e. refl) (λ e. refl)
+
+poll-left : (w n given : ℕ) (p : ProcessorView) → p.work ≡ Nothing → left w (ends_poll n given p) ≤ base w p + extra given
+poll-left w n given p nothing =
+    omega (arith, idle-left w (ends_poll n given p) (poll-work n given p ∙ nothing), poll-less w n given p)
+
+looked-base : (w n : ℕ) (backlog : Bool) (p : ProcessorView) → base w (record p { devices = changed (without_next backlog) n p.devices }) ≤ base w p
+unfolding base
+looked-base w n backlog p =
+    omega (arith, weights-most w 0 (without_next backlog) n p.devices (looked-most w backlog (at n p.devices)))
+
+taken-left : (w n : ℕ) (packet : InHand) (backlog : Bool) (time : ℕ) (p : ProcessorView)
+    → next_packet_at backlog (at n p.devices) ≡ Some packet.came
+    → left w (begins (Packet packet) time (record p { devices = changed (without_next backlog) n p.devices })) ≤ base w p
+unfolding left left_by base
+taken-left w n packet backlog time p is =
+    omega (arith, weights-less w w (without_next backlog) n p.devices (taken-less w backlog (at n p.devices) packet.came is))
+
+looks-less : (w n given : ℕ) (p : ProcessorView) → p.work ≡ Nothing → left w (looks n given p) ≤ base w p + extra given
+unfolding looks
+looks-less w n given p nothing =
+    by-if (λ r. left w r ≤ base w p + extra given) (nat_lt given p.settings.weight)
+    (option_map_or (λ came. begins (Packet (record { device = n; came = came; given = given })) p.settings.packet q)
+    (next_packet_at backlog (at n p.devices)) (ends_poll n given q))
+    (ends_poll n given p) (λ e. by (next_packet_at backlog (at n p.devices)) refl) (λ e. poll-left w n given p nothing)
+  where
+    backlog : Bool
+    backlog = p.settings.backlog
+
+    q : ProcessorView
+    q = record p { devices = changed (without_next p.settings.backlog) n p.devices }
+
+    by : (next : Option ℕ) → next_packet_at p.settings.backlog (at n p.devices) ≡ next
+        → left w (option_map_or (λ came. begins (Packet (record { device = n; came = came; given = given })) p.settings.packet q) next
+        (ends_poll n given q))
+        ≤ base w p + extra given
+    by None is = omega (arith, poll-left w n given q nothing, looked-base w n p.settings.backlog p)
+    by (Some came) is =
+        omega (arith, taken-left w n (record { device = n; came = came; given = given }) p.settings.backlog p.settings.packet p is)
+
+lone-work : (n : ℕ) (p : ProcessorView) → (ends_interrupt n p).work ≡ p.work
+unfolding ends_interrupt delivers
+lone-work n p = by (next_packet_at false (at n p.devices))
+  where
+    by : (next : Option ℕ) → (delivers_oldest n next p).work ≡ p.work
+    by None = refl
+    by (Some came) = refl
+
+delivers-work : (n came : ℕ) (p : ProcessorView) → (delivers n came p).work ≡ p.work
+unfolding delivers
+delivers-work n came p = refl
+
+next-some : (n : ℕ) → (n + 1 == 0) ≡ false
+next-some n = grind (arith, common_steps)
+
+ends-less : (w : ℕ) (work : Work) (p : ProcessorView) → load ≤ w → p.work ≡ Nothing → is_busy work ≡ true
+    → left w (ends_by work p) < base w p + left_by w work
+unfolding left_by base
+ends-less w Nothing p least nothing busy = cc busy
+ends-less w (Interrupt n) p least nothing busy =
+    by-if (λ q. left w q < base w p + 1) (is_polling p.settings) p (ends_interrupt n p) (λ e. omega (arith, idle-left w p nothing))
+    (λ e. omega (arith, idle-left w (ends_interrupt n p) (lone-work n p ∙ nothing), lone-less w n p least))
+ends-less w (Poll n) p least nothing busy = omega (arith, looks-less w n 0 p nothing)
+ends-less w (Packet packet) p least nothing busy =
+    let q = delivers packet.device packet.came p in
+    let extra_is : extra (packet.given + 1) ≡ 327677 = rw (next-some packet.given) refl in
+    omega (
+      arith,
+      least,
+      looks-less w packet.device (packet.given + 1) q (delivers-work packet.device packet.came p ∙ nothing),
+      delivers-most w packet.device packet.came p,
+      extra_is,
+    )
+ends-less w (Use came) p least nothing busy = omega (arith, idle-left w (record p { application = used p.clock came p.application }) nothing, same)
+  where
+    same : base w (record p { application = used p.clock came p.application }) ≡ base w p
+    same = refl
+
+current-less : (w : ℕ) (p : ProcessorView) → load ≤ w → is_busy p.work ≡ true → left w (ends_current p) < left w p
+unfolding left ends_current base
+current-less w p least busy =
+    ends-less w p.work (record p { clock = p.ends; work = Nothing; counts = spent p.work (p.ends - p.clock) p.counts }) least refl busy
+
+-- ---- what is asked after work ended
+
+poll-unasked : (n given : ℕ) (p : ProcessorView) → (p.settings.threaded ≡ true → asked_in p.softirq.run ≡ None)
+    → asked_in (ends_poll n given p).softirq.run ≡ None
+unfolding ends_poll
+poll-unasked n given p none =
+    by-if (λ q. asked_in q.softirq.run ≡ None) p.settings.threaded _ _ (λ threaded. none threaded) (λ e. asked-polled _ p.softirq)
+
+looks-unasked : (n given : ℕ) (p : ProcessorView) → (p.settings.threaded ≡ true → asked_in p.softirq.run ≡ None)
+    → (looks n given p).work ≡ Nothing → asked_in (looks n given p).softirq.run ≡ None
+unfolding looks
+looks-unasked n given p none =
+    by-if (λ r. r.work ≡ Nothing → asked_in r.softirq.run ≡ None) (nat_lt given p.settings.weight)
+    (option_map_or (λ came. begins (Packet (record { device = n; came = came; given = given })) p.settings.packet q)
+    (next_packet_at p.settings.backlog (at n p.devices)) (ends_poll n given q))
+    (ends_poll n given p) (λ e. by (next_packet_at p.settings.backlog (at n p.devices))) (λ e idle. poll-unasked n given p none)
+  where
+    q : ProcessorView
+    q = record p { devices = changed (without_next p.settings.backlog) n p.devices }
+
+    by : (next : Option ℕ)
+        → (let r = option_map_or (λ came. begins (Packet (record { device = n; came = came; given = given })) p.settings.packet q) next
+        (ends_poll n given q) in
+        r.work ≡ Nothing → asked_in r.softirq.run ≡ None)
+    by None idle = poll-unasked n given q none
+    by (Some came) idle = cc idle
+
+lone-softirq : (n : ℕ) (p : ProcessorView) → (ends_interrupt n p).softirq ≡ p.softirq
+unfolding ends_interrupt delivers
+lone-softirq n p = by (next_packet_at false (at n p.devices))
+  where
+    by : (next : Option ℕ) → (delivers_oldest n next p).softirq ≡ p.softirq
+    by None = refl
+    by (Some came) = refl
+
+delivers-same : (n came : ℕ) (p : ProcessorView) → ((delivers n came p).softirq ≡ p.softirq) × ((delivers n came p).settings ≡ p.settings)
+unfolding delivers
+delivers-same n came p = (refl, refl)
+
+by-unasked : (work : Work) (p : ProcessorView) → asked_in p.softirq.run ≡ (if p.settings.threaded then None else polled_by work)
+    → (ends_by work p).work ≡ Nothing → asked_in (ends_by work p).softirq.run ≡ None
+by-unasked Nothing p asked idle = asked ∙ if-none p.settings.threaded None refl
+by-unasked (Interrupt n) p asked idle =
+    let none : asked_in p.softirq.run ≡ None = asked ∙ if-none p.settings.threaded None refl in
+    by-if (λ q. asked_in q.softirq.run ≡ None) (is_polling p.settings) p (ends_interrupt n p) (λ e. none)
+    (λ e. rw (lone-softirq n p) none)
+by-unasked (Poll n) p asked idle = looks-unasked n 0 p (λ threaded. rw threaded at asked) idle
+by-unasked (Packet packet) p asked idle =
+    let same = delivers-same packet.device packet.came p in
+    looks-unasked packet.device (packet.given + 1) (delivers packet.device packet.came p)
+    (λ threaded. rw same.0 (rw (sym (ap (λ (s : Settings). s.threaded) same.1) ∙ threaded) at asked)) idle
+by-unasked (Use came) p asked idle = asked ∙ if-none p.settings.threaded None refl
+
+current-unasked : (p : ProcessorView) → IsKept p → (ends_current p).work ≡ Nothing → asked_in (ends_current p).softirq.run ≡ None
+unfolding ends_current
+current-unasked p kept idle =
+    by-unasked p.work (record p { clock = p.ends; work = Nothing; counts = spent p.work (p.ends - p.clock) p.counts }) kept.asked idle
+
+-- ---- a timer expires
+
+disturbs-less : (w moment : ℕ) (work : Work) (p : ProcessorView) → p.work ≡ work → (asked : Bool)
+    → left w (if is_busy work then (if asked then set_aside moment work p else p) else woken moment asked p) ≤ left w p
+unfolding left left_by base
+disturbs-less w moment Nothing p is true = omega arith
+disturbs-less w moment Nothing p is false = omega arith
+disturbs-less w moment (Use came) p is true = rw is (set p.rest)
+  where
+    set : (rest : Option Rest)
+        → weights w p.devices + length p.application.socket.items + 2 * entries p.softirq + 2 * threads p.tasks + 1 + 0
+        ≤ weights w p.devices + length p.application.socket.items + 2 * entries p.softirq + 2 * threads p.tasks + rest_weight rest + 1
+    set None = omega arith
+    set (Some rest) = omega arith
+disturbs-less w moment (Use came) p is false = omega arith
+disturbs-less w moment (Interrupt n) p is true = omega arith
+disturbs-less w moment (Interrupt n) p is false = omega arith
+disturbs-less w moment (Poll n) p is true = omega arith
+disturbs-less w moment (Poll n) p is false = omega arith
+disturbs-less w moment (Packet packet) p is true = omega arith
+disturbs-less w moment (Packet packet) p is false = omega arith
+
+disturbs-unasked : (moment : ℕ) (work : Work) (p : ProcessorView) → p.work ≡ work
+    → asked_in p.softirq.run ≡ (if p.settings.threaded then None else polled_by work) → (asked : Bool)
+    → (let r = if is_busy work then (if asked then set_aside moment work p else p) else woken moment asked p in
+    r.work ≡ Nothing → asked_in r.softirq.run ≡ None)
+disturbs-unasked moment Nothing p is asked true idle = asked ∙ if-none p.settings.threaded None refl
+disturbs-unasked moment Nothing p is asked false idle = asked ∙ if-none p.settings.threaded None refl
+disturbs-unasked moment (Use came) p is asked true idle = asked ∙ if-none p.settings.threaded None refl
+disturbs-unasked moment (Use came) p is asked false idle = asked ∙ if-none p.settings.threaded None refl
+disturbs-unasked moment (Interrupt n) p is asked true idle = cc (is, idle)
+disturbs-unasked moment (Interrupt n) p is asked false idle = cc (is, idle)
+disturbs-unasked moment (Poll n) p is asked true idle = cc (is, idle)
+disturbs-unasked moment (Poll n) p is asked false idle = cc (is, idle)
+disturbs-unasked moment (Packet packet) p is asked true idle = cc (is, idle)
+disturbs-unasked moment (Packet packet) p is asked false idle = cc (is, idle)
+
+disturbed-less : (w moment : ℕ) (p : ProcessorView)
+    → asked_in p.softirq.run ≡ (if p.settings.threaded then None else polled_by p.work) → left w (disturbed moment p) ≤ left w p
+unfolding disturbed
+disturbed-less w moment p asked =
+    let up = is_some (position asks_at p.devices) in
+    let r = if is_busy p.work then (if up then set_aside moment p.work p else p) else woken moment up p in
+    omega (arith, takes-less w r (disturbs-unasked moment p.work p refl asked up), disturbs-less w moment p.work p refl up)
+
+expires-less : (w : ℕ) (timer : Timer) (p : ProcessorView) → soonest_from 0 p.devices ≡ Some timer
+    → left w (record p { devices = changed expired timer.device p.devices }) < left w p
+unfolding left base
+expires-less w timer p is =
+    let zeroth : timer.device - 0 ≡ timer.device = omega arith in
+    let here = rw zeroth at (soonest-is 0 p.devices timer is).1 in
+    omega (arith, weights-less w 1 expired timer.device p.devices (expired-less w timer.device timer (at timer.device p.devices) here))
+
+-- ---- each step leaves less
+
+ends-busy : (soonest : Option Timer) (p : ProcessorView)
+    → option_map_or (λ timer. if is_busy p.work && nat_le p.ends timer.at then Ends else Expires timer) soonest
+    (if is_busy p.work then Ends else Never) ≡ Ends
+    → is_busy p.work ≡ true
+ends-busy soonest p is = grind (arith, common_steps)
+
+expires-soonest : (soonest : Option Timer) (timer : Timer) (p : ProcessorView)
+    → option_map_or (λ timer. if is_busy p.work && nat_le p.ends timer.at then Ends else Expires timer) soonest
+    (if is_busy p.work then Ends else Never) ≡ Expires timer
+    → soonest ≡ Some timer
+expires-soonest soonest timer p is = grind (arith, common_steps)
+
+pub step-less : (moment : ℕ) (p : ProcessorView) → IsKept p → is_due moment p ≡ true → left load (step p) < left load p
+unfolding step
+step-less moment p kept due = by (upcoming p) refl due
+  where
+    by : (next : Upcoming) → upcoming p ≡ next → is_by moment next p ≡ true → left load (happens next p) < left load p
+    by Never is due = cc due
+    by Ends is due =
+        omega (
+          arith,
+          takes-less load (ends_current p) (current-unasked p kept),
+          current-less load p (omega arith)
+              (ends-busy (soonest_from 0 p.devices) p is),
+        )
+    by (Expires timer) is due =
+        omega (
+          arith,
+          disturbed-less load timer.at (record p { devices = changed expired timer.device p.devices }) kept.asked,
+          expires-less load timer p (expires-soonest (soonest_from 0 p.devices) timer p is),
+        )

@@ -4,7 +4,7 @@ use Rattle.std.proofs.Common.{◌≡◌, ℕ, ◌+◌, Bool, true, false, Option
 use Rattle.std.{proofs.Common.arith, specs.Prelude.{is_some, slice_get, if◌then◌else◌, option_map}}
 use Rattle.poll_runs.specs.Turn.{asked_for}
 use Rattle.{poll_runs.specs.declared.bench.{Next.TheVariants.{Gone, Repoll}, Once.Once}, machine_model.specs.Softirq.{RunView, SoftirqView}}
-use Rattle.machine_model.specs.Softirq.{asked_in, begun, ended, filled, is_spent, next_from, next_of, pushed, told, told_run}
+use Rattle.machine_model.specs.Softirq.{asked_in, begun, ended, filled, is_spent, next_from, next_of, pushed, polled_once, polled_run}
 use Rattle.machine_model.specs.Shown.{weight_in, listed}
 
 pub listed-pushed : (n : ℕ) (q : SoftirqView) → listed (pushed n q) ≡ listed q + 1
@@ -57,31 +57,31 @@ pub listed-ended : (q : SoftirqView) → asked_in q.run ≡ None → listed (end
 listed-ended q none = ended-same q.list q.run q.began none
 
 -- a poll that gave its whole weight puts its number back, any other lets it go
-told-moves : (full : Bool) (work n : ℕ) (list : List ℕ) (run : Option RunView) (began : ℕ) → asked_in run ≡ Some n
+polled-moves : (full : Bool) (work n : ℕ) (list : List ℕ) (run : Option RunView) (began : ℕ) → asked_in run ≡ Some n
     → let q : SoftirqView = record { list = list; run = run; began = began } in
-    listed (told (record { work = work; next = if full then Repoll else Gone }) q) + (if full then 0 else 1) ≡ listed q
-unfolding told
-told-moves full work n list run began asked = grind (arith, common_steps)
+    listed (polled_once (record { work = work; next = if full then Repoll else Gone }) q) + (if full then 0 else 1) ≡ listed q
+unfolding polled_once
+polled-moves full work n list run began asked = grind (arith, common_steps)
 
-pub listed-told : (full : Bool) (work n : ℕ) (q : SoftirqView) → asked_in q.run ≡ Some n
-    → listed (told (record { work = work; next = if full then Repoll else Gone }) q) + (if full then 0 else 1) ≡ listed q
-listed-told full work n q asked = told-moves full work n q.list q.run q.began asked
+pub listed-polled : (full : Bool) (work n : ℕ) (q : SoftirqView) → asked_in q.run ≡ Some n
+    → listed (polled_once (record { work = work; next = if full then Repoll else Gone }) q) + (if full then 0 else 1) ≡ listed q
+listed-polled full work n q asked = polled-moves full work n q.list q.run q.began asked
 
-told-rests : (run : Option RunView) (once : Once) → asked_in (option_map (told_run once) run) ≡ None
-told-rests run once = grind (arith, common_steps)
+polled-rests : (run : Option RunView) (once : Once) → asked_in (option_map (polled_run once) run) ≡ None
+polled-rests run once = grind (arith, common_steps)
 
-pub asked-told : (once : Once) (q : SoftirqView) → asked_in (told once q).run ≡ None
-unfolding told
-asked-told once q = told-rests q.run once
+pub asked-polled : (once : Once) (q : SoftirqView) → asked_in (polled_once once q).run ≡ None
+unfolding polled_once
+asked-polled once q = polled-rests q.run once
 
-told-weighs : (run : Option RunView) (once : Once)
-    → (weight_in (option_map (told_run once) run) ≡ weight_in run) × (is_some (option_map (told_run once) run) ≡ is_some run)
-told-weighs run once = grind (arith, common_steps)
+polled-weighs : (run : Option RunView) (once : Once)
+    → (weight_in (option_map (polled_run once) run) ≡ weight_in run) × (is_some (option_map (polled_run once) run) ≡ is_some run)
+polled-weighs run once = grind (arith, common_steps)
 
-pub weight-told : (once : Once) (q : SoftirqView)
-    → (weight_in (told once q).run ≡ weight_in q.run) × (is_some (told once q).run ≡ is_some q.run)
-unfolding told
-weight-told once q = told-weighs q.run once
+pub weight-polled : (once : Once) (q : SoftirqView)
+    → (weight_in (polled_once once q).run ≡ weight_in q.run) × (is_some (polled_once once q).run ≡ is_some q.run)
+unfolding polled_once
+weight-polled once q = polled-weighs q.run once
 
 pub run-some : (n : ℕ) (run : Option RunView) → asked_in run ≡ Some n → is_some run ≡ true
 run-some n run asked = grind (arith, common_steps)

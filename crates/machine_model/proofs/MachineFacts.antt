@@ -2,7 +2,7 @@
 use Rattle.std.proofs.Common.{◌≡◌, ◌∙◌, ℕ, zero, suc, ◌+◌, ◌-◌, ◌*◌, ◌/◌, ◌%◌, ◌<◌, ◌≤◌, Some, List, [], ◌∷◌, length, length-set, get_or}
 use Rattle.std.{proofs.{Common.{slice_set, ◌⊎◌, inl, inr, refl, sym, arith}, Math.Nat.{eq-or-lt_of_le, mod-lt}}, specs.Prelude.slice_get}
 use Rattle.circular_buffer.proofs.Places.{slice_get-set_other, slice_get-set_same}
-use Rattle.machine_model.specs.{Machine.{Arrives, ArrivesAt, Finishes, Machine}, Processor.{ProcessorView, RunsTo}}
+use Rattle.machine_model.specs.{Machine.{Arrives, ArrivesAt, Finishes, FinishesAt, Machine}, Processor.ProcessorView}
 
 pub get-some : {A : Type 0} → (xs : List A) (i : ℕ) (x : A) → i < length xs → get_or xs i x ≡ x → slice_get xs i ≡ Some x
 get-some [] i x below is = absurd (omega (arith, below))
@@ -27,7 +27,7 @@ arrive-exact moment device count before old new is least most value arrives =
 pub record Finished (before now : Machine) (count : ℕ) : Type 0 where
   pub size : length now ≡ length before
   pub done : (n : ℕ) (p : ProcessorView) → n < count → slice_get before n ≡ Some p
-      → (q : ProcessorView) × (slice_get now n ≡ Some q) × RunsTo 18446744073709551615 p q
+      → (q : ProcessorView) × (slice_get now n ≡ Some q) × FinishesAt p q
   pub rest : (n : ℕ) → count ≤ n → slice_get now n ≡ slice_get before n
 
 pub finished-none : (before : Machine) → Finished before before 0
@@ -38,7 +38,7 @@ same-some p q e = cc e
 
 pub finished-more : (before now : Machine) (count : ℕ) (old new : ProcessorView) → Finished before now count → count < length now
     → get_or now count old ≡ old
-    → RunsTo 18446744073709551615 old new → Finished before (slice_set now count new) (count + 1)
+    → FinishesAt old new → Finished before (slice_set now count new) (count + 1)
 finished-more before now count old new f below value runs = record {
   size = length-set now count new ∙ f.size;
   done = λ n p less is. by n p is (eq-or-lt_of_le {n = n} {m = count} (omega (arith, less)));
@@ -46,7 +46,7 @@ finished-more before now count old new f below value runs = record {
 }
   where
     by : (n : ℕ) (p : ProcessorView) → slice_get before n ≡ Some p → (n ≡ count) ⊎ (n < count)
-        → (q : ProcessorView) × (slice_get (slice_set now count new) n ≡ Some q) × RunsTo 18446744073709551615 p q
+        → (q : ProcessorView) × (slice_get (slice_set now count new) n ≡ Some q) × FinishesAt p q
     by n p is (inl same) =
         let own : slice_get now count ≡ Some old = get-some now count old below value in
         let first : slice_get before count ≡ Some p = rw same at is in

@@ -1,8 +1,11 @@
--- Sums over a processor's devices as one of them changes, and how many are masked.
+-- Sums over a processor's devices as one of them changes, and how many are scheduled.
 use Rattle.std.proofs.Common.{◌+◌, ◌<◌, ◌≤◌, Bool, true, false, Option, Some, None, [], ◌∷◌, ◌++◌, length, replicate, arith, ◌≡◌, ℕ}
-use Rattle.std.{proofs.lemmas.{List.Sums.sum_by-cons, Grind.common_steps}, specs.Prelude.{◌||◌, not, sum_by, if◌then◌else◌, nat_lt}}
-use Rattle.{device_places.{proofs.PlaceFacts.below-some, specs.Places.{at, changed}}, machine_model.specs.Devices.{Devices, is_handed_at}}
-use Rattle.machine_model.specs.{Device.{DeviceView, ended_poll, interrupted, after_packet}, Waits.held, Kept.{masks, mask_at}, Shown.listed}
+use Rattle.std.{proofs.lemmas.{List.Sums.sum_by-cons, Grind.common_steps}, specs.Prelude.{◌==◌, not, sum_by, if◌then◌else◌}}
+use Rattle.{device_places.{proofs.PlaceFacts.below-some, specs.Places.{at, changed}}, machine_model.specs.Devices.{Devices, asks_at}}
+use Rattle.machine_words.specs.declared.settings.Settings.{Settings}
+use Rattle.machine_model.specs.{Device.{DeviceView, after_packet, completed, expired, interrupted, is_fired, is_masked, notified, polled}}
+use Rattle.machine_model.specs.{Device.{asks, expired_phase, without_next}, Kept.{all_scheduled, is_scheduled, scheduled_at}}
+use Rattle.machine_model.specs.declared.device.Phase.{Phase}
 
 unfoldable pub map_at : (DeviceView → DeviceView) → Option DeviceView → Option DeviceView
 map_at f None = None
@@ -13,63 +16,73 @@ pub sum-changed : (g : Option DeviceView → ℕ) (f : DeviceView → DeviceView
 unfolding map_at
 sum-changed g f n xs = grind (arith, common_steps, below-some)
 
-pub sum-at : (g : Option DeviceView → ℕ) (f : DeviceView → DeviceView) (n : ℕ) (xs : Devices) (o : Option DeviceView) → at n xs ≡ o
-    → sum_by g (changed f n xs) + g o ≡ sum_by g xs + g (map_at f o)
-sum-at g f n xs o here = grind (arith, common_steps, sum-changed)
-
 pub at-changed : (f : DeviceView → DeviceView) (n : ℕ) (xs : Devices) → at n (changed f n xs) ≡ map_at f (at n xs)
 unfolding map_at
 at-changed f n xs = grind (arith, common_steps, below-some)
 
--- what holds of a device that has room for a packet, with it in its ring, and of one that drops it
-pub packet-by : (Q : Bool → DeviceView → Type 0) (moment : ℕ) (d : DeviceView)
-    → (let counted : DeviceView = record d { told = record d.told { arrived = held (d.told.arrived + 1) } } in
-    Q true (record counted { ring = d.ring ++ moment ∷ []; raises = d.raises || not d.masked })
-    × Q false (record counted { told = record counted.told { dropped = held (d.told.dropped + 1) } }))
-    → Q (nat_lt (length d.ring) d.capacity) (after_packet moment d)
-unfolding after_packet
-packet-by Q moment d each = grind (arith, common_steps)
+-- ---- how many are scheduled
 
-mask-same : (f : DeviceView → DeviceView) → ((d : DeviceView) → (f d).masked ≡ d.masked) → (o : Option DeviceView)
-    → mask_at (map_at f o) ≡ mask_at o
+mask-same : (f : DeviceView → DeviceView) → ((d : DeviceView) → is_scheduled (f d).phase ≡ is_scheduled d.phase) → (o : Option DeviceView)
+    → scheduled_at (map_at f o) ≡ scheduled_at o
 unfolding map_at
 mask-same f same o = grind (arith, common_steps)
 
-pub masks-same : (f : DeviceView → DeviceView) (n : ℕ) (xs : Devices) → ((d : DeviceView) → (f d).masked ≡ d.masked)
-    → masks (changed f n xs) ≡ masks xs
-masks-same f n xs same = omega (arith, sum-changed mask_at f n xs, mask-same f same (at n xs))
+pub scheduled-same : (f : DeviceView → DeviceView) (n : ℕ) (xs : Devices)
+    → ((d : DeviceView) → is_scheduled (f d).phase ≡ is_scheduled d.phase) → all_scheduled (changed f n xs) ≡ all_scheduled xs
+scheduled-same f n xs same = omega (arith, sum-changed scheduled_at f n xs, mask-same f same (at n xs))
 
-handed-mask : (polling : Bool) (o : Option DeviceView)
-    → mask_at (map_at (interrupted polling) o) ≡ mask_at o + (if is_handed_at polling o then 1 else 0)
+asks-open : (phase : Phase) → asks phase ≡ true → is_scheduled phase ≡ false
+asks-open phase up = grind (arith, common_steps)
+
+scheduled-one : (polling : Bool) (o : Option DeviceView) → asks_at o ≡ true
+    → scheduled_at o + (if polling then 1 else 0) ≤ scheduled_at (map_at (interrupted polling) o)
 unfolding map_at interrupted
-handed-mask polling o = grind (arith, common_steps)
+scheduled-one polling None up = grind (arith, common_steps)
+scheduled-one polling (Some d) up = grind (arith, common_steps, asks-open)
 
-pub masks-interrupted : (polling : Bool) (n : ℕ) (xs : Devices)
-    → masks (changed (interrupted polling) n xs) ≡ masks xs + (if is_handed_at polling (at n xs) then 1 else 0)
-masks-interrupted polling n xs = omega (arith, sum-changed mask_at (interrupted polling) n xs, handed-mask polling (at n xs))
+pub scheduled-interrupted : (polling : Bool) (n : ℕ) (xs : Devices) → asks_at (at n xs) ≡ true
+    → all_scheduled xs + (if polling then 1 else 0) ≤ all_scheduled (changed (interrupted polling) n xs)
+scheduled-interrupted polling n xs up =
+    omega (arith, sum-changed scheduled_at (interrupted polling) n xs, scheduled-one polling (at n xs) up)
 
-ended-mask : (full : Bool) (o : Option DeviceView) → mask_at o ≤ mask_at (map_at (ended_poll full) o) + (if full then 0 else 1)
-unfolding map_at ended_poll
-ended-mask full o = grind (arith, common_steps)
+polled-one : (now given : ℕ) (s : Settings) (o : Option DeviceView)
+    → scheduled_at o ≤ scheduled_at (map_at (polled now given s) o) + (if given == s.weight then 0 else 1)
+unfolding map_at polled
+polled-one now given s o = grind (arith, common_steps)
 
-pub masks-ended : (full : Bool) (n : ℕ) (xs : Devices) → masks xs ≤ masks (changed (ended_poll full) n xs) + (if full then 0 else 1)
-masks-ended full n xs = omega (arith, sum-changed mask_at (ended_poll full) n xs, ended-mask full (at n xs))
+pub scheduled-polled : (now given : ℕ) (s : Settings) (n : ℕ) (xs : Devices)
+    → all_scheduled xs ≤ all_scheduled (changed (polled now given s) n xs) + (if given == s.weight then 0 else 1)
+scheduled-polled now given s n xs = omega (arith, sum-changed scheduled_at (polled now given s) n xs, polled-one now given s (at n xs))
 
-mask-most : (o : Option DeviceView) → mask_at o ≤ 1
-mask-most o = grind (arith, common_steps)
+one-most : (o : Option DeviceView) → scheduled_at o ≤ 1
+one-most o = grind (arith, common_steps)
 
-pub masks-most : (xs : Devices) → masks xs ≤ length xs
-masks-most [] = omega arith
-masks-most (x ∷ xs) = omega (arith, sum_by-cons mask_at x xs, mask-most x, masks-most xs)
+pub scheduled-most : (xs : Devices) → all_scheduled xs ≤ length xs
+scheduled-most [] = omega arith
+scheduled-most (x ∷ xs) = omega (arith, sum_by-cons scheduled_at x xs, one-most x, scheduled-most xs)
+
+-- ---- which changes schedule none
+
+expired-open : (phase : Phase) → is_scheduled (expired_phase phase) ≡ is_scheduled phase
+expired-open phase = grind (arith, common_steps)
+
+pub scheduled-expired : (n : ℕ) (xs : Devices) → all_scheduled (changed expired n xs) ≡ all_scheduled xs
+scheduled-expired n xs = scheduled-same expired n xs (λ d. expired-open d.phase)
+
+pub same-next : (backlog : Bool) (d : DeviceView) → is_scheduled (without_next backlog d).phase ≡ is_scheduled d.phase
+same-next backlog d = grind (arith, common_steps)
+
+unmasked-open : (phase : Phase) → is_masked phase ≡ false → is_scheduled phase ≡ false
+unmasked-open phase clear = grind (arith, common_steps)
+
+notified-open : (moment : ℕ) (s : Settings) (d : DeviceView) → is_scheduled d.phase ≡ false → is_scheduled (notified moment s d).phase ≡ false
+unfolding notified
+notified-open moment s d clear = grind (arith, common_steps)
+
+pub same-packet : (moment : ℕ) (s : Settings) (d : DeviceView) → is_scheduled (after_packet moment s d).phase ≡ is_scheduled d.phase
+unfolding after_packet
+same-packet moment s d = grind (arith, common_steps, notified-open, unmasked-open)
 
 pub more-places : (xs ys : Devices) (count more : ℕ) → ys ≡ xs ++ replicate count None → more ≡ count + 1
     → ys ++ None ∷ [] ≡ xs ++ replicate more None
 more-places xs ys count more is next = grind (arith, common_steps)
-
--- before a push to the list there is room
-pub handed-room : (ds es : Devices) (polling : Bool) (n listed : ℕ) → es ≡ changed (interrupted polling) n ds
-    → is_handed_at polling (at n ds) ≡ true
-    → listed ≤ masks ds → length es ≤ 64 → listed < 64
-handed-room ds es polling n listed is handed few places =
-    let more : masks es ≡ masks ds + 1 = rw is (rw handed at (masks-interrupted polling n ds)) in
-    omega (arith, more, few, places, masks-most es)

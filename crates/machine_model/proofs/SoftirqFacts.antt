@@ -3,9 +3,9 @@ use Rattle.std.{proofs.Common.{◌≡◌, ℕ, ◌+◌, true, false, Option, Som
 use Rattle.std.specs.Prelude.{if◌then◌else◌}
 use Rattle.poll_runs.specs.{Plain.{HasRoom, OwnPushes, all_held}, Polls.{is_arrival, is_repoll}}
 use Rattle.poll_runs.specs.{Turn.HandsOn, Driven.SameSettings, declared.{bench.Once.Once, polling_run.PollingRun.PollingRun}}
-use Rattle.machine_model.specs.{Softirq.{SoftirqView, told}, Shown.shown}
+use Rattle.machine_model.specs.{Softirq.{SoftirqView, polled_once}, Shown.shown}
 
-pub told-exact : (run after : PollingRun) (list left : List ℕ) (began : ℕ) (once : Once) (asked : Option ℕ) → run.asked ≡ asked
+pub polled-exact : (run after : PollingRun) (list left : List ℕ) (began : ℕ) (once : Once) (asked : Option ℕ) → run.asked ≡ asked
     → is_some asked ≡ true
     → is_arrival once.next ≡ false
     → ((id : ℕ) → run.asked ≡ Some id → HandsOn all_held OwnPushes HasRoom list (is_arrival once.next) id left)
@@ -13,9 +13,9 @@ pub told-exact : (run after : PollingRun) (list left : List ℕ) (began : ℕ) (
     → after.own ≡ run.own → after.asked ≡ None → (after.polls ≡ run.polls + 1) × (after.work ≡ run.work + once.work)
     → SameSettings run after
     → let before : SoftirqView = record { list = list; run = Some (shown run); began = began } in
-    let later : SoftirqView = record { list = left; run = Some (shown after); began = began } in later ≡ told once before
-unfolding told
-told-exact run after list left began once (Some id) same some none hands repoll own rests counts settings =
+    let later : SoftirqView = record { list = left; run = Some (shown after); began = began } in later ≡ polled_once once before
+unfolding polled_once
+polled-exact run after list left began once (Some id) same some none hands repoll own rests counts settings =
     let stays : left ≡ list = rw none at (hands id same) in
     rw (stays, repoll id same, own, rests, counts.0, counts.1, settings.budget, settings.weight, settings.window, same) refl
-told-exact run after list left began once None same some none hands repoll own rests counts settings = cc some
+polled-exact run after list left began once None same some none hands repoll own rests counts settings = cc some

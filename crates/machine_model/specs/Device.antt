@@ -1,52 +1,131 @@
--- What packets, interrupts and polls do to a device.
-use Rattle.std.specs.Prelude.{ℕ, ◌+◌, ◌==◌, ◌||◌, not, min, nat_lt, Bool, false, List, [], ◌∷◌, ◌++◌, length, drop, if◌then◌else◌}
-use Rattle.machine_model.specs.{Waits.{WaitsView, counted_all, held, no_waits}, declared.device.DeviceCounts.DeviceCounts}
-use Rattle.machine_model.specs.declared.device.TheConstants.DeviceCounts.{NONE}
+-- A device: a queue of a card with its NAPI instance (`struct napi_struct`).
+use Rattle.std.specs.Prelude.{ℕ, ◌+◌, ◌-◌, ◌==◌, ◌||◌, ◌&&◌, not, nat_le, nat_lt, Bool, true, false, List, [], ◌∷◌, ◌++◌, length, drop}
+use Rattle.std.specs.Prelude.{slice_get, Option, Some, None, if◌then◌else◌}
+use Rattle.{machine_words.specs.declared.settings.Settings.Settings, machine_model.specs.Waits.{WaitsView, counted, held, no_waits}}
+use Rattle.machine_model.specs.declared.device.{DeviceCounts.DeviceCounts, TheConstants.DeviceCounts.NONE, Phase.Phase}
+use Rattle.machine_model.specs.declared.device.Phase.TheVariants.{Quiet, Coalescing, Raised, Scheduled, Deferred, Fired}
 
 pub record DeviceView : Type 0 where
-  -- when each packet came that its ring holds, the oldest first, and how many it may hold
+  -- the arrival times of the packets in its ring, the oldest first, and how many it may hold
   pub ring : List ℕ
   pub capacity : ℕ
-  pub masked : Bool
-  -- it raises its interrupt
-  pub raises : Bool
-  pub told : DeviceCounts
+  -- with a backlog, what `process_backlog` moved out of the ring
+  pub taken : List ℕ
+  pub phase : Phase
+  -- frames since the last interrupt, and how often its interrupt may still be deferred
+  pub frames : ℕ
+  pub deferrals : ℕ
+  pub counts : DeviceCounts
   pub waits : WaitsView
 
 abbrev pub opened : ℕ → DeviceView
-opened capacity = record { ring = []; capacity = capacity; masked = false; raises = false; told = NONE; waits = no_waits }
+opened capacity = record {
+  ring = [];
+  capacity = capacity;
+  taken = [];
+  phase = Quiet;
+  frames = 0;
+  deferrals = 0;
+  counts = NONE;
+  waits = no_waits;
+}
 
--- A packet comes. A full ring drops it; else a device that isn't masked raises its interrupt.
-unfoldable pub after_packet : ℕ → DeviceView → DeviceView
-after_packet moment d =
-    let counted = record d { told = record d.told { arrived = held (d.told.arrived + 1) } } in
-    if nat_lt (length d.ring) d.capacity then record counted { ring = d.ring ++ moment ∷ []; raises = d.raises || not d.masked }
-    else record counted { told = record counted.told { dropped = held (d.told.dropped + 1) } }
+-- ---- its phase
 
--- its interrupt is taken up: it is lowered, and where there is polling the device is masked
+abbrev pub is_masked : Phase → Bool
+is_masked Scheduled = true
+is_masked (Deferred until) = true
+is_masked Fired = true
+is_masked _ = false
+
+-- it asks for an interrupt, or its NAPI timer expired
+abbrev pub asks : Phase → Bool
+asks Raised = true
+asks Fired = true
+asks _ = false
+
+abbrev pub is_fired : Phase → Bool
+is_fired Fired = true
+is_fired _ = false
+
+-- the card's timer or the NAPI timer, if one is set
+abbrev pub timer_of : Phase → Option ℕ
+timer_of (Coalescing until) = Some until
+timer_of (Deferred until) = Some until
+timer_of _ = None
+
+-- its timer expires: the card's timer raises the interrupt (`napi_watchdog` is the other's)
+abbrev pub expired_phase : Phase → Phase
+expired_phase (Coalescing until) = Raised
+expired_phase (Deferred until) = Fired
+expired_phase phase = phase
+
+abbrev pub expired : DeviceView → DeviceView
+expired d = record d { phase = expired_phase d.phase }
+
+-- ---- a packet arrives
+
+-- the card waits with its interrupt until then, unless it waits or asks already
+abbrev pub coalesced : ℕ → Phase → Phase
+coalesced until Quiet = Coalescing until
+coalesced until phase = phase
+
+-- the card has one more frame, and asks for an interrupt at once or a while later
+unfoldable pub notified : ℕ → Settings → DeviceView → DeviceView
+notified moment s d =
+    let frames = held (d.frames + 1) in
+    let at_once = s.rx_nsecs == 0 || not (s.rx_frames == 0) && nat_le s.rx_frames frames in
+    record d { frames = frames; phase = if at_once then Raised else coalesced (held (moment + s.rx_nsecs)) d.phase }
+
+abbrev pub has_room : DeviceView → Bool
+has_room d = nat_lt (length d.ring) d.capacity
+
+unfoldable pub after_packet : ℕ → Settings → DeviceView → DeviceView
+after_packet moment s d =
+    let e = record d { counts = record d.counts { arrived = held (d.counts.arrived + 1) } } in
+    let f = record e { ring = d.ring ++ moment ∷ [] } in
+    if not (has_room d) then record e { counts = record e.counts { dropped = held (d.counts.dropped + 1) } }
+    else (if is_masked d.phase then f else notified moment s f)
+
+-- ---- an interrupt is taken up: that of its NAPI timer, or the card's, which is masked if there is polling
+
 unfoldable pub interrupted : Bool → DeviceView → DeviceView
 interrupted polling d =
-    let counts = record d.told { interrupts = held (d.told.interrupts + 1) } in
-    record d { masked = d.masked || polling; raises = false; told = counts }
+    let counts = record d.counts { interrupts = held (d.counts.interrupts + 1) } in
+    if is_fired d.phase then record d { phase = Scheduled }
+    else record d { phase = if polling then Scheduled else Quiet; frames = 0; counts = counts }
 
--- the ring without so many packets, the oldest
-unfoldable pub taken : ℕ → DeviceView → DeviceView
-taken weight d = record d { ring = drop (min weight (length d.ring)) d.ring }
+-- an interrupt without polling ends: it is raised again if the ring isn't empty
+abbrev pub raised_again : DeviceView → DeviceView
+raised_again d = record d { phase = if length d.ring == 0 then d.phase else Raised }
 
--- a poll takes packets out of the ring
-unfoldable pub polled : ℕ → DeviceView → DeviceView
-polled weight d = record (taken weight d) { told = record d.told { polls = held (d.told.polls + 1) } }
+-- ---- a poll
 
--- packets are delivered
-unfoldable pub delivered : ℕ → List ℕ → DeviceView → DeviceView
-delivered now batch d =
-    record d { told = record d.told { polled = held (d.told.polled + length batch) }; waits = counted_all now batch d.waits }
+-- A packet is looked for. With a backlog it is one of those taken, and if there is none the whole ring is taken.
+abbrev pub spliced : Bool → DeviceView → DeviceView
+spliced backlog d = if backlog && length d.taken == 0 then record d { ring = []; taken = d.ring } else d
 
--- what it polled by its interrupt is delivered: it raises its interrupt if its ring holds packets
-unfoldable pub ended_interrupt : DeviceView → DeviceView
-ended_interrupt d = record d { raises = not (length d.ring == 0) }
+abbrev pub next_packet : Bool → DeviceView → Option ℕ
+next_packet backlog d = let e = spliced backlog d in slice_get (if backlog then e.taken else e.ring) 0
 
--- A poll ends. With its whole weight the device is to be repolled, and else it is completed: unmasked, and it raises its
--- interrupt if its ring holds packets.
-unfoldable pub ended_poll : Bool → DeviceView → DeviceView
-ended_poll full d = if full then d else record d { masked = false; raises = not (length d.ring == 0) }
+abbrev pub without_next : Bool → DeviceView → DeviceView
+without_next backlog d =
+    let e = spliced backlog d in if backlog then record e { taken = drop 1 e.taken } else record e { ring = drop 1 e.ring }
+
+-- a packet that arrived then is delivered
+abbrev pub delivered : ℕ → ℕ → DeviceView → DeviceView
+delivered now came d =
+    record d { counts = record d.counts { polled = held (d.counts.polled + 1) }; waits = counted (now - came) d.waits }
+
+-- `napi_complete_done`, and the driver that unmasks the card after it, unless the interrupt is deferred
+unfoldable pub completed : ℕ → ℕ → Settings → DeviceView → DeviceView
+completed now given s d =
+    let deferrals = if given == 0 then d.deferrals else s.defer_hard_irqs in
+    let defers = not (deferrals == 0) && not (s.gro_flush_timeout == 0) in
+    record d { deferrals = deferrals - 1; phase = if defers then Deferred (held (now + s.gro_flush_timeout)) else Quiet }
+
+-- a poll ends: with its whole weight the device is to be polled again, else it completes
+unfoldable pub polled : ℕ → ℕ → Settings → DeviceView → DeviceView
+polled now given s d =
+    let e = record d { counts = record d.counts { polls = held (d.counts.polls + 1) } } in
+    if given == s.weight then e else completed now given s e

@@ -1,21 +1,40 @@
 -- The devices of a processor, by their numbers there.
-use Rattle.std.specs.Prelude.{ℕ, ◌+◌, ◌-◌, ◌&&◌, not, min, Bool, false, List, [], ◌++◌, length, replicate, take, Option, None}
-use Rattle.{std.specs.Option.option_map_or, device_places.specs.Places.{Places, added}, machine_model.specs.Device.{DeviceView, opened}}
+use Rattle.std.specs.Prelude.{ℕ, ◌+◌, ◌-◌, nat_le, Bool, false, List, [], ◌∷◌, ◌++◌, length, replicate, Option, Some, None, if◌then◌else◌}
+use Rattle.std.specs.Option.{option_and_then, option_map, option_map_or}
+use Rattle.{device_places.specs.Places.{Places, added}, machine_model.specs.declared.devices.Timer.Timer}
+use Rattle.machine_model.specs.Device.{DeviceView, asks, is_fired, has_room, next_packet, opened, timer_of}
 
 abbrev pub Devices : Type 0
 Devices = Places DeviceView
 
--- a device comes into being by its first packet
+-- a device is made by its first packet
 unfoldable pub with_device : ℕ → ℕ → Devices → Devices
 with_device capacity number devices = added number (opened capacity) (devices ++ replicate (number + 1 - length devices) None)
 
-abbrev pub raises_at : Option DeviceView → Bool
-raises_at place = option_map_or (λ d. d.raises) place false
+-- ---- of the device in a place, if there is one
 
--- a device that polling masks by its interrupt, and that isn't masked yet, is handed to the list
-abbrev pub is_handed_at : Bool → Option DeviceView → Bool
-is_handed_at polling place = option_map_or (λ d. polling && not d.masked) place false
+abbrev pub asks_at : Option DeviceView → Bool
+asks_at place = option_map_or (λ d. asks d.phase) place false
 
--- so many packets at most, the oldest
-abbrev pub batch_at : ℕ → Option DeviceView → List ℕ
-batch_at weight place = option_map_or (λ d. take (min weight (length d.ring)) d.ring) place []
+abbrev pub is_fired_at : Option DeviceView → Bool
+is_fired_at place = option_map_or (λ d. is_fired d.phase) place false
+
+abbrev pub has_room_at : Option DeviceView → Bool
+has_room_at place = option_map_or has_room place false
+
+abbrev pub next_packet_at : Bool → Option DeviceView → Option ℕ
+next_packet_at backlog place = option_and_then (next_packet backlog) place
+
+abbrev pub timer_at : ℕ → Option DeviceView → Option Timer
+timer_at number place = option_and_then (λ d. option_map (λ at. record { at = at; device = number }) (timer_of d.phase)) place
+
+-- ---- the soonest timer, of those at one time that of the lowest device
+
+abbrev pub sooner : Option Timer → Option Timer → Option Timer
+sooner None other = other
+sooner (Some timer) None = Some timer
+sooner (Some timer) (Some other) = if nat_le timer.at other.at then Some timer else Some other
+
+unfoldable pub soonest_from : ℕ → Devices → Option Timer
+soonest_from number [] = None
+soonest_from number (place ∷ more) = sooner (timer_at number place) (soonest_from (number + 1) more)

@@ -1,28 +1,43 @@
 -- What is true of each processor.
-use Rattle.std.specs.Prelude.{◌≡◌, ◌≤◌, Bool, true, false, is_some, List, ℕ, length, sum_by, Option, None, if◌then◌else◌}
+use Rattle.std.specs.Prelude.{◌≡◌, ◌≤◌, ◌<◌, ◌&&◌, not, Bool, true, false, is_some, List, ℕ, length, sum_by, Option, Some, None, if◌then◌else◌}
 use Rattle.{std.specs.Option.option_map_or, machine_words.specs.declared.settings.Settings.Settings, machine_model.specs.Device.DeviceView}
-use Rattle.machine_model.specs.{Devices.Devices, Shown.{listed, weight_in}, Softirq.{SoftirqView, asked_in}, Processor.ProcessorView}
-use Rattle.machine_model.specs.declared.processor.Work.{Work, TheVariants.Poll}
+use Rattle.machine_model.specs.{Devices.Devices, Shown.{listed, weight_in}, Softirq.{SoftirqView, asked_in}, Processor.{ProcessorView, is_polling}}
+use Rattle.machine_model.specs.declared.{device.Phase.{Phase, TheVariants.Scheduled}, processor.Work.{Work, TheVariants.{Poll, Packet}}}
 
--- how many devices are masked
-abbrev pub mask_at : Option DeviceView → ℕ
-mask_at place = option_map_or (λ d. if d.masked then 1 else 0) place 0
+-- how many devices are scheduled
+abbrev pub is_scheduled : Phase → Bool
+is_scheduled Scheduled = true
+is_scheduled _ = false
 
-abbrev pub masks : Devices → ℕ
-masks devices = sum_by mask_at devices
+abbrev pub scheduled_at : Option DeviceView → ℕ
+scheduled_at place = option_map_or (λ d. if is_scheduled d.phase then 1 else 0) place 0
 
-abbrev pub is_poll : Work → Bool
-is_poll Poll = true
-is_poll _ = false
+abbrev pub all_scheduled : Devices → ℕ
+all_scheduled devices = sum_by scheduled_at devices
 
-pub record Kept (settings : Settings) (work : Work) (devices : Devices) (softirq : SoftirqView) (batch : List ℕ) : Type 0 where
-  -- each number on the list and in the run is that of a masked device
-  pub few : listed softirq ≤ masks devices
-  -- a number is asked only while it is polled
-  pub asked : is_poll work ≡ false → asked_in softirq.run ≡ None
+-- the device that is polled, and how many packets its poll gave so far
+abbrev pub polled_by : Work → Option ℕ
+polled_by (Poll number) = Some number
+polled_by (Packet packet) = Some packet.device
+polled_by _ = None
+
+abbrev pub given_by : Work → ℕ
+given_by (Packet packet) = packet.given
+given_by _ = 0
+
+-- there is a poll list, and not threads or interrupts only
+abbrev pub has_list : Settings → Bool
+has_list s = is_polling s && not s.threaded
+
+pub record Kept (settings : Settings) (work : Work) (devices : Devices) (softirq : SoftirqView) : Type 0 where
+  -- each number on the list and in the run is that of a scheduled device
+  pub few : listed softirq ≤ all_scheduled devices
+  pub unused : has_list settings ≡ false → listed softirq ≡ 0
+  -- the run polls the device that is polled
+  pub asked : asked_in softirq.run ≡ (if settings.threaded then None else polled_by work)
   -- the run's weight is the machine's, and a poll gives no more
   pub weight : is_some softirq.run ≡ true → weight_in softirq.run ≡ settings.weight
-  pub within : length batch ≤ settings.weight
+  pub within : given_by work < settings.weight
 
 abbrev pub IsKept : ProcessorView → Type 0
-IsKept p = Kept p.settings p.work p.devices p.softirq p.batch
+IsKept p = Kept p.settings p.work p.devices p.softirq

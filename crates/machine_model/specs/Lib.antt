@@ -1,10 +1,10 @@
 pub mod Waits
-pub mod Softirq
-pub mod Shown
 pub mod Device
 pub mod Devices
+pub mod Softirq
+pub mod Application
+pub mod Tasks
 pub mod Processor
-pub mod Kept
 pub mod Machine
-pub mod Laws
-pub mod Fates
+pub mod Shown
+pub mod Kept

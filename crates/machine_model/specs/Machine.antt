@@ -1,9 +1,11 @@
--- The machine: its processors, what arrivals make of them, and what the report tells.
-use Rattle.std.specs.Prelude.{◌≡◌, ℕ, ◌-◌, ◌/◌, ◌%◌}
+-- The machine: its processors, what arrivals make of them, and what the report has.
+use Rattle.std.specs.Prelude.{◌≡◌, ℕ, ◌-◌, ◌/◌, ◌%◌, if◌then◌else◌}
 use Rattle.{device_places.specs.Places.at, machine_words.specs.declared.settings.Settings.Settings}
-use Rattle.std.specs.{Prelude.{◌^◌, List, length, replicate, slice_get, slice_set, Option, Some}, Option.{option_and_then, option_map}}
-use Rattle.machine_model.specs.{declared.{processor.ProcessorReport.ProcessorReport, device.DeviceReport.DeviceReport}, Waits.told_of}
-use Rattle.machine_model.specs.{Processor.{ProcessorView, RunsTo, comes, opened_processor}, Device.DeviceView}
+use Rattle.std.specs.Prelude.{◌^◌, List, length, replicate, slice_get, slice_set, Option, Some, None}
+use Rattle.std.specs.Option.{option_and_then, option_map}
+use Rattle.machine_model.specs.declared.{application.ApplicationReport.ApplicationReport, device.DeviceReport.DeviceReport}
+use Rattle.machine_model.specs.{declared.processor.ProcessorReport.ProcessorReport, Application.went_on, Device.DeviceView}
+use Rattle.machine_model.specs.{Processor.{ProcessorView, Advances, arrives, opened_processor}, Waits.summary_of}
 
 -- the processors, in the order of their numbers
 abbrev pub Machine : Type 0
@@ -19,11 +21,11 @@ processor_of device m = (device - 1) % length m
 abbrev pub number_of : ℕ → Machine → ℕ
 number_of device m = (device - 1) / length m
 
--- a packet comes to a device of this processor: before it ends all that ends at or before the moment
+-- a packet arrives for a device of this processor, which advances to that moment before
 abbrev pub ArrivesAt : ℕ → ℕ → ProcessorView → ProcessorView → Type 0
-ArrivesAt moment number before after = (ready : ProcessorView) × RunsTo moment before ready × (after ≡ comes moment number ready)
+ArrivesAt moment number before after = (ready : ProcessorView) × Advances moment before ready × (after ≡ arrives moment number ready)
 
--- a packet comes to a device, and only its processor changes
+-- a packet arrives for a device, and only its processor changes
 pub record Arrives (moment device : ℕ) (before after : Machine) : Type 0 where
   pub old : ProcessorView
   pub new : ProcessorView
@@ -31,21 +33,33 @@ pub record Arrives (moment device : ℕ) (before after : Machine) : Type 0 where
   pub arrives : ArrivesAt moment (number_of device before) old new
   pub others : after ≡ slice_set before (processor_of device before) new
 
--- behind the last arrival each processor goes on until nothing is left
+-- after the last arrival a processor advances until nothing is left, and then the application goes on until it sleeps
+abbrev pub FinishesAt : ProcessorView → ProcessorView → Type 0
+FinishesAt before after = (ready : ProcessorView) × Advances (2 ^ 64 - 1) before ready
+    × (after ≡ record ready { application = went_on (2 ^ 64 - 1) ready.settings.use_time ready.application })
+
 pub record Finishes (before after : Machine) : Type 0 where
   pub count : length after ≡ length before
   pub each : (number : ℕ) (p : ProcessorView) → slice_get before number ≡ Some p
-      → (q : ProcessorView) × (slice_get after number ≡ Some q) × RunsTo (2 ^ 64 - 1) p q
+      → (q : ProcessorView) × (slice_get after number ≡ Some q) × FinishesAt p q
 
 -- ---- the report
 
 abbrev pub report_of : DeviceView → DeviceReport
-report_of d = record { counts = d.told; waits = told_of d.waits }
+report_of d = record { counts = d.counts; waits = summary_of d.waits }
 
--- of a device that a packet came for
+-- of a device that a packet arrived for
 abbrev pub device_report : ℕ → Machine → Option DeviceReport
 device_report device m =
     option_and_then (λ p. option_map report_of (at (number_of device m) p.devices)) (slice_get m (processor_of device m))
 
 abbrev pub processor_report : ProcessorView → ProcessorReport
-processor_report p = record { counts = p.told; end = p.clock; waits = told_of p.waits }
+processor_report p =
+    let a = p.application in
+    let apart : ApplicationReport = record { end = a.end; wakes = a.wakes } in
+    record {
+      counts = record p.counts { refused = a.refused };
+      end = p.clock;
+      waits = summary_of a.waits;
+      application = if p.settings.apart then Some apart else None;
+    }

@@ -1,177 +1,262 @@
--- A processor: what it takes up, and what ends.
-use Rattle.std.specs.Prelude.{◌≡◌, ℕ, zero, suc, ◌+◌, ◌-◌, ◌*◌, ◌<◌, ◌==◌, ◌||◌, ◌&&◌, not, min, nat_le, nat_lt, Bool, true, false, List}
-use Rattle.std.specs.{Prelude.{[], ◌∷◌, ◌++◌, length, take, position, None, is_some, if◌then◌else◌}, Option.option_map_or}
-use Rattle.{circular_buffer.specs.Buffer.{Buffer, buffer}, device_places.specs.Places.{at, changed}}
+-- A processor: what it takes up, and what happens as work ends, timers expire and packets arrive.
+use Rattle.std.specs.Prelude.{◌≡◌, ℕ, zero, suc, ◌+◌, ◌-◌, ◌<◌, ◌==◌, ◌||◌, ◌&&◌, not, nat_le, nat_lt, Bool, true, false, List, [], ◌∷◌}
+use Rattle.std.specs.{Prelude.{◌++◌, drop, length, position, slice_get, Option, Some, None, is_some, if◌then◌else◌}, Option.option_map_or}
+use Rattle.{circular_buffer.specs.Buffer.{buffer}, device_places.specs.Places.{at, changed}}
 use Rattle.{machine_words.specs.declared.settings.Settings.Settings, poll_runs.specs.declared.bench.Next.TheVariants.{Gone, Repoll}}
-use Rattle.machine_model.specs.{Device.{after_packet, delivered, ended_interrupt, ended_poll, interrupted, polled, taken}, Devices.Devices}
-use Rattle.machine_model.specs.{Devices.{batch_at, is_handed_at, raises_at, with_device}, Softirq.{SoftirqView, asked_in, begun, ended}}
-use Rattle.machine_model.specs.{Softirq.{is_spent, next_of, pushed, told}, Waits.{WaitsView, counted, held, no_waits}}
-use Rattle.machine_model.specs.declared.processor.{ProcessorCounts.ProcessorCounts, TheConstants.ProcessorCounts.NONE, Work.Work}
-use Rattle.machine_model.specs.declared.processor.Work.TheVariants.{Nothing, Interrupt, Poll, Use}
+use Rattle.poll_runs.specs.declared.bench.Once.{Once}
+use Rattle.machine_model.specs.Device.{after_packet, delivered, expired, interrupted, polled, raised_again, without_next}
+use Rattle.machine_model.specs.Devices.{Devices, asks_at, has_room_at, is_fired_at, next_packet_at, soonest_from, with_device}
+use Rattle.machine_model.specs.Softirq.{RunView, SoftirqView, begun, asked_in, ended, is_spent, next_of, polled_once, pushed}
+use Rattle.machine_model.specs.{Application.{ApplicationView, fed, has_place, opened_application, used}, Waits.held}
+use Rattle.machine_model.specs.Tasks.{after_first, runnable, with_application}
+use Rattle.machine_model.specs.declared.{devices.Timer.Timer, tasks.Task.{Task, TheVariants.{Application, Thread}}}
+use Rattle.machine_model.specs.declared.processor.{ProcessorCounts.ProcessorCounts, TheConstants.ProcessorCounts.NONE, Work.Work, Rest.Rest}
+use Rattle.machine_model.specs.declared.processor.{Work.TheVariants.{Nothing, Interrupt, Poll, Packet, Use}, Upcoming.Upcoming}
+use Rattle.machine_model.specs.declared.processor.Upcoming.TheVariants.{Never, Ends, Expires}
 
 pub record ProcessorView : Type 0 where
   pub settings : Settings
-  -- what is under way, and when it ends
-  pub clock : ℕ
+  -- what is under way, when it ends, and when it began, or the time of what happened last
   pub work : Work
   pub ends : ℕ
+  pub clock : ℕ
   pub devices : Devices
+  -- the poll list and the run; with threads what is runnable, but for a thread that polls
   pub softirq : SoftirqView
-  -- the packets that were taken out of a ring last
-  pub batch : List ℕ
-  -- what is left of the application's slice, and its socket
-  pub slice : ℕ
-  pub socket : Buffer ℕ
-  pub told : ProcessorCounts
-  -- from arrival to the end of the use
-  pub waits : WaitsView
+  pub tasks : List Task
+  -- what is left of a use that was interrupted
+  pub rest : Option Rest
+  pub application : ApplicationView
+  pub counts : ProcessorCounts
 
 abbrev pub is_polling : Settings → Bool
 is_polling s = not (s.budget == 0)
-
--- ---- work begins
-
--- it takes so long
-abbrev pub takes : Work → ℕ → ProcessorView → ProcessorView
-takes work time p = record p { work = work; ends = held (p.clock + time) }
-
--- an interrupt, of the device with this number; without polling it takes a packet too
-unfoldable pub interrupts : ℕ → ProcessorView → ProcessorView
-interrupts number p =
-    let polling = is_polling p.settings in
-    let time = if polling then p.settings.interrupt else p.settings.interrupt + p.settings.packet in
-    let counts = record p.told { interrupts = held (p.told.interrupts + 1); interrupt_time = held (p.told.interrupt_time + time) } in
-    let softirq = if is_handed_at polling (at number p.devices) then pushed number p.softirq else p.softirq in
-    takes (Interrupt number) time (record p { devices = changed (interrupted polling) number p.devices; softirq = softirq; told = counts })
-
--- a poll takes packets out of the ring at once
-unfoldable pub polls : ℕ → ProcessorView → ProcessorView
-polls number p =
-    let batch = batch_at p.settings.weight (at number p.devices) in
-    let time = p.settings.poll + p.settings.packet * length batch in
-    let counts = record p.told { poll_time = held (p.told.poll_time + time) } in
-    takes Poll time (record p { devices = changed (polled p.settings.weight) number p.devices; batch = batch; told = counts })
-
--- the socket's oldest packet is used, if there is one
-abbrev pub uses : List ℕ → ProcessorView → ProcessorView
-uses [] p = p
-uses (came ∷ more) p =
-    let time = p.settings.use_time in
-    let counts = record p.told { use_time = held (p.told.use_time + time) } in
-    takes (Use came) time (record p { slice = p.slice - time; socket = buffer more p.socket.capacity; told = counts })
-
--- ---- what is taken up: the first that there is
-
--- a run begins and makes its first poll
-unfoldable pub begins : ProcessorView → ProcessorView
-begins p =
-    let q = record p { softirq = next_of (begun p.clock p.settings.budget p.settings.weight p.settings.window p.softirq) } in
-    option_map_or (λ number. polls number q) (asked_in q.softirq.run) q
-
--- no run is under way: the slice; if it is over, a run over the list if that isn't empty; the socket
-unfoldable pub rests : ProcessorView → ProcessorView
-rests p =
-    let over = record p { slice = 0 } in
-    if nat_lt 0 p.slice && not (length p.socket.items == 0) then uses p.socket.items p
-    else (if is_polling p.settings && not (length p.softirq.list == 0) then begins over else uses p.socket.items over)
-
--- the run ends, squeezed if it spent its budget or its window or is late, and the application has a slice
-unfoldable pub ends_run : Bool → ProcessorView → ProcessorView
-ends_run late p =
-    let spent = option_map_or is_spent p.softirq.run false in
-    let squeezed = held (p.told.squeezed + (if spent || late then 1 else 0)) in
-    let alone = held (p.told.late + (if late && not spent then 1 else 0)) in
-    let counts = record p.told { runs = held (p.told.runs + 1); squeezed = squeezed; late = alone } in
-    record p { softirq = ended p.softirq; slice = p.settings.slice; told = counts }
-
--- a run is under way: its end or its next poll
-unfoldable pub goes_on : ProcessorView → ProcessorView
-goes_on p =
-    let q = record p { softirq = next_of p.softirq } in
-    if nat_le p.settings.longest (p.clock - p.softirq.began) then rests (ends_run true p)
-    else option_map_or (λ number. polls number q) (asked_in q.softirq.run) (rests (ends_run false q))
-
-unfoldable pub takes_up : ProcessorView → ProcessorView
-takes_up p =
-    option_map_or (λ number. interrupts number p) (position raises_at p.devices) (if is_some p.softirq.run then goes_on p else rests p)
-
--- ---- work ends
-
--- the packets at hand, which are the device's, are delivered: they go to the socket, or are refused
-unfoldable pub delivers : ℕ → ProcessorView → ProcessorView
-delivers number p =
-    let room = min (length p.batch) (p.socket.capacity - length p.socket.items) in
-    let socket = buffer (p.socket.items ++ take room p.batch) p.socket.capacity in
-    let counts = record p.told { refused = held (p.told.refused + (length p.batch - room)) } in
-    record p { devices = changed (delivered p.clock p.batch) number p.devices; socket = socket; told = counts }
-
--- an interrupt without polling delivers the oldest packet
-unfoldable pub ends_interrupt : ℕ → ProcessorView → ProcessorView
-ends_interrupt number p =
-    let q = delivers number (record p { batch = batch_at 1 (at number p.devices); devices = changed (taken 1) number p.devices }) in
-    record q { devices = changed ended_interrupt number q.devices }
-
--- a poll delivers its packets, and is told to the run
-unfoldable pub ends_poll : ℕ → ProcessorView → ProcessorView
-ends_poll number p =
-    let full = length p.batch == p.settings.weight in
-    let q = delivers number p in
-    let softirq = told (record { work = length p.batch; next = if full then Repoll else Gone }) q.softirq in
-    let counts = record q.told { polls = held (q.told.polls + 1); work = held (q.told.work + length p.batch) } in
-    record q { devices = changed (ended_poll full) number q.devices; softirq = softirq; told = counts }
-
-abbrev pub ends_by : Work → ProcessorView → ProcessorView
-ends_by Nothing p = p
-ends_by (Interrupt number) p = if is_polling p.settings then p else ends_interrupt number p
-ends_by Poll p = option_map_or (λ number. ends_poll number p) (asked_in p.softirq.run) p
-ends_by (Use came) p = record p { waits = counted (p.clock - came) p.waits }
-
-unfoldable pub ends_current : ProcessorView → ProcessorView
-ends_current p = ends_by p.work (record p { clock = p.ends })
-
--- what is under way ends, and the next is taken up
-unfoldable pub step : ProcessorView → ProcessorView
-step p = takes_up (record (ends_current p) { work = Nothing })
-
--- ---- up to a moment, and arrivals
 
 abbrev pub is_busy : Work → Bool
 is_busy Nothing = false
 is_busy _ = true
 
+-- ---- a piece of work begins
+
+abbrev pub begins : Work → ℕ → ProcessorView → ProcessorView
+begins work time p = record p { work = work; ends = held (p.clock + time) }
+
+-- the instance is scheduled (`____napi_schedule`)
+abbrev pub scheduled : ℕ → ProcessorView → ProcessorView
+scheduled number p =
+    if p.settings.threaded then record p { tasks = p.tasks ++ Thread number ∷ [] } else record p { softirq = pushed number p.softirq }
+
+-- an interrupt, of the card or of the NAPI timer; without polling it takes a packet too
+unfoldable pub interrupts : ℕ → ProcessorView → ProcessorView
+interrupts number p =
+    let polling = is_polling p.settings in
+    let time = if polling then p.settings.interrupt else p.settings.interrupt + p.settings.packet in
+    let counts = if is_fired_at (at number p.devices) then record p.counts { timers = held (p.counts.timers + 1) }
+    else record p.counts { interrupts = held (p.counts.interrupts + 1) } in
+    let q = record p { devices = changed (interrupted polling) number p.devices; counts = counts } in
+    begins (Interrupt number) time (if polling then scheduled number q else q)
+
+abbrev pub polls : ℕ → ProcessorView → ProcessorView
+polls number p = begins (Poll number) p.settings.poll p
+
+-- the application uses the oldest packet of its socket, if there is one
+abbrev pub uses : List ℕ → ProcessorView → ProcessorView
+uses [] p = p
+uses (came ∷ more) p =
+    let socket = buffer more p.application.socket.capacity in
+    begins (Use came) p.settings.use_time (record p { application = record p.application { socket = socket } })
+
+-- ---- what is taken up: the first that there is
+
+-- a thread makes a poll, the application uses a packet
+abbrev pub runs : Option Task → ProcessorView → ProcessorView
+runs None p = p
+runs (Some Application) p = uses p.application.socket.items p
+runs (Some (Thread number)) p = polls number p
+
+unfoldable pub runs_first : ProcessorView → ProcessorView
+runs_first p =
+    let tasks = runnable (length p.application.socket.items == 0) p.tasks in
+    runs (slice_get tasks 0) (record p { tasks = after_first tasks })
+
+-- the rest of an interrupted use, the first task, or the application
+abbrev pub leaves_softirq : Option Rest → ProcessorView → ProcessorView
+leaves_softirq (Some rest) p = begins (Use rest.came) rest.left (record p { rest = None })
+leaves_softirq None p =
+    if p.settings.threaded then runs_first p else (if p.settings.apart then p else uses p.application.socket.items p)
+
+-- a run begins over the whole list and makes its first poll (`net_rx_action`)
+unfoldable pub begins_run : ProcessorView → ProcessorView
+begins_run p =
+    let s = p.settings in
+    let q = record p { softirq = next_of (begun p.clock s.budget s.weight s.window p.softirq) } in
+    option_map_or (λ number. polls number q) (asked_in q.softirq.run) q
+
+unfoldable pub rests : ProcessorView → ProcessorView
+rests p =
+    if is_polling p.settings && not (length p.softirq.list == 0) then begins_run p else leaves_softirq p.rest p
+
+-- the run ends, squeezed if it reached its budget or its window, or if it is late
+unfoldable pub ends_run : Bool → ProcessorView → ProcessorView
+ends_run late p =
+    let spent = option_map_or is_spent p.softirq.run false in
+    let squeezed = held (p.counts.squeezed + (if spent || late then 1 else 0)) in
+    let alone = held (p.counts.late + (if late && not spent then 1 else 0)) in
+    let counts = record p.counts { runs = held (p.counts.runs + 1); squeezed = squeezed; late = alone } in
+    record p { softirq = ended p.softirq; counts = counts }
+
+-- the run under way, which made a poll, took its time
+abbrev pub is_late : ProcessorView → Bool
+is_late p = nat_le p.settings.time_limit (p.clock - p.softirq.began)
+
+-- the run under way: its end or its next poll
+unfoldable pub goes_on : ProcessorView → ProcessorView
+goes_on p =
+    let q = record p { softirq = next_of p.softirq } in
+    if is_late p then rests (ends_run true p)
+    else option_map_or (λ number. polls number q) (asked_in q.softirq.run) (rests (ends_run false q))
+
+unfoldable pub takes_up : ProcessorView → ProcessorView
+takes_up p =
+    if is_busy p.work then p
+    else option_map_or (λ number. interrupts number p) (position asks_at p.devices)
+    (if is_some p.softirq.run then goes_on p else rests p)
+
+-- ---- a piece of work ends
+
+-- a packet of a device is delivered, and the application is runnable if it took it
+unfoldable pub delivers : ℕ → ℕ → ProcessorView → ProcessorView
+delivers number came p =
+    let s = p.settings in
+    let wakes = s.threaded && not s.apart && has_place p.application in
+    record p {
+      devices = changed (delivered p.clock came) number p.devices;
+      application = fed p.clock came s p.application;
+      tasks = if wakes then with_application p.tasks else p.tasks;
+    }
+
+-- an interrupt without polling delivers the oldest packet
+abbrev pub delivers_oldest : ℕ → Option ℕ → ProcessorView → ProcessorView
+delivers_oldest number None p = p
+delivers_oldest number (Some came) p = delivers number came (record p { devices = changed (without_next false) number p.devices })
+
+unfoldable pub ends_interrupt : ℕ → ProcessorView → ProcessorView
+ends_interrupt number p =
+    let q = delivers_oldest number (next_packet_at false (at number p.devices)) p in
+    record q { devices = changed raised_again number q.devices }
+
+-- a poll ends that gave so many packets: a device that is to be polled again is repolled by the run, or its thread stays first
+unfoldable pub ends_poll : ℕ → ℕ → ProcessorView → ProcessorView
+ends_poll number given p =
+    let full = given == p.settings.weight in
+    let counts = record p.counts { polls = held (p.counts.polls + 1); work = held (p.counts.work + given) } in
+    let q = record p { devices = changed (polled p.clock given p.settings) number p.devices; counts = counts } in
+    let once : Once = record { work = given; next = if full then Repoll else Gone } in
+    if p.settings.threaded then record q { tasks = if full then Thread number ∷ q.tasks else q.tasks }
+    else record q { softirq = polled_once once q.softirq }
+
+-- a poll that gave so many packets looks for the next one
+unfoldable pub looks : ℕ → ℕ → ProcessorView → ProcessorView
+looks number given p =
+    let backlog = p.settings.backlog in
+    let q = record p { devices = changed (without_next backlog) number p.devices } in
+    if nat_lt given p.settings.weight then
+    option_map_or (λ came. begins (Packet (record { device = number; came = came; given = given })) p.settings.packet q)
+    (next_packet_at backlog (at number p.devices))
+    (ends_poll number given q)
+    else ends_poll number given p
+
+abbrev pub ends_by : Work → ProcessorView → ProcessorView
+ends_by Nothing p = p
+ends_by (Interrupt number) p = if is_polling p.settings then p else ends_interrupt number p
+ends_by (Poll number) p = looks number 0 p
+ends_by (Packet packet) p = looks packet.device (packet.given + 1) (delivers packet.device packet.came p)
+ends_by (Use came) p = record p { application = used p.clock came p.application }
+
+-- the time of work is counted
+abbrev pub spent : Work → ℕ → ProcessorCounts → ProcessorCounts
+spent Nothing time counts = counts
+spent (Interrupt number) time counts = record counts { interrupt_time = held (counts.interrupt_time + time) }
+spent (Use came) time counts = record counts { use_time = held (counts.use_time + time) }
+spent _ time counts = record counts { poll_time = held (counts.poll_time + time) }
+
+unfoldable pub ends_current : ProcessorView → ProcessorView
+ends_current p = ends_by p.work (record p { clock = p.ends; work = Nothing; counts = spent p.work (p.ends - p.clock) p.counts })
+
+-- ---- what disturbs a processor that is idle or uses a packet
+
+-- what is left of the use is the rest
+abbrev pub set_aside : ℕ → Work → ProcessorView → ProcessorView
+set_aside moment (Use came) p =
+    let counts = spent (Use came) (moment - p.clock) p.counts in
+    record p { work = Nothing; clock = moment; rest = Some (record { came = came; left = p.ends - moment }); counts = counts }
+set_aside moment work p = p
+
+abbrev pub woken : ℕ → Bool → ProcessorView → ProcessorView
+woken moment asked p =
+    let counts = record p.counts { interrupt_time = held (p.counts.interrupt_time + p.settings.wake) } in
+    if asked then record p { clock = held (moment + p.settings.wake); counts = counts } else record p { clock = moment }
+
+unfoldable pub disturbed : ℕ → ProcessorView → ProcessorView
+disturbed moment p =
+    let asked = is_some (position asks_at p.devices) in
+    takes_up (if is_busy p.work then (if asked then set_aside moment p.work p else p) else woken moment asked p)
+
+-- ---- time passes
+
+-- What happens next if no packet arrives: work under way ends, or a timer before that end expires.
+abbrev pub upcoming : ProcessorView → Upcoming
+upcoming p =
+    let first = λ (timer : Timer). if is_busy p.work && nat_le p.ends timer.at then Ends else Expires timer in
+    option_map_or first (soonest_from 0 p.devices) (if is_busy p.work then Ends else Never)
+
+abbrev pub happens : Upcoming → ProcessorView → ProcessorView
+happens Never p = p
+happens Ends p = takes_up (ends_current p)
+happens (Expires timer) p = disturbed timer.at (record p { devices = changed expired timer.device p.devices })
+
+unfoldable pub step : ProcessorView → ProcessorView
+step p = happens (upcoming p) p
+
+abbrev pub is_by : ℕ → Upcoming → ProcessorView → Bool
+is_by moment Never p = false
+is_by moment Ends p = nat_le p.ends moment
+is_by moment (Expires timer) p = nat_le timer.at moment
+
 abbrev pub is_due : ℕ → ProcessorView → Bool
-is_due moment p = is_busy p.work && nat_le p.ends moment
+is_due moment p = is_by moment (upcoming p) p
 
 unfoldable pub after : ℕ → ProcessorView → ProcessorView
 after zero p = p
 after (suc count) p = step (after count p)
 
--- all that ends at or before the moment ends, one after the other, and no more
-pub record RunsTo (moment : ℕ) (p q : ProcessorView) : Type 0 where
+-- it advances to a moment: all happens that happens at or before that moment, one after the other, and no more
+pub record Advances (moment : ℕ) (p q : ProcessorView) : Type 0 where
   pub count : ℕ
   pub each : (n : ℕ) → n < count → is_due moment (after n p) ≡ true
   pub last : q ≡ after count p
   pub none : is_due moment q ≡ false
 
--- a packet comes to a device of a processor on which nothing ends at or before that moment
-unfoldable pub comes : ℕ → ℕ → ProcessorView → ProcessorView
-comes moment number p =
-    let q = record p { devices = changed (after_packet moment) number (with_device p.settings.ring number p.devices) } in
-    if is_busy p.work then q else takes_up (record q { clock = moment })
+-- a packet arrives for a device of a processor that has advanced to that moment
+unfoldable pub arrives : ℕ → ℕ → ProcessorView → ProcessorView
+arrives moment number p =
+    let devices = with_device p.settings.ring number p.devices in
+    let clock = if is_busy p.work then p.clock else moment in
+    let q = record p { clock = clock; devices = changed (after_packet moment p.settings) number devices } in
+    if has_room_at (at number devices) then disturbed moment q else q
 
 -- ---- a new processor
 
 abbrev pub opened_processor : Settings → ProcessorView
 opened_processor s = record {
   settings = s;
-  clock = 0;
   work = Nothing;
   ends = 0;
+  clock = 0;
   devices = [];
   softirq = record { list = []; run = None; began = 0 };
-  batch = [];
-  slice = 0;
-  socket = buffer [] s.socket;
-  told = NONE;
-  waits = no_waits;
+  tasks = [];
+  rest = None;
+  application = opened_application s;
+  counts = NONE;
 }

@@ -52,13 +52,13 @@ unfoldable pub next_of : SoftirqView → SoftirqView
 next_of q = option_map_or (λ r. if is_spent r then q else next_from (filled r.own r.repoll q.list) r q) q.run q
 
 -- what the poll did of the number that is being polled
-abbrev pub told_run : Once → RunView → RunView
-told_run once r =
+abbrev pub polled_run : Once → RunView → RunView
+polled_run once r =
     let repoll = r.repoll ++ (if is_repoll once.next then asked_for r.asked else []) in
     record r { repoll = repoll; asked = None; polls = r.polls + 1; work = r.work + once.work }
 
-unfoldable pub told : Once → SoftirqView → SoftirqView
-told once q = record q { run = option_map (told_run once) q.run }
+unfoldable pub polled_once : Once → SoftirqView → SoftirqView
+polled_once once q = record q { run = option_map (polled_run once) q.run }
 
 -- the run ends: what it took and didn't poll, what came meanwhile, and what is to be repolled
 unfoldable pub ended : SoftirqView → SoftirqView

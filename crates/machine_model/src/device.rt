@@ -1,38 +1,26 @@
-//! One device: its ring, its instance, and what was counted.
+//! One device: a queue of a card with its NAPI instance, and what was counted of it.
 
-ghost use Rattle.std.specs.Prelude.{◌≡◌, ◌≤◌, ◌<◌, true, false, length, take, Some, IfOk};
+ghost use Rattle.std.specs.Prelude.{◌≡◌, ◌≤◌, Some, IfOk, OnOk};
 ghost use Rattle.machine_model.specs.Machine.{report_of};
-ghost use Rattle.machine_model.specs.Device.{after_packet, delivered, ended_interrupt, ended_poll, interrupted, opened, polled, taken};
-ghost use Rattle.machine_model.specs.Devices.{batch_at, is_handed_at};
+ghost use Rattle.machine_model.specs.Device.{after_packet, asks, completed, delivered, expired, expired_phase, has_room, interrupted, is_fired, is_masked, next_packet, notified, opened, polled, raised_again, timer_of, without_next};
 
 use crate::waits::{WaitCounts, Waits};
 use circular_buffer::HeapCircularBuffer;
-use napi_model::{Kind, Prep, SerialNapi};
+use machine_words::Settings;
 use std::alloc::{AllocError, Global};
 use std::marker::Model;
-
-/// The caller that the interrupt of a device is.
-const INTERRUPT: u32 = 0;
-
-/// The caller that polls the list.
-const POLLER: u32 = 1;
-
-/// The caller that makes and enables an instance.
-const CONTROLLER: u32 = 2;
-
-/// The most packets that one poll gives (`NAPI_POLL_WEIGHT`).
-pub(crate) const MOST_WEIGHT: usize = 64;
+use std::mem;
 
 /// What was counted of a device.
 #[derive(Clone, Copy, Debug, PartialEq, Eq)]
 pub struct DeviceCounts {
-    /// Packets that came.
+    /// Packets that arrived.
     pub arrived: u64,
     /// Those of them that a full ring dropped.
     pub dropped: u64,
     /// Those that were delivered.
     pub polled: u64,
-    /// Its interrupts.
+    /// Its interrupts, without those of its NAPI timer.
     pub interrupts: u64,
     /// Its polls.
     pub polls: u64,
@@ -40,7 +28,7 @@ pub struct DeviceCounts {
 
 impl DeviceCounts {
     /// Nothing was counted.
-    pub(crate) const NONE: DeviceCounts = DeviceCounts {
+    pub const NONE: DeviceCounts = DeviceCounts {
         arrived: 0,
         dropped: 0,
         polled: 0,
@@ -49,7 +37,7 @@ impl DeviceCounts {
     };
 }
 
-/// What is told of a device.
+/// What is reported of a device.
 #[derive(Clone, Copy, Debug, PartialEq, Eq)]
 pub struct DeviceReport {
     /// What was counted.
@@ -58,214 +46,257 @@ pub struct DeviceReport {
     pub waits: WaitCounts,
 }
 
+/// How a device asks for a poll, or waits for it. In the first three it isn't masked.
+#[derive(Clone, Copy, Debug, PartialEq, Eq)]
+pub enum Phase {
+    /// It asks for nothing.
+    Quiet,
+    /// The card waits for more frames until that time (`rx-usecs`).
+    Coalescing(u64),
+    /// The card asks for an interrupt.
+    Raised,
+    /// It was interrupted: it is on the poll list, its thread is runnable, or it is polled (`NAPI_STATE_SCHED`).
+    Scheduled,
+    /// Its interrupt is deferred: it is polled again at that time (`napi_defer_hard_irqs`).
+    Deferred(u64),
+    /// That time has come (`napi_watchdog`).
+    Fired,
+}
+
 /// A device.
 #[derive(Drop)]
 pub(crate) struct Device {
     ring: HeapCircularBuffer<u64>,
-    napi: SerialNapi,
-    raises: bool,
-    told: DeviceCounts,
+    taken: HeapCircularBuffer<u64>,
+    phase: Phase,
+    frames: u64,
+    deferrals: u32,
+    counts: DeviceCounts,
     waits: Waits,
 }
 
 impl Model for Device {
     ghost use Rattle.std.specs.Prelude.{◌≡◌};
     ghost use Rattle.machine_model.specs.Device.{DeviceView};
-    ghost use Rattle.machine_model.specs.Shown.{instance_of};
-    ghost use Rattle.napi_model.specs.Serial.{state_of};
 
     ghost Value = { DeviceView };
 
     ghost view = { λ d. record {
       ring = d.ring.items;
       capacity = d.ring.capacity;
-      masked = (state_of d.napi).flags.sched;
-      raises = d.raises;
-      told = d.told;
+      taken = d.taken.items;
+      phase = d.phase;
+      frames = d.frames;
+      deferrals = d.deferrals;
+      counts = d.counts;
       waits = d.waits;
     } };
 
-    ghost invariant = { λ d. state_of d.napi ≡ instance_of (state_of d.napi).flags.sched };
+    ghost invariant = { λ d. d.taken.capacity ≡ d.ring.capacity };
 }
 
-/// The packets of a poll: when each came.
-#[derive(Drop)]
-pub(crate) struct Batch {
-    packets: [u64; MOST_WEIGHT],
-    count: usize,
-}
-
-impl Model for Batch {
-    ghost use Rattle.std.specs.Prelude.{ℕ, List, ◌≤◌, take};
-
-    ghost Value = { List ℕ };
-
-    ghost view = { λ b. take b.count b.packets };
-
-    ghost invariant = { λ b. b.count ≤ 64 };
-}
-
-impl Batch {
-    ghost use Rattle.std.specs.Prelude.{[], length, take, drop, min};
-    ghost use Rattle.circular_buffer.specs.Buffer.{buffer};
-
-    /// No packets.
-    pub(crate) fn new() -> Batch
-        ensures { result ≡ [] }
+impl Phase {
+    /// Whether the card doesn't notify of packets.
+    fn is_masked(self) -> bool
+        ensures { result ≡ is_masked self }
     {
-        Batch {
-            packets: [0; MOST_WEIGHT],
-            count: 0,
+        matches!(self, Phase::Scheduled | Phase::Deferred(_) | Phase::Fired)
+    }
+
+    /// Whether an interrupt is to be taken up.
+    fn asks(self) -> bool
+        ensures { result ≡ asks self }
+    {
+        matches!(self, Phase::Raised | Phase::Fired)
+    }
+
+    /// When its timer expires, if one is set.
+    fn timer(self) -> Option<u64>
+        ensures { result ≡ timer_of self }
+    {
+        match self {
+            Phase::Coalescing(until) | Phase::Deferred(until) => Some(until),
+            _ => None,
         }
     }
 
-    /// Lets the packets go.
-    pub(crate) fn clear(&mut self)
-        ensures { self.new ≡ [] }
+    /// The phase after its timer expired.
+    fn expired(self) -> Phase
+        ensures { result ≡ expired_phase self }
     {
-        self.count = 0;
-    }
-
-    /// The packets, in order.
-    pub(crate) fn packets(&self) -> &[u64]
-        ensures packets { result.now ≡ self.now }
-        ensures few { length result.now ≤ 64 }
-    {
-        &self.packets[..self.count]
-    }
-
-    // Takes the oldest packets out of a ring, at most so many.
-    fn take_from(&mut self, ring: &mut HeapCircularBuffer<u64>, weight: u32)
-        requires { weight ≤ 64 }
-        ensures batch { self.new ≡ take (min weight (length ring.old.items)) ring.old.items }
-        ensures ring { ring.new
-            ≡ buffer (drop (min weight (length ring.old.items)) ring.old.items) ring.old.capacity }
-    {
-        self.count = ring.read_into(&mut self.packets[..weight as usize]);
+        match self {
+            Phase::Coalescing(_) => Phase::Raised,
+            Phase::Deferred(_) => Phase::Fired,
+            other => other,
+        }
     }
 }
 
 impl Device {
-    ghost use Rattle.std.specs.Prelude.{◌<◌};
-
-    /// A device with an empty ring of that many places.
+    /// A device with an empty ring for so many packets.
     pub(crate) fn new(alloc: Global, capacity: u32) -> Result<Device, AllocError>
         ensures { IfOk result (λ d. d ≡ opened capacity) }
     {
         let ring = HeapCircularBuffer::with_capacity(alloc, capacity as usize)?;
-        let waits = Waits::new(alloc)?;
-        let mut napi = SerialNapi::new(CONTROLLER);
-        napi.enable(CONTROLLER, false);
+        let taken = HeapCircularBuffer::with_capacity(alloc, capacity as usize)?;
         Ok(Device {
             ring,
-            napi,
-            raises: false,
-            told: DeviceCounts::NONE,
-            waits,
+            taken,
+            phase: Phase::Quiet,
+            frames: 0,
+            deferrals: 0,
+            counts: DeviceCounts::NONE,
+            waits: Waits::new(alloc),
         })
     }
 
-    /// Whether it raises its interrupt.
-    pub(crate) fn raises(&self) -> bool
-        ensures { result ≡ self.now.raises }
+    /// Whether it asks for an interrupt, or its NAPI timer expired.
+    pub(crate) fn asks(&self) -> bool
+        ensures { result ≡ asks self.now.phase }
     {
-        self.raises
+        self.phase.asks()
     }
 
-    /// A packet comes. A full ring drops it; else a device that isn't masked raises its interrupt.
-    #[tactic(auto, unfolding(crate::specs::Device::after_packet))]
-    pub(crate) fn arrive(&mut self, moment: u64)
-        ensures { self.new ≡ after_packet moment self.old }
+    /// Whether its NAPI timer expired.
+    pub(crate) fn is_fired(&self) -> bool
+        ensures { result ≡ is_fired self.now.phase }
     {
-        self.told.arrived = self.told.arrived.saturating_add(1);
-        if self.ring.try_push_back(moment).is_err() {
-            self.told.dropped = self.told.dropped.saturating_add(1);
-            return;
+        self.phase == Phase::Fired
+    }
+
+    /// When its timer expires, if one is set.
+    pub(crate) fn timer(&self) -> Option<u64>
+        ensures { result ≡ timer_of self.now.phase }
+    {
+        self.phase.timer()
+    }
+
+    /// Its timer expires.
+    pub(crate) fn expire(&mut self)
+        ensures { self.new ≡ expired self.old }
+    {
+        self.phase = self.phase.expired();
+    }
+
+    // The card has one more frame: it asks for an interrupt at once, or a while later.
+    #[tactic(auto, unfolding(crate::specs::Device::notified))]
+    fn notify(&mut self, moment: u64, settings: &Settings)
+        ensures { self.new ≡ notified moment settings.now self.old }
+    {
+        self.frames = self.frames.saturating_add(1);
+        let wanted = u64::from(settings.rx_frames);
+        if settings.rx_nsecs == 0 || wanted != 0 && wanted <= self.frames {
+            self.phase = Phase::Raised;
+        } else if self.phase == Phase::Quiet {
+            self.phase = Phase::Coalescing(moment.saturating_add(u64::from(settings.rx_nsecs)));
         }
-        self.raises = self.raises || !self.napi.flags().sched;
     }
 
-    /// Its interrupt is taken up: it is lowered, and where there is polling its instance is handed to the list. Answers
-    /// whether it was handed over by that: its number is still to be pushed.
-    #[tactic(auto, unfolding(crate::specs::Device::interrupted))]
-    pub(crate) fn interrupt(&mut self, polling: bool) -> bool
-        ensures device { self.new ≡ interrupted polling self.old }
-        ensures handed { result ≡ is_handed_at polling (Some self.old) }
+    /// A packet arrives: a full ring drops it, else a card that isn't masked notifies of it. Returns whether the ring took it.
+    #[tactic(auto, unfolding(crate::specs::Device::after_packet))]
+    pub(crate) fn arrive(&mut self, moment: u64, settings: &Settings) -> bool
+        ensures device { self.new ≡ after_packet moment settings.now self.old }
+        ensures room { result ≡ has_room self.old }
     {
-        self.raises = false;
-        self.told.interrupts = self.told.interrupts.saturating_add(1);
-        if !polling || self.napi.flags().sched {
+        self.counts.arrived = self.counts.arrived.saturating_add(1);
+        if self.ring.try_push_back(moment).is_err() {
+            self.counts.dropped = self.counts.dropped.saturating_add(1);
             return false;
         }
-        if self.napi.schedule(INTERRUPT) == Prep::Granted {
-            self.napi.hand(INTERRUPT, Kind::List);
+        if !self.phase.is_masked() {
+            self.notify(moment, settings);
         }
         true
     }
 
-    /// Gives the oldest packets, at most so many.
-    #[tactic(auto, unfolding(crate::specs::Device::taken))]
-    pub(crate) fn take(&mut self, weight: u32, batch: &mut Batch)
-        requires { weight ≤ 64 }
-        ensures batch { batch.new ≡ batch_at weight (Some self.old) }
-        ensures device { self.new ≡ taken weight self.old }
+    /// Its interrupt is taken up, or that of its NAPI timer.
+    #[tactic(auto, unfolding(crate::specs::Device::interrupted))]
+    pub(crate) fn interrupt(&mut self, polling: bool)
+        ensures { self.new ≡ interrupted polling self.old }
     {
-        batch.take_from(&mut self.ring, weight);
-    }
-
-    /// A poll gives the oldest packets, at most so many.
-    #[tactic(auto, unfolding(crate::specs::Device::taken, crate::specs::Device::polled))]
-    pub(crate) fn poll(&mut self, weight: u32, batch: &mut Batch)
-        requires { weight ≤ 64 }
-        ensures batch { batch.new ≡ batch_at weight (Some self.old) }
-        ensures device { self.new ≡ polled weight self.old }
-    {
-        self.told.polls = self.told.polls.saturating_add(1);
-        batch.take_from(&mut self.ring, weight);
-    }
-
-    /// These packets are delivered.
-    #[tactic(auto, unfolding(crate::specs::Device::delivered))]
-    pub(crate) fn deliver(&mut self, now: u64, batch: &[u64])
-        ensures { self.new ≡ delivered now batch.now self.old }
-    {
-        self.told.polled = self.told.polled.saturating_add(batch.len() as u64);
-        self.waits.count_all(now, batch);
-    }
-
-    /// A poll ends that gave its whole weight, or less. With the whole weight it is to be repolled, and else completed.
-    #[tactic(auto, unfolding(crate::specs::Device::ended_poll))]
-    pub(crate) fn end_poll(&mut self, full: bool)
-        ensures { self.new ≡ ended_poll full self.old }
-    {
-        let held = self.napi.take(POLLER, Kind::List);
-        if full {
-            if held {
-                self.napi.hand(POLLER, Kind::List);
-            }
+        if self.phase == Phase::Fired {
+            self.phase = Phase::Scheduled;
             return;
         }
-        if held {
-            self.napi.complete(POLLER);
-        }
-        self.raises = !self.ring.is_empty();
+        self.phase = if polling {
+            Phase::Scheduled
+        } else {
+            Phase::Quiet
+        };
+        self.frames = 0;
+        self.counts.interrupts = self.counts.interrupts.saturating_add(1);
     }
 
-    /// An interrupt ends that polled by itself: it is raised again if the ring isn't empty.
-    #[tactic(auto, unfolding(crate::specs::Device::ended_interrupt))]
-    pub(crate) fn end_interrupt(&mut self)
-        ensures { self.new ≡ ended_interrupt self.old }
+    /// An interrupt without polling ends: it is raised again if the ring isn't empty.
+    pub(crate) fn raise_again(&mut self)
+        ensures { self.new ≡ raised_again self.old }
     {
-        self.raises = !self.ring.is_empty();
+        if !self.ring.is_empty() {
+            self.phase = Phase::Raised;
+        }
     }
 
-    /// What is told of it.
+    /// Takes the packet that a poll takes next. With a backlog, the whole ring is taken at once when nothing taken is left
+    /// (`process_backlog`).
+    pub(crate) fn take_next(&mut self, backlog: bool) -> Option<u64>
+        ensures packet { result ≡ next_packet backlog self.old }
+        ensures device { self.new ≡ without_next backlog self.old }
+    {
+        if !backlog {
+            return self.ring.pop_front();
+        }
+        if self.taken.is_empty() {
+            mem::swap(&mut self.ring, &mut self.taken);
+        }
+        self.taken.pop_front()
+    }
+
+    /// A packet that arrived then is delivered. Fails if there is no memory to count its wait; then nothing is counted.
+    pub(crate) fn deliver(&mut self, now: u64, came: u64) -> Result<(), AllocError>
+        ensures device { OnOk result (self.new ≡ delivered now came self.old) }
+        ensures phase { self.new.phase ≡ self.old.phase }
+    {
+        self.waits.count(now.saturating_sub(came))?;
+        self.counts.polled = self.counts.polled.saturating_add(1);
+        Ok(())
+    }
+
+    // It is unmasked, unless its interrupt is deferred (`napi_complete_done`).
+    #[tactic(auto, unfolding(crate::specs::Device::completed))]
+    fn complete(&mut self, now: u64, given: u32, settings: &Settings)
+        ensures { self.new ≡ completed now given settings.now self.old }
+    {
+        if given != 0 {
+            self.deferrals = settings.defer_hard_irqs;
+        }
+        let wait = u64::from(settings.gro_flush_timeout);
+        let defers = self.deferrals != 0 && wait != 0;
+        self.deferrals = self.deferrals.saturating_sub(1);
+        self.phase = if defers {
+            Phase::Deferred(now.saturating_add(wait))
+        } else {
+            Phase::Quiet
+        };
+    }
+
+    /// A poll ends that gave so many packets. With the whole weight the device is to be polled again, else it completes.
+    #[tactic(auto, unfolding(crate::specs::Device::polled))]
+    pub(crate) fn end_poll(&mut self, now: u64, given: u32, settings: &Settings)
+        ensures { self.new ≡ polled now given settings.now self.old }
+    {
+        self.counts.polls = self.counts.polls.saturating_add(1);
+        if given != settings.weight {
+            self.complete(now, given, settings);
+        }
+    }
+
+    /// What is reported of it.
     pub(crate) fn report(&self) -> DeviceReport
         ensures { result ≡ report_of self.now }
     {
         DeviceReport {
-            counts: self.told,
-            waits: self.waits.told(),
+            counts: self.counts,
+            waits: self.waits.summary(),
         }
     }
 }

@@ -1,18 +1,24 @@
 //! The devices of a processor.
 
-ghost use Rattle.std.specs.Prelude.{◌≡◌, ◌≤◌, ◌<◌, ◌+◌, ◌-◌, ◌++◌, [], IfOk, IfSome, OnOk, length, position, replicate, is_some, true, None, Some};
-ghost use Rattle.std.specs.Option.{option_map};
-ghost use Rattle.machine_model.specs.Machine.{report_of};
-ghost use Rattle.device_places.specs.Places.{at, changed};
-ghost use Rattle.machine_model.specs.Device.{after_packet, delivered, ended_interrupt, ended_poll, interrupted, polled, taken};
-ghost use Rattle.machine_model.specs.Devices.{batch_at, is_handed_at, raises_at, with_device};
-ghost use Rattle.machine_model.specs.Kept.{masks};
+ghost use Rattle.std.specs.Prelude.{◌≡◌, ◌≤◌, ◌<◌, ◌+◌, ◌-◌, ◌++◌, IfSome, OnOk, length, replicate, None};
+ghost use Rattle.machine_model.specs.Devices.{asks_at, soonest_from, sooner, timer_at};
+ghost use Rattle.machine_model.specs.Kept.{all_scheduled};
 
-use crate::device::{Batch, Device, DeviceReport};
+use crate::device::{Device, DeviceReport};
+use machine_words::Settings;
 use std::alloc::{AllocError, Global};
 use std::marker::Model;
 
-/// The devices of a processor, each in the place of its number there; each comes into being by its first packet.
+/// A timer that is set: when it expires, and the number of its device.
+#[derive(Clone, Copy, Debug, PartialEq, Eq)]
+pub struct Timer {
+    /// When it expires, in nanoseconds.
+    pub at: u64,
+    /// The number of its device.
+    pub device: u32,
+}
+
+/// The devices of a processor, each at its number there; each is made by its first packet.
 #[derive(Drop)]
 pub(crate) struct Devices {
     places: Vec<Option<Device>>,
@@ -29,14 +35,45 @@ impl Model for Devices {
     ghost invariant = { λ d. length d.places.items ≤ 64 };
 }
 
-// Whether the device in this place, if there is one, raises its interrupt.
-fn raises(place: &Option<Device>) -> bool
-    ensures { result ≡ raises_at place.now }
+// Whether the device in this place, if there is one, asks for an interrupt.
+fn asks(place: &Option<Device>) -> bool
+    ensures { result ≡ asks_at place.now }
 {
     match place {
-        Some(device) => device.raises(),
+        Some(device) => device.asks(),
         None => false,
     }
+}
+
+// The timer of the device in this place, if there is one and one is set.
+fn timer_in(place: &Option<Device>, device: u32) -> Option<Timer>
+    ensures { result ≡ timer_at device place.now }
+{
+    let at = place.as_ref()?.timer()?;
+    Some(Timer { at, device })
+}
+
+// The sooner of two timers, the first of two at one time.
+fn sooner(first: Option<Timer>, second: Option<Timer>) -> Option<Timer>
+    ensures { result ≡ sooner first second }
+{
+    match (first, second) {
+        (Some(timer), Some(other)) if other.at < timer.at => Some(other),
+        (Some(timer), _) => Some(timer),
+        (None, other) => other,
+    }
+}
+
+// The soonest timer of the devices in these places.
+fn soonest_in(places: &[Option<Device>]) -> Option<Timer>
+    requires { length places.now ≤ 64 }
+    ensures { result ≡ soonest_from 0 places.now }
+{
+    let mut best = None;
+    for (number, place) in places.iter().enumerate() {
+        best = sooner(best, timer_in(place, number as u32));
+    }
+    best
 }
 
 // Makes the places up to a number.
@@ -46,7 +83,7 @@ fn make_place(places: &mut Vec<Option<Device>>, number: usize) -> Result<(), All
     ensures places { OnOk result (places.new.items
         ≡ places.old.items ++ replicate (number + 1 - length places.old.items) None) }
     ensures few { length places.new.items ≤ 64 }
-    ensures masks { masks places.old.items ≤ masks places.new.items }
+    ensures scheduled { all_scheduled places.old.items ≤ all_scheduled places.new.items }
 {
     for _ in places.len()..number + 1 {
         places.push(None)?;
@@ -55,7 +92,13 @@ fn make_place(places: &mut Vec<Option<Device>>, number: usize) -> Result<(), All
 }
 
 impl Devices {
-    ghost use Rattle.std.specs.Prelude.{◌≡◌, ◌≤◌, ◌<◌, ◌+◌, [], IfOk, IfSome, OnOk, length, position, is_some, true, Some};
+    ghost use Rattle.std.specs.Prelude.{◌≡◌, ◌≤◌, ◌<◌, [], IfSome, OnOk, length, position};
+    ghost use Rattle.std.specs.Option.{option_map};
+    ghost use Rattle.machine_model.specs.Machine.{report_of};
+    ghost use Rattle.device_places.specs.Places.{at, changed};
+    ghost use Rattle.machine_model.specs.Device.{after_packet, delivered, expired, interrupted, polled, raised_again, without_next};
+    ghost use Rattle.machine_model.specs.Devices.{asks_at, has_room_at, is_fired_at, next_packet_at, soonest_from, with_device};
+    ghost use Rattle.machine_model.specs.Kept.{all_scheduled};
 
     /// No devices.
     pub(crate) fn new(alloc: Global) -> Devices
@@ -66,15 +109,22 @@ impl Devices {
         }
     }
 
-    /// The lowest device that raises its interrupt.
-    pub(crate) fn lowest_raising(&self) -> Option<usize>
-        ensures lowest { result ≡ position raises_at self.now }
+    /// The lowest device that asks for an interrupt.
+    pub(crate) fn lowest_asking(&self) -> Option<usize>
+        ensures lowest { result ≡ position asks_at self.now }
         ensures below { IfSome result (λ number. number < 64) }
     {
-        self.places.iter().position(|place| raises(place))
+        self.places.iter().position(|place| asks(place))
     }
 
-    /// Brings a device into being by its first packet, with a ring of that many places.
+    /// The soonest timer, of those at one time that of the lowest device.
+    pub(crate) fn soonest(&self) -> Option<Timer>
+        ensures { result ≡ soonest_from 0 self.now }
+    {
+        soonest_in(&self.places)
+    }
+
+    /// Makes a device at its first packet, with a ring for so many packets. Fails if there is no memory for it.
     #[tactic(auto, unfolding(crate::specs::Devices::with_device))]
     pub(crate) fn open(
         &mut self,
@@ -84,7 +134,7 @@ impl Devices {
     ) -> Result<(), AllocError>
         requires { number < 64 }
         ensures devices { OnOk result (self.new ≡ with_device capacity number self.old) }
-        ensures masks { masks self.old ≤ masks self.new }
+        ensures scheduled { all_scheduled self.old ≤ all_scheduled self.new }
     {
         make_place(&mut self.places, number)?;
         if number < self.places.len() && self.places[number].is_none() {
@@ -93,94 +143,103 @@ impl Devices {
         Ok(())
     }
 
-    /// A packet comes to a device.
-    pub(crate) fn arrive(&mut self, number: usize, moment: u64)
-        ensures { self.new ≡ changed (after_packet moment) number self.old }
+    /// A packet arrives for a device. Returns whether its ring took it.
+    pub(crate) fn arrive(&mut self, number: usize, moment: u64, settings: &Settings) -> bool
+        ensures devices { self.new ≡ changed (after_packet moment settings.now) number self.old }
+        ensures room { result ≡ has_room_at (at number self.old) }
     {
         if number < self.places.len() {
             if let Some(device) = &mut self.places[number] {
-                device.arrive(moment);
-            }
-        }
-    }
-
-    /// The interrupt of a device is taken up. Answers whether it was handed to the list by that.
-    pub(crate) fn interrupt(&mut self, number: usize, polling: bool) -> bool
-        ensures devices { self.new ≡ changed (interrupted polling) number self.old }
-        ensures handed { result ≡ is_handed_at polling (at number self.old) }
-        ensures few { length self.new ≤ 64 }
-    {
-        if number < self.places.len() {
-            if let Some(device) = &mut self.places[number] {
-                return device.interrupt(polling);
+                return device.arrive(moment, settings);
             }
         }
         false
     }
 
-    /// A poll of a device begins: it gives the oldest packets, at most so many.
-    pub(crate) fn poll(&mut self, number: usize, weight: u32, batch: &mut Batch)
-        requires { weight ≤ 64 }
-        ensures batch { batch.new ≡ batch_at weight (at number self.old) }
-        ensures devices { self.new ≡ changed (polled weight) number self.old }
+    /// The timer of a device expires.
+    pub(crate) fn expire(&mut self, number: usize)
+        ensures { self.new ≡ changed expired number self.old }
     {
         if number < self.places.len() {
             if let Some(device) = &mut self.places[number] {
-                device.poll(weight, batch);
-                return;
-            }
-        }
-        batch.clear();
-    }
-
-    /// Gives the oldest packet of a device.
-    pub(crate) fn take_one(&mut self, number: usize, batch: &mut Batch)
-        ensures batch { batch.new ≡ batch_at 1 (at number self.old) }
-        ensures devices { self.new ≡ changed (taken 1) number self.old }
-    {
-        if number < self.places.len() {
-            if let Some(device) = &mut self.places[number] {
-                device.take(1, batch);
-                return;
-            }
-        }
-        batch.clear();
-    }
-
-    /// These packets of a device are delivered.
-    pub(crate) fn deliver(&mut self, number: usize, now: u64, batch: &[u64])
-        ensures { self.new ≡ changed (delivered now batch.now) number self.old }
-    {
-        if number < self.places.len() {
-            if let Some(device) = &mut self.places[number] {
-                device.deliver(now, batch);
+                device.expire();
             }
         }
     }
 
-    /// A poll of a device ends that gave its whole weight, or less.
-    pub(crate) fn end_poll(&mut self, number: usize, full: bool)
-        ensures { self.new ≡ changed (ended_poll full) number self.old }
+    /// Whether the NAPI timer of a device expired.
+    pub(crate) fn is_fired(&self, number: usize) -> bool
+        ensures { result ≡ is_fired_at (at number self.now) }
+    {
+        if number < self.places.len() {
+            if let Some(device) = &self.places[number] {
+                return device.is_fired();
+            }
+        }
+        false
+    }
+
+    /// The interrupt of a device is taken up.
+    pub(crate) fn interrupt(&mut self, number: usize, polling: bool)
+        ensures devices { self.new ≡ changed (interrupted polling) number self.old }
+        ensures few { length self.new ≤ 64 }
     {
         if number < self.places.len() {
             if let Some(device) = &mut self.places[number] {
-                device.end_poll(full);
+                device.interrupt(polling);
             }
         }
     }
 
-    /// An interrupt of a device ends that polled by itself.
-    pub(crate) fn end_interrupt(&mut self, number: usize)
-        ensures { self.new ≡ changed ended_interrupt number self.old }
+    /// An interrupt of a device ends that delivered a packet without polling.
+    pub(crate) fn raise_again(&mut self, number: usize)
+        ensures { self.new ≡ changed raised_again number self.old }
     {
         if number < self.places.len() {
             if let Some(device) = &mut self.places[number] {
-                device.end_interrupt();
+                device.raise_again();
             }
         }
     }
 
-    /// What is told of a device, if there is one.
+    /// Takes the packet of a device that a poll takes next.
+    pub(crate) fn take_next(&mut self, number: usize, backlog: bool) -> Option<u64>
+        ensures packet { result ≡ next_packet_at backlog (at number self.old) }
+        ensures devices { self.new ≡ changed (without_next backlog) number self.old }
+    {
+        if number < self.places.len() {
+            if let Some(device) = &mut self.places[number] {
+                return device.take_next(backlog);
+            }
+        }
+        None
+    }
+
+    /// A packet of a device that arrived then is delivered. Fails if there is no memory to count its wait.
+    pub(crate) fn deliver(&mut self, number: usize, now: u64, came: u64) -> Result<(), AllocError>
+        ensures devices { OnOk result (self.new ≡ changed (delivered now came) number self.old) }
+        ensures scheduled { all_scheduled self.new ≡ all_scheduled self.old }
+    {
+        if number < self.places.len() {
+            if let Some(device) = &mut self.places[number] {
+                device.deliver(now, came)?;
+            }
+        }
+        Ok(())
+    }
+
+    /// A poll of a device ends that gave so many packets.
+    pub(crate) fn end_poll(&mut self, number: usize, now: u64, given: u32, settings: &Settings)
+        ensures { self.new ≡ changed (polled now given settings.now) number self.old }
+    {
+        if number < self.places.len() {
+            if let Some(device) = &mut self.places[number] {
+                device.end_poll(now, given, settings);
+            }
+        }
+    }
+
+    /// What is reported of a device, if there is one.
     pub(crate) fn report(&self, number: usize) -> Option<DeviceReport>
         ensures { result ≡ option_map report_of (at number self.now) }
     {

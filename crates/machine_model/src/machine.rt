@@ -27,7 +27,7 @@ impl Model for Machine {
 impl Machine {
     ghost use Rattle.std.specs.Prelude.{◌≡◌, ◌≤◌, ◌<◌, ◌*◌, Some, IfOk, OnOk, length, slice_get};
 
-    /// A machine to which nothing came yet.
+    /// A machine at which no packet arrived yet. Fails if there is no memory for it.
     pub fn new(alloc: Global, settings: &Settings) -> Result<Machine, AllocError>
         ensures machine { IfOk result (λ m. m ≡ opened_machine settings.now) }
         ensures processors { IfOk result (λ m. length m ≡ settings.now.processors) }
@@ -39,7 +39,8 @@ impl Machine {
         Ok(Machine { processors })
     }
 
-    /// A packet comes to a device at a moment. Of its processor all ends before that ends at or before the moment.
+    /// A packet arrives for a device (1 to 64 for each processor) at a moment, in nanoseconds. Before it its processor advances to that
+    /// moment. Fails if there is no memory for the device or for counting a wait; the machine can't be used after that.
     pub fn arrive(&mut self, alloc: Global, moment: u64, device: u32) -> Result<(), AllocError>
         requires { (1 ≤ device) × (device ≤ 64 * length self.old) }
         ensures arrives { OnOk result (Arrives moment device self.old self.new) }
@@ -51,17 +52,19 @@ impl Machine {
         Ok(())
     }
 
-    /// Behind the last packet: each processor goes on until nothing is left.
-    pub fn finish(&mut self)
-        ensures finishes { Finishes self.old self.new }
+    /// After the last packet: each processor advances until nothing is left, and then its application goes on until it sleeps. Fails
+    /// if there is no memory for counting a wait; the machine can't be used after that.
+    pub fn finish(&mut self) -> Result<(), AllocError>
+        ensures finishes { OnOk result (Finishes self.old self.new) }
         ensures processors { length self.new ≡ length self.old }
     {
         for number in 0..self.processors.len() {
-            self.processors[number].run_until(u64::MAX);
+            self.processors[number].finish()?;
         }
+        Ok(())
     }
 
-    /// What was counted of a device, None where no packet came for it.
+    /// What is reported of a device; None if no packet arrived for it.
     pub fn device(&self, device: u32) -> Option<DeviceReport>
         requires { (1 ≤ device) × (device ≤ 64 * length self.now) }
         ensures { result ≡ device_report device self.now }
@@ -71,7 +74,7 @@ impl Machine {
         self.processors[number % count].device(number / count)
     }
 
-    /// What was counted of a processor.
+    /// What is reported of a processor, by its number from 0.
     pub fn processor(&self, number: usize) -> ProcessorReport
         requires { number < length self.now }
         ensures { Some result ≡ option_map processor_report (slice_get self.now number) }

@@ -1,78 +1,119 @@
-//! One processor: what it takes up, and what ends.
+//! One processor: what it takes up, and what happens as work ends, timers expire and packets arrive.
 
-ghost use Rattle.std.specs.Prelude.{◌≡◌, ◌≤◌, ◌<◌, false, true, None, Some, IfOk, OnOk, is_some, length, take, min, ◌-◌, ◌==◌, ◌&&◌, not, nat_le, if◌then◌else◌};
-ghost use Rattle.poll_runs.specs.declared.bench.Next.TheVariants.{Gone, Repoll};
-ghost use Rattle.machine_model.specs.Processor.{RunsTo, begins, comes, delivers, ends_interrupt, ends_poll, ends_current, ends_run, goes_on, interrupts, is_busy, is_due, is_polling, opened_processor, polls, rests, step, takes_up, uses};
-ghost use Rattle.machine_model.specs.declared.processor.Work.TheVariants.{Nothing, Poll};
-ghost use Rattle.machine_model.specs.Kept.{IsKept, is_poll};
+ghost use Rattle.std.specs.Prelude.{◌≡◌, ◌≤◌, ◌<◌, ◌+◌, true, false, None, Some, IfOk, OnOk, if◌then◌else◌};
 ghost use Rattle.std.specs.Option.{option_map};
+ghost use Rattle.poll_runs.specs.declared.bench.Next.TheVariants.{Gone, Repoll};
 ghost use Rattle.device_places.specs.Places.{at};
-ghost use Rattle.machine_model.specs.Machine.{ArrivesAt, processor_report, report_of};
-ghost use Rattle.machine_model.specs.Softirq.{asked_in};
+ghost use Rattle.machine_model.specs.Devices.{asks_at};
+ghost use Rattle.machine_model.specs.Kept.{IsKept, all_scheduled, polled_by};
+ghost use Rattle.machine_model.specs.Machine.{ArrivesAt, FinishesAt, processor_report, report_of};
+ghost use Rattle.machine_model.specs.Processor.{Advances, arrives, begins_run, delivers, disturbed, ends_current, ends_interrupt, ends_poll, ends_run, goes_on, interrupts, is_due, is_polling, leaves_softirq, looks, opened_processor, rests, runs_first, scheduled, set_aside, spent, step, takes_up, upcoming, uses, woken};
+ghost use Rattle.machine_model.specs.Shown.{listed};
+ghost use Rattle.machine_model.specs.Waits.{held};
+ghost use Rattle.machine_model.specs.declared.processor.Work.TheVariants.{Nothing};
 
-use crate::device::{Batch, DeviceReport};
-use crate::devices::Devices;
+use crate::application::{Application, ApplicationReport};
+use crate::device::DeviceReport;
+use crate::devices::{Devices, Timer};
 use crate::softirq::Softirq;
-use crate::waits::{WaitCounts, Waits};
-use circular_buffer::HeapCircularBuffer;
+use crate::tasks::{Task, Tasks};
+use crate::waits::WaitCounts;
 use machine_words::Settings;
 use poll_runs::{Next, Once};
 use std::alloc::{AllocError, Global};
 use std::marker::Model;
 
-/// What a processor does.
+/// A packet that a poll took: its device, when it arrived, and how many packets the poll gave before it.
 #[derive(Clone, Copy, Debug, PartialEq, Eq)]
-pub(crate) enum Work {
+pub struct InHand {
+    /// The number of its device.
+    pub device: u32,
+    /// When it arrived, in nanoseconds.
+    pub came: u64,
+    /// The packets that its poll gave before it.
+    pub given: u32,
+}
+
+/// A piece of work of a processor.
+#[derive(Clone, Copy, Debug, PartialEq, Eq)]
+pub enum Work {
     /// Nothing is under way.
     Nothing,
     /// The interrupt of a device.
     Interrupt(u32),
-    /// The poll of the run's device.
-    Poll,
-    /// The application uses a packet that came at that moment.
+    /// The poll of a device, before its first packet.
+    Poll(u32),
+    /// A packet of a poll.
+    Packet(InHand),
+    /// The application uses a packet that arrived at that time.
     Use(u64),
+}
+
+/// What is left of a use that was interrupted: when its packet arrived, and the time that it still takes.
+#[derive(Clone, Copy, Debug, PartialEq, Eq)]
+pub struct Rest {
+    /// When its packet arrived, in nanoseconds.
+    pub came: u64,
+    /// The time that it still takes, in nanoseconds.
+    pub left: u64,
+}
+
+/// What happens next if no packet arrives.
+#[derive(Clone, Copy, Debug, PartialEq, Eq)]
+pub enum Upcoming {
+    /// Nothing.
+    Never,
+    /// The work under way ends.
+    Ends,
+    /// A timer expires.
+    Expires(Timer),
 }
 
 /// What was counted of a processor. Times are in nanoseconds.
 #[derive(Clone, Copy, Debug, PartialEq, Eq)]
 pub struct ProcessorCounts {
-    /// The interrupts.
+    /// The interrupts of its devices.
     pub interrupts: u64,
+    /// The interrupts of its NAPI timers.
+    pub timers: u64,
     /// The runs that ended.
     pub runs: u64,
-    /// The polls.
+    /// The polls, of runs and of threads.
     pub polls: u64,
     /// The packets that the polls gave.
     pub work: u64,
-    /// The runs that were ended before all was polled (`time_squeeze`).
+    /// The runs that ended before all was polled (`time_squeeze`).
     pub squeezed: u64,
-    /// Those of them that time alone ended.
+    /// Those of them that ended by time only.
     pub late: u64,
     /// The packets that a full socket refused.
     pub refused: u64,
-    /// The time of the interrupts.
+    /// The time of interrupts and of waking up.
     pub interrupt_time: u64,
-    /// The time of the polls.
+    /// The time of polls.
     pub poll_time: u64,
-    /// The time of the uses.
+    /// The time of uses.
     pub use_time: u64,
 }
 
-/// What is told of a processor.
+/// What is reported of a processor.
 #[derive(Clone, Copy, Debug, PartialEq, Eq)]
 pub struct ProcessorReport {
     /// What was counted.
     pub counts: ProcessorCounts,
-    /// Its clock.
+    /// Its clock, in nanoseconds.
     pub end: u64,
-    /// From arrival to the end of the use.
+    /// The waits of the packets that were used, from arrival to the end of the use.
     pub waits: WaitCounts,
+    /// The application, if it has a processor of its own.
+    pub application: Option<ApplicationReport>,
 }
 
 impl ProcessorCounts {
     /// Nothing was counted.
-    pub(crate) const NONE: ProcessorCounts = ProcessorCounts {
+    pub const NONE: ProcessorCounts = ProcessorCounts {
         interrupts: 0,
+        timers: 0,
         runs: 0,
         polls: 0,
         work: 0,
@@ -83,22 +124,33 @@ impl ProcessorCounts {
         poll_time: 0,
         use_time: 0,
     };
+
+    // Counts the time of a piece of work.
+    fn spend(&mut self, work: Work, time: u64)
+        ensures { self.new ≡ spent work time self.old }
+    {
+        match work {
+            Work::Nothing => {}
+            Work::Interrupt(_) => self.interrupt_time = self.interrupt_time.saturating_add(time),
+            Work::Poll(_) | Work::Packet(_) => self.poll_time = self.poll_time.saturating_add(time),
+            Work::Use(_) => self.use_time = self.use_time.saturating_add(time),
+        }
+    }
 }
 
 /// A processor.
 #[derive(Drop)]
 pub(crate) struct Processor {
     settings: Settings,
-    clock: u64,
     work: Work,
     ends: u64,
+    clock: u64,
     devices: Devices,
     softirq: Softirq,
-    batch: Batch,
-    slice: u64,
-    socket: HeapCircularBuffer<u64>,
-    told: ProcessorCounts,
-    waits: Waits,
+    tasks: Tasks,
+    rest: Option<Rest>,
+    application: Application,
+    counts: ProcessorCounts,
 }
 
 impl Model for Processor {
@@ -109,22 +161,21 @@ impl Model for Processor {
 
     ghost view = { λ p. record {
       settings = p.settings;
-      clock = p.clock;
       work = p.work;
       ends = p.ends;
+      clock = p.clock;
       devices = p.devices;
       softirq = p.softirq;
-      batch = p.batch;
-      slice = p.slice;
-      socket = p.socket;
-      told = p.told;
-      waits = p.waits;
+      tasks = p.tasks;
+      rest = p.rest;
+      application = p.application;
+      counts = p.counts;
     } };
 
-    ghost invariant = { λ p. Kept p.settings p.work p.devices p.softirq p.batch };
+    ghost invariant = { λ p. Kept p.settings p.work p.devices p.softirq };
 }
 
-// Whether there is polling, and not interrupts alone.
+// Whether there is polling, and not interrupts only.
 fn is_polling(settings: &Settings) -> bool
     ensures { result ≡ is_polling settings.now }
 {
@@ -138,66 +189,107 @@ fn next_after(full: bool) -> Next
     if full { Next::Repoll } else { Next::Gone }
 }
 
-impl Processor {
-    ghost use Rattle.std.specs.Prelude.{◌≡◌, ◌≤◌, ◌<◌, false, true, None, Some, IfOk, OnOk, is_some, length, take, min, ◌-◌, ◌==◌, ◌&&◌, not, nat_le};
+// When work ends that begins at this time and takes so long.
+fn end_after(clock: u64, time: u32) -> u64
+    ensures { result ≡ held (clock + time) }
+{
+    clock.saturating_add(u64::from(time))
+}
 
-    // The interrupt of a device is taken up.
+impl Processor {
+    // The instance of a device is scheduled (`____napi_schedule`).
+    fn schedule(&mut self, number: u32) -> Result<(), AllocError>
+        requires work { self.old.work ≡ Nothing }
+        requires polling { is_polling self.old.settings ≡ true }
+        requires few { listed self.old.softirq < all_scheduled self.old.devices }
+        requires room { listed self.old.softirq < 64 }
+        ensures { OnOk result (self.new ≡ scheduled number self.old) }
+    {
+        if self.settings.threaded {
+            self.tasks.push_thread(number)
+        } else {
+            self.softirq.push(number);
+            Ok(())
+        }
+    }
+
+    // An interrupt is taken up, of a card or of a NAPI timer.
     #[tactic(auto, unfolding(crate::specs::Processor::interrupts))]
-    fn interrupt(&mut self, number: u32)
-        requires { self.old.work ≡ Nothing }
-        ensures { self.new ≡ interrupts number self.old }
+    fn interrupt(&mut self, number: u32) -> Result<(), AllocError>
+        requires work { self.old.work ≡ Nothing }
+        requires asks { asks_at (at number self.old.devices) ≡ true }
+        ensures { OnOk result (self.new ≡ interrupts number self.old) }
     {
         let polling = is_polling(&self.settings);
-        let mut cost = u64::from(self.settings.interrupt);
-        if !polling {
-            cost += u64::from(self.settings.packet);
+        let is_timer = self.devices.is_fired(number as usize);
+        self.devices.interrupt(number as usize, polling);
+        let mut cost = self.settings.interrupt;
+        if polling {
+            self.schedule(number)?;
+        } else {
+            cost += self.settings.packet;
         }
-        if self.devices.interrupt(number as usize, polling) {
-            self.softirq.push(number);
+        if is_timer {
+            self.counts.timers = self.counts.timers.saturating_add(1);
+        } else {
+            self.counts.interrupts = self.counts.interrupts.saturating_add(1);
         }
-        self.told.interrupts = self.told.interrupts.saturating_add(1);
-        self.told.interrupt_time = self.told.interrupt_time.saturating_add(cost);
         self.work = Work::Interrupt(number);
-        self.ends = self.clock.saturating_add(cost);
+        self.ends = end_after(self.clock, cost);
+        Ok(())
     }
 
-    // The poll of the run's device begins.
-    #[tactic(auto, unfolding(crate::specs::Processor::polls))]
-    fn poll(&mut self, number: u32)
-        ensures { self.new ≡ polls number self.old }
-    {
-        let weight = self.settings.weight;
-        self.devices.poll(number as usize, weight, &mut self.batch);
-        let packets = self.batch.packets().len() as u64;
-        let cost = u64::from(self.settings.poll) + u64::from(self.settings.packet) * packets;
-        self.told.poll_time = self.told.poll_time.saturating_add(cost);
-        self.work = Work::Poll;
-        self.ends = self.clock.saturating_add(cost);
-    }
-
-    // The socket's oldest packet is used, if there is one.
-    #[tactic(auto)]
+    // The application uses the oldest packet of its socket, if there is one.
     fn use_first(&mut self)
         requires { self.old.work ≡ Nothing }
-        ensures { self.new ≡ uses self.old.socket.items self.old }
+        ensures { self.new ≡ uses self.old.application.socket.items self.old }
     {
-        let Some(came) = self.socket.pop_front() else {
-            return;
-        };
-        let cost = u64::from(self.settings.use_time);
-        self.slice = self.slice.saturating_sub(cost);
-        self.told.use_time = self.told.use_time.saturating_add(cost);
-        self.work = Work::Use(came);
-        self.ends = self.clock.saturating_add(cost);
+        if let Some(came) = self.application.take() {
+            self.work = Work::Use(came);
+            self.ends = end_after(self.clock, self.settings.use_time);
+        }
+    }
+
+    // The first task makes a poll or uses a packet.
+    #[tactic(auto, unfolding(crate::specs::Processor::runs_first))]
+    fn run_first(&mut self)
+        requires work { self.old.work ≡ Nothing }
+        requires threaded { self.old.settings.threaded ≡ true }
+        ensures { self.new ≡ runs_first self.old }
+    {
+        match self.tasks.next(self.application.is_idle()) {
+            Some(Task::Thread(number)) => {
+                self.work = Work::Poll(number);
+                self.ends = end_after(self.clock, self.settings.poll);
+            }
+            Some(Task::Application) => self.use_first(),
+            None => {}
+        }
+    }
+
+    // The rest of an interrupted use, the first task, or the application.
+    fn leave_softirq(&mut self)
+        requires { self.old.work ≡ Nothing }
+        ensures { self.new ≡ leaves_softirq self.old.rest self.old }
+    {
+        if let Some(rest) = self.rest.take() {
+            self.work = Work::Use(rest.came);
+            self.ends = self.clock.saturating_add(rest.left);
+        } else if self.settings.threaded {
+            self.run_first();
+        } else if !self.settings.apart {
+            self.use_first();
+        }
     }
 
     // A run begins and makes its first poll.
-    #[tactic(auto, unfolding(crate::specs::Processor::begins, crate::specs::Processor::polls))]
-    fn begin(&mut self)
+    #[tactic(auto, unfolding(crate::specs::Processor::begins_run))]
+    fn begin_run(&mut self)
         requires work { self.old.work ≡ Nothing }
         requires run { self.old.softirq.run ≡ None }
         requires polling { is_polling self.old.settings ≡ true }
-        ensures { self.new ≡ begins self.old }
+        requires threaded { self.old.settings.threaded ≡ false }
+        ensures { self.new ≡ begins_run self.old }
     {
         let Settings {
             budget,
@@ -207,31 +299,26 @@ impl Processor {
         } = self.settings;
         self.softirq.begin(self.clock, budget, weight, window);
         if let Some(number) = self.softirq.next() {
-            self.work = Work::Poll;
-            self.poll(number);
+            self.work = Work::Poll(number);
+            self.ends = end_after(self.clock, self.settings.poll);
         }
     }
 
-    // No run is under way: the slice, the list, or the socket.
+    // No run is under way: the list, or what follows softirqs.
     #[tactic(auto, unfolding(crate::specs::Processor::rests))]
     fn rest(&mut self)
         requires work { self.old.work ≡ Nothing }
         requires run { self.old.softirq.run ≡ None }
         ensures { self.new ≡ rests self.old }
     {
-        if self.slice > 0 && !self.socket.is_empty() {
-            self.use_first();
-            return;
-        }
-        self.slice = 0;
         if is_polling(&self.settings) && !self.softirq.is_empty() {
-            self.begin();
+            self.begin_run();
         } else {
-            self.use_first();
+            self.leave_softirq();
         }
     }
 
-    // The run ends, and the application has a slice.
+    // The run ends.
     #[tactic(auto, unfolding(crate::specs::Processor::ends_run))]
     fn end_run(&mut self, late: bool)
         requires { self.old.work ≡ Nothing }
@@ -240,27 +327,30 @@ impl Processor {
         ensures run { self.new.softirq.run ≡ None }
     {
         let spent = self.softirq.end();
-        self.slice = u64::from(self.settings.slice);
-        self.told.runs = self.told.runs.saturating_add(1);
-        self.told.squeezed = self.told.squeezed.saturating_add(u64::from(spent || late));
-        self.told.late = self.told.late.saturating_add(u64::from(late && !spent));
+        self.counts.runs = self.counts.runs.saturating_add(1);
+        self.counts.squeezed = self
+            .counts
+            .squeezed
+            .saturating_add(u64::from(spent || late));
+        self.counts.late = self.counts.late.saturating_add(u64::from(late && !spent));
     }
 
     // A run is under way: its end or its next poll.
-    #[tactic(auto, unfolding(crate::specs::Processor::goes_on, crate::specs::Processor::polls))]
+    #[tactic(auto, unfolding(crate::specs::Processor::goes_on))]
     fn go_on(&mut self)
         requires { self.old.work ≡ Nothing }
         ensures { self.new ≡ goes_on self.old }
     {
-        if u64::from(self.settings.longest) <= self.clock.saturating_sub(self.softirq.began()) {
+        let took = self.clock.saturating_sub(self.softirq.began());
+        if u64::from(self.settings.time_limit) <= took {
             self.end_run(true);
             self.rest();
             return;
         }
         match self.softirq.next() {
             Some(number) => {
-                self.work = Work::Poll;
-                self.poll(number);
+                self.work = Work::Poll(number);
+                self.ends = end_after(self.clock, self.settings.poll);
             }
             None => {
                 self.end_run(false);
@@ -269,158 +359,264 @@ impl Processor {
         }
     }
 
-    // Takes up the first work that there is.
+    // Takes up the first work that there is, unless some is under way.
     #[tactic(auto, unfolding(crate::specs::Processor::takes_up))]
-    fn take_up(&mut self)
-        requires { self.old.work ≡ Nothing }
-        ensures { self.new ≡ takes_up self.old }
+    fn take_up(&mut self) -> Result<(), AllocError>
+        ensures { OnOk result (self.new ≡ takes_up self.old) }
     {
-        match self.devices.lowest_raising() {
-            Some(number) => self.interrupt(number as u32),
-            None => {
-                if self.softirq.is_running() {
-                    self.go_on();
-                } else {
-                    self.rest();
-                }
-            }
+        if self.work != Work::Nothing {
+            return Ok(());
         }
-    }
-
-    // The packets at hand, which are the device's, go to the socket or are refused.
-    #[tactic(auto, unfolding(crate::specs::Processor::delivers))]
-    fn deliver(&mut self, number: u32)
-        ensures { self.new ≡ delivers number self.old }
-    {
-        let batch = self.batch.packets();
-        self.devices.deliver(number as usize, self.clock, batch);
-        let room = self.socket.fill_from_slice(batch);
-        self.told.refused = self
-            .told
-            .refused
-            .saturating_add((batch.len() - room) as u64);
-    }
-
-    // An interrupt without polling delivers the oldest packet.
-    #[tactic(auto, unfolding(crate::specs::Processor::ends_interrupt))]
-    fn end_interrupt(&mut self, number: u32)
-        ensures { self.new ≡ ends_interrupt number self.old }
-    {
-        self.devices.take_one(number as usize, &mut self.batch);
-        self.deliver(number);
-        self.devices.end_interrupt(number as usize);
-    }
-
-    // A poll delivers its packets, and is told to the run.
-    #[tactic(auto, unfolding(crate::specs::Processor::ends_poll))]
-    fn end_poll(&mut self, number: u32)
-        requires asked { asked_in self.old.softirq.run ≡ Some number }
-        requires work { self.old.work ≡ Poll }
-        ensures processor { self.new ≡ ends_poll number self.old }
-        ensures asked { asked_in self.new.softirq.run ≡ None }
-    {
-        let work = self.batch.packets().len() as u32;
-        let full = work == self.settings.weight;
-        let next = next_after(full);
-        self.deliver(number);
-        self.devices.end_poll(number as usize, full);
-        self.softirq.tell(Once { work, next });
-        self.told.polls = self.told.polls.saturating_add(1);
-        self.told.work = self.told.work.saturating_add(u64::from(work));
-    }
-
-    // What is under way ends.
-    #[tactic(auto, unfolding(crate::specs::Processor::ends_current))]
-    fn end_current(&mut self)
-        ensures processor { self.new ≡ ends_current self.old }
-        ensures asked { is_poll self.old.work ≡ false → asked_in self.old.softirq.run ≡ None }
-    {
-        self.clock = self.ends;
-        match self.work {
-            Work::Nothing => {}
-            Work::Interrupt(number) => {
-                if !is_polling(&self.settings) {
-                    self.end_interrupt(number);
-                }
-            }
-            Work::Poll => {
-                if let Some(number) = self.softirq.asked() {
-                    self.end_poll(number);
-                }
-            }
-            Work::Use(came) => self.waits.count(self.clock.saturating_sub(came)),
+        if let Some(number) = self.devices.lowest_asking() {
+            return self.interrupt(number as u32);
         }
-    }
-
-    // What is under way ends, and the next is taken up.
-    #[tactic(auto, unfolding(crate::specs::Processor::step))]
-    fn step(&mut self)
-        ensures { self.new ≡ step self.old }
-    {
-        self.end_current();
-        self.work = Work::Nothing;
-        self.take_up();
-    }
-
-    // Whether what is under way ends at or before this moment.
-    fn is_due(&self, moment: u64) -> bool
-        ensures due { result ≡ is_due moment self.now }
-        ensures kept { IsKept self.now }
-    {
-        self.work != Work::Nothing && self.ends <= moment
-    }
-}
-
-impl Processor {
-    ghost use Rattle.std.specs.Prelude.{◌≡◌, ◌<◌, false, IfOk, OnOk};
-
-    /// A processor on which nothing came yet.
-    pub(crate) fn new(alloc: Global, settings: &Settings) -> Result<Processor, AllocError>
-        ensures { IfOk result (λ p. p ≡ opened_processor settings.now) }
-    {
-        let socket = HeapCircularBuffer::with_capacity(alloc, settings.socket as usize)?;
-        let waits = Waits::new(alloc)?;
-        Ok(Processor {
-            settings: *settings,
-            clock: 0,
-            work: Work::Nothing,
-            ends: 0,
-            devices: Devices::new(alloc),
-            softirq: Softirq::new(),
-            batch: Batch::new(),
-            slice: 0,
-            socket,
-            told: ProcessorCounts::NONE,
-            waits,
-        })
-    }
-
-    /// All that ends at or before the moment ends, one after the other.
-    pub(crate) fn run_until(&mut self, moment: u64)
-        ensures { RunsTo moment self.old self.new }
-    {
-        while self.is_due(moment) {
-            self.step();
-        }
-    }
-
-    /// A packet comes to a device; nothing is under way that ends at or before that moment.
-    #[tactic(auto, unfolding(crate::specs::Processor::comes))]
-    pub(crate) fn come(&mut self, alloc: Global, moment: u64, number: u32) -> Result<(), AllocError>
-        requires { number < 64 }
-        ensures { OnOk result (self.new ≡ comes moment number self.old) }
-    {
-        self.devices
-            .open(alloc, number as usize, self.settings.ring)?;
-        self.devices.arrive(number as usize, moment);
-        if self.work == Work::Nothing {
-            self.clock = moment;
-            self.take_up();
+        if self.softirq.is_running() {
+            self.go_on();
+        } else {
+            self.rest();
         }
         Ok(())
     }
 
-    /// A packet comes to a device. Before it all ends that ends at or before that moment.
+    // A packet of a device is delivered, and the application is runnable if it took it.
+    #[tactic(auto, unfolding(crate::specs::Processor::delivers))]
+    fn deliver(&mut self, number: u32, came: u64) -> Result<(), AllocError>
+        ensures { OnOk result (self.new ≡ delivers number came self.old) }
+    {
+        let Settings {
+            threaded,
+            apart,
+            ..
+        } = self.settings;
+        let is_task = threaded && !apart && self.application.has_place();
+        self.devices.deliver(number as usize, self.clock, came)?;
+        self.application.feed(self.clock, came, &self.settings)?;
+        if is_task {
+            self.tasks.push_application()?;
+        }
+        Ok(())
+    }
+
+    // An interrupt without polling delivers the oldest packet.
+    #[tactic(auto, unfolding(crate::specs::Processor::ends_interrupt))]
+    fn end_interrupt(&mut self, number: u32) -> Result<(), AllocError>
+        requires { is_polling self.old.settings ≡ false }
+        ensures { OnOk result (self.new ≡ ends_interrupt number self.old) }
+    {
+        if let Some(came) = self.devices.take_next(number as usize, false) {
+            self.deliver(number, came)?;
+        }
+        self.devices.raise_again(number as usize);
+        Ok(())
+    }
+
+    // A poll ends that gave so many packets.
+    #[tactic(auto, unfolding(crate::specs::Processor::ends_poll))]
+    fn end_poll(&mut self, number: u32, given: u32) -> Result<(), AllocError>
+        requires polled { polled_by self.old.work ≡ Some number }
+        requires given { given ≤ self.old.settings.weight }
+        ensures { OnOk result (self.new ≡ ends_poll number given (record self.old { work = Nothing })) }
+    {
+        let full = given == self.settings.weight;
+        if !self.settings.threaded {
+            let next = next_after(full);
+            self.softirq.polled(Once { work: given, next });
+        } else if full {
+            self.tasks.push_first(number)?;
+        }
+        self.devices
+            .end_poll(number as usize, self.clock, given, &self.settings);
+        self.counts.polls = self.counts.polls.saturating_add(1);
+        self.counts.work = self.counts.work.saturating_add(u64::from(given));
+        self.work = Work::Nothing;
+        Ok(())
+    }
+
+    // A poll that gave so many packets looks for the next one.
+    #[tactic(auto, unfolding(crate::specs::Processor::looks))]
+    fn look(&mut self, number: u32, given: u32) -> Result<(), AllocError>
+        requires polled { polled_by self.old.work ≡ Some number }
+        requires given { given ≤ self.old.settings.weight }
+        ensures { OnOk result (self.new ≡ looks number given (record self.old { work = Nothing })) }
+    {
+        if given < self.settings.weight {
+            let backlog = self.settings.backlog;
+            if let Some(came) = self.devices.take_next(number as usize, backlog) {
+                self.work = Work::Packet(InHand {
+                    device: number,
+                    came,
+                    given,
+                });
+                self.ends = end_after(self.clock, self.settings.packet);
+                return Ok(());
+            }
+        }
+        self.end_poll(number, given)
+    }
+
+    // What is under way ends.
+    #[tactic(auto, unfolding(crate::specs::Processor::ends_current))]
+    fn end_current(&mut self) -> Result<(), AllocError>
+        ensures { OnOk result (self.new ≡ ends_current self.old) }
+    {
+        self.counts
+            .spend(self.work, self.ends.saturating_sub(self.clock));
+        self.clock = self.ends;
+        match self.work {
+            Work::Nothing => {}
+            Work::Interrupt(number) => {
+                self.work = Work::Nothing;
+                if !is_polling(&self.settings) {
+                    self.end_interrupt(number)?;
+                }
+            }
+            Work::Poll(number) => self.look(number, 0)?,
+            Work::Packet(packet) => {
+                self.deliver(packet.device, packet.came)?;
+                self.look(packet.device, packet.given + 1)?;
+            }
+            Work::Use(came) => {
+                self.application.use_packet(self.clock, came)?;
+                self.work = Work::Nothing;
+            }
+        }
+        Ok(())
+    }
+
+    // A use is interrupted, and what is left of it is set aside.
+    fn set_aside(&mut self, moment: u64)
+        ensures { self.new ≡ set_aside moment self.old.work self.old }
+    {
+        if let Work::Use(came) = self.work {
+            self.counts
+                .spend(self.work, moment.saturating_sub(self.clock));
+            self.work = Work::Nothing;
+            self.clock = moment;
+            let left = self.ends.saturating_sub(moment);
+            self.rest = Some(Rest { came, left });
+        }
+    }
+
+    // An idle processor goes on at that time, or later if it is woken by an interrupt.
+    fn wake(&mut self, moment: u64, asked: bool)
+        ensures { self.new ≡ woken moment asked self.old }
+    {
+        self.clock = moment;
+        if asked {
+            let wake = self.settings.wake;
+            self.clock = end_after(moment, wake);
+            let time = self.counts.interrupt_time;
+            self.counts.interrupt_time = time.saturating_add(u64::from(wake));
+        }
+    }
+
+    // A device may ask for an interrupt: it disturbs an idle processor, and a use.
+    #[tactic(auto, unfolding(crate::specs::Processor::disturbed))]
+    fn disturb(&mut self, moment: u64) -> Result<(), AllocError>
+        ensures { OnOk result (self.new ≡ disturbed moment self.old) }
+    {
+        let asked = self.devices.lowest_asking().is_some();
+        if self.work == Work::Nothing {
+            self.wake(moment, asked);
+        } else if asked {
+            self.set_aside(moment);
+        }
+        self.take_up()
+    }
+
+    // What happens next if no packet arrives.
+    fn upcoming(&self) -> Upcoming
+        ensures upcoming { result ≡ upcoming self.now }
+        ensures kept { IsKept self.now }
+    {
+        let is_busy = self.work != Work::Nothing;
+        match self.devices.soonest() {
+            Some(timer) if !is_busy || timer.at < self.ends => Upcoming::Expires(timer),
+            _ if is_busy => Upcoming::Ends,
+            _ => Upcoming::Never,
+        }
+    }
+
+    // What happens next happens.
+    #[tactic(auto, unfolding(crate::specs::Processor::step))]
+    fn step(&mut self) -> Result<(), AllocError>
+        ensures { OnOk result (self.new ≡ step self.old) }
+    {
+        match self.upcoming() {
+            Upcoming::Never => Ok(()),
+            Upcoming::Ends => {
+                self.end_current()?;
+                self.take_up()
+            }
+            Upcoming::Expires(timer) => {
+                self.devices.expire(timer.device as usize);
+                self.disturb(timer.at)
+            }
+        }
+    }
+
+    // Whether anything happens at or before that moment if no packet arrives.
+    fn is_due(&self, moment: u64) -> bool
+        ensures due { result ≡ is_due moment self.now }
+        ensures kept { IsKept self.now }
+    {
+        match self.upcoming() {
+            Upcoming::Never => false,
+            Upcoming::Ends => self.ends <= moment,
+            Upcoming::Expires(timer) => timer.at <= moment,
+        }
+    }
+}
+
+impl Processor {
+    /// A processor at which nothing happened yet.
+    pub(crate) fn new(alloc: Global, settings: &Settings) -> Result<Processor, AllocError>
+        ensures { IfOk result (λ p. p ≡ opened_processor settings.now) }
+    {
+        let application = Application::new(alloc, settings)?;
+        Ok(Processor {
+            settings: *settings,
+            work: Work::Nothing,
+            ends: 0,
+            clock: 0,
+            devices: Devices::new(alloc),
+            softirq: Softirq::new(),
+            tasks: Tasks::new(alloc),
+            rest: None,
+            application,
+            counts: ProcessorCounts::NONE,
+        })
+    }
+
+    /// Advances to a moment: all happens that happens at or before it.
+    pub(crate) fn advance(&mut self, moment: u64) -> Result<(), AllocError>
+        ensures { OnOk result (Advances moment self.old self.new) }
+    {
+        while self.is_due(moment) {
+            self.step()?;
+        }
+        Ok(())
+    }
+
+    /// A packet arrives for a device of a processor that has advanced to that moment.
+    #[tactic(auto, unfolding(crate::specs::Processor::arrives))]
+    fn come(&mut self, alloc: Global, moment: u64, number: u32) -> Result<(), AllocError>
+        requires { number < 64 }
+        ensures { OnOk result (self.new ≡ arrives moment number self.old) }
+    {
+        self.devices
+            .open(alloc, number as usize, self.settings.ring)?;
+        let is_taken = self.devices.arrive(number as usize, moment, &self.settings);
+        if self.work == Work::Nothing {
+            self.clock = moment;
+        }
+        if is_taken {
+            self.disturb(moment)?;
+        }
+        Ok(())
+    }
+
+    /// A packet arrives for a device; before it the processor advances to that moment.
     pub(crate) fn arrive(
         &mut self,
         alloc: Global,
@@ -430,26 +626,44 @@ impl Processor {
         requires { number < 64 }
         ensures { OnOk result (ArrivesAt moment number self.old self.new) }
     {
-        self.run_until(moment);
+        self.advance(moment)?;
         self.come(alloc, moment, number)?;
         Ok(())
     }
 
-    /// What is told of a device, if a packet came for it.
+    /// After the last packet: the processor advances until nothing is left, and then the application goes on until it sleeps.
+    pub(crate) fn finish(&mut self) -> Result<(), AllocError>
+        ensures { OnOk result (FinishesAt self.old self.new) }
+    {
+        self.advance(u64::MAX)?;
+        self.application
+            .go_on_until(u64::MAX, self.settings.use_time)?;
+        Ok(())
+    }
+
+    /// What is reported of a device, if a packet arrived for it.
     pub(crate) fn device(&self, number: usize) -> Option<DeviceReport>
         ensures { result ≡ option_map report_of (at number self.now.devices) }
     {
         self.devices.report(number)
     }
 
-    /// What is told of the processor.
+    /// What is reported of the processor.
     pub(crate) fn report(&self) -> ProcessorReport
         ensures { result ≡ processor_report self.now }
     {
+        let mut counts = self.counts;
+        counts.refused = self.application.refused();
+        let application = if self.settings.apart {
+            Some(self.application.report())
+        } else {
+            None
+        };
         ProcessorReport {
-            counts: self.told,
+            counts,
             end: self.clock,
-            waits: self.waits.told(),
+            waits: self.application.waits(),
+            application,
         }
     }
 }

@@ -2,38 +2,40 @@
 
 ghost use Rattle.std.specs.Prelude.{◌≡◌, ◌<◌, ◌≤◌, None, true, false, is_some, length};
 ghost use Rattle.machine_model.specs.Shown.{listed, weight_in};
-ghost use Rattle.machine_model.specs.Softirq.{asked_in, begun, ended, is_spent, next_of, pushed, told};
+ghost use Rattle.machine_model.specs.Softirq.{asked_in, begun, ended, is_spent, next_of, polled_once, pushed};
 ghost use Rattle.std.specs.Option.{option_map_or};
 ghost use Rattle.poll_runs.specs.Polls.{is_arrival};
 
 use poll_runs::{Next, Once, PlainList, PollList, PollingRun};
 use std::marker::Model;
 
-/// The poll list of a processor, and the run that is under way (`struct softnet_data`).
+/// The poll list of a processor, and the run under way (`struct softnet_data`).
 #[derive(Drop)]
 pub(crate) struct Softirq {
     list: PlainList,
-    run: Option<PollingRun>,
+    run: PollingRun,
+    is_running: bool,
     began: u64,
 }
 
 impl Model for Softirq {
-    ghost use Rattle.std.specs.Prelude.{◌≤◌};
-    ghost use Rattle.std.specs.Option.{option_map};
-    ghost use Rattle.machine_model.specs.Shown.{listed, shown};
+    ghost use Rattle.std.specs.Prelude.{◌≡◌, ◌≤◌, false};
+    ghost use Rattle.poll_runs.specs.Steps.{HoldsNothing};
+    ghost use Rattle.machine_model.specs.Shown.{listed, run_if};
     ghost use Rattle.machine_model.specs.Softirq.{SoftirqView};
 
     ghost Value = { SoftirqView };
 
-    ghost view = { λ s. record { list = s.list; run = option_map shown s.run; began = s.began } };
+    ghost view = { λ s. record { list = s.list; run = run_if s.is_running s.run; began = s.began } };
 
-    ghost invariant = { λ s. listed (record { list = s.list; run = option_map shown s.run; began = s.began }) ≤ 64 };
+    ghost invariant = { λ s. (listed (record { list = s.list; run = run_if s.is_running s.run; began = s.began }) ≤ 64)
+        × (s.is_running ≡ false → HoldsNothing s.run) };
 }
 
 impl Softirq {
     ghost use Rattle.std.specs.Prelude.{◌≡◌, ◌<◌, ◌≤◌, None, Some, [], ◌==◌, true, false, is_some, length};
     ghost use Rattle.machine_model.specs.Shown.{listed, weight_in};
-    ghost use Rattle.machine_model.specs.Softirq.{asked_in, begun, ended, is_spent, next_of, pushed, told};
+    ghost use Rattle.machine_model.specs.Softirq.{asked_in, begun, ended, is_spent, next_of, polled_once, pushed};
     ghost use Rattle.std.specs.Option.{option_map_or};
     ghost use Rattle.poll_runs.specs.Polls.{is_arrival};
 
@@ -43,7 +45,8 @@ impl Softirq {
     {
         Softirq {
             list: PlainList::new(),
-            run: None,
+            run: PollingRun::idle(),
+            is_running: false,
             began: 0,
         }
     }
@@ -52,10 +55,10 @@ impl Softirq {
     pub(crate) fn is_running(&self) -> bool
         ensures { result ≡ is_some self.now.run }
     {
-        self.run.is_some()
+        self.is_running
     }
 
-    /// Whether the list holds nothing.
+    /// Whether the list is empty.
     pub(crate) fn is_empty(&self) -> bool
         ensures { result ≡ (length self.now.list == 0) }
     {
@@ -69,17 +72,7 @@ impl Softirq {
         self.began
     }
 
-    /// The number that is being polled.
-    pub(crate) fn asked(&self) -> Option<u32>
-        ensures { result ≡ asked_in self.now.run }
-    {
-        match &self.run {
-            Some(run) => run.asked(),
-            None => None,
-        }
-    }
-
-    /// Puts a number at the list's tail.
+    /// Appends a number to the list.
     pub(crate) fn push(&mut self, number: u32)
         requires { listed self.old < 64 }
         ensures { self.new ≡ pushed number self.old }
@@ -87,7 +80,7 @@ impl Softirq {
         self.list.push(number);
     }
 
-    /// Begins a run, which takes all that the list holds.
+    /// Begins a run, which takes the whole list (`net_rx_action`).
     pub(crate) fn begin(&mut self, moment: u64, budget: u32, weight: u32, window: u32)
         requires none { self.old.run ≡ None }
         requires weight { (1 ≤ weight) × (weight ≤ 64) }
@@ -95,47 +88,48 @@ impl Softirq {
         requires window { (1 ≤ window) × (window ≤ 65535) }
         ensures { self.new ≡ begun moment budget weight window self.old }
     {
-        let run = PollingRun::begin(&mut self.list, budget, weight, window);
-        self.run = Some(run);
+        self.run.restart(&mut self.list, budget, weight, window);
+        self.is_running = true;
         self.began = moment;
     }
 
-    /// The number that is to be polled next, None where the run is over.
+    /// The number that the run polls next; None if the run is over.
     #[tactic(auto, unfolding(crate::specs::Softirq::next_of))]
     pub(crate) fn next(&mut self) -> Option<u32>
         requires { asked_in self.old.run ≡ None }
         ensures softirq { self.new ≡ next_of self.old }
         ensures answer { result ≡ asked_in self.new.run }
     {
-        match &mut self.run {
-            Some(run) => run.next(&mut self.list),
-            None => None,
+        if !self.is_running {
+            return None;
         }
+        self.run.next(&mut self.list)
     }
 
-    /// What the poll did of the number that was named last.
-    #[tactic(auto, unfolding(crate::specs::Softirq::told))]
-    pub(crate) fn tell(&mut self, once: Once)
+    /// The poll of the number that is polled ended so.
+    #[tactic(auto, unfolding(crate::specs::Softirq::polled_once))]
+    pub(crate) fn polled(&mut self, once: Once)
         requires asked { is_some (asked_in self.old.run) ≡ true }
         requires work { once.work ≤ weight_in self.old.run }
         requires next { is_arrival once.next ≡ false }
-        ensures { self.new ≡ told once self.old }
+        ensures { self.new ≡ polled_once once self.old }
     {
-        if let Some(run) = &mut self.run {
-            run.polled(&mut self.list, once);
+        if self.is_running {
+            self.run.polled(&mut self.list, once);
         }
     }
 
-    /// Ends the run, and answers whether it had spent its budget or its window.
+    /// Ends the run. Returns whether it reached its budget or its window.
     #[tactic(auto, unfolding(crate::specs::Softirq::ended))]
     pub(crate) fn end(&mut self) -> bool
         requires { asked_in self.old.run ≡ None }
         ensures softirq { self.new ≡ ended self.old }
         ensures spent { result ≡ option_map_or is_spent self.old.run false }
     {
-        match self.run.take() {
-            Some(run) => run.end(&mut self.list).squeezed,
-            None => false,
+        if !self.is_running {
+            return false;
         }
+        self.is_running = false;
+        self.run.finish(&mut self.list).squeezed
     }
 }

@@ -1,51 +1,52 @@
-//! Waits, counted in buckets.
+//! Waits of packets, counted in buckets.
 
-ghost use Rattle.std.specs.Prelude.{◌≡◌, ◌≤◌, ◌<◌, ◌/◌, IfOk, length, max, ◌==◌, if◌then◌else◌};
-ghost use Rattle.machine_model.specs.Waits.{bucket_of, counted, counted_all, first_with, least_of, no_waits, told_of, wait_at};
+ghost use Rattle.std.specs.Prelude.{◌≡◌, ◌≤◌, ◌<◌, IfOk, OnOk, length, ◌-◌, ◌^◌};
+ghost use Rattle.machine_model.specs.Waits.{bucket_of, counted, first_with, least_of, no_waits, summary_of, up_to, wait_at};
 
 use std::alloc::{AllocError, Global};
 use std::marker::Model;
 
-/// How many buckets there are.
+/// The most buckets that there are.
 const BUCKETS: usize = 28672;
 
-/// What the report tells of waits, in nanoseconds.
+/// What the report has of waits, in nanoseconds.
 #[derive(Clone, Copy, Debug, PartialEq, Eq)]
 pub struct WaitCounts {
     /// How many there are.
     pub count: u64,
-    /// Their sum by their count, rounded down.
+    /// Their sum divided by their count, rounded down; 0 if there are none.
     pub mean: u64,
-    /// The least bucket that has, with those below it, half of them.
+    /// The median: the least wait of the first bucket that has, with those below it, half of them.
     pub wait50: u64,
-    /// The same for 900 of 1000.
+    /// The 90th percentile.
     pub wait90: u64,
-    /// The same for 990 of 1000.
+    /// The 99th percentile.
     pub wait99: u64,
-    /// The same for 999 of 1000.
+    /// The 99.9th percentile.
     pub wait999: u64,
     /// The longest.
     pub most: u64,
 }
 
-/// Waits in nanoseconds: how many, their sum, the longest, and how many are in each bucket.
+/// Waits in nanoseconds: how many, their sum, the longest, and how many are in each bucket. It takes memory for the buckets up to
+/// that of the longest wait.
 #[derive(Drop)]
 pub struct Waits {
     count: u64,
-    sum: u64,
+    sum: u128,
     most: u64,
     buckets: Vec<u64>,
 }
 
 impl Model for Waits {
-    ghost use Rattle.std.specs.Prelude.{◌≡◌, length};
+    ghost use Rattle.std.specs.Prelude.{◌≤◌, length};
     ghost use Rattle.machine_model.specs.Waits.{WaitsView};
 
     ghost Value = { WaitsView };
 
     ghost view = { λ w. record { count = w.count; sum = w.sum; most = w.most; buckets = w.buckets.items } };
 
-    ghost invariant = { λ w. length w.buckets.items ≡ 28672 };
+    ghost invariant = { λ w. length w.buckets.items ≤ 28672 };
 }
 
 // The bucket of a wait.
@@ -57,10 +58,11 @@ fn bucket_of(wait: u64) -> usize
     512 * rest as usize + (wait >> rest) as usize
 }
 
-// The first bucket that has, with those before it, so many waits; the first of all where there are fewer.
+// The first bucket that has, with those before it, so many waits; the first of all if there are fewer.
 fn first_with(buckets: &[u64], mut rank: u64) -> usize
     ensures bucket { result ≡ first_with rank 0 buckets.now }
     ensures below { 0 < length buckets.now → result < length buckets.now }
+    ensures first { length buckets.now ≤ 0 → result ≡ 0 }
 {
     for (bucket, count) in buckets.iter().enumerate() {
         if rank <= *count {
@@ -80,22 +82,35 @@ fn least_of(bucket: usize) -> u64
     ((bucket - 512 * rest) as u64) << rest
 }
 
+// Extends the buckets by empty ones, up to this one.
+fn extend(buckets: &mut Vec<u64>, bucket: usize) -> Result<(), AllocError>
+    requires bucket { bucket < 28672 }
+    requires few { length buckets.old.items ≤ 28672 }
+    ensures buckets { OnOk result (buckets.new.items ≡ up_to bucket buckets.old.items) }
+    ensures within { OnOk result (bucket < length buckets.new.items) }
+    ensures few { length buckets.new.items ≤ 28672 }
+{
+    if buckets.len() <= bucket {
+        buckets.resize(bucket + 1, 0)?;
+    }
+    Ok(())
+}
+
 impl Waits {
-    /// No waits.
+    /// No waits, which take no memory.
     #[tactic(auto, unfolding(crate::specs::Waits::no_waits))]
-    pub fn new(alloc: Global) -> Result<Waits, AllocError>
-        ensures { IfOk result (λ w. w ≡ no_waits) }
+    pub fn new(alloc: Global) -> Waits
+        ensures { result ≡ no_waits }
     {
-        let buckets = vec![in alloc; 0; BUCKETS]?;
-        Ok(Waits {
+        Waits {
             count: 0,
             sum: 0,
             most: 0,
-            buckets,
-        })
+            buckets: Vec::new(alloc),
+        }
     }
 
-    /// The least bucket that has, with those below it, so many of 1000 of the waits, 0 where there are none.
+    /// The least wait of the first bucket that has, with those below it, so many of 1000 of the waits; 0 if there are none.
     pub fn wait_at(&self, share: u32) -> u64
         requires { share ≤ 1000 }
         ensures { result ≡ wait_at share self.now }
@@ -107,13 +122,14 @@ impl Waits {
         least_of(first_with(&self.buckets, rank as u64))
     }
 
-    /// What the report tells of them.
-    pub fn told(&self) -> WaitCounts
-        ensures { result ≡ told_of self.now }
+    /// What the report has of them.
+    pub fn summary(&self) -> WaitCounts
+        ensures { result ≡ summary_of self.now }
     {
+        let mean = self.sum.checked_div(u128::from(self.count)).unwrap_or(0);
         WaitCounts {
             count: self.count,
-            mean: self.sum.checked_div(self.count).unwrap_or(0),
+            mean: mean.min(u128::from(u64::MAX)) as u64,
             wait50: self.wait_at(500),
             wait90: self.wait_at(900),
             wait99: self.wait_at(990),
@@ -122,24 +138,17 @@ impl Waits {
         }
     }
 
-    /// Counts one wait more.
+    /// Counts one wait more. Fails if there is no memory for the buckets up to its own; then no wait is counted.
     #[tactic(auto, unfolding(crate::specs::Waits::counted))]
-    pub fn count(&mut self, wait: u64)
-        ensures { self.new ≡ counted wait self.old }
+    pub fn count(&mut self, wait: u64) -> Result<(), AllocError>
+        ensures { OnOk result (self.new ≡ counted wait self.old) }
     {
-        self.count = self.count.saturating_add(1);
-        self.sum = self.sum.saturating_add(wait);
-        self.most = self.most.max(wait);
         let bucket = bucket_of(wait);
+        extend(&mut self.buckets, bucket)?;
+        self.count = self.count.saturating_add(1);
+        self.sum = self.sum.saturating_add(u128::from(wait));
+        self.most = self.most.max(wait);
         self.buckets[bucket] = self.buckets[bucket].saturating_add(1);
-    }
-
-    /// Counts the waits until a moment of packets that came at these moments.
-    pub fn count_all(&mut self, now: u64, batch: &[u64])
-        ensures { self.new ≡ counted_all now batch.now self.old }
-    {
-        for came in batch {
-            self.count(now.saturating_sub(*came));
-        }
+        Ok(())
     }
 }

@@ -11,8 +11,8 @@ loop-number-preserved c =
     let end : c.len-number-end.result ≡ length c.self.inside.processors.items = search rules in
     let size : length c.args.self.now ≡ length c.self.inside.processors.items = ap (λ (m : Machine). length m) (sym c.self.view_is) in
     finished-more c.args.self.now c.loop-number.self-inside.processors.items c.loop-number.number c.index_mut.result.now
-    c.run_until.new.self i
-    (omega (arith, i.size, end, size, c.loop-number-test.true)) (sym c.index_mut.ensures.value) c.run_until.ensures
+    c.finish.new.self i
+    (omega (arith, i.size, end, size, c.loop-number-test.true)) (sym c.index_mut.ensures.value) c.in_ok-finish.ensures
 
 pub returns-clause-finishes : goal.returns-clause-finishes
 returns-clause-finishes c =

@@ -1,14 +1,20 @@
-use Rattle.machine_model.proofs.KeptFacts.{kept-packet}
+use Rattle.std.proofs.Common.{arith}
+use Rattle.machine_model.specs.Device.{after_packet}
+use Rattle.machine_model.proofs.{KeptFacts.kept-devices, PlacesFacts.{same-packet, scheduled-same}}
 use Rattle.machine_model.proofs.processor.Processor.come.Goals as goal
 
 pub invariant_of-self-then-eq : goal.invariant_of-self-then-eq
 invariant_of-self-then-eq c =
     let i = c.self.inside in
-    kept-packet i.settings i.work i.devices c.open.new.self c.arrive.new.self i.softirq i.batch c.args.moment c.args.number c.self.invariant
-    c.open.ensures.masks c.arrive.ensures
+    let packet = after_packet c.args.moment i.settings in
+    rw c.arrive-is_taken.ensures.devices
+    (kept-devices i.settings i.work i.devices _ i.softirq c.self.invariant
+    (omega (arith, c.open.ensures.scheduled, scheduled-same packet c.args.number c.open.new.self (same-packet c.args.moment i.settings))))
 
 pub invariant_of-self-else-eq : goal.invariant_of-self-else-eq
 invariant_of-self-else-eq c =
     let i = c.self.inside in
-    kept-packet i.settings i.work i.devices c.open.new.self c.arrive.new.self i.softirq i.batch c.args.moment c.args.number c.self.invariant
-    c.open.ensures.masks c.arrive.ensures
+    let packet = after_packet c.args.moment i.settings in
+    rw c.arrive-is_taken.ensures.devices
+    (kept-devices i.settings i.work i.devices _ i.softirq c.self.invariant
+    (omega (arith, c.open.ensures.scheduled, scheduled-same packet c.args.number c.open.new.self (same-packet c.args.moment i.settings))))

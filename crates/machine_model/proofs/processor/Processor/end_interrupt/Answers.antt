@@ -1,16 +1,17 @@
-use Rattle.{std.proofs.Common.refl, machine_model.{specs.Device.{ended_interrupt, taken}, proofs.KeptFacts.{kept-changed, kept-taken}}}
+use Rattle.std.proofs.Common.{◌≡◌, ◌∙◌, ap, false}
+use Rattle.machine_model.specs.Processor.{ProcessorView, delivers, is_polling}
+use Rattle.machine_model.proofs.KeptFacts.{kept-lone}
 use Rattle.machine_model.proofs.processor.Processor.end_interrupt.Goals as goal
-
-pub invariant_of-self : goal.invariant_of-self
-unfolding taken
-invariant_of-self c =
-    let i = c.self.inside in
-    rw (c.take_one.ensures.devices, c.take_one.ensures.batch)
-    (kept-taken i.settings i.work i.devices i.softirq i.batch (taken 1) c.args.number 1 c.self.invariant (λ d. refl) i.settings.weight_in.0)
+use Rattle.machine_model.proofs.processor.Processor.end_interrupt.Goals.{in-Some+in_ok-deliver, in_default}
 
 pub invariant_of-self-2 : goal.invariant_of-self-2
-unfolding ended_interrupt
+unfolding delivers
 invariant_of-self-2 c =
     let i = c.self-2.inside in
-    rw c.end_interrupt.ensures
-    (kept-changed i.settings i.work i.devices i.softirq i.batch ended_interrupt c.args.number c.self-2.invariant (λ d. refl))
+    let lone : is_polling c.self.inside.settings ≡ false = rw (← c.self.view_is) at c.requires in
+    let same : i.settings ≡ c.self.inside.settings =
+    elim c.match-take_next.branch [
+      | in-Some+in_ok-deliver w ↦ ap (λ (v : ProcessorView). v.settings) (c.self-2.view_is ∙ (w.self-is ∙ w.in_ok-deliver.ensures))
+      | in_default w ↦ ap (λ (v : ProcessorView). v.settings) (c.self-2.view_is ∙ w.self-is)
+    ] in
+    kept-lone i.settings i.work i.devices _ i.softirq c.self-2.invariant (rw same lone)

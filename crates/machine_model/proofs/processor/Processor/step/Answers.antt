@@ -1,12 +1,10 @@
-use Rattle.std.proofs.Common.{◌≡◌, ◌∙◌, None, ap}
-use Rattle.machine_model.specs.{Processor.ProcessorView, Softirq.asked_in}
-use Rattle.machine_model.{specs.declared.processor.Work.TheVariants.Nothing, proofs.{EndFacts.asked-ends, KeptFacts.kept-work}}
+use Rattle.std.proofs.Common.{arith}
+use Rattle.machine_model.proofs.{KeptFacts.kept-devices, PlacesFacts.scheduled-expired}
 use Rattle.machine_model.proofs.processor.Processor.step.Goals as goal
 
 pub invariant_of-self : goal.invariant_of-self
 invariant_of-self c =
     let i = c.self.inside in
-    let none : asked_in i.softirq.run ≡ None =
-    ap (λ (p : ProcessorView). asked_in p.softirq.run) (c.self.view_is ∙ c.end_current.ensures.processor)
-    ∙ asked-ends c.args.self.now c.end_current.ensures.asked in
-    kept-work i.settings i.work Nothing i.devices i.softirq i.batch c.self.invariant none
+    rw c.expire.ensures
+    (kept-devices i.settings i.work i.devices _ i.softirq c.self.invariant
+    (omega (arith, scheduled-expired c.in-Expires.timer.device i.devices)))

@@ -1,0 +1,16 @@
+pub mod TableFacts
+pub mod WalkFacts
+pub mod WorkFacts
+pub mod EndFacts
+pub mod FateFacts
+pub mod TallyFacts
+pub mod SocketFacts
+pub mod TimerFacts
+pub mod TimeFacts
+pub mod LeastFacts
+pub mod ApplicationFacts
+pub mod ApartFacts
+pub mod OtherFacts
+pub mod StandFacts
+pub mod EmptyFacts
+pub mod LifeFacts

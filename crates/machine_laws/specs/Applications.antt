@@ -1,0 +1,122 @@
+-- An application on a processor of its own: a second machine, which deliveries feed.
+use Rattle.std.specs.Prelude.{◌≡◌, ◌≤◌, ◌<◌, ℕ, ◌+◌, ◌-◌, ◌*◌, ◌^◌, not, Bool, true, false, List, [], ◌∷◌, ◌++◌, length, map, Option, Some, None}
+use Rattle.std.specs.Prelude.{if◌then◌else◌}
+use Rattle.machine_words.specs.declared.settings.Settings.{Settings}
+use Rattle.machine_laws.specs.{Lives.{Event, InTurn, behind, next, packet}, Fates.{counting, delivery}}
+use Rattle.machine_model.specs.declared.application.Activity.{Activity, TheVariants.{Asleep, Waking, Using}}
+use Rattle.machine_model.specs.{Waits.{held, no_waits}, Processor.ProcessorView}
+use Rattle.machine_model.specs.Application.{ApplicationView, fed, goes_on, has_place, is_awake, is_over, opened_application, went_on}
+
+-- ---- deliveries
+
+abbrev pub with_delivery : ℕ → Option (ℕ × ℕ) → List (ℕ × ℕ) → List (ℕ × ℕ)
+with_delivery now None earlier = earlier
+with_delivery now (Some (number, came)) earlier = (now, came) ∷ earlier
+
+-- the deliveries of a processor, the last one first: when each was, and when its packet arrived
+unfoldable pub deliveries : Settings → List Event → List (ℕ × ℕ)
+deliveries s [] = []
+deliveries s (packet moment number ∷ earlier) = deliveries s earlier
+deliveries s (next ∷ earlier) = let p = behind s earlier in with_delivery p.ends (delivery p) (deliveries s earlier)
+
+-- a new application after these deliveries
+unfoldable pub fed_all : Settings → List (ℕ × ℕ) → ApplicationView
+fed_all s [] = opened_application s
+fed_all s ((now, came) ∷ earlier) = fed now came s (fed_all s earlier)
+
+-- Law: on a processor of its own the application is what the deliveries make of it.
+abbrev pub ApplicationIsFed : Type 0
+ApplicationIsFed = (s : Settings) (events : List Event) → s.apart ≡ true → (behind s events).application ≡ fed_all s (deliveries s events)
+
+-- ---- what it uses. Lists are in the order in which things happened.
+
+-- the packet in its hand
+abbrev pub in_hand : Activity → List ℕ
+in_hand (Using came) = came ∷ []
+in_hand _ = []
+
+-- the use under way: when its packet arrived, and when it ends
+abbrev pub use_of : ApplicationView → List (ℕ × ℕ)
+use_of a = map (λ came. (came, a.end)) (in_hand a.activity)
+
+-- the uses that end until a time, with at most these packets of the socket
+unfoldable pub ended_with : List ℕ → ℕ → ℕ → ApplicationView → List (ℕ × ℕ)
+ended_with [] moment use_time a = if is_over moment a then use_of a else []
+ended_with (came ∷ more) moment use_time a =
+    if is_over moment a then use_of a ++ ended_with more moment use_time (goes_on use_time a) else []
+
+unfoldable pub ended_until : ℕ → ℕ → ApplicationView → List (ℕ × ℕ)
+ended_until moment use_time a = ended_with a.socket.items moment use_time a
+
+-- the uses that ended before the last delivery
+unfoldable pub used_all : Settings → List (ℕ × ℕ) → List (ℕ × ℕ)
+used_all s [] = []
+used_all s ((now, came) ∷ earlier) = used_all s earlier ++ ended_until now s.use_time (fed_all s earlier)
+
+-- a delivered packet finds a place in the socket, or not
+abbrev pub finds_place : ℕ → Settings → ApplicationView → Bool
+finds_place now s a = has_place (went_on now s.use_time a)
+
+-- the packets that found a place, and those that were refused
+unfoldable pub placed_all : Bool → Settings → List (ℕ × ℕ) → List ℕ
+placed_all room s [] = []
+placed_all true s ((now, came) ∷ earlier) =
+    placed_all true s earlier ++ (if finds_place now s (fed_all s earlier) then came ∷ [] else [])
+placed_all false s ((now, came) ∷ earlier) =
+    placed_all false s earlier ++ (if finds_place now s (fed_all s earlier) then [] else came ∷ [])
+
+-- each of these uses begins at the end of the one before or later
+unfoldable pub Follows : ℕ → ℕ → List (ℕ × ℕ) → Type 0
+Follows use_time before [] = Unit {0}
+Follows use_time before ((came, end) ∷ more) = (held (before + use_time) ≤ end) × Follows use_time end more
+
+-- an application that took `placed`, refused `refused` and has used `uses`
+pub record Serves (s : Settings) (placed turned_away : List ℕ) (uses : List (ℕ × ℕ)) (a : ApplicationView) : Type 0 where
+  -- each packet that found a place is used once and in its order, or it is in its hand or in the socket
+  pub order : placed ≡ map (λ (x : ℕ × ℕ). x.0) uses ++ (in_hand a.activity ++ a.socket.items)
+  -- the refused packets and the waits from arrival to the end of the use are counted as they are
+  pub refused : a.refused ≡ held (length turned_away)
+  pub waits : a.waits ≡ counting (map (λ (x : ℕ × ℕ). x.1 - x.0) uses) no_waits
+  -- uses don't overlap
+  pub follows : Follows s.use_time 0 uses
+  -- it sleeps only while the socket is empty
+  pub sleeps : a.activity ≡ Asleep → a.socket.items ≡ []
+  -- it was woken at most once for each packet that it used
+  pub wakes : a.wakes ≤ length uses + (if is_awake a.activity then 1 else 0)
+  -- to wake and to use took no more than its time: its idle time isn't negative
+  pub idle : a.end < 2 ^ 64 - 1 → a.wakes * s.app_wake + (length uses + length (in_hand a.activity)) * s.use_time ≤ a.end
+
+-- Law: so does the application, at any time.
+abbrev pub ApplicationServes : Type 0
+ApplicationServes = (s : Settings) (until : ℕ) (events : List Event) → until < 2 ^ 64 → InTurn s until events → s.apart ≡ true
+    → let ds = deliveries s events in
+    Serves s (placed_all true s ds) (placed_all false s ds) (used_all s ds) (behind s events).application
+
+-- Law: after the end it sleeps, and all that found a place was used.
+abbrev pub ApplicationEnds : Type 0
+ApplicationEnds = (s : Settings) (until : ℕ) (events : List Event) → until < 2 ^ 64 → InTurn s until events → s.apart ≡ true
+    → let ds = deliveries s events in
+    let a = (behind s events).application in
+    let b = went_on (2 ^ 64 - 1) s.use_time a in
+    let uses = used_all s ds ++ ended_until (2 ^ 64 - 1) s.use_time a in
+    Serves s (placed_all true s ds) (placed_all false s ds) uses b × (b.activity ≡ Asleep) × (placed_all true s ds ≡ map (λ (x : ℕ × ℕ). x.0) uses)
+
+-- ---- the receiving side
+
+-- settings that differ at most in the application: in its socket, in its use and in what waking it takes
+abbrev pub changed_application : Settings → Settings → Settings
+changed_application s t = record s {
+  socket = t.socket;
+  socket_in = t.socket_in;
+  use_time = t.use_time;
+  use_in = t.use_in;
+  app_wake = t.app_wake;
+  app_wake_in = t.app_wake_in;
+}
+
+-- Law: with any other application on a processor of its own, all else of the receiving processor is the same, and so is what happens
+-- when.
+abbrev pub ReceivingIsApart : Type 0
+ReceivingIsApart = (s t : Settings) (events : List Event) → s.apart ≡ true → let u = changed_application s t in
+    (behind u events ≡ record (behind s events) { settings = u; application = (behind u events).application })
+    × ((until : ℕ) → InTurn s until events → InTurn u until events)

@@ -1,0 +1,33 @@
+-- Laws of deferral.
+use Rattle.std.specs.Prelude.{◌≡◌, ◌≤◌, ℕ, ◌+◌, ◌==◌, ◌&&◌, max, not, Bool, true, false, is_some, List, [], ◌∷◌, if◌then◌else◌}
+use Rattle.{machine_words.specs.declared.settings.Settings.Settings, device_places.specs.Places.at}
+use Rattle.machine_laws.specs.{Fates.finds_room, Lives.{Event, behind, next, packet}}
+use Rattle.machine_model.specs.{Devices.next_packet_at, Processor.{Advances, ProcessorView, upcoming}}
+use Rattle.machine_model.specs.declared.processor.{Upcoming.{Upcoming, TheVariants.{Never, Ends, Expires}}, Work.Work}
+use Rattle.machine_model.specs.declared.processor.Work.TheVariants.{Interrupt, Nothing, Packet, Poll, Use}
+
+-- a poll ends that gave nothing: one empty poll of its device more; with a packet of the device there is none since
+abbrev pub emptied_by : ℕ → Work → ProcessorView → ℕ → ℕ
+emptied_by n (Poll number) p count =
+    if number == n && not (is_some (next_packet_at p.settings.backlog (at number p.devices))) then count + 1 else count
+emptied_by n (Packet hand) p count = if hand.device == n then 0 else count
+emptied_by n _ p count = count
+
+abbrev pub emptied : ℕ → Upcoming → ProcessorView → ℕ → ℕ
+emptied n Ends p count = emptied_by n p.work p count
+emptied n _ p count = count
+
+-- the polls of a device that gave nothing since its last packet arrived or was delivered
+unfoldable pub empty_polls : ℕ → Settings → List Event → ℕ
+empty_polls n s [] = 0
+empty_polls n s (packet moment number ∷ earlier) =
+    if number == n && finds_room n (behind s earlier) then 0 else empty_polls n s earlier
+empty_polls n s (next ∷ earlier) = let p = behind s earlier in emptied n (upcoming p) p (empty_polls n s earlier)
+
+-- Law: after its last packet at most `defer-hard-irqs` polls of a device give nothing, or one if that is 0.
+abbrev pub EmptyPollsAreFew : Type 0
+EmptyPollsAreFew = (s : Settings) (n : ℕ) (events : List Event) → empty_polls n s events ≤ max 1 s.defer_hard_irqs
+
+-- Law: with no further packets, what happens on a processor comes to an end.
+abbrev pub EveryRunEnds : Type 0
+EveryRunEnds = (s : Settings) (until : ℕ) (events : List Event) → (q : ProcessorView) × Advances until (behind s events) q

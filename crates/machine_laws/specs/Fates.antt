@@ -1,0 +1,159 @@
+-- What becomes of packets over a processor's life. Lists are in the order in which things happened.
+use Rattle.std.specs.Prelude.{◌≡◌, ℕ, ◌+◌, ◌-◌, ◌<◌, ◌≤◌, ◌^◌, ◌==◌, ◌&&◌, not, Bool, true, false, List, [], ◌∷◌, ◌++◌, length, map}
+use Rattle.std.specs.Prelude.{Option, Some, None, if◌then◌else◌, option_map}
+use Rattle.{device_places.specs.Places.at, machine_words.specs.declared.settings.Settings.Settings}
+use Rattle.machine_laws.specs.Lives.{Event, InTurn, behind, next, packet}
+use Rattle.machine_model.specs.{Device.DeviceView, Devices.{has_room_at, next_packet_at, with_device}, Application.has_place}
+use Rattle.machine_model.specs.{Processor.{ProcessorView, is_due, is_polling, upcoming}, Waits.{WaitsView, counted, held, no_waits}}
+use Rattle.machine_model.specs.declared.{device.{DeviceCounts.DeviceCounts, TheConstants.DeviceCounts.NONE}}
+use Rattle.machine_model.specs.declared.processor.{Work.Work, Rest.Rest, Upcoming.Upcoming}
+use Rattle.machine_model.specs.declared.processor.Work.TheVariants.{Nothing, Interrupt, Poll, Packet, Use}
+use Rattle.machine_model.specs.declared.processor.Upcoming.TheVariants.{Never, Ends, Expires}
+
+-- ---- at a device
+
+abbrev pub ring_in : Option DeviceView → List ℕ
+ring_in None = []
+ring_in (Some d) = d.ring
+
+abbrev pub taken_in : Option DeviceView → List ℕ
+taken_in None = []
+taken_in (Some d) = d.taken
+
+-- a packet that arrives for this device now finds room in its ring
+abbrev pub finds_room : ℕ → ProcessorView → Bool
+finds_room n p = has_room_at (at n (with_device p.settings.ring n p.devices))
+
+-- the packets of a device that found room as they arrived, or found none
+unfoldable pub came : Bool → ℕ → Settings → List Event → List ℕ
+came room n s [] = []
+came room n s (next ∷ earlier) = came room n s earlier
+came true n s (packet moment number ∷ earlier) =
+    came true n s earlier ++ (if number == n && finds_room n (behind s earlier) then moment ∷ [] else [])
+came false n s (packet moment number ∷ earlier) =
+    came false n s earlier ++ (if number == n && not (finds_room n (behind s earlier)) then moment ∷ [] else [])
+
+-- the device and the packet that work delivers when it ends: a poll's packet, or without polling the oldest one of its ring
+abbrev pub delivery_of : Work → ProcessorView → Option (ℕ × ℕ)
+delivery_of (Packet hand) p = Some (hand.device, hand.came)
+delivery_of (Interrupt number) p =
+    if is_polling p.settings then None else option_map (λ came. (number, came)) (next_packet_at false (at number p.devices))
+delivery_of _ p = None
+
+-- the delivery that happens next
+abbrev pub delivery_by : Upcoming → ProcessorView → Option (ℕ × ℕ)
+delivery_by Ends p = delivery_of p.work p
+delivery_by _ p = None
+
+unfoldable pub delivery : ProcessorView → Option (ℕ × ℕ)
+delivery p = delivery_by (upcoming p) p
+
+abbrev pub packet_for : ℕ → Option (ℕ × ℕ) → List ℕ
+packet_for n None = []
+packet_for n (Some (number, came)) = if number == n then came ∷ [] else []
+
+-- the packets of a device that were delivered
+unfoldable pub delivered : ℕ → Settings → List Event → List ℕ
+delivered n s [] = []
+delivered n s (packet moment number ∷ earlier) = delivered n s earlier
+delivered n s (next ∷ earlier) = delivered n s earlier ++ packet_for n (delivery (behind s earlier))
+
+-- the packet of a device that a poll has in hand
+abbrev pub hand_of : ℕ → Work → List ℕ
+hand_of n (Packet hand) = if hand.device == n then hand.came ∷ [] else []
+hand_of n _ = []
+
+-- Law: what found room is delivered once and in its order, or it is in a poll's hand, in the queue that was taken, or in the ring.
+abbrev pub DeliversInOrder : Type 0
+DeliversInOrder = (s : Settings) (n : ℕ) (events : List Event)
+    → let p = behind s events in
+    came true n s events ≡ delivered n s events ++ (hand_of n p.work ++ (taken_in (at n p.devices) ++ ring_in (at n p.devices)))
+
+-- ---- what is counted of a device
+
+-- a list of waits, counted one after the other
+unfoldable pub counting : List ℕ → WaitsView → WaitsView
+counting [] w = w
+counting (wait ∷ more) w = counting more (counted wait w)
+
+-- the waits of a device's packets, from arrival to delivery
+unfoldable pub waits : ℕ → Settings → List Event → List ℕ
+waits n s [] = []
+waits n s (packet moment number ∷ earlier) = waits n s earlier
+waits n s (next ∷ earlier) = let p = behind s earlier in waits n s earlier ++ map (λ came. p.ends - came) (packet_for n (delivery p))
+
+-- what is counted of a device, nothing of one that isn't there
+abbrev pub counts_in : Option DeviceView → DeviceCounts
+counts_in None = NONE
+counts_in (Some d) = d.counts
+
+abbrev pub waits_in : Option DeviceView → WaitsView
+waits_in None = no_waits
+waits_in (Some d) = d.waits
+
+pub record Tells (n : ℕ) (s : Settings) (events : List Event) (device : Option DeviceView) : Type 0 where
+  pub arrived : (counts_in device).arrived ≡ held (length (came true n s events) + length (came false n s events))
+  pub dropped : (counts_in device).dropped ≡ held (length (came false n s events))
+  pub polled : (counts_in device).polled ≡ held (length (delivered n s events))
+  pub counted : waits_in device ≡ counting (waits n s events) no_waits
+
+-- Law: the counts of a device and its waits are those of these packets.
+abbrev pub TellsOfDevice : Type 0
+TellsOfDevice = (s : Settings) (n : ℕ) (events : List Event) → Tells n s events (at n (behind s events).devices)
+
+-- ---- at the socket of an application on the same processor
+
+-- of the packet that is delivered next: it finds a place in the socket, or it is refused
+abbrev pub placed : Bool → Option (ℕ × ℕ) → List ℕ
+placed true (Some (number, came)) = came ∷ []
+placed true None = []
+placed false gives = []
+
+-- those that found a place as they were delivered, or that were refused
+unfoldable pub kept : Settings → List Event → List ℕ
+kept s [] = []
+kept s (packet moment number ∷ earlier) = kept s earlier
+kept s (next ∷ earlier) = let p = behind s earlier in kept s earlier ++ placed (has_place p.application) (delivery p)
+
+unfoldable pub refused : Settings → List Event → List ℕ
+refused s [] = []
+refused s (packet moment number ∷ earlier) = refused s earlier
+refused s (next ∷ earlier) = let p = behind s earlier in refused s earlier ++ placed (not (has_place p.application)) (delivery p)
+
+-- the packet that is used, and that of an interrupted use
+abbrev pub used_by : Work → List ℕ
+used_by (Use came) = came ∷ []
+used_by _ = []
+
+abbrev pub resting : Option Rest → List ℕ
+resting None = []
+resting (Some rest) = rest.came ∷ []
+
+-- the packet whose use ends next
+abbrev pub use_by : Upcoming → Work → List ℕ
+use_by Ends work = used_by work
+use_by _ work = []
+
+-- those that were used
+unfoldable pub used : Settings → List Event → List ℕ
+used s [] = []
+used s (packet moment number ∷ earlier) = used s earlier
+used s (next ∷ earlier) = let p = behind s earlier in used s earlier ++ use_by (upcoming p) p.work
+
+-- Law: what found a place in the socket is used once and in its order, or its use is under way or was interrupted, or it is in the
+-- socket.
+abbrev pub UsesInOrder : Type 0
+UsesInOrder = (s : Settings) (events : List Event) → s.apart ≡ false → let p = behind s events in
+    kept s events ≡ used s events ++ (used_by p.work ++ (resting p.rest ++ p.application.socket.items))
+
+-- the waits from arrival to the end of the use
+unfoldable pub use_waits : Settings → List Event → List ℕ
+use_waits s [] = []
+use_waits s (packet moment number ∷ earlier) = use_waits s earlier
+use_waits s (next ∷ earlier) =
+    let p = behind s earlier in use_waits s earlier ++ map (λ came. p.ends - came) (use_by (upcoming p) p.work)
+
+-- Law: the refused packets and the waits of those used are counted as these.
+abbrev pub TellsOfUse : Type 0
+TellsOfUse = (s : Settings) (events : List Event) → s.apart ≡ false → let a = (behind s events).application in
+    (a.refused ≡ held (length (refused s events))) × (a.waits ≡ counting (use_waits s events) no_waits)

@@ -1,0 +1,5 @@
+pub mod Lives
+pub mod Fates
+pub mod Times
+pub mod Applications
+pub mod Deferrals

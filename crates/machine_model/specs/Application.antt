@@ -1,0 +1,80 @@
+-- The application, which uses the packets of a socket: on the processor that receives, or on one of its own.
+use Rattle.std.specs.Prelude.{ℕ, ◌+◌, ◌-◌, ◌&&◌, nat_le, nat_lt, Bool, true, false, List, [], ◌∷◌, ◌++◌, length, if◌then◌else◌}
+use Rattle.{circular_buffer.specs.Buffer.{Buffer, buffer}, machine_words.specs.declared.settings.Settings.Settings}
+use Rattle.machine_model.specs.{declared.application.Activity.Activity, Waits.{WaitsView, counted, held, no_waits}}
+use Rattle.machine_model.specs.declared.application.Activity.TheVariants.{Asleep, Waking, Using}
+
+pub record ApplicationView : Type 0 where
+  -- the arrival times of the packets in its socket, the oldest first
+  pub socket : Buffer ℕ
+  -- packets that a full socket refused
+  pub refused : ℕ
+  -- from arrival to the end of the use
+  pub waits : WaitsView
+  -- on a processor of its own: what it does, when that ends or ended last, and how often it was woken
+  pub activity : Activity
+  pub end : ℕ
+  pub wakes : ℕ
+
+abbrev pub opened_application : Settings → ApplicationView
+opened_application s =
+    record { socket = buffer [] s.socket; refused = 0; waits = no_waits; activity = Asleep; end = 0; wakes = 0 }
+
+-- the use of a packet that arrived then ends
+abbrev pub used : ℕ → ℕ → ApplicationView → ApplicationView
+used now came a = record a { waits = counted (now - came) a.waits }
+
+-- ---- on a processor of its own
+
+abbrev pub is_awake : Activity → Bool
+is_awake Asleep = false
+is_awake _ = true
+
+-- what it does ends at or before that moment
+abbrev pub is_over : ℕ → ApplicationView → Bool
+is_over moment a = is_awake a.activity && nat_le a.end moment
+
+-- what it does ends: a packet in hand was used
+abbrev pub ended_by : Activity → ApplicationView → ApplicationView
+ended_by (Using came) a = used a.end came a
+ended_by _ a = a
+
+-- it takes the oldest packet out of the socket into its hand, and sleeps if there is none
+abbrev pub takes_next : ℕ → List ℕ → ApplicationView → ApplicationView
+takes_next use_time [] a = record a { activity = Asleep }
+takes_next use_time (came ∷ more) a =
+    record a { activity = Using came; end = held (a.end + use_time); socket = buffer more a.socket.capacity }
+
+unfoldable pub goes_on : ℕ → ApplicationView → ApplicationView
+goes_on use_time a = takes_next use_time a.socket.items (ended_by a.activity a)
+
+-- it goes on to a moment, with at most these packets
+unfoldable pub went_on_with : List ℕ → ℕ → ℕ → ApplicationView → ApplicationView
+went_on_with [] moment use_time a = if is_over moment a then goes_on use_time a else a
+went_on_with (came ∷ more) moment use_time a =
+    if is_over moment a then went_on_with more moment use_time (goes_on use_time a) else a
+
+unfoldable pub went_on : ℕ → ℕ → ApplicationView → ApplicationView
+went_on moment use_time a = went_on_with a.socket.items moment use_time a
+
+abbrev pub woken_by : Activity → ℕ → ApplicationView → ApplicationView
+woken_by Asleep until a = record a { activity = Waking; end = until; wakes = held (a.wakes + 1) }
+woken_by _ until a = a
+
+-- ---- a packet is delivered to it
+
+abbrev pub has_place : ApplicationView → Bool
+has_place a = nat_lt (length a.socket.items) a.socket.capacity
+
+abbrev pub put : ℕ → ApplicationView → ApplicationView
+put came a = record a { socket = buffer (a.socket.items ++ came ∷ []) a.socket.capacity }
+
+abbrev pub refuses : ApplicationView → ApplicationView
+refuses a = record a { refused = held (a.refused + 1) }
+
+-- on a processor of its own it has gone on to this moment, and is woken if it sleeps
+unfoldable pub fed : ℕ → ℕ → Settings → ApplicationView → ApplicationView
+fed now came s a =
+    let b = if s.apart then went_on now s.use_time a else a in
+    let c = put came b in
+    if has_place b then (if s.apart then woken_by c.activity (held (now + s.app_wake)) c else c) else refuses b

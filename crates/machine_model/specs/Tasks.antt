@@ -1,0 +1,24 @@
+-- With threads: the tasks that are runnable, in order.
+use Rattle.std.specs.Prelude.{ℕ, ◌==◌, Bool, true, false, List, [], ◌∷◌, ◌++◌, sum_by, if◌then◌else◌}
+use Rattle.machine_model.specs.declared.tasks.Task.{Task, TheVariants.{Application, Thread}}
+
+abbrev pub is_application : Task → Bool
+is_application Application = true
+is_application (Thread number) = false
+
+abbrev pub applications : List Task → ℕ
+applications tasks = sum_by (λ task. if is_application task then 1 else 0) tasks
+
+-- the application becomes runnable, unless it is
+unfoldable pub with_application : List Task → List Task
+with_application tasks = if applications tasks == 0 then tasks ++ Application ∷ [] else tasks
+
+-- the application is removed if it is first and idle
+abbrev pub runnable : Bool → List Task → List Task
+runnable true (Application ∷ more) = more
+runnable idle tasks = tasks
+
+-- the first task runs: the application stays first, a thread is put first again if it is to poll again
+abbrev pub after_first : List Task → List Task
+after_first (Thread number ∷ more) = more
+after_first tasks = tasks

@@ -1,0 +1,196 @@
+//! The application, which uses the packets of a socket: on the processor that receives, or on one of its own.
+
+use crate::waits::{WaitCounts, Waits};
+use circular_buffer::HeapCircularBuffer;
+use machine_words::Settings;
+use std::alloc::{AllocError, Global};
+use std::marker::Model;
+
+/// What is reported of an application that has a processor of its own.
+#[derive(Clone, Copy, Debug, PartialEq, Eq)]
+pub struct ApplicationReport {
+    /// When its last use ended, in nanoseconds; 0 if it was never woken.
+    pub end: u64,
+    /// How often it was woken.
+    pub wakes: u64,
+}
+
+/// What the application does on a processor of its own.
+#[derive(Clone, Copy, Debug, PartialEq, Eq)]
+pub enum Activity {
+    /// It sleeps.
+    Asleep,
+    /// It wakes up.
+    Waking,
+    /// It uses a packet that arrived at that time.
+    Using(u64),
+}
+
+/// The application and its socket.
+#[derive(Drop)]
+pub(crate) struct Application {
+    socket: HeapCircularBuffer<u64>,
+    refused: u64,
+    waits: Waits,
+    activity: Activity,
+    end: u64,
+    wakes: u64,
+}
+
+impl Model for Application {
+    ghost use Rattle.machine_model.specs.Application.{ApplicationView};
+
+    ghost Value = { ApplicationView };
+
+    ghost view = { λ a. record {
+      socket = a.socket;
+      refused = a.refused;
+      waits = a.waits;
+      activity = a.activity;
+      end = a.end;
+      wakes = a.wakes;
+    } };
+}
+
+impl Application {
+    ghost use Rattle.std.specs.Prelude.{◌≡◌, ◌==◌, IfOk, OnOk, length, slice_get, drop};
+    ghost use Rattle.circular_buffer.specs.Buffer.{buffer};
+    ghost use Rattle.machine_model.specs.Waits.{summary_of};
+    ghost use Rattle.machine_model.specs.Application.{fed, goes_on, has_place, is_awake, is_over, opened_application, used, went_on, woken_by};
+
+    /// An application with an empty socket.
+    pub(crate) fn new(alloc: Global, settings: &Settings) -> Result<Application, AllocError>
+        ensures { IfOk result (λ a. a ≡ opened_application settings.now) }
+    {
+        let socket = HeapCircularBuffer::with_capacity(alloc, settings.socket as usize)?;
+        Ok(Application {
+            socket,
+            refused: 0,
+            waits: Waits::new(alloc),
+            activity: Activity::Asleep,
+            end: 0,
+            wakes: 0,
+        })
+    }
+
+    /// Whether its socket is empty.
+    pub(crate) fn is_idle(&self) -> bool
+        ensures { result ≡ (length self.now.socket.items == 0) }
+    {
+        self.socket.is_empty()
+    }
+
+    /// Whether its socket has room for a packet.
+    pub(crate) fn has_place(&self) -> bool
+        ensures { result ≡ has_place self.now }
+    {
+        self.socket.len() < self.socket.capacity()
+    }
+
+    /// Takes the oldest packet out of the socket.
+    pub(crate) fn take(&mut self) -> Option<u64>
+        ensures packet { result ≡ slice_get self.old.socket.items 0 }
+        ensures application { self.new ≡ record self.old { socket = buffer (drop 1 self.old.socket.items) self.old.socket.capacity } }
+    {
+        self.socket.pop_front()
+    }
+
+    /// The use of a packet that arrived then ends. Fails if there is no memory to count its wait; then nothing is counted.
+    pub(crate) fn use_packet(&mut self, now: u64, came: u64) -> Result<(), AllocError>
+        ensures { OnOk result (self.new ≡ used now came self.old) }
+    {
+        self.waits.count(now.saturating_sub(came))?;
+        Ok(())
+    }
+
+    // Whether what it does ends at or before that moment.
+    fn is_over(&self, moment: u64) -> bool
+        ensures { result ≡ is_over moment self.now }
+    {
+        self.activity != Activity::Asleep && self.end <= moment
+    }
+
+    // What it does ends, and it takes the next packet or sleeps.
+    #[tactic(auto, unfolding(crate::specs::Application::goes_on))]
+    fn go_on(&mut self, use_time: u32) -> Result<(), AllocError>
+        ensures { OnOk result (self.new ≡ goes_on use_time self.old) }
+    {
+        if let Activity::Using(came) = self.activity {
+            self.use_packet(self.end, came)?;
+        }
+        match self.socket.pop_front() {
+            Some(came) => {
+                self.activity = Activity::Using(came);
+                self.end = self.end.saturating_add(u64::from(use_time));
+            }
+            None => self.activity = Activity::Asleep,
+        }
+        Ok(())
+    }
+
+    /// On a processor of its own: it goes on to that moment. Fails if there is no memory to count a wait.
+    pub(crate) fn go_on_until(&mut self, moment: u64, use_time: u32) -> Result<(), AllocError>
+        ensures { OnOk result (self.new ≡ went_on moment use_time self.old) }
+    {
+        while self.is_over(moment) {
+            self.go_on(use_time)?;
+        }
+        Ok(())
+    }
+
+    // It is woken if it sleeps, and wakes until then.
+    fn wake(&mut self, until: u64)
+        ensures { self.new ≡ woken_by self.old.activity until self.old }
+    {
+        if self.activity == Activity::Asleep {
+            self.activity = Activity::Waking;
+            self.end = until;
+            self.wakes = self.wakes.saturating_add(1);
+        }
+    }
+
+    /// A packet that arrived then is delivered to it: a full socket refuses it. Fails if there is no memory to count a wait.
+    #[tactic(auto, unfolding(crate::specs::Application::fed))]
+    pub(crate) fn feed(
+        &mut self,
+        now: u64,
+        came: u64,
+        settings: &Settings,
+    ) -> Result<(), AllocError>
+        ensures { OnOk result (self.new ≡ fed now came settings.now self.old) }
+    {
+        if settings.apart {
+            self.go_on_until(now, settings.use_time)?;
+        }
+        if self.socket.try_push_back(came).is_err() {
+            self.refused = self.refused.saturating_add(1);
+        } else if settings.apart {
+            self.wake(now.saturating_add(u64::from(settings.app_wake)));
+        }
+        Ok(())
+    }
+
+    /// Packets that a full socket refused.
+    pub(crate) fn refused(&self) -> u64
+        ensures { result ≡ self.now.refused }
+    {
+        self.refused
+    }
+
+    /// The waits of its packets, from arrival to the end of the use.
+    pub(crate) fn waits(&self) -> WaitCounts
+        ensures { result ≡ summary_of self.now.waits }
+    {
+        self.waits.summary()
+    }
+
+    /// What is reported of it on a processor of its own.
+    pub(crate) fn report(&self) -> ApplicationReport
+        ensures { result ≡ record { end = self.now.end; wakes = self.now.wakes } }
+    {
+        ApplicationReport {
+            end: self.end,
+            wakes: self.wakes,
+        }
+    }
+}

@@ -1,0 +1,107 @@
+//! With threads: the tasks of a processor that are runnable.
+
+use std::alloc::{AllocError, Global};
+use std::collections::VecDeque;
+use std::marker::Model;
+
+/// A task that is runnable.
+#[derive(Clone, Copy, Debug, PartialEq, Eq)]
+pub enum Task {
+    /// The application.
+    Application,
+    /// The thread that polls a device (`napi_threaded_poll`).
+    Thread(u32),
+}
+
+/// The runnable tasks, the first of which runs next. A thread that polls isn't among them.
+#[derive(Drop)]
+pub(crate) struct Tasks {
+    queue: VecDeque<Task>,
+    has_application: bool,
+}
+
+impl Model for Tasks {
+    ghost use Rattle.std.specs.Prelude.{◌≡◌, List, if◌then◌else◌};
+    ghost use Rattle.machine_model.specs.declared.tasks.Task.{Task};
+    ghost use Rattle.machine_model.specs.Tasks.{applications};
+
+    ghost Value = { List Task };
+
+    ghost view = { λ t. t.queue.items };
+
+    ghost invariant = { λ t. applications t.queue.items ≡ (if t.has_application then 1 else 0) };
+}
+
+impl Tasks {
+    ghost use Rattle.std.specs.Prelude.{◌≡◌, ◌∷◌, ◌++◌, [], OnOk, slice_get};
+    ghost use Rattle.machine_model.specs.declared.tasks.Task.TheVariants.{Thread};
+    ghost use Rattle.machine_model.specs.Tasks.{after_first, runnable, with_application};
+
+    /// No tasks.
+    pub(crate) fn new(alloc: Global) -> Tasks
+        ensures { result ≡ [] }
+    {
+        Tasks {
+            queue: VecDeque::new(alloc),
+            has_application: false,
+        }
+    }
+
+    /// Adds a device's thread as the last. Fails if there is no memory for it; then the tasks are unchanged.
+    pub(crate) fn push_thread(&mut self, number: u32) -> Result<(), AllocError>
+        ensures { OnOk result (self.new ≡ self.old ++ Thread number ∷ []) }
+    {
+        self.queue.push_back(Task::Thread(number))?;
+        Ok(())
+    }
+
+    /// Adds a device's thread as the first. Fails if there is no memory for it; then the tasks are unchanged.
+    pub(crate) fn push_first(&mut self, number: u32) -> Result<(), AllocError>
+        ensures { OnOk result (self.new ≡ Thread number ∷ self.old) }
+    {
+        self.queue.push_front(Task::Thread(number))?;
+        Ok(())
+    }
+
+    /// Adds the application as the last, unless it is there. Fails if there is no memory for it; then the tasks are unchanged.
+    #[tactic(auto, unfolding(crate::specs::Tasks::with_application))]
+    pub(crate) fn push_application(&mut self) -> Result<(), AllocError>
+        ensures { OnOk result (self.new ≡ with_application self.old) }
+    {
+        if !self.has_application {
+            self.queue.push_back(Task::Application)?;
+            self.has_application = true;
+        }
+        Ok(())
+    }
+
+    /// The task that runs next. An idle application is removed if it is first; a thread is taken out, and the application isn't.
+    pub(crate) fn next(&mut self, idle: bool) -> Option<Task>
+        ensures first { result ≡ slice_get (runnable idle self.old) 0 }
+        ensures tasks { self.new ≡ after_first (runnable idle self.old) }
+    {
+        self.remove_idle(idle);
+        match self.queue.front() {
+            Some(Task::Thread(number)) => {
+                let thread = Task::Thread(*number);
+                self.queue.pop_front();
+                Some(thread)
+            }
+            Some(Task::Application) => Some(Task::Application),
+            None => None,
+        }
+    }
+
+    // An idle application is removed if it is first.
+    fn remove_idle(&mut self, idle: bool)
+        ensures { self.new ≡ runnable idle self.old }
+    {
+        if !idle {
+            return;
+        }
+        if let Some(Task::Application) = self.queue.front() {
+            self.queue.pop_front();
+            self.has_application = false;
+        }
+    }
+}
