@@ -1,7 +1,8 @@
 #!/bin/sh
 # Refuses each allocation, each read, each write and each start of a thread of the replay program in turn, in each of its
-# modes, or in those that are named. Each refusal has to give its line, its exit status and no report. The mode `machine` is for
-# `napi_machine`, and `calls` for `memory_tests`, where each call that was refused has to go through when it is made again.
+# modes, or in those that are named. Each refusal has to give its line, its exit status and no report. The modes `machine` and
+# `queues` are for `napi_machine`, and `calls` for `memory_tests`, where each call that was refused has to go through when it is made
+# again.
 # bench/refusals.sh [PROGRAM [MODE ..]]
 set -eu
 unset CDPATH
@@ -33,10 +34,14 @@ cc -O1 -shared -fPIC -o "$folder/refuse.so" "$top/bench/refuse.c" -ldl
 # Arrivals that take memory for several devices on two processors, and more than one read.
 awk 'BEGIN { print "moment,device,bytes"; for (row = 0; row < 20000; row++) print row * 900 "," row % 5 + 1 ",100" }' > "$folder/arrivals.csv"
 
+# The same in three flows of each device.
+awk 'BEGIN { print "moment,device,bytes,flow"; for (row = 0; row < 20000; row++) print row * 900 "," row % 5 + 1 ",100," row % 3 }' > "$folder/flows.csv"
+
 # What a mode reads, the words that it is asked for by, and what its faults speak of.
 set_mode() {
     case $mode in
         machine) input=arrivals.csv words='--processors 2' told=arrivals ;;
+        queues) input=flows.csv words='--processors 2 --queues 2 --threaded 1 --backlog 1 --apart 1' told=arrivals ;;
         *) input=trace.csv words="--mode $mode" told=trace ;;
     esac
 }

@@ -23,6 +23,7 @@ done
 try napi_serial serial
 try napi_series serial
 try napi_machine machine
+try napi_machine queues
 try memory_tests calls
 echo "$passed passed, $failed failed"
 [ "$failed" = 0 ]

@@ -2,11 +2,17 @@
 //! the costs of interrupts, polls, packets and their use. For programs that predict what another setting would do.
 //!
 //! From the bytes of arrivals to the bytes of a report, or the line and the exit status of a fault; and the options of a program that
-//! runs it. A facade: it adds nothing to its internal crates. `machine_words` has the options, `machine_model` the machine, and
-//! `machine_report` arrivals, report and faults. `specs/Lib.antt` re-exports what contracts cite. The program `napi_machine` makes
-//! these calls.
+//! runs it. A facade: it adds nothing to its internal crates. `machine_words` has the options, `machine_model` the machine,
+//! `machine_report` arrivals, report and faults; `machine_laws` and `machine_lives` have what follows for whole runs.
+//! `specs/Lib.antt` re-exports what contracts cite. The program `napi_machine` makes these calls.
 #![tactic(auto)]
 
+pub use machine_laws::{
+    application_ends, application_is_fed, application_serves, arrives_as_one, clocks_never_fall,
+    delivers_in_order, each_lives, empty_polls_are_few, no_wait_is_less, receiving_is_apart,
+    runs_as_one, tells_of_device, tells_of_use, uses_in_order, works_within,
+};
+pub use machine_lives::reports_live;
 pub use machine_model::{
     ApplicationReport, DeviceCounts, DeviceReport, Machine, ProcessorCounts, ProcessorReport,
     WaitCounts,

@@ -1,0 +1,11 @@
+//! Behind the door `machine`: the laws of the receiving machine hold for what a report tells.
+#![tactic(auto)]
+
+ghost use Rattle.machine_lives.specs.Reports.{ReportsLives};
+
+/// Each processor of a report lived as the laws say, with the packets of the bytes read, until nothing was left.
+pub fn reports_live()
+    ensures { ReportsLives }
+{
+    machine_laws::each_lives();
+}
