@@ -15,4 +15,5 @@ pub mod StandFacts
 pub mod EmptyFacts
 pub mod TendFacts
 pub mod LeftFacts
+pub mod NearFacts
 pub mod LifeFacts
