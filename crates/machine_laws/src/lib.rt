@@ -5,8 +5,8 @@
 #![tactic(auto)]
 
 ghost use Rattle.machine_laws.specs.Applications.{ApplicationEnds, ApplicationIsFed, ApplicationServes, ReceivingIsApart};
-ghost use Rattle.machine_laws.specs.Deferrals.{EmptyPollsAreFew};
-ghost use Rattle.machine_laws.specs.Fates.{DeliversInOrder, TellsOfDevice, TellsOfUse, UsesInOrder};
+ghost use Rattle.machine_laws.specs.Deferrals.{EmptyPollsAreFew, TimersAreNear};
+ghost use Rattle.machine_laws.specs.Fates.{DeliversInOrder, NothingIsLeft, TellsOfDevice, TellsOfUse, UsesInOrder};
 ghost use Rattle.machine_laws.specs.Lives.{ArrivesAsOne, EachLives, RunsAsOne};
 ghost use Rattle.machine_laws.specs.Times.{ClocksNeverFall, NoWaitIsLess, WorksWithin};
 
@@ -60,6 +60,11 @@ pub fn tells_of_use()
     ensures { TellsOfUse }
 {}
 
+/// When nothing is left to happen, no packet is left: each was delivered or dropped, and then used or refused.
+pub fn nothing_is_left()
+    ensures { NothingIsLeft }
+{}
+
 /// On a processor of its own the application is what the deliveries make of it.
 pub fn application_is_fed()
     ensures { ApplicationIsFed }
@@ -84,4 +89,9 @@ pub fn receiving_is_apart()
 /// After its last packet at most `defer-hard-irqs` polls of a device give nothing, or one if that is 0.
 pub fn empty_polls_are_few()
     ensures { EmptyPollsAreFew }
+{}
+
+/// When a packet arrives for a device whose interrupt is deferred, its NAPI timer expires at most `gro-flush-timeout` later.
+pub fn timers_are_near()
+    ensures { TimersAreNear }
 {}
