@@ -16,4 +16,5 @@ pub mod EmptyFacts
 pub mod TendFacts
 pub mod LeftFacts
 pub mod NearFacts
+pub mod BoundFacts
 pub mod LifeFacts

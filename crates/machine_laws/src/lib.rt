@@ -5,7 +5,7 @@
 #![tactic(auto)]
 
 ghost use Rattle.machine_laws.specs.Applications.{ApplicationEnds, ApplicationIsFed, ApplicationServes, ReceivingIsApart};
-ghost use Rattle.machine_laws.specs.Deferrals.{EmptyPollsAreFew, TimersAreNear};
+ghost use Rattle.machine_laws.specs.Deferrals.{DeferralIsBounded, EmptyPollsAreFew, TimersAreNear};
 ghost use Rattle.machine_laws.specs.Fates.{DeliversInOrder, NothingIsLeft, TellsOfDevice, TellsOfUse, UsesInOrder};
 ghost use Rattle.machine_laws.specs.Lives.{ArrivesAsOne, EachLives, RunsAsOne};
 ghost use Rattle.machine_laws.specs.Times.{ClocksNeverFall, NoWaitIsLess, WorksWithin};
@@ -94,4 +94,10 @@ pub fn empty_polls_are_few()
 /// When a packet arrives for a device whose interrupt is deferred, its NAPI timer expires at most `gro-flush-timeout` later.
 pub fn timers_are_near()
     ensures { TimersAreNear }
+{}
+
+/// On an idle processor the oldest packet of a device whose NAPI timer expires is delivered at once: at most the times to wake up, of
+/// an interrupt, of a poll and of a packet later.
+pub fn deferral_is_bounded()
+    ensures { DeferralIsBounded }
 {}
