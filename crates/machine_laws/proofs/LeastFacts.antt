@@ -7,7 +7,7 @@ use Rattle.machine_laws.specs.Fates.{delivery, delivery_by, delivery_of, packet_
 use Rattle.machine_model.specs.declared.processor.{Work.{Work, TheVariants.{Nothing, Interrupt, Poll, Packet, Use}}, InHand.InHand}
 use Rattle.machine_model.specs.declared.processor.Upcoming.{Upcoming, TheVariants.{Never, Expires}}
 use Rattle.machine_model.specs.{Waits.held, Processor.{ProcessorView, ends_current, happens, is_polling, step, takes_up, upcoming}}
-use Rattle.machine_laws.proofs.TimeFacts.{IsFair, Timed, both, clock-takes, hand-delivery, now, over, parts, rises, since, use_cost}
+use Rattle.machine_laws.proofs.{OverFacts.{both, over}, TimeFacts.{IsFair, Timed, clock-takes, hand-delivery, now, rises, since, use_cost}}
 use Rattle.machine_laws.proofs.WorkFacts.{Goes, goes-on, work-ended}
 use Rattle.machine_model.specs.declared.processor.Upcoming.TheVariants as upcomings
 

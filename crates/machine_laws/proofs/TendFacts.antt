@@ -17,7 +17,7 @@ use Rattle.machine_laws.proofs.WorkFacts.{Goes, Rests, goes-devices, goes-on, go
 use Rattle.machine_laws.proofs.FateFacts.{IsPlain, at-arrived, look-none, made_at, packet-by, plain-of, plain-on, queued, queued-delivered, queued-polled}
 use Rattle.machine_laws.proofs.FateFacts.{unbacked, unpolled}
 use Rattle.machine_laws.proofs.{StandFacts.{Even, Stands, by_thread, devices-scheduled, one, polled-scheduled, polled_at, stands-on}, EmptyFacts.{calm-full, calm-next}}
-use Rattle.machine_laws.proofs.{TimeFacts.over, TimerFacts.{timer-same, timer_in}}
+use Rattle.machine_laws.proofs.{OverFacts.over, TimerFacts.{timer-same, timer_in}}
 use Rattle.machine_model.specs.declared.processor.Upcoming.TheVariants as upcomings
 use Rattle.machine_model.specs.Device as device
 
