@@ -1,6 +1,6 @@
 -- No wait is less than what its work takes.
-use Rattle.std.proofs.Common.{◌≡◌, ◌∙◌, ℕ, ◌+◌, ◌-◌, ◌<◌, ◌≤◌, ◌^◌, Bool, true, false, Option, Some, None, List, [], ◌∷◌, ◌++◌, map, refl, sym, ap, subst, arith}
-use Rattle.std.{specs.{List.AllByRecursion, Prelude.{◌==◌, ◌&&◌, if◌then◌else◌, not}}, proofs.lemmas.Grind.common_steps}
+use Rattle.std.proofs.Common.{◌≡◌, ◌∙◌, ℕ, ◌+◌, ◌-◌, ◌<◌, ◌≤◌, ◌^◌, Bool, true, false, Option, Some, None, List, [], ◌∷◌, map, refl, ap, arith}
+use Rattle.std.{specs.{List.AllByRecursion, Prelude.{◌==◌, ◌&&◌, if◌then◌else◌, not}}}
 use Rattle.machine_words.specs.declared.settings.Settings.{Settings}
 use Rattle.machine_laws.specs.{Lives.{Event, InTurn, behind, next, packet}, Times.NoWaitIsLess}
 use Rattle.machine_laws.specs.Fates.{delivery, delivery_by, delivery_of, packet_for, use_by, use_waits, used_by, waits}
@@ -85,8 +85,7 @@ uses-wait s until (next ∷ earlier) fits turns fair low =
     (happens-uses s (now s earlier) (upcoming p) p (goes-on s earlier) (since s until earlier fits turns.1).timed fair low)
 
 pub no-wait-is-less : NoWaitIsLess
-no-wait-is-less s until events fits turns polling low =
-    (
-      λ n. device-waits s until n events fits turns polling low,
-      λ here. uses-wait s until events fits turns (fair-of (is_polling s) s.apart polling here) low,
-    )
+no-wait-is-less s until events fits turns polling low = (
+  λ n. device-waits s until n events fits turns polling low,
+  λ here. uses-wait s until events fits turns (fair-of (is_polling s) s.apart polling here) low,
+)

@@ -1,20 +1,17 @@
 -- Lists of times, and what a processor is when its work has ended.
-use Rattle.std.proofs.Common.{◌≡◌, ◌∙◌, ℕ, zero, suc, ◌+◌, ◌-◌, ◌<◌, ◌≤◌, ◌^◌, Bool, true, false, Option, Some, None, List, [], ◌∷◌, ◌++◌, refl, sym, ap}
-use Rattle.std.proofs.{Common.{subst, arith}, lemmas.{Bool.{and_parts, eq-eqb, leb-true}, Grind.common_steps}}
-use Rattle.std.specs.{List.AllByRecursion, Prelude.{◌==◌, ◌&&◌, if◌then◌else◌, is_some, not, position}, Option.option_map_or}
-use Rattle.{machine_words.specs.declared.settings.Settings.Settings, device_places.specs.Places.{at, changed}, circular_buffer.specs.Buffer.buffer}
-use Rattle.machine_model.specs.declared.processor.{Work.{Work, TheVariants.{Nothing, Interrupt, Poll, Packet, Use}}, Rest.Rest, InHand.InHand}
-use Rattle.machine_model.specs.declared.{processor.{Upcoming.{Upcoming, TheVariants.{Never, Expires}}, ProcessorCounts.ProcessorCounts}, tasks.Task.TheVariants.Thread}
+use Rattle.std.proofs.Common.{◌≡◌, ℕ, ◌+◌, ◌-◌, true, false, Option, Some, None, List, [], ◌∷◌, ◌++◌, refl, ap}
+use Rattle.std.specs.{List.AllByRecursion, Prelude.{◌==◌, if◌then◌else◌}}
+use Rattle.{device_places.specs.Places.{at, changed}}
+use Rattle.machine_model.specs.declared.processor.{Work.{Work, TheVariants.{Nothing, Interrupt, Poll, Packet, Use}}, InHand.InHand}
+use Rattle.machine_model.specs.declared.{tasks.Task.TheVariants.Thread}
 use Rattle.poll_runs.specs.declared.bench.{Next.TheVariants.{Gone, Repoll}, Once.Once}
-use Rattle.machine_model.specs.{Device.{after_packet, timer_of, expired, interrupted, polled, raised_again, without_next}, Softirq.{polled_once, pushed}, Waits.held}
-use Rattle.machine_model.specs.{Device.DeviceView, Devices.{Devices, asks_at, has_room_at, is_fired_at, next_packet_at, with_device}}
-use Rattle.machine_model.specs.Application.{ApplicationView, fed, has_place, put, refuses, used}
-use Rattle.machine_model.specs.Processor.{ProcessorView, arrives, begins, delivers, delivers_oldest, disturbed, ends_by, ends_current, ends_interrupt}
-use Rattle.machine_model.specs.Processor.{ends_poll, ends_run, happens, interrupts, is_busy, is_by, is_due, is_polling, looks, polls, scheduled, set_aside}
-use Rattle.machine_model.specs.Processor.{spent, step, takes_up, upcoming, uses, woken}
-use Rattle.machine_laws.proofs.WorkFacts.{Goes, goes-devices, goes-on, goes-unasked, looks-by, stirred, work-ended, work-stirred}
-use Rattle.machine_model.specs.declared.processor.Upcoming.TheVariants as upcomings
-use Rattle.machine_model.specs.Device as device
+use Rattle.machine_model.specs.{Device.{polled, raised_again, without_next}, Softirq.{polled_once}, Waits.held}
+use Rattle.machine_model.specs.{Devices.{next_packet_at}}
+use Rattle.machine_model.specs.Application.{used}
+use Rattle.machine_model.specs.Processor.{ProcessorView, delivers, delivers_oldest, ends_by, ends_current, ends_interrupt}
+use Rattle.machine_model.specs.Processor.{ends_poll, is_busy, is_polling, looks}
+use Rattle.machine_model.specs.Processor.{spent}
+use Rattle.machine_laws.proofs.WorkFacts.{looks-by}
 use Rattle.machine_laws.proofs.WalkFacts.{either}
 
 -- ---- lists
@@ -102,4 +99,3 @@ pub over : (p : ProcessorView)
     → Over (record p { clock = p.ends; work = Nothing; counts = spent p.work (p.ends - p.clock) p.counts }) (ends_current p)
 unfolding ends_current
 over p = over-work p.work (record p { clock = p.ends; work = Nothing; counts = spent p.work (p.ends - p.clock) p.counts }) refl
-

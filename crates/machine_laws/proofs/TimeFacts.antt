@@ -1,25 +1,24 @@
 -- Time never falls, and what arrived, what waits and what is under way is in its order.
-use Rattle.std.proofs.Common.{◌≡◌, ◌∙◌, ℕ, zero, suc, ◌+◌, ◌-◌, ◌<◌, ◌≤◌, ◌^◌, Bool, true, false, Option, Some, None, List, [], ◌∷◌, ◌++◌, refl, sym, ap}
-use Rattle.std.proofs.{Common.{subst, arith}, lemmas.{Bool.{and_parts, eq-eqb, leb-true}, Grind.common_steps}}
-use Rattle.std.specs.{List.AllByRecursion, Prelude.{◌==◌, ◌&&◌, if◌then◌else◌, is_some, not, position}, Option.option_map_or}
+use Rattle.std.proofs.Common.{◌≡◌, ◌∙◌, ℕ, ◌+◌, ◌-◌, ◌<◌, ◌≤◌, ◌^◌, Bool, true, false, Option, Some, None, List, [], ◌∷◌, ◌++◌, refl, sym, ap}
+use Rattle.std.proofs.{Common.{subst, arith}, lemmas.{Bool.{leb-true}}}
+use Rattle.std.specs.{List.AllByRecursion, Prelude.{◌==◌, ◌&&◌, if◌then◌else◌, is_some, not, position}}
 use Rattle.{machine_words.specs.declared.settings.Settings.Settings, device_places.specs.Places.{at, changed}, circular_buffer.specs.Buffer.buffer}
-use Rattle.machine_laws.specs.{Lives.{Event, InTurn, behind, next, packet}, Times.ClocksNeverFall, Fates.{delivery_of, finds_room, taken_in, used_by}}
+use Rattle.machine_laws.specs.{Lives.{Event, InTurn, behind, next, packet}, Times.ClocksNeverFall, Fates.{delivery_of, finds_room, taken_in}}
 use Rattle.machine_model.specs.declared.processor.{Work.{Work, TheVariants.{Nothing, Interrupt, Poll, Packet, Use}}, Rest.Rest, InHand.InHand}
-use Rattle.machine_model.specs.declared.{processor.{Upcoming.{Upcoming, TheVariants.{Never, Expires}}, ProcessorCounts.ProcessorCounts}, tasks.Task.TheVariants.Thread}
-use Rattle.poll_runs.specs.declared.bench.{Next.TheVariants.{Gone, Repoll}, Once.Once}
-use Rattle.machine_model.specs.{Device.{after_packet, timer_of, expired, interrupted, polled, raised_again, without_next}, Softirq.{polled_once, pushed}, Waits.held}
-use Rattle.machine_model.specs.{Device.DeviceView, Devices.{Devices, asks_at, has_room_at, is_fired_at, next_packet_at, with_device}}
-use Rattle.machine_model.specs.Application.{ApplicationView, fed, has_place, put, refuses, used}
-use Rattle.machine_model.specs.Processor.{ProcessorView, arrives, begins, delivers, delivers_oldest, disturbed, ends_by, ends_current, ends_interrupt}
-use Rattle.machine_model.specs.Processor.{ends_poll, ends_run, happens, interrupts, is_busy, is_by, is_due, is_polling, looks, polls, scheduled, set_aside}
-use Rattle.machine_model.specs.Processor.{spent, step, takes_up, upcoming, uses, woken}
+use Rattle.machine_model.specs.declared.{processor.{Upcoming.{Upcoming, TheVariants.{Never, Expires}}}, tasks.Task.TheVariants.Thread}
+use Rattle.machine_model.specs.{Device.{after_packet, timer_of, expired, interrupted, polled, raised_again, without_next}, Softirq.{pushed}, Waits.held}
+use Rattle.machine_model.specs.{Device.DeviceView, Devices.{Devices, asks_at, has_room_at, is_fired_at, with_device}}
+use Rattle.machine_model.specs.Application.{ApplicationView, fed, has_place, put, refuses}
+use Rattle.machine_model.specs.Processor.{ProcessorView, arrives, begins, disturbed, ends_current}
+use Rattle.machine_model.specs.Processor.{ends_run, happens, interrupts, is_busy, is_by, is_due, is_polling, scheduled, set_aside}
+use Rattle.machine_model.specs.Processor.{step, takes_up, upcoming, uses, woken}
 use Rattle.machine_laws.proofs.{TableFacts.{at-kept, map_at}, WalkFacts.{Walk, either, nexted, started, walk-any}, EndFacts.{Ends, Looks, ends}}
-use Rattle.machine_laws.proofs.WorkFacts.{Goes, goes-devices, goes-on, goes-unasked, looks-by, stirred, work-ended, work-stirred}
+use Rattle.machine_laws.proofs.WorkFacts.{Goes, goes-devices, goes-on, goes-unasked, stirred, work-ended, work-stirred}
 use Rattle.machine_laws.proofs.FateFacts.{IsPlain, arrived-queued, at-arrived, look-none, look-some, next-some-at, plain-of, plain-on, queued, queued-blind}
 use Rattle.machine_laws.proofs.FateFacts.{made_at, queued-delivered, queued-polled, queued-raised, unbacked, unpolled}
-use Rattle.machine_laws.proofs.TimerFacts.{AllLate, Late, LateUp, NextBy, NotBefore, late-less, later-not, lates-delivered, lates-expired, lates-interrupted}
+use Rattle.machine_laws.proofs.TimerFacts.{AllLate, Late, LateUp, NextBy, NotBefore, lates-delivered, lates-expired, lates-interrupted}
 use Rattle.machine_laws.proofs.TimerFacts.{lates-next, late-packet, lates-polled, lates-raised, next-is, next-late, not-due, timer_in}
-use Rattle.machine_laws.proofs.{OverFacts.{Over, both, over, parts, weaker}, SocketFacts.{Fed, Feeds, feeds, fed-here}}
+use Rattle.machine_laws.proofs.{OverFacts.{both, over, parts, weaker}, SocketFacts.{feeds, fed-here}}
 use Rattle.machine_model.specs.declared.processor.Upcoming.TheVariants as upcomings
 use Rattle.machine_model.specs.Device as device
 
@@ -589,8 +588,7 @@ rises-happens s t until Never p fits goes plain h by late due = cc due
 rises-happens s t until upcomings.Ends p fits goes plain h by late due =
     let e = h.ends by.0 in
     let q = ends_current p in
-    let g = work-ended s p goes in
-    (
+    let g = work-ended s p goes in (
       record {
         time = e.1;
         timed = timed-takes s p.ends q g (ready-ended s t p h by.0 by.1.timers plain);
@@ -618,8 +616,7 @@ rises-happens s t until (Expires timer) p fits goes plain h by late due =
       came = came-changed u expired timer.device p.devices queued-blind.expired k.came;
       socket = k.socket;
       rest = k.rest;
-    } in
-    (
+    } in (
       record { time = less; timed = timed-disturbed s u q small g r; clock = clock-disturbed s u q small g r },
       below,
     )
