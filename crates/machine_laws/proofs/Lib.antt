@@ -6,6 +6,7 @@ pub mod FateFacts
 pub mod TallyFacts
 pub mod SocketFacts
 pub mod TimerFacts
+pub mod OverFacts
 pub mod TimeFacts
 pub mod LeastFacts
 pub mod ApplicationFacts
