@@ -18,4 +18,5 @@ pub mod TendFacts
 pub mod LeftFacts
 pub mod NearFacts
 pub mod BoundFacts
+pub mod RunFacts
 pub mod LifeFacts
