@@ -1,15 +1,15 @@
 -- A NAPI timer is at most `gro-flush-timeout` ahead.
-use Rattle.std.proofs.Common.{◌≡◌, ◌∙◌, ℕ, ◌+◌, ◌<◌, ◌≤◌, ◌^◌, Bool, true, false, Option, Some, None, List, [], ◌∷◌, ◌++◌, length, refl, sym, ap, subst, arith}
+use Rattle.std.proofs.Common.{◌≡◌, ℕ, ◌+◌, ◌<◌, ◌≤◌, ◌^◌, Bool, true, false, Option, Some, None, List, [], ◌∷◌, ◌++◌, length, refl, sym, ap, subst, arith}
 use Rattle.std.specs.Prelude.{◌==◌, ◌&&◌, ◌||◌, if◌then◌else◌, nat_le, not}
 use Rattle.{machine_words.specs.declared.settings.Settings.Settings, device_places.specs.Places.{at, changed}}
 use Rattle.machine_laws.specs.{Deferrals.TimersAreNear, Lives.{Event, InTurn, behind, next, packet}}
 use Rattle.machine_model.specs.declared.{device.Phase.{Phase, TheVariants.{Quiet, Coalescing, Raised, Scheduled, Deferred, Fired}}, device.DeviceCounts.DeviceCounts}
-use Rattle.machine_model.specs.declared.processor.{Upcoming.{Upcoming, TheVariants.{Never, Expires}}, Work.Work}
+use Rattle.machine_model.specs.declared.processor.{Upcoming.{Upcoming, TheVariants.{Never, Expires}}}
 use Rattle.machine_model.specs.{Device.{DeviceView, after_packet, coalesced, completed, expired, has_room, interrupted, is_fired, is_masked, notified, polled}}
-use Rattle.machine_model.specs.{Device.{raised_again, without_next}, Devices.{Devices, asks_at, has_room_at, is_fired_at, next_packet_at, with_device}, Waits.held}
-use Rattle.machine_model.specs.Processor.{ProcessorView, arrives, disturbed, ends_current, ends_run, happens, interrupts, is_by, is_due, is_busy, is_polling}
+use Rattle.machine_model.specs.{Device.{raised_again, without_next}, Devices.{Devices, has_room_at, is_fired_at, with_device}, Waits.held}
+use Rattle.machine_model.specs.Processor.{ProcessorView, arrives, disturbed, ends_current, ends_run, happens, interrupts, is_busy, is_polling}
 use Rattle.machine_model.specs.Processor.{step, takes_up, upcoming}
-use Rattle.machine_laws.proofs.{TableFacts.{at-either, map_at}, WalkFacts.{Walk, either, nexted, started, walk-any}, EndFacts.{Ends, Looks, ends}}
+use Rattle.machine_laws.proofs.{TableFacts.{at-either, map_at}, WalkFacts.{Walk, either, walk-any}, EndFacts.{Ends, Looks, ends}}
 use Rattle.machine_laws.proofs.WorkFacts.{Goes, goes-devices, goes-on, goes-unasked, stirred, work-ended, work-stirred}
 use Rattle.machine_laws.proofs.{FateFacts.{at-arrived, made_at, undisturbed}, StandFacts.devices-scheduled, EmptyFacts.calm-next}
 use Rattle.machine_laws.proofs.TimeFacts.{now, rises-happens, plains, since, time_by}
