@@ -85,7 +85,7 @@ few-calm s count f m n ds c few =
     few-same s count (at n ds) (at n (changed f m ds)) few
     (at-kept (rest_at s) f m n ds (λ d. rw (c.phase d, c.deferrals d) refl)) (at-kept defer_in f m n ds c.deferrals)
 
-calm-next : (backlog : Bool) → Calm (without_next backlog)
+pub calm-next : (backlog : Bool) → Calm (without_next backlog)
 calm-next true = record { phase = λ d. by d (length d.taken == 0); deferrals = λ d. also d (length d.taken == 0) }
   where
     by : (d : DeviceView) (b : Bool) → (if b then record d { ring = []; taken = d.ring } else d).phase ≡ d.phase
@@ -221,7 +221,7 @@ few-polled s count now given (Some d) scheduled few short =
     is-one false is = cc is
 
 -- a poll that gave its whole weight keeps phase and deferrals
-calm-full : (s : Settings) (now given : ℕ) → (given == s.weight) ≡ true → Calm (polled now given s)
+pub calm-full : (s : Settings) (now given : ℕ) → (given == s.weight) ≡ true → Calm (polled now given s)
 unfolding polled
 calm-full s now given full = record {
   phase = λ d. rw full refl;

@@ -13,4 +13,6 @@ pub mod ApartFacts
 pub mod OtherFacts
 pub mod StandFacts
 pub mod EmptyFacts
+pub mod TendFacts
+pub mod LeftFacts
 pub mod LifeFacts

@@ -25,7 +25,7 @@ use Rattle.machine_model.specs.Device as device
 abbrev pub one : ℕ → ℕ → ℕ
 one m n = if m == n then 1 else 0
 
-pub count : ℕ → List ℕ → ℕ
+unfoldable pub count : ℕ → List ℕ → ℕ
 count n [] = 0
 count n (x ∷ xs) = one x n + count n xs
 
@@ -86,7 +86,7 @@ listed-told n m full work list run began asked = grind (arith, common_steps, cou
 
 -- ---- tasks
 
-pub threads : ℕ → List Task → ℕ
+unfoldable pub threads : ℕ → List Task → ℕ
 threads n [] = 0
 threads n (Application ∷ more) = threads n more
 threads n (Thread m ∷ more) = one m n + threads n more

@@ -57,7 +57,7 @@ soon-own k None (Some u) = tt
 soon-own k (Some t) None = omega arith
 soon-own k (Some t) (Some u) = soon-own-if (nat_le t u.at) (record { at = t; device = k }) u refl
 
-timer-same : (k : ℕ) (place : Option DeviceView) → timer_at k place ≡ option_map (λ (at : ℕ). record { at = at; device = k }) (timer_in place)
+pub timer-same : (k : ℕ) (place : Option DeviceView) → timer_at k place ≡ option_map (λ (at : ℕ). record { at = at; device = k }) (timer_in place)
 timer-same k None = refl
 timer-same k (Some d) = refl
 

@@ -157,3 +157,11 @@ use_waits s (next ∷ earlier) =
 abbrev pub TellsOfUse : Type 0
 TellsOfUse = (s : Settings) (events : List Event) → s.apart ≡ false → let a = (behind s events).application in
     (a.refused ≡ held (length (refused s events))) × (a.waits ≡ counting (use_waits s events) no_waits)
+
+-- Law: when nothing is left to happen, no work is under way or interrupted, and no packet is left in a ring, in a queue that was taken
+-- out of one, or in the socket.
+abbrev pub NothingIsLeft : Type 0
+NothingIsLeft = (s : Settings) (events : List Event) → InTurn s (2 ^ 64 - 1) events → let p = behind s events in
+    is_due (2 ^ 64 - 1) p ≡ false
+    → (p.work ≡ Nothing) × ((n : ℕ) → (taken_in (at n p.devices) ≡ []) × (ring_in (at n p.devices) ≡ [])) × (p.rest ≡ None)
+    × (s.apart ≡ false → p.application.socket.items ≡ [])

@@ -6,7 +6,7 @@
 
 ghost use Rattle.machine_laws.specs.Applications.{ApplicationEnds, ApplicationIsFed, ApplicationServes, ReceivingIsApart};
 ghost use Rattle.machine_laws.specs.Deferrals.{EmptyPollsAreFew};
-ghost use Rattle.machine_laws.specs.Fates.{DeliversInOrder, TellsOfDevice, TellsOfUse, UsesInOrder};
+ghost use Rattle.machine_laws.specs.Fates.{DeliversInOrder, NothingIsLeft, TellsOfDevice, TellsOfUse, UsesInOrder};
 ghost use Rattle.machine_laws.specs.Lives.{ArrivesAsOne, EachLives, RunsAsOne};
 ghost use Rattle.machine_laws.specs.Times.{ClocksNeverFall, NoWaitIsLess, WorksWithin};
 
@@ -58,6 +58,11 @@ pub fn uses_in_order()
 /// The refused packets and the waits of those used are counted as they are.
 pub fn tells_of_use()
     ensures { TellsOfUse }
+{}
+
+/// When nothing is left to happen, no packet is left: each was delivered or dropped, and then used or refused.
+pub fn nothing_is_left()
+    ensures { NothingIsLeft }
 {}
 
 /// On a processor of its own the application is what the deliveries make of it.
