@@ -1,24 +1,24 @@
 -- An application on a processor of its own is what the deliveries make of it.
-use Rattle.std.proofs.Common.{◌≡◌, ◌∙◌, ℕ, ◌+◌, ◌-◌, ◌<◌, ◌≤◌, ◌^◌, Bool, true, false, Option, Some, None, List, [], ◌∷◌, ◌++◌, append_assoc, map, refl, sym, ap}
-use Rattle.std.{proofs.{Common.{subst, arith}, lemmas.{List.append-nil, Grind.common_steps}}, specs.{List.AllByRecursion, Option.option_map_or}}
+use Rattle.std.proofs.Common.{◌≡◌, ◌∙◌, ℕ, ◌+◌, ◌-◌, ◌<◌, ◌≤◌, ◌^◌, Bool, true, false, Option, Some, None, List, [], ◌∷◌, ◌++◌, map, refl, sym, ap}
+use Rattle.std.{proofs.{Common.{subst, arith}, lemmas.{List.append-nil}}, specs.{List.AllByRecursion}}
 use Rattle.std.specs.Prelude.{◌==◌, ◌&&◌, if◌then◌else◌, is_some, length, not, position}
 use Rattle.{machine_words.specs.declared.settings.Settings.Settings, device_places.specs.Places.{at, changed}}
 use Rattle.machine_laws.specs.{Lives.{Event, InTurn, behind, next, packet}, Fates.{delivery, delivery_by, delivery_of, used_by}}
-use Rattle.machine_laws.specs.Applications.{ApplicationEnds, ApplicationIsFed, ApplicationServes, Serves, deliveries, ended_until, fed_all, in_hand}
+use Rattle.machine_laws.specs.Applications.{ApplicationEnds, ApplicationIsFed, ApplicationServes, deliveries, ended_until, fed_all, in_hand}
 use Rattle.machine_laws.specs.Applications.{placed_all, used_all, with_delivery}
-use Rattle.machine_model.specs.declared.processor.{Work.{Work, TheVariants.{Nothing, Interrupt, Poll, Packet, Use}}, Rest.Rest}
+use Rattle.machine_model.specs.declared.processor.{Work.{Work, TheVariants.{Nothing, Interrupt, Poll, Packet, Use}}}
 use Rattle.machine_model.specs.declared.{processor.Upcoming.{Upcoming, TheVariants.{Never, Expires}}, application.Activity.{Activity, TheVariants.Asleep}}
 use Rattle.machine_model.specs.declared.tasks.Task.{Task, TheVariants.{Application, Thread}}
 use Rattle.poll_runs.specs.declared.bench.{Next.TheVariants.{Gone, Repoll}, Once.Once}
 use Rattle.machine_model.specs.{Tasks.{is_application, runnable, with_application}, Waits.held, Softirq.{polled_once, pushed}, Devices.{asks_at, has_room_at}}
-use Rattle.machine_model.specs.{Device.{after_packet, expired, interrupted, polled, raised_again, without_next}, Devices.{is_fired_at, next_packet_at, with_device}}
-use Rattle.machine_model.specs.Application.{ApplicationView, fed, has_place, is_awake, opened_application, used, went_on}
-use Rattle.machine_model.specs.Processor.{ProcessorView, arrives, begins, delivers, delivers_oldest, disturbed, ends_by, ends_current, ends_interrupt}
+use Rattle.machine_model.specs.{Device.{after_packet, expired, interrupted, polled, without_next}, Devices.{is_fired_at, next_packet_at, with_device}}
+use Rattle.machine_model.specs.Application.{ApplicationView, fed, has_place, went_on}
+use Rattle.machine_model.specs.Processor.{ProcessorView, arrives, delivers, delivers_oldest, disturbed, ends_by, ends_current, ends_interrupt}
 use Rattle.machine_model.specs.Processor.{ends_poll, ends_run, happens, interrupts, is_busy, is_polling, looks, polls, scheduled, set_aside, spent, step}
-use Rattle.machine_model.specs.Processor.{takes_up, upcoming, uses, woken}
-use Rattle.machine_laws.proofs.{WalkFacts.{IsFirst, Walk, either, nexted, started, walk-any}, SocketFacts.{Fed, Feeds, feeds}}
+use Rattle.machine_model.specs.Processor.{takes_up, upcoming, woken}
+use Rattle.machine_laws.proofs.{WalkFacts.{IsFirst, Walk, either, nexted, started, walk-any}, SocketFacts.{feeds}}
 use Rattle.machine_laws.proofs.ApplicationFacts.{Rising, Works, asleep-is, asleep-went, works-all, works-later, works-went}
-use Rattle.machine_laws.proofs.TimeFacts.{Since, now, rises-arrives, rises-happens, plains, since, time_by}
+use Rattle.machine_laws.proofs.TimeFacts.{now, rises-happens, plains, since, time_by}
 use Rattle.machine_laws.proofs.TimerFacts.{next-is, next-late}
 use Rattle.machine_laws.proofs.WorkFacts.{Goes, goes-devices, goes-on, goes-unasked, looks-by, stirred, work-ended, work-stirred}
 use Rattle.machine_model.specs.declared.processor.Upcoming.TheVariants as upcomings
@@ -316,8 +316,7 @@ application-ends s until events fits turns apart =
     (works-later s (now s events) (2 ^ 64 - 1) kept away (used_all s ds) a (omega (arith, within, fits)) w) in
     let b = went_on (2 ^ 64 - 1) s.use_time a in
     let uses = used_all s ds ++ ended_until (2 ^ 64 - 1) s.use_time a in
-    let sleeps : b.activity ≡ Asleep = asleep-is b.activity (asleep-went s.use_time a w.fits) in
-    (
+    let sleeps : b.activity ≡ Asleep = asleep-is b.activity (asleep-went s.use_time a w.fits) in (
       end.serves,
       sleeps,
       by kept (map (λ (x : ℕ × ℕ). x.0) uses) b.socket.items b.activity end.serves.order sleeps (end.serves.sleeps sleeps),

@@ -1,13 +1,13 @@
 -- An application on a processor of its own uses what it was fed, in order, and one packet after the other.
-use Rattle.std.proofs.Common.{◌≡◌, ◌∙◌, ℕ, suc, ◌+◌, ◌-◌, ◌*◌, ◌<◌, ◌≤◌, ◌^◌, Bool, true, false, Option, Some, None, List, [], ◌∷◌, ◌++◌, append_assoc}
-use Rattle.std.proofs.{Common.{length, length-append, map, refl, sym, ap, subst, arith}, lemmas.{Bool.{and_parts, leb-true, leb-false}, List.{append-nil, map-append}}}
-use Rattle.std.{proofs.{lemmas.Grind.common_steps, Math.Nat.mul-le-mul_right}, specs.Prelude.{◌==◌, ◌&&◌, if◌then◌else◌, nat_le, not}}
-use Rattle.{machine_words.specs.declared.settings.Settings.Settings, circular_buffer.specs.Buffer.{Buffer, buffer}}
-use Rattle.machine_laws.specs.Applications.{Follows, Serves, ended_until, ended_with, fed_all, finds_place, in_hand, placed_all, use_of, used_all}
+use Rattle.std.proofs.Common.{◌≡◌, ◌∙◌, ℕ, ◌+◌, ◌-◌, ◌*◌, ◌<◌, ◌≤◌, ◌^◌, Bool, true, false, List, [], ◌∷◌, ◌++◌, append_assoc}
+use Rattle.std.proofs.{Common.{length, length-append, map, refl, sym, ap, subst, arith}, lemmas.{Bool.{and_parts, leb-true}, List.{append-nil, map-append}}}
+use Rattle.std.{proofs.{lemmas.Grind.common_steps, Math.Nat.mul-le-mul_right}, specs.Prelude.{◌&&◌, if◌then◌else◌, nat_le}}
+use Rattle.{machine_words.specs.declared.settings.Settings.Settings, circular_buffer.specs.Buffer.{Buffer}}
+use Rattle.machine_laws.specs.Applications.{Follows, Serves, ended_until, ended_with, fed_all, in_hand, placed_all, use_of, used_all}
 use Rattle.machine_laws.specs.Fates.{counting}
 use Rattle.machine_model.specs.declared.application.Activity.{Activity, TheVariants.{Asleep, Waking, Using}}
-use Rattle.machine_model.specs.Application.{ApplicationView, ended_by, fed, goes_on, has_place, is_awake, is_over, opened_application, put, refuses}
-use Rattle.machine_model.specs.{Application.{takes_next, used, went_on, went_on_with, woken_by}, Waits.{WaitsView, counted, held, no_waits}}
+use Rattle.machine_model.specs.Application.{ApplicationView, ended_by, fed, goes_on, has_place, is_awake, is_over, put, refuses}
+use Rattle.machine_model.specs.{Application.{takes_next, went_on, went_on_with, woken_by}, Waits.{WaitsView, counted, held, no_waits}}
 use Rattle.machine_laws.proofs.TallyFacts.{counting-more}
 
 -- ---- lists of uses

@@ -1,19 +1,19 @@
 -- After its last packet few polls of a device give nothing.
 use Rattle.std.proofs.Common.{◌≡◌, ◌∙◌, ℕ, ◌+◌, ◌-◌, ◌<◌, ◌≤◌, Bool, true, false, Option, Some, None, List, [], ◌∷◌, length, refl, sym, ap, subst, arith}
-use Rattle.std.{proofs.lemmas.{Bool.{eqb-true, ltb-false}, Grind.common_steps}, specs.{Option.option_map_or, Prelude.{◌==◌, ◌&&◌, ◌||◌, if◌then◌else◌}}}
-use Rattle.std.{specs.Prelude.{is_some, max, nat_le, nat_lt, not, position}, proofs.Common.◌++◌}
+use Rattle.std.{proofs.lemmas.{Bool.{eqb-true}, Grind.common_steps}, specs.{Prelude.{◌==◌, ◌&&◌, if◌then◌else◌}}}
+use Rattle.std.{specs.Prelude.{is_some, max, nat_lt, not}, proofs.Common.◌++◌}
 use Rattle.machine_model.specs.Softirq.{asked_in}
 use Rattle.{machine_words.specs.declared.settings.Settings.Settings, device_places.specs.Places.{at, changed}}
 use Rattle.machine_laws.specs.{Lives.{Event, behind, next, packet}, Fates.finds_room, Deferrals.{EmptyPollsAreFew, emptied, emptied_by, empty_polls}}
-use Rattle.machine_model.specs.declared.{device.Phase.{Phase, TheVariants.{Quiet, Coalescing, Raised, Scheduled, Deferred, Fired}}, devices.Timer.Timer}
-use Rattle.machine_model.specs.declared.processor.{Work.{Work, TheVariants.{Nothing, Interrupt, Poll, Packet, Use}}, InHand.InHand}
+use Rattle.machine_model.specs.declared.{device.Phase.{Phase, TheVariants.{Quiet, Coalescing, Raised, Scheduled, Deferred, Fired}}}
+use Rattle.machine_model.specs.declared.processor.{Work.{Work, TheVariants.{Nothing, Interrupt, Poll, Packet, Use}}}
 use Rattle.machine_model.specs.declared.{processor.Upcoming.{Upcoming, TheVariants.{Never, Expires}}, device.DeviceCounts.DeviceCounts}
 use Rattle.machine_model.specs.{Device.{DeviceView, after_packet, coalesced, completed, expired, has_room, interrupted, is_fired, is_masked, notified, opened}}
 use Rattle.machine_model.specs.Device.{polled, raised_again, spliced, without_next}
 use Rattle.machine_model.specs.{Devices.{Devices, asks_at, has_room_at, is_fired_at, next_packet_at, with_device}, Kept.{is_scheduled, polled_by, scheduled_at}}
 use Rattle.machine_model.specs.{Waits.held, Processor.{ProcessorView, arrives, disturbed, ends_current, ends_run, happens, interrupts, is_busy, is_polling}}
 use Rattle.machine_model.specs.Processor.{scheduled, step, takes_up, upcoming}
-use Rattle.machine_laws.proofs.{TableFacts.{at-either, at-kept, map_at}, WalkFacts.{Walk, either, nexted, started, walk-any}, EndFacts.{Ends, Looks, ends}}
+use Rattle.machine_laws.proofs.{TableFacts.{at-either, at-kept, map_at}, WalkFacts.{Walk, either, walk-any}, EndFacts.{Ends, Looks, ends}}
 use Rattle.machine_laws.proofs.WorkFacts.{Goes, goes-devices, goes-on, goes-unasked, stirred, work-ended, work-stirred}
 use Rattle.machine_laws.proofs.{FateFacts.{at-arrived, made_at, room-made, undisturbed}, StandFacts.{Even, Stands, by_thread, devices-scheduled, one, polled-scheduled, polled_at, stands-on}}
 use Rattle.machine_model.specs.declared.processor.Upcoming.TheVariants as upcomings

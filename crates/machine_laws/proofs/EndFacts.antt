@@ -1,6 +1,6 @@
 -- What ends leaves of a processor's devices, case by case.
 use Rattle.std.proofs.Common.{◌≡◌, ℕ, ◌+◌, ◌-◌, Bool, true, false, Option, Some, None, refl}
-use Rattle.std.specs.{Option.option_map_or, Prelude.{if◌then◌else◌, option_map}}
+use Rattle.std.specs.{Prelude.{if◌then◌else◌, option_map}}
 use Rattle.{machine_words.specs.declared.settings.Settings.Settings, device_places.specs.Places.{at, changed}}
 use Rattle.{machine_laws.specs.Fates.delivery_of, poll_runs.specs.declared.bench.{Next.TheVariants.{Gone, Repoll}, Once.Once}}
 use Rattle.std.{specs.Prelude.{◌==◌, nat_lt}, proofs.Common.◌∷◌}

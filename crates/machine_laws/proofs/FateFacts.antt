@@ -1,20 +1,20 @@
 -- What becomes of packets: each is delivered in its order.
-use Rattle.std.proofs.Common.{◌≡◌, ◌∙◌, ℕ, ◌+◌, ◌-◌, ◌<◌, Bool, true, false, Option, Some, None, List, [], ◌∷◌, ◌++◌, append_assoc, length, replicate, drop}
+use Rattle.std.proofs.Common.{◌≡◌, ◌∙◌, ℕ, ◌+◌, ◌<◌, Bool, true, false, Option, Some, None, List, [], ◌∷◌, ◌++◌, append_assoc, length, drop}
 use Rattle.std.proofs.{Common.{refl, sym, ap, subst, arith}, lemmas.{List.append-nil, Bool.eqb-true, Grind.common_steps}}
-use Rattle.std.specs.{Option.option_map_or, Prelude.{◌==◌, ◌&&◌, ◌||◌, if◌then◌else◌, is_some, nat_lt, not, option_map, position, slice_get}}
-use Rattle.{machine_words.specs.declared.settings.Settings.Settings, circular_buffer.specs.Buffer.buffer}
-use Rattle.device_places.{proofs.PlaceFacts.below-some, specs.Places.{added_at, at, changed}}
+use Rattle.std.specs.{Prelude.{◌==◌, ◌&&◌, if◌then◌else◌, is_some, not, position, slice_get}}
+use Rattle.{machine_words.specs.declared.settings.Settings.Settings}
+use Rattle.device_places.{specs.Places.{added_at, at, changed}}
 use Rattle.machine_laws.specs.{Lives.{Event, behind, next, packet}, Fates.{DeliversInOrder, came, delivered, delivery, delivery_by, delivery_of, finds_room}}
 use Rattle.machine_laws.specs.Fates.{hand_of, packet_for, ring_in, taken_in}
-use Rattle.machine_model.specs.declared.processor.{Work.{Work, TheVariants.{Nothing, Interrupt, Poll, Packet, Use}}, Rest.Rest}
-use Rattle.machine_model.specs.declared.{processor.Upcoming.{Upcoming, TheVariants.{Never, Expires}}, tasks.Task.{Task, TheVariants.Thread}}
+use Rattle.machine_model.specs.declared.processor.{Work.{Work, TheVariants.{Nothing, Interrupt, Poll, Packet, Use}}}
+use Rattle.machine_model.specs.declared.{processor.Upcoming.{Upcoming, TheVariants.{Never, Expires}}, tasks.Task.{TheVariants.Thread}}
 use Rattle.machine_model.specs.{Device.{DeviceView, after_packet, completed, expired, has_room, interrupted, is_fired, is_masked, next_packet, notified, opened, polled}}
 use Rattle.machine_model.specs.{Device.{raised_again, spliced, without_next}, Devices.{Devices, asks_at, has_room_at, is_fired_at, next_packet_at, with_device}}
-use Rattle.machine_model.specs.{Softirq.{asked_in, next_of, pushed}, Waits.held, Application.used}
-use Rattle.machine_model.specs.Processor.{ProcessorView, arrives, begins, delivers, delivers_oldest, disturbed, ends_by, ends_current, ends_interrupt}
-use Rattle.machine_model.specs.Processor.{ends_poll, ends_run, happens, interrupts, is_busy, is_polling, looks, polls, scheduled, set_aside, spent, step}
-use Rattle.machine_model.specs.Processor.{takes_up, upcoming, uses, woken}
-use Rattle.machine_laws.proofs.{TableFacts.{at-changed, at-either, at-kept, at-apart, at-here, at-made, map_at}, WalkFacts.{Walk, either, nexted, started, walk-any}}
+use Rattle.machine_model.specs.{Softirq.{pushed}, Waits.held}
+use Rattle.machine_model.specs.Processor.{ProcessorView, arrives, disturbed, ends_current}
+use Rattle.machine_model.specs.Processor.{ends_run, happens, interrupts, is_busy, is_polling, scheduled, set_aside, step}
+use Rattle.machine_model.specs.Processor.{takes_up, upcoming, woken}
+use Rattle.machine_laws.proofs.{TableFacts.{at-either, at-kept, at-made, map_at}, WalkFacts.{Walk, either, walk-any}}
 use Rattle.machine_laws.proofs.{EndFacts.{Ends, Looks, ends}, WorkFacts.{Goes, goes-devices, goes-on, goes-unasked, stirred, work-ended, work-stirred}}
 use Rattle.machine_model.specs.{Kept.polled_by, declared.device.Phase.TheVariants.{Quiet, Scheduled}}
 use Rattle.machine_model.specs.declared.processor.Upcoming.TheVariants as upcomings

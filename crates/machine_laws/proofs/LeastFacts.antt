@@ -1,13 +1,13 @@
 -- No wait is less than what its work takes.
-use Rattle.std.proofs.Common.{◌≡◌, ◌∙◌, ℕ, ◌+◌, ◌-◌, ◌<◌, ◌≤◌, ◌^◌, Bool, true, false, Option, Some, None, List, [], ◌∷◌, ◌++◌, map, refl, sym, ap, subst, arith}
-use Rattle.std.{specs.{List.AllByRecursion, Prelude.{◌==◌, ◌&&◌, if◌then◌else◌, not}}, proofs.lemmas.Grind.common_steps}
+use Rattle.std.proofs.Common.{◌≡◌, ◌∙◌, ℕ, ◌+◌, ◌-◌, ◌<◌, ◌≤◌, ◌^◌, Bool, true, false, Option, Some, None, List, [], ◌∷◌, map, refl, ap, arith}
+use Rattle.std.{specs.{List.AllByRecursion, Prelude.{◌==◌, ◌&&◌, if◌then◌else◌, not}}}
 use Rattle.machine_words.specs.declared.settings.Settings.{Settings}
 use Rattle.machine_laws.specs.{Lives.{Event, InTurn, behind, next, packet}, Times.NoWaitIsLess}
 use Rattle.machine_laws.specs.Fates.{delivery, delivery_by, delivery_of, packet_for, use_by, use_waits, used_by, waits}
 use Rattle.machine_model.specs.declared.processor.{Work.{Work, TheVariants.{Nothing, Interrupt, Poll, Packet, Use}}, InHand.InHand}
 use Rattle.machine_model.specs.declared.processor.Upcoming.{Upcoming, TheVariants.{Never, Expires}}
 use Rattle.machine_model.specs.{Waits.held, Processor.{ProcessorView, ends_current, happens, is_polling, step, takes_up, upcoming}}
-use Rattle.machine_laws.proofs.TimeFacts.{IsFair, Timed, both, clock-takes, hand-delivery, now, over, parts, rises, since, use_cost}
+use Rattle.machine_laws.proofs.{OverFacts.{both, over}, TimeFacts.{IsFair, Timed, clock-takes, hand-delivery, now, rises, since, use_cost}}
 use Rattle.machine_laws.proofs.WorkFacts.{Goes, goes-on, work-ended}
 use Rattle.machine_model.specs.declared.processor.Upcoming.TheVariants as upcomings
 
@@ -85,8 +85,7 @@ uses-wait s until (next ∷ earlier) fits turns fair low =
     (happens-uses s (now s earlier) (upcoming p) p (goes-on s earlier) (since s until earlier fits turns.1).timed fair low)
 
 pub no-wait-is-less : NoWaitIsLess
-no-wait-is-less s until events fits turns polling low =
-    (
-      λ n. device-waits s until n events fits turns polling low,
-      λ here. uses-wait s until events fits turns (fair-of (is_polling s) s.apart polling here) low,
-    )
+no-wait-is-less s until events fits turns polling low = (
+  λ n. device-waits s until n events fits turns polling low,
+  λ here. uses-wait s until events fits turns (fair-of (is_polling s) s.apart polling here) low,
+)

@@ -1,26 +1,26 @@
 -- When nothing is left to happen, no packet is left.
-use Rattle.std.proofs.Common.{◌≡◌, ◌∙◌, ℕ, zero, suc, ◌+◌, ◌-◌, ◌<◌, ◌≤◌, ◌^◌, Bool, true, false, Option, Some, None, List, [], ◌∷◌, ◌++◌, length, length-append, refl, sym}
-use Rattle.std.proofs.{Common.{ap, subst, arith}, lemmas.{Bool.{eqb-true, eqb-false, leb-false, ltb-false}, List.Sums.{sum_by-append, sum_by-cons}, Grind.common_steps}}
-use Rattle.std.specs.{Option.option_map_or, Prelude.{◌==◌, ◌&&◌, if◌then◌else◌, is_some, min, nat_le, nat_lt, not, position}, List.position_or_len}
-use Rattle.{machine_words.specs.declared.settings.Settings.Settings, device_places.specs.Places.{at, changed}, circular_buffer.specs.Buffer.buffer}
-use Rattle.machine_laws.specs.{Lives.{Event, InTurn, behind, next, packet}, Fates.{NothingIsLeft, ring_in, taken_in}}
-use Rattle.machine_model.specs.declared.{device.Phase.{Phase, TheVariants.{Quiet, Coalescing, Raised, Scheduled, Deferred, Fired}}, processor.Rest.Rest}
-use Rattle.machine_model.specs.declared.processor.{Work.{Work, TheVariants.{Nothing, Interrupt, Poll, Packet, Use}}, InHand.InHand}
+use Rattle.std.proofs.Common.{◌≡◌, ◌∙◌, ℕ, zero, suc, ◌+◌, ◌-◌, ◌<◌, ◌≤◌, ◌^◌, Bool, true, false, Option, Some, None, List, [], ◌∷◌, ◌++◌, length, refl, sym}
+use Rattle.std.proofs.{Common.{ap, subst, arith}, lemmas.{Bool.{eqb-true, eqb-false, leb-false, ltb-false}, List.Sums.{sum_by-append, sum_by-cons}}}
+use Rattle.std.specs.{Prelude.{◌==◌, ◌&&◌, if◌then◌else◌, is_some, min, nat_lt, not, position}, List.position_or_len}
+use Rattle.{machine_words.specs.declared.settings.Settings.Settings, device_places.specs.Places.{at, changed}}
+use Rattle.machine_laws.specs.{Lives.{Event, behind, next, packet}, Fates.{NothingIsLeft, ring_in, taken_in}}
+use Rattle.machine_model.specs.declared.{device.Phase.{Phase, TheVariants.{Quiet, Coalescing, Raised, Scheduled, Deferred, Fired}}}
+use Rattle.machine_model.specs.declared.processor.{Work.{Work, TheVariants.{Nothing, Interrupt, Poll, Packet, Use}}}
 use Rattle.machine_model.specs.declared.{processor.Upcoming.{Upcoming, TheVariants.{Never, Expires}}, tasks.Task.{Task, TheVariants.{Application, Thread}}}
 use Rattle.poll_runs.specs.declared.bench.{Next.TheVariants.{Gone, Repoll}, Once.Once}
-use Rattle.machine_model.specs.{Tasks.{applications, is_application, runnable, with_application}, Application.{ApplicationView, fed, has_place, put, refuses, used}}
+use Rattle.machine_model.specs.{Tasks.{applications, is_application, runnable, with_application}, Application.{ApplicationView, has_place, put, refuses, used}}
 use Rattle.machine_model.specs.{Device.{DeviceView, after_packet, asks, expired, has_room, interrupted, polled, raised_again, timer_of, without_next}, Waits.held}
-use Rattle.machine_model.specs.{Devices.{Devices, asks_at, has_room_at, is_fired_at, next_packet_at, with_device}, Kept.{is_scheduled, scheduled_at}, Softirq.{RunView, asked_in, polled_once, pushed}}
+use Rattle.machine_model.specs.{Devices.{Devices, asks_at, has_room_at, is_fired_at, next_packet_at, with_device}, Kept.{is_scheduled, scheduled_at}, Softirq.{RunView, polled_once, pushed}}
 use Rattle.machine_model.specs.Processor.{ProcessorView, arrives, begins, delivers, delivers_oldest, disturbed, ends_by, ends_current, ends_interrupt}
-use Rattle.machine_model.specs.Processor.{ends_poll, ends_run, happens, interrupts, is_busy, is_due, is_by, is_polling, looks, polls, scheduled, set_aside}
+use Rattle.machine_model.specs.Processor.{ends_poll, ends_run, happens, interrupts, is_busy, is_by, is_polling, looks, polls, scheduled, set_aside}
 use Rattle.machine_model.specs.Processor.{spent, step, takes_up, upcoming, uses, woken}
-use Rattle.machine_laws.proofs.{TableFacts.at-apart, WalkFacts.{IsSettled, NoTask, Walk, either, nexted, started, walk-any}, SocketFacts.fed-here}
+use Rattle.machine_laws.proofs.{WalkFacts.{IsSettled, NoTask, Walk, either, nexted, started, walk-any}, SocketFacts.fed-here}
 use Rattle.machine_laws.proofs.WalkFacts as walks
 use Rattle.machine_laws.proofs.WorkFacts.{Goes, Rests, all_applications, goes-devices, goes-on, goes-unasked, looks-by, stirred, work-ended, work-stirred}
-use Rattle.machine_laws.proofs.FateFacts.{at-arrived, made_at, packet-by, queued, room-made}
-use Rattle.machine_laws.proofs.StandFacts.{Even, Stands, by_thread, count, count_in, listed_at, places, polled_at, stands-on, threads}
-use Rattle.machine_laws.proofs.TendFacts.{Early, EarlyUp, Tend, TendAt, Tended, early-of, lone, next-early, nothing-lone, tended-on}
-use Rattle.machine_laws.proofs.{TimeFacts.{Since, since}, TimerFacts.{Late, NextBy, NotBefore, next-is, timer_in}}
+use Rattle.machine_laws.proofs.FateFacts.{at-arrived, made_at, queued, room-made}
+use Rattle.machine_laws.proofs.StandFacts.{Stands, by_thread, count, count_in, listed_at, places, polled_at, stands-on, threads}
+use Rattle.machine_laws.proofs.TendFacts.{Early, EarlyUp, TendAt, next-early, nothing-lone, tended-on}
+use Rattle.machine_laws.proofs.{TimeFacts.{since}, TimerFacts.{Late, NextBy, NotBefore, next-is, timer_in}}
 use Rattle.machine_model.specs.declared.processor.Upcoming.TheVariants as upcomings
 
 -- ---- tasks
@@ -513,8 +513,7 @@ nothing-is-left s events turns none =
     let free = ends-never (upcoming p) p (next-is p) (next-early s events) (λ busy. (timed.ends busy).2) none in
     let nothing : p.work ≡ Nothing = idle-nothing p.work (λ busy. absurd (omega (arith, free.ends busy, (timed.ends busy).2))) in
     let r = (rested-on s events).resting nothing in
-    let goes = goes-on s events in
-    (
+    let goes = goes-on s events in (
       nothing,
       λ n. left-device (at n p.devices)
           (subst (λ (b : Bool). TendAt b (at n p.devices)) (nothing-lone s n p.work nothing) (tended-on s n events).tend) (r.quiet n)

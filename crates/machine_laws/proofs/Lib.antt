@@ -6,6 +6,7 @@ pub mod FateFacts
 pub mod TallyFacts
 pub mod SocketFacts
 pub mod TimerFacts
+pub mod OverFacts
 pub mod TimeFacts
 pub mod LeastFacts
 pub mod ApplicationFacts
@@ -15,4 +16,5 @@ pub mod StandFacts
 pub mod EmptyFacts
 pub mod TendFacts
 pub mod LeftFacts
+pub mod NearFacts
 pub mod LifeFacts

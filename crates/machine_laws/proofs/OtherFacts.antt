@@ -1,13 +1,13 @@
 -- The receiving side is the same with any other application on a processor of its own.
 use Rattle.std.proofs.Common.{◌≡◌, ◌∙◌, ℕ, ◌+◌, ◌-◌, Bool, true, false, Option, Some, None, List, [], ◌∷◌, ◌++◌, refl, sym, ap, subst}
-use Rattle.std.specs.{List.AllByRecursion, Option.option_map_or, Prelude.{◌==◌, ◌&&◌, if◌then◌else◌, is_some, length, nat_lt, not, position, slice_get}}
+use Rattle.std.specs.{Option.option_map_or, Prelude.{◌==◌, ◌&&◌, if◌then◌else◌, is_some, length, nat_lt, not, position, slice_get}}
 use Rattle.{machine_words.specs.declared.settings.Settings.Settings, device_places.specs.Places.{at, changed}}
 use Rattle.machine_laws.specs.{Lives.{Event, InTurn, behind, next, packet}, Applications.{ReceivingIsApart, changed_application, deliveries, fed_all}}
 use Rattle.machine_model.specs.declared.processor.{Work.{Work, TheVariants.{Nothing, Interrupt, Poll, Packet, Use}}, Rest.Rest}
 use Rattle.machine_model.specs.declared.{processor.Upcoming.{Upcoming, TheVariants.{Never, Expires}}, tasks.Task.{Task, TheVariants.{Application, Thread}}}
 use Rattle.poll_runs.specs.declared.bench.{Next.TheVariants.{Gone, Repoll}, Once.Once}
-use Rattle.machine_model.specs.{Tasks.{after_first, is_application, runnable, with_application}, Waits.held, Softirq.{asked_in, begun, next_of, polled_once, pushed}}
-use Rattle.machine_model.specs.{Device.{after_packet, completed, delivered, expired, interrupted, notified, polled, raised_again, without_next}, Devices.{Devices, asks_at, has_room_at}}
+use Rattle.machine_model.specs.{Tasks.{after_first, runnable, with_application}, Waits.held, Softirq.{asked_in, begun, next_of, polled_once, pushed}}
+use Rattle.machine_model.specs.{Device.{after_packet, completed, delivered, expired, interrupted, notified, polled, raised_again, without_next}, Devices.{asks_at, has_room_at}}
 use Rattle.machine_model.specs.{Devices.{is_fired_at, next_packet_at, with_device}, Application.{ApplicationView, fed, has_place, used}}
 use Rattle.machine_model.specs.Processor.{ProcessorView, arrives, begins, begins_run, delivers, delivers_oldest, disturbed, ends_by, ends_current}
 use Rattle.machine_model.specs.Processor.{ends_interrupt, ends_poll, ends_run, goes_on, happens, interrupts, is_busy, is_by, is_due, is_late, is_polling}
@@ -316,16 +316,14 @@ turns-on : (s t : Settings) (until : ℕ) (events : List Event) → s.apart ≡ 
 unfolding InTurn
 turns-on s t until [] apart turns = tt
 turns-on s t until (packet moment n ∷ earlier) apart turns =
-    let o = other-on s t earlier apart in
-    (
+    let o = other-on s t earlier apart in (
       turns.0,
       subst (λ (q : ProcessorView). is_due moment q ≡ false) (sym o.1)
           (due-other s t o.0 moment (behind s earlier) (upcoming (behind s earlier)) ∙ turns.1),
       turns-on s t moment earlier apart turns.2,
     )
 turns-on s t until (next ∷ earlier) apart turns =
-    let o = other-on s t earlier apart in
-    (
+    let o = other-on s t earlier apart in (
       subst (λ (q : ProcessorView). is_due until q ≡ true) (sym o.1)
           (due-other s t o.0 until (behind s earlier) (upcoming (behind s earlier)) ∙ turns.0),
       turns-on s t until earlier apart turns.1,
@@ -335,8 +333,7 @@ pub receiving-is-apart : ReceivingIsApart
 receiving-is-apart s t events apart =
     let o = other-on s t events apart in
     let p = behind s events in
-    let u = changed_application s t in
-    (
+    let u = changed_application s t in (
       o.1 ∙ ap (λ (b : ApplicationView). record p { settings = u; application = b }) (sym (ap (λ (q : ProcessorView). q.application) o.1)),
       λ until turns. turns-on s t until events apart turns,
     )

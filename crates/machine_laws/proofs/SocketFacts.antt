@@ -1,8 +1,8 @@
 -- What becomes of packets after their delivery to an application on the same processor: each is used in its order, or refused.
 use Rattle.std.proofs.Common.{◌≡◌, ◌∙◌, ℕ, ◌+◌, ◌-◌, Bool, true, false, Option, Some, None, List, [], ◌∷◌, ◌++◌, append_assoc, length, length-append, map}
 use Rattle.std.proofs.{Common.{refl, sym, ap, subst, arith}, lemmas.{List.append-nil, Grind.common_steps}}
-use Rattle.std.specs.Prelude.{◌==◌, ◌&&◌, if◌then◌else◌, is_some, not, option_map, position}
-use Rattle.{machine_words.specs.declared.settings.Settings.Settings, device_places.specs.Places.{at, changed}, circular_buffer.specs.Buffer.buffer}
+use Rattle.std.specs.Prelude.{◌==◌, if◌then◌else◌, is_some, not, option_map, position}
+use Rattle.{machine_words.specs.declared.settings.Settings.Settings, device_places.specs.Places.{at, changed}}
 use Rattle.machine_laws.specs.Lives.{Event, behind, next, packet}
 use Rattle.machine_laws.specs.Fates.{TellsOfUse, UsesInOrder, counting, delivery, delivery_by, delivery_of, kept, placed, refused, resting, use_by, use_waits, used_by}
 use Rattle.machine_laws.specs.Fates as fate
@@ -11,13 +11,13 @@ use Rattle.machine_model.specs.declared.processor.{Upcoming.{Upcoming, TheVarian
 use Rattle.machine_model.specs.declared.tasks.Task.{TheVariants.Thread}
 use Rattle.poll_runs.specs.declared.bench.{Next.TheVariants.{Gone, Repoll}, Once.Once}
 use Rattle.machine_model.specs.{Waits.{WaitsView, counted, held, no_waits}, Softirq.{polled_once, pushed}}
-use Rattle.machine_model.specs.Application.{ApplicationView, fed, has_place, put, refuses, used, went_on, woken_by}
+use Rattle.machine_model.specs.Application.{ApplicationView, fed, has_place, put, refuses, used}
 use Rattle.machine_model.specs.{Device.{after_packet, expired, interrupted, polled, raised_again, without_next}, Devices.{asks_at, has_room_at, is_fired_at}}
 use Rattle.machine_model.specs.Devices.{next_packet_at, with_device}
-use Rattle.machine_model.specs.Processor.{ProcessorView, arrives, begins, delivers, delivers_oldest, disturbed, ends_by, ends_current, ends_interrupt}
-use Rattle.machine_model.specs.Processor.{ends_poll, ends_run, happens, interrupts, is_busy, is_polling, looks, polls, scheduled, set_aside, spent, step}
-use Rattle.machine_model.specs.Processor.{takes_up, upcoming, uses, woken}
-use Rattle.machine_laws.proofs.{WalkFacts.{Walk, either, nexted, started, walk-any}, TallyFacts.counting-more}
+use Rattle.machine_model.specs.Processor.{ProcessorView, arrives, delivers, delivers_oldest, disturbed, ends_by, ends_current, ends_interrupt}
+use Rattle.machine_model.specs.Processor.{ends_poll, ends_run, happens, interrupts, is_busy, is_polling, looks, scheduled, set_aside, spent, step}
+use Rattle.machine_model.specs.Processor.{takes_up, upcoming, woken}
+use Rattle.machine_laws.proofs.{WalkFacts.{Walk, either, walk-any}, TallyFacts.counting-more}
 use Rattle.machine_laws.proofs.WorkFacts.{Goes, goes-devices, goes-on, goes-unasked, looks-by, stirred, work-ended, work-stirred}
 use Rattle.machine_model.specs.declared.processor.Upcoming.TheVariants as upcomings
 
@@ -94,8 +94,7 @@ feeds-work Q (Interrupt m) p counts is f =
     by false None polling found = (f.none, refl, refl)
     by false (Some came) polling found =
         let r : ProcessorView = record q { devices = changed (without_next false) m q.devices } in
-        let d = delivers-fed m came r in
-        (
+        let d = delivers-fed m came r in (
           subst (λ (a : ApplicationView). Q (Some (m, came)) [] a) (sym d.0) (f.gives m came (ap (λ (w : Work). delivery_of w p) is ∙ rw (polling, found) refl)),
           d.1,
           ap used_by d.2,

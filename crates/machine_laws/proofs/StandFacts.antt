@@ -1,24 +1,24 @@
 -- A device is scheduled if and only if its number is on the poll list, in the run, among the tasks or polled, and it is there once.
-use Rattle.std.proofs.Common.{◌≡◌, ◌∙◌, ℕ, ◌+◌, ◌-◌, ◌<◌, ◌≤◌, Bool, true, false, Option, Some, None, List, [], ◌∷◌, ◌++◌, drop, length, refl, sym, ap, subst, arith}
+use Rattle.std.proofs.Common.{◌≡◌, ◌∙◌, ℕ, ◌+◌, ◌-◌, ◌≤◌, Bool, true, false, Option, Some, None, List, [], ◌∷◌, ◌++◌, drop, length, refl, sym, ap, subst, arith}
 use Rattle.std.{proofs.lemmas.{Bool.eqb-true, Grind.common_steps}, specs.{Option.option_map_or, Prelude.{◌==◌, ◌&&◌, ◌||◌, if◌then◌else◌, is_some}}}
-use Rattle.std.specs.Prelude.{nat_le, nat_lt, not, option_map, position, slice_get}
-use Rattle.{machine_words.specs.declared.settings.Settings.Settings, device_places.specs.Places.{at, changed}, circular_buffer.specs.Buffer.buffer}
+use Rattle.std.specs.Prelude.{nat_le, not, position, slice_get}
+use Rattle.{machine_words.specs.declared.settings.Settings.Settings, device_places.specs.Places.{at, changed}}
 use Rattle.machine_laws.specs.Lives.{Event, behind, next, packet}
 use Rattle.poll_runs.specs.{Turn.asked_for, declared.bench.{Next.TheVariants.{Gone, Repoll}, Once.Once}}
-use Rattle.machine_model.specs.declared.{device.Phase.{Phase, TheVariants.{Quiet, Coalescing, Raised, Scheduled, Deferred, Fired}}, processor.Rest.Rest}
-use Rattle.machine_model.specs.declared.processor.{Work.{Work, TheVariants.{Nothing, Interrupt, Poll, Packet, Use}}, InHand.InHand}
+use Rattle.machine_model.specs.declared.{device.Phase.{Phase, TheVariants.{Quiet, Coalescing, Raised, Scheduled, Deferred, Fired}}}
+use Rattle.machine_model.specs.declared.processor.{Work.{Work, TheVariants.{Nothing, Interrupt, Poll, Packet, Use}}}
 use Rattle.machine_model.specs.declared.device.DeviceCounts.{DeviceCounts}
 use Rattle.machine_model.specs.declared.{processor.Upcoming.{Upcoming, TheVariants.{Never, Expires}}, tasks.Task.{Task, TheVariants.{Application, Thread}}}
 use Rattle.machine_model.specs.{Device.{DeviceView, after_packet, asks, coalesced, completed, delivered, expired, interrupted, is_fired, is_masked, notified}}
 use Rattle.machine_model.specs.Device.{opened, polled, raised_again, spliced, without_next}
-use Rattle.machine_model.specs.{Devices.{Devices, asks_at, has_room_at, is_fired_at, next_packet_at, with_device}, Kept.{given_by, is_scheduled, polled_by, scheduled_at}}
-use Rattle.machine_model.specs.Softirq.{RunView, SoftirqView, asked_in, begun, ended, filled, next_of, polled_once, polled_run, pushed}
+use Rattle.machine_model.specs.{Devices.{Devices, asks_at, has_room_at, is_fired_at, next_packet_at, with_device}, Kept.{is_scheduled, polled_by, scheduled_at}}
+use Rattle.machine_model.specs.Softirq.{RunView, SoftirqView, asked_in, begun, ended, filled, next_of, polled_once, pushed}
 use Rattle.machine_model.specs.{Tasks.{runnable, with_application}, Application.{has_place, used}, Waits.held}
 use Rattle.machine_model.specs.Processor.{ProcessorView, arrives, begins, delivers, delivers_oldest, disturbed, ends_by, ends_current, ends_interrupt}
 use Rattle.machine_model.specs.Processor.{ends_poll, ends_run, happens, interrupts, is_busy, is_polling, looks, polls, scheduled, set_aside, spent, step}
 use Rattle.machine_model.specs.Processor.{takes_up, upcoming, uses, woken}
-use Rattle.machine_laws.proofs.{TableFacts.{at-either, at-kept, map_at}, WalkFacts.{Walk, either, nexted, started, walk-any}, FateFacts.{at-arrived, made_at, packet-by}}
-use Rattle.machine_laws.proofs.WorkFacts.{Clear, Goes, Rests, goes-devices, goes-on, goes-unasked, looks-by, stirred, work-ended, work-stirred, work-walk}
+use Rattle.machine_laws.proofs.{TableFacts.{at-either, map_at}, WalkFacts.{Walk, either, nexted, started, walk-any}, FateFacts.{at-arrived, made_at}}
+use Rattle.machine_laws.proofs.WorkFacts.{Goes, Rests, goes-devices, goes-on, goes-unasked, looks-by, stirred, work-ended, work-stirred, work-walk}
 use Rattle.machine_model.specs.declared.processor.Upcoming.TheVariants as upcomings
 use Rattle.machine_model.specs.Device as device
 
@@ -710,8 +710,10 @@ stand-happens s n upcomings.Ends p goes h = stand-takes s n (ends_current p) (wo
 stand-happens s n (Expires timer) p goes h =
     let q : ProcessorView = record p { devices = changed expired timer.device p.devices } in
     stand-disturbed s n timer.at q (goes-devices s p q goes refl refl refl refl)
-    (record { even = even-kept s n (by_thread s (polled_at n p.work)) p q h.even refl
-    (kept-changed expired timer.device n p.devices (λ d. kept-expired d.phase)) })
+    (record {
+      even = even-kept s n (by_thread s (polled_at n p.work)) p q h.even refl
+          (kept-changed expired timer.device n p.devices (λ d. kept-expired d.phase));
+    })
 
 kept-made : (capacity : ℕ) (o : Option DeviceView) → KeptAt o (Some (made_at capacity o))
 unfolding made_at

@@ -1,8 +1,8 @@
 -- What is at a number of a table after one entry changed.
-use Rattle.std.proofs.Common.{◌≡◌, ◌∙◌, ℕ, ◌+◌, ◌<◌, Bool, true, false, Option, Some, None, List, [], ◌∷◌, ◌++◌, length, replicate}
-use Rattle.std.proofs.{Common.{refl, sym, ap, arith, get_or, slice_set}, lemmas.{Bool.{eqb-true, eqb-false, eq-eqb}, Grind.{common_steps, get_or-set_at}}}
+use Rattle.std.proofs.Common.{◌≡◌, ℕ, Bool, true, false, Option, Some, None, ◌++◌, replicate}
+use Rattle.std.proofs.{Common.{refl, sym, arith}, lemmas.{Bool.{eqb-true, eqb-false}, Grind.{common_steps, get_or-set_at}}}
 use Rattle.std.{proofs.lemmas.List.get_or-set_other, specs.Prelude.{◌==◌}}
-use Rattle.device_places.{proofs.PlaceFacts.{below-some, at-set}, specs.Places.{Places, added, added_at, at, changed, changed_from}}
+use Rattle.device_places.{proofs.PlaceFacts.{below-some}, specs.Places.{Places, at, changed, changed_from}}
 
 unfoldable pub map_at : {A : Type 0} → (A → A) → Option A → Option A
 map_at f None = None

@@ -1,18 +1,17 @@
 -- What is counted of a device is counted of its packets.
 use Rattle.std.proofs.Common.{◌≡◌, ◌∙◌, ℕ, ◌+◌, ◌-◌, Bool, true, false, Option, Some, None, List, [], ◌∷◌, ◌++◌, length, length-append, map}
-use Rattle.std.proofs.{Common.{refl, sym, ap, subst, arith}, lemmas.{List.append-nil, Bool.eqb-true, Grind.common_steps}}
+use Rattle.std.proofs.{Common.{refl, sym, ap, subst, arith}, lemmas.{List.append-nil, Bool.eqb-true}}
 use Rattle.std.specs.Prelude.{◌==◌, ◌&&◌, if◌then◌else◌, is_some, not}
 use Rattle.{machine_words.specs.declared.settings.Settings.Settings, device_places.specs.Places.{at, changed}}
-use Rattle.machine_laws.specs.{Lives.{Event, behind, next, packet}, Fates.{Tells, TellsOfDevice, came, counting, counts_in, delivered, delivery, delivery_by}}
-use Rattle.machine_laws.specs.Fates.{delivery_of, finds_room, hand_of, packet_for, waits, waits_in}
-use Rattle.machine_model.specs.declared.processor.{Work.{Work, TheVariants.{Interrupt, Poll, Packet}}, InHand.InHand}
+use Rattle.machine_laws.specs.{Lives.{Event, behind, next, packet}, Fates.{Tells, TellsOfDevice, came, counting, delivered, delivery, delivery_by}}
+use Rattle.machine_laws.specs.Fates.{delivery_of, finds_room, hand_of, packet_for, waits}
 use Rattle.machine_model.specs.declared.processor.Upcoming.{Upcoming, TheVariants.{Never, Expires}}
 use Rattle.machine_model.specs.{Device.{DeviceView, after_packet, completed, expired, has_room, interrupted, is_fired, notified, polled, raised_again}}
 use Rattle.machine_model.specs.{Device.{spliced, without_next}, Devices.{Devices, has_room_at, next_packet_at, with_device}, Waits.{WaitsView, counted, held, no_waits}}
-use Rattle.machine_model.specs.Processor.{ProcessorView, arrives, disturbed, ends_current, happens, is_busy, is_polling, step, takes_up, upcoming}
+use Rattle.machine_model.specs.Processor.{ProcessorView, arrives, disturbed, ends_current, happens, is_busy, step, takes_up, upcoming}
 use Rattle.machine_model.specs.declared.device.Phase.TheVariants.{Quiet, Scheduled}
 use Rattle.machine_laws.proofs.{TableFacts.{at-either, at-kept, map_at}, WalkFacts.either, EndFacts.{Ends, Looks, ends}, WorkFacts.{Goes, goes-devices, goes-on}}
-use Rattle.machine_laws.proofs.FateFacts.{Blind, at-arrived, disturbed-part, holds, holds-order, if-same, made_at, packet-by, part-happens, room-made, seen-takes}
+use Rattle.machine_laws.proofs.FateFacts.{Blind, at-arrived, disturbed-part, holds-order, if-same, made_at, packet-by, part-happens, room-made, seen-takes}
 use Rattle.machine_laws.proofs.WorkFacts.{work-ended}
 use Rattle.machine_model.specs.declared.processor.Upcoming.TheVariants as upcomings
 use Rattle.machine_model.specs.Device as device

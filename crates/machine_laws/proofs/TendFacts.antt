@@ -1,9 +1,9 @@
 -- A device whose interrupt isn't raised, deferred or handled has no packet, and its timer is below the end of the clock.
-use Rattle.std.proofs.Common.{◌≡◌, ◌∙◌, ℕ, zero, suc, ◌+◌, ◌-◌, ◌<◌, ◌≤◌, ◌^◌, Bool, true, false, Option, Some, None, List, [], ◌∷◌, ◌++◌, drop, length}
-use Rattle.std.proofs.{Common.{refl, sym, ap, subst, arith}, lemmas.{Bool.{eqb-true, eq-eqb, ltb-false, eqb-false}, Grind.common_steps}}
+use Rattle.std.proofs.Common.{◌≡◌, ◌∙◌, ℕ, suc, ◌+◌, ◌<◌, ◌≤◌, ◌^◌, Bool, true, false, Option, Some, None, List, [], ◌∷◌, ◌++◌, length}
+use Rattle.std.proofs.{Common.{refl, sym, ap, subst, arith}, lemmas.{Bool.{eqb-true, eq-eqb, ltb-false}}}
 use Rattle.std.specs.{Option.{option_map, option_map_or}, Prelude.{◌==◌, ◌&&◌, ◌||◌, if◌then◌else◌, is_some, nat_le, nat_lt, not, position, slice_get}}
 use Rattle.{machine_words.specs.declared.settings.Settings.Settings, device_places.specs.Places.{at, changed}}
-use Rattle.machine_laws.specs.{Lives.{Event, behind, next, packet}, Fates.{ring_in, taken_in}}
+use Rattle.machine_laws.specs.{Lives.{Event, behind, next, packet}, Fates.{taken_in}}
 use Rattle.machine_model.specs.declared.{device.Phase.{Phase, TheVariants.{Quiet, Coalescing, Raised, Scheduled, Deferred, Fired}}, devices.Timer.Timer}
 use Rattle.machine_model.specs.declared.processor.{Work.{Work, TheVariants.{Nothing, Interrupt, Poll, Packet, Use}}, InHand.InHand}
 use Rattle.machine_model.specs.declared.{processor.Upcoming.{Upcoming, TheVariants.{Never, Expires}}, device.DeviceCounts.DeviceCounts}
@@ -12,12 +12,12 @@ use Rattle.machine_model.specs.Device.{notified, opened, polled, raised_again, t
 use Rattle.machine_model.specs.{Devices.{Devices, asks_at, has_room_at, is_fired_at, next_packet_at, soonest_from, sooner, timer_at, with_device}, Kept.{given_by, is_scheduled, polled_by, scheduled_at}}
 use Rattle.machine_model.specs.{Waits.held, Softirq.asked_in, Processor.{ProcessorView, arrives, disturbed, ends_current, ends_run, happens, interrupts, is_busy}}
 use Rattle.machine_model.specs.Processor.{is_polling, set_aside, step, takes_up, upcoming, woken}
-use Rattle.machine_laws.proofs.{TableFacts.{at-apart, at-either, at-here, at-kept, map_at}, WalkFacts.{Walk, either, nexted, started, walk-any}, EndFacts.{Ends, Looks, ends}}
-use Rattle.machine_laws.proofs.WorkFacts.{Goes, Rests, goes-devices, goes-on, goes-unasked, stirred, work-ended, work-stirred}
-use Rattle.machine_laws.proofs.FateFacts.{IsPlain, at-arrived, look-none, made_at, packet-by, plain-of, plain-on, queued, queued-delivered, queued-polled}
+use Rattle.machine_laws.proofs.{TableFacts.{at-apart, at-either, at-kept, map_at}, WalkFacts.{Walk, either, walk-any}, EndFacts.{Ends, Looks, ends}}
+use Rattle.machine_laws.proofs.WorkFacts.{Goes, goes-devices, goes-on, goes-unasked, stirred, work-ended, work-stirred}
+use Rattle.machine_laws.proofs.FateFacts.{IsPlain, at-arrived, look-none, made_at, plain-of, plain-on, queued, queued-delivered, queued-polled}
 use Rattle.machine_laws.proofs.FateFacts.{unbacked, unpolled}
 use Rattle.machine_laws.proofs.{StandFacts.{Even, Stands, by_thread, devices-scheduled, one, polled-scheduled, polled_at, stands-on}, EmptyFacts.{calm-full, calm-next}}
-use Rattle.machine_laws.proofs.{TimeFacts.over, TimerFacts.{timer-same, timer_in}}
+use Rattle.machine_laws.proofs.{OverFacts.over, TimerFacts.{timer-same, timer_in}}
 use Rattle.machine_model.specs.declared.processor.Upcoming.TheVariants as upcomings
 use Rattle.machine_model.specs.Device as device
 

@@ -1,41 +1,26 @@
 -- Time never falls, and what arrived, what waits and what is under way is in its order.
-use Rattle.std.proofs.Common.{◌≡◌, ◌∙◌, ℕ, zero, suc, ◌+◌, ◌-◌, ◌<◌, ◌≤◌, ◌^◌, Bool, true, false, Option, Some, None, List, [], ◌∷◌, ◌++◌, refl, sym, ap}
-use Rattle.std.proofs.{Common.{subst, arith}, lemmas.{Bool.{and_parts, eq-eqb, leb-true}, Grind.common_steps}}
-use Rattle.std.specs.{List.AllByRecursion, Prelude.{◌==◌, ◌&&◌, if◌then◌else◌, is_some, not, position}, Option.option_map_or}
+use Rattle.std.proofs.Common.{◌≡◌, ◌∙◌, ℕ, ◌+◌, ◌-◌, ◌<◌, ◌≤◌, ◌^◌, Bool, true, false, Option, Some, None, List, [], ◌∷◌, ◌++◌, refl, sym, ap}
+use Rattle.std.proofs.{Common.{subst, arith}, lemmas.{Bool.{leb-true}}}
+use Rattle.std.specs.{List.AllByRecursion, Prelude.{◌==◌, ◌&&◌, if◌then◌else◌, is_some, not, position}}
 use Rattle.{machine_words.specs.declared.settings.Settings.Settings, device_places.specs.Places.{at, changed}, circular_buffer.specs.Buffer.buffer}
-use Rattle.machine_laws.specs.{Lives.{Event, InTurn, behind, next, packet}, Times.ClocksNeverFall, Fates.{delivery_of, finds_room, taken_in, used_by}}
+use Rattle.machine_laws.specs.{Lives.{Event, InTurn, behind, next, packet}, Times.ClocksNeverFall, Fates.{delivery_of, finds_room, taken_in}}
 use Rattle.machine_model.specs.declared.processor.{Work.{Work, TheVariants.{Nothing, Interrupt, Poll, Packet, Use}}, Rest.Rest, InHand.InHand}
-use Rattle.machine_model.specs.declared.{processor.{Upcoming.{Upcoming, TheVariants.{Never, Expires}}, ProcessorCounts.ProcessorCounts}, tasks.Task.TheVariants.Thread}
-use Rattle.poll_runs.specs.declared.bench.{Next.TheVariants.{Gone, Repoll}, Once.Once}
-use Rattle.machine_model.specs.{Device.{after_packet, timer_of, expired, interrupted, polled, raised_again, without_next}, Softirq.{polled_once, pushed}, Waits.held}
-use Rattle.machine_model.specs.{Device.DeviceView, Devices.{Devices, asks_at, has_room_at, is_fired_at, next_packet_at, with_device}}
-use Rattle.machine_model.specs.Application.{ApplicationView, fed, has_place, put, refuses, used}
-use Rattle.machine_model.specs.Processor.{ProcessorView, arrives, begins, delivers, delivers_oldest, disturbed, ends_by, ends_current, ends_interrupt}
-use Rattle.machine_model.specs.Processor.{ends_poll, ends_run, happens, interrupts, is_busy, is_by, is_due, is_polling, looks, polls, scheduled, set_aside}
-use Rattle.machine_model.specs.Processor.{spent, step, takes_up, upcoming, uses, woken}
+use Rattle.machine_model.specs.declared.{processor.{Upcoming.{Upcoming, TheVariants.{Never, Expires}}}, tasks.Task.TheVariants.Thread}
+use Rattle.machine_model.specs.{Device.{after_packet, timer_of, expired, interrupted, polled, raised_again, without_next}, Softirq.{pushed}, Waits.held}
+use Rattle.machine_model.specs.{Device.DeviceView, Devices.{Devices, asks_at, has_room_at, is_fired_at, with_device}}
+use Rattle.machine_model.specs.Application.{ApplicationView, fed, has_place, put, refuses}
+use Rattle.machine_model.specs.Processor.{ProcessorView, arrives, begins, disturbed, ends_current}
+use Rattle.machine_model.specs.Processor.{ends_run, happens, interrupts, is_busy, is_by, is_due, is_polling, scheduled, set_aside}
+use Rattle.machine_model.specs.Processor.{step, takes_up, upcoming, uses, woken}
 use Rattle.machine_laws.proofs.{TableFacts.{at-kept, map_at}, WalkFacts.{Walk, either, nexted, started, walk-any}, EndFacts.{Ends, Looks, ends}}
-use Rattle.machine_laws.proofs.WorkFacts.{Goes, goes-devices, goes-on, goes-unasked, looks-by, stirred, work-ended, work-stirred}
+use Rattle.machine_laws.proofs.WorkFacts.{Goes, goes-devices, goes-on, goes-unasked, stirred, work-ended, work-stirred}
 use Rattle.machine_laws.proofs.FateFacts.{IsPlain, arrived-queued, at-arrived, look-none, look-some, next-some-at, plain-of, plain-on, queued, queued-blind}
 use Rattle.machine_laws.proofs.FateFacts.{made_at, queued-delivered, queued-polled, queued-raised, unbacked, unpolled}
-use Rattle.machine_laws.proofs.TimerFacts.{AllLate, Late, LateUp, NextBy, NotBefore, late-less, later-not, lates-delivered, lates-expired, lates-interrupted}
+use Rattle.machine_laws.proofs.TimerFacts.{AllLate, Late, LateUp, NextBy, NotBefore, lates-delivered, lates-expired, lates-interrupted}
 use Rattle.machine_laws.proofs.TimerFacts.{lates-next, late-packet, lates-polled, lates-raised, next-is, next-late, not-due, timer_in}
-use Rattle.machine_laws.proofs.SocketFacts.{Fed, Feeds, feeds, fed-here}
+use Rattle.machine_laws.proofs.{OverFacts.{both, over, parts, weaker}, SocketFacts.{feeds, fed-here}}
 use Rattle.machine_model.specs.declared.processor.Upcoming.TheVariants as upcomings
 use Rattle.machine_model.specs.Device as device
-
--- ---- lists
-
-pub both : (P : ℕ → Type 0) (xs ys : List ℕ) → AllByRecursion P xs → AllByRecursion P ys → AllByRecursion P (xs ++ ys)
-both P [] ys first second = second
-both P (x ∷ xs) ys first second = (first.0, both P xs ys first.1 second)
-
-pub parts : (P : ℕ → Type 0) (xs ys : List ℕ) → AllByRecursion P (xs ++ ys) → AllByRecursion P xs × AllByRecursion P ys
-parts P [] ys all = (tt, all)
-parts P (x ∷ xs) ys all = let rest = parts P xs ys all.1 in ((all.0, rest.0), rest.1)
-
-pub weaker : (P Q : ℕ → Type 0) (xs : List ℕ) → ((x : ℕ) → P x → Q x) → AllByRecursion P xs → AllByRecursion Q xs
-weaker P Q [] so all = tt
-weaker P Q (x ∷ xs) so all = (so x all.0, weaker P Q xs so all.1)
 
 -- ---- what is true at a time
 
@@ -242,76 +227,6 @@ timed-takes : (s : Settings) (t : ℕ) (p : ProcessorView) → Goes s p → Read
 timed-takes s t p goes r = walk-any (Calm s t) (Timed s t) (timed-walk s t) p (goes-unasked s p goes) r.busy r.idle
 
 -- ---- work ends
-
--- when work has ended
-pub record Over (p q : ProcessorView) : Type 0 where
-  pub settings : q.settings ≡ p.settings
-  pub clock : q.clock ≡ p.clock
-  pub ends : (hand : InHand) → q.work ≡ Packet hand → q.ends ≡ held (p.clock + p.settings.packet)
-  pub kind : is_busy q.work ≡ true → (hand : InHand) × (q.work ≡ Packet hand)
-
-over-none : (p q : ProcessorView) → q.settings ≡ p.settings → q.clock ≡ p.clock → q.work ≡ Nothing → Over p q
-over-none p q settings clock nothing = record {
-  settings = settings;
-  clock = clock;
-  ends = λ hand is. absurd (cc (nothing, is));
-  kind = λ busy. absurd (cc (ap is_busy nothing, busy));
-}
-
-over-polled : (n given : ℕ) (p : ProcessorView) → p.work ≡ Nothing → Over p (ends_poll n given p)
-unfolding ends_poll
-over-polled n given p nothing =
-    let full = given == p.settings.weight in
-    let counts = record p.counts { polls = held (p.counts.polls + 1); work = held (p.counts.work + given) } in
-    let q : ProcessorView = record p { devices = changed (polled p.clock given p.settings) n p.devices; counts = counts } in
-    let once : Once = record { work = given; next = if full then Repoll else Gone } in
-    either (Over p) p.settings.threaded (record q { tasks = if full then Thread n ∷ q.tasks else q.tasks })
-    (record q { softirq = polled_once once q.softirq })
-    (λ y. over-none p (record q { tasks = if full then Thread n ∷ q.tasks else q.tasks }) refl refl nothing)
-    (λ y. over-none p (record q { softirq = polled_once once q.softirq }) refl refl nothing)
-
-over-looks : (n given : ℕ) (p : ProcessorView) → p.work ≡ Nothing → Over p (looks n given p)
-over-looks n given p nothing =
-    let q : ProcessorView = record p { devices = changed (without_next p.settings.backlog) n p.devices } in
-    looks-by (Over p) n given p
-    (λ came is less. record {
-      settings = refl;
-      clock = refl;
-      ends = λ hand same. refl;
-      kind = λ busy. (record { device = n; came = came; given = given }, refl);
-    })
-    (λ none.
-    let o = over-polled n given q nothing in
-    record { settings = o.settings; clock = o.clock; ends = o.ends; kind = o.kind })
-    (λ full. over-polled n given p nothing)
-
-over-delivers : (n came given : ℕ) (p : ProcessorView) → p.work ≡ Nothing → Over p (looks n given (delivers n came p))
-unfolding delivers
-over-delivers n came given p nothing =
-    let o = over-looks n given (delivers n came p) nothing in
-    record { settings = o.settings; clock = o.clock; ends = o.ends; kind = o.kind }
-
-over-lone : (n : ℕ) (o : Option ℕ) (p : ProcessorView) → p.work ≡ Nothing
-    → let q = delivers_oldest n o p in Over p (record q { devices = changed raised_again n q.devices })
-unfolding delivers
-over-lone n None p nothing = over-none p (record p { devices = changed raised_again n p.devices }) refl refl nothing
-over-lone n (Some came) p nothing =
-    let q = delivers_oldest n (Some came) p in over-none p (record q { devices = changed raised_again n q.devices }) refl refl nothing
-
-over-work : (w : Work) (p : ProcessorView) → p.work ≡ Nothing → Over p (ends_by w p)
-unfolding ends_interrupt
-over-work Nothing p nothing = over-none p p refl refl nothing
-over-work (Interrupt n) p nothing =
-    either (Over p) (is_polling p.settings) p (ends_interrupt n p) (λ polling. over-none p p refl refl nothing)
-    (λ lone. over-lone n (next_packet_at false (at n p.devices)) p nothing)
-over-work (Poll n) p nothing = over-looks n 0 p nothing
-over-work (Packet hand) p nothing = over-delivers hand.device hand.came (hand.given + 1) p nothing
-over-work (Use came) p nothing = over-none p (record p { application = used p.clock came p.application }) refl refl nothing
-
-pub over : (p : ProcessorView)
-    → Over (record p { clock = p.ends; work = Nothing; counts = spent p.work (p.ends - p.clock) p.counts }) (ends_current p)
-unfolding ends_current
-over p = over-work p.work (record p { clock = p.ends; work = Nothing; counts = spent p.work (p.ends - p.clock) p.counts }) refl
 
 -- timers, what arrived, and the packet in hand
 pub record Kept (t : ℕ) (ds : Devices) (w : Work) : Type 0 where
@@ -673,8 +588,7 @@ rises-happens s t until Never p fits goes plain h by late due = cc due
 rises-happens s t until upcomings.Ends p fits goes plain h by late due =
     let e = h.ends by.0 in
     let q = ends_current p in
-    let g = work-ended s p goes in
-    (
+    let g = work-ended s p goes in (
       record {
         time = e.1;
         timed = timed-takes s p.ends q g (ready-ended s t p h by.0 by.1.timers plain);
@@ -702,8 +616,7 @@ rises-happens s t until (Expires timer) p fits goes plain h by late due =
       came = came-changed u expired timer.device p.devices queued-blind.expired k.came;
       socket = k.socket;
       rest = k.rest;
-    } in
-    (
+    } in (
       record { time = less; timed = timed-disturbed s u q small g r; clock = clock-disturbed s u q small g r },
       below,
     )

@@ -1,6 +1,6 @@
 -- What a processor takes up, case by case: a property that each case keeps.
 use Rattle.std.specs.Prelude.{◌==◌, ◌&&◌, if◌then◌else◌, is_some, not, position, slice_get}
-use Rattle.std.proofs.Common.{rules, ◌≡◌, ◌<◌, ℕ, arith, Bool, true, false, Option, Some, None, List, [], ◌∷◌, length, refl}
+use Rattle.std.proofs.Common.{◌≡◌, ◌<◌, ℕ, arith, Bool, true, false, Option, Some, None, List, [], ◌∷◌, length, refl}
 use Rattle.std.{proofs.lemmas.{List.Quantifiers.position-Some, Grind.common_steps}, specs.Option.option_map_or}
 use Rattle.{device_places.{proofs.PlaceFacts.none-of, specs.Places.at}, machine_words.specs.declared.settings.Settings.Settings}
 use Rattle.machine_model.specs.declared.{processor.{Work.{Work, TheVariants.{Nothing, Use}}, Rest.Rest}, tasks.Task.{Task, TheVariants.{Application, Thread}}}

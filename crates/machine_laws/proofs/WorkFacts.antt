@@ -4,13 +4,13 @@ use Rattle.std.proofs.Common.{◌≡◌, ◌∙◌, ℕ, ◌+◌, ◌<◌, ◌�
 use Rattle.{poll_runs.specs.declared.bench.{Next.TheVariants.{Gone, Repoll}, Once.Once}, machine_words.specs.declared.settings.Settings.Settings}
 use Rattle.{device_places.specs.Places.{at, changed}, machine_laws.specs.Lives.{Event, behind, next, packet}, machine_laws.specs.Times.WorksWithin}
 use Rattle.machine_model.specs.declared.{processor.Work.{Work, TheVariants.{Nothing, Interrupt, Poll, Packet, Use}}, tasks.Task.{Task, TheVariants.{Application, Thread}}}
-use Rattle.machine_model.specs.declared.processor.{Upcoming.{Upcoming, TheVariants.{Never, Ends, Expires}}, Rest.Rest}
-use Rattle.machine_model.specs.{Kept.{given_by, polled_by}, Softirq.{RunView, SoftirqView, asked_in, begun, ended, next_of, polled_once, polled_run, pushed}}
-use Rattle.machine_model.specs.{Tasks.{after_first, is_application, runnable, with_application}, Application.has_place, Devices.{next_packet_at, with_device, has_room_at}}
+use Rattle.machine_model.specs.declared.processor.{Upcoming.{Upcoming, TheVariants.{Never, Ends, Expires}}}
+use Rattle.machine_model.specs.{Kept.{given_by, polled_by}, Softirq.{RunView, SoftirqView, asked_in, ended, next_of, polled_once, polled_run, pushed}}
+use Rattle.machine_model.specs.{Tasks.{is_application, runnable, with_application}, Application.has_place, Devices.{next_packet_at, with_device, has_room_at}}
 use Rattle.machine_model.specs.Device.{after_packet, expired, without_next}
 use Rattle.machine_model.specs.Processor.{ProcessorView, arrives, begins, delivers, delivers_oldest, disturbed, ends_by, ends_current, ends_interrupt, ends_poll}
 use Rattle.machine_model.specs.Processor.{ends_run, happens, interrupts, is_busy, is_polling, looks, polls, scheduled, set_aside, spent, step, takes_up}
-use Rattle.machine_model.specs.Processor.{upcoming, uses, woken}
+use Rattle.machine_model.specs.Processor.{upcoming, woken}
 use Rattle.{circular_buffer.specs.Buffer.buffer, machine_model.specs.{Application.used, Waits.held}}
 use Rattle.machine_model.specs.{Device.{interrupted, polled, raised_again}, Devices.{asks_at, is_fired_at}}
 use Rattle.std.{specs.{Prelude.position, Option.option_map_or}, proofs.Common.{◌-◌, ap, subst}}

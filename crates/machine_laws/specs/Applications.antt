@@ -1,10 +1,10 @@
 -- An application on a processor of its own: a second machine, which deliveries feed.
-use Rattle.std.specs.Prelude.{◌≡◌, ◌≤◌, ◌<◌, ℕ, ◌+◌, ◌-◌, ◌*◌, ◌^◌, not, Bool, true, false, List, [], ◌∷◌, ◌++◌, length, map, Option, Some, None}
+use Rattle.std.specs.Prelude.{◌≡◌, ◌≤◌, ◌<◌, ℕ, ◌+◌, ◌-◌, ◌*◌, ◌^◌, Bool, true, false, List, [], ◌∷◌, ◌++◌, length, map, Option, Some, None}
 use Rattle.std.specs.Prelude.{if◌then◌else◌}
 use Rattle.machine_words.specs.declared.settings.Settings.{Settings}
 use Rattle.machine_laws.specs.{Lives.{Event, InTurn, behind, next, packet}, Fates.{counting, delivery}}
-use Rattle.machine_model.specs.declared.application.Activity.{Activity, TheVariants.{Asleep, Waking, Using}}
-use Rattle.machine_model.specs.{Waits.{held, no_waits}, Processor.ProcessorView}
+use Rattle.machine_model.specs.declared.application.Activity.{Activity, TheVariants.{Asleep, Using}}
+use Rattle.machine_model.specs.{Waits.{held, no_waits}}
 use Rattle.machine_model.specs.Application.{ApplicationView, fed, goes_on, has_place, is_awake, is_over, opened_application, went_on}
 
 -- ---- deliveries

@@ -1,10 +1,11 @@
 -- Laws of deferral.
-use Rattle.std.specs.Prelude.{◌≡◌, ◌≤◌, ℕ, ◌+◌, ◌==◌, ◌&&◌, max, not, Bool, true, false, is_some, List, [], ◌∷◌, if◌then◌else◌}
+use Rattle.std.specs.Prelude.{◌≡◌, ◌≤◌, ◌<◌, ℕ, ◌+◌, ◌^◌, ◌==◌, ◌&&◌, max, not, is_some, Some, List, [], ◌∷◌, if◌then◌else◌}
 use Rattle.{machine_words.specs.declared.settings.Settings.Settings, device_places.specs.Places.at}
-use Rattle.machine_laws.specs.{Fates.finds_room, Lives.{Event, behind, next, packet}}
+use Rattle.machine_laws.specs.{Fates.finds_room, Lives.{Event, InTurn, behind, next, packet}}
+use Rattle.machine_model.specs.{Device.DeviceView, declared.device.Phase.TheVariants.Deferred}
 use Rattle.machine_model.specs.{Devices.next_packet_at, Processor.{Advances, ProcessorView, upcoming}}
-use Rattle.machine_model.specs.declared.processor.{Upcoming.{Upcoming, TheVariants.{Never, Ends, Expires}}, Work.Work}
-use Rattle.machine_model.specs.declared.processor.Work.TheVariants.{Interrupt, Nothing, Packet, Poll, Use}
+use Rattle.machine_model.specs.declared.processor.{Upcoming.{Upcoming, TheVariants.{Ends}}, Work.Work}
+use Rattle.machine_model.specs.declared.processor.Work.TheVariants.{Packet, Poll}
 
 -- a poll ends that gave nothing: one empty poll of its device more; with a packet of the device there is none since
 abbrev pub emptied_by : ℕ → Work → ProcessorView → ℕ → ℕ
@@ -31,3 +32,9 @@ EmptyPollsAreFew = (s : Settings) (n : ℕ) (events : List Event) → empty_poll
 -- Law: with no further packets, what happens on a processor comes to an end.
 abbrev pub EveryRunEnds : Type 0
 EveryRunEnds = (s : Settings) (until : ℕ) (events : List Event) → (q : ProcessorView) × Advances until (behind s events) q
+
+-- Law: when a packet arrives for a device whose interrupt is deferred, its NAPI timer expires at most `gro-flush-timeout` later.
+abbrev pub TimersAreNear : Type 0
+TimersAreNear = (s : Settings) (moment : ℕ) (events : List Event) (n : ℕ) (d : DeviceView) (until : ℕ) → moment < 2 ^ 64
+    → InTurn s moment events
+    → at n (behind s events).devices ≡ Some d → d.phase ≡ Deferred until → until ≤ moment + s.gro_flush_timeout

@@ -1,5 +1,5 @@
 -- What becomes of packets over a processor's life. Lists are in the order in which things happened.
-use Rattle.std.specs.Prelude.{◌≡◌, ℕ, ◌+◌, ◌-◌, ◌<◌, ◌≤◌, ◌^◌, ◌==◌, ◌&&◌, not, Bool, true, false, List, [], ◌∷◌, ◌++◌, length, map}
+use Rattle.std.specs.Prelude.{◌≡◌, ℕ, ◌+◌, ◌-◌, ◌^◌, ◌==◌, ◌&&◌, not, Bool, true, false, List, [], ◌∷◌, ◌++◌, length, map}
 use Rattle.std.specs.Prelude.{Option, Some, None, if◌then◌else◌, option_map}
 use Rattle.{device_places.specs.Places.at, machine_words.specs.declared.settings.Settings.Settings}
 use Rattle.machine_laws.specs.Lives.{Event, InTurn, behind, next, packet}
@@ -7,8 +7,8 @@ use Rattle.machine_model.specs.{Device.DeviceView, Devices.{has_room_at, next_pa
 use Rattle.machine_model.specs.{Processor.{ProcessorView, is_due, is_polling, upcoming}, Waits.{WaitsView, counted, held, no_waits}}
 use Rattle.machine_model.specs.declared.{device.{DeviceCounts.DeviceCounts, TheConstants.DeviceCounts.NONE}}
 use Rattle.machine_model.specs.declared.processor.{Work.Work, Rest.Rest, Upcoming.Upcoming}
-use Rattle.machine_model.specs.declared.processor.Work.TheVariants.{Nothing, Interrupt, Poll, Packet, Use}
-use Rattle.machine_model.specs.declared.processor.Upcoming.TheVariants.{Never, Ends, Expires}
+use Rattle.machine_model.specs.declared.processor.Work.TheVariants.{Nothing, Interrupt, Packet, Use}
+use Rattle.machine_model.specs.declared.processor.Upcoming.TheVariants.{Ends}
 
 -- ---- at a device
 

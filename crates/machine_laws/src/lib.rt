@@ -5,7 +5,7 @@
 #![tactic(auto)]
 
 ghost use Rattle.machine_laws.specs.Applications.{ApplicationEnds, ApplicationIsFed, ApplicationServes, ReceivingIsApart};
-ghost use Rattle.machine_laws.specs.Deferrals.{EmptyPollsAreFew};
+ghost use Rattle.machine_laws.specs.Deferrals.{EmptyPollsAreFew, TimersAreNear};
 ghost use Rattle.machine_laws.specs.Fates.{DeliversInOrder, NothingIsLeft, TellsOfDevice, TellsOfUse, UsesInOrder};
 ghost use Rattle.machine_laws.specs.Lives.{ArrivesAsOne, EachLives, RunsAsOne};
 ghost use Rattle.machine_laws.specs.Times.{ClocksNeverFall, NoWaitIsLess, WorksWithin};
@@ -89,4 +89,9 @@ pub fn receiving_is_apart()
 /// After its last packet at most `defer-hard-irqs` polls of a device give nothing, or one if that is 0.
 pub fn empty_polls_are_few()
     ensures { EmptyPollsAreFew }
+{}
+
+/// When a packet arrives for a device whose interrupt is deferred, its NAPI timer expires at most `gro-flush-timeout` later.
+pub fn timers_are_near()
+    ensures { TimersAreNear }
 {}
