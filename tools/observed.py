@@ -23,6 +23,7 @@ ETHTOOL = {"ring": "-g", "coalesce": "-c", "channels": "-l", "feature": "-k"}
 FEATURES = {"generic-receive-offload", "large-receive-offload", "rx-gro-hw", "rx-gro-list", "rx-udp-gro-forwarding", "receive-hashing",
             "tcp-segmentation-offload", "generic-segmentation-offload", "tx-udp-segmentation", "ntuple-filters"}
 PACKAGES = {"ip": "iproute2", "ethtool": "ethtool"}
+os.environ["PATH"] = f"{os.environ.get('PATH', os.defpath)}:/usr/sbin:/sbin"  # where they are, and which a user's PATH may lack
 
 
 def text_in(path):

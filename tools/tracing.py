@@ -1,6 +1,6 @@
 """An ftrace instance of its own: which events it records, and what is in its buffers. It changes no other recording."""
 
-from toolbox import Refusal, shown, unlink
+from toolbox import Refusal
 
 import contextlib
 import errno

@@ -257,13 +257,42 @@ class Modelled(InFolder):
         self.assertEqual((costs, told["threaded"]), (self.wanted("interrupt", "poll", "packet", "wake"), 1))
 
     def test_a_packet_whose_event_comes_after_its_poll(self):
-        """The sender's event follows the sending: a poll on another processor may be quicker."""
+        """The sender's event follows the sending: a poll on another processor may be quicker. Half of the packets here are such."""
         made = self.rounds(reader=5)
-        made.time = made.read(made.softirq_round([1], is_early=True), 1) + 100_000
-        for _ in range(9):
-            made.time = made.read(made.softirq_round([1]), 1) + 100_000
+        for place in range(400):
+            made.time = made.read(made.softirq_round([1], is_early=place % 2 == 0), 1) + 100_000
         told, costs = self.costs(made)
-        self.assertEqual((costs["wake"], told["costs"]["wake"]["count"]), (3300, 69))
+        self.assertEqual((costs["wake"], told["costs"]["wake"]["count"]), (3300, 260))
+
+    def test_a_program_that_never_sleeps(self):
+        """It looks for packets again and again: what lies between two reads is their use only if the second packet was there at the first."""
+        made = self.rounds(reader=5)
+        made.lines = [line for line in made.lines if "server" not in line[1]]
+        for time, line in list(made.lines):
+            if "napi_poll" in line:
+                for place in range(int(re.search(r"work (\d+)", line)[1])):
+                    made.event(time + 900 + 10 * place, 5, "server-60", "sys_recvmsg -> 0x64")
+                    made.call(time + 905 + 10 * place)
+        told, costs = self.costs(made)
+        self.assertEqual(costs["use"], 10)
+        alone = Made(**self.COSTS)
+        alone.reader = 5
+        for place in range(60):
+            end = alone.softirq_round([1 + place % 2])
+            for each in range(1 + place % 2):
+                alone.event(end - 1 + each, 5, "server-60", "sys_recvmsg -> 0x64")
+                alone.call(end + 3 + each)
+            alone.time = end + 100_000
+        self.assertNotIn("use", self.costs(alone)[1])
+
+    def test_an_interrupt_is_no_part_of_a_use(self):
+        """In each use an interrupt takes 300 ns and a softirq 700, another interrupt in it included."""
+        made = self.rounds(reader=5)
+        for time in [time for time, line in made.lines if "sys_recvmsg ->" in line]:
+            for after, said in ((1, "local_timer_entry: vector=236"), (301, "local_timer_exit: vector=236"), (400, "softirq_entry: vec=3 [action=NET_RX]"),
+                                (500, "reschedule_entry: vector=253"), (600, "reschedule_exit: vector=253"), (1100, "softirq_exit: vec=3 [action=NET_RX]")):
+                made.event(time + after, 5, "server-60", said)
+        self.assertEqual(self.costs(made)[1]["use"], self.COSTS["use"] - 1000)
 
     def test_other_tasks_are_told(self):
         """A quarter of the time is another task's."""
