@@ -2,7 +2,8 @@
 use Rattle.std.proofs.Common.{◌≡◌, ℕ, Bool, true, false, List, [], ◌∷◌, ◌++◌, length}
 use Rattle.std.specs.Prelude.{Option, Some, None, Result, Ok, Err, if◌then◌else◌, nat_le, nat_lt, ◌&&◌, ◌^◌, ◌*◌, ◌+◌}
 use Rattle.device_rows.specs.{Record.{is_numeral, numeral}, Row.is_within}
-use Rattle.machine_report.specs.Arrivals.{Four, arrival_of, arrivals_after, arrivals_of, four_of, is_title, last_moment, of_four, queue_of, ranged}
+use Rattle.machine_report.specs.Arrivals.{Four, arrival_of, arrivals_after, arrivals_of, four_of, is_title}
+use Rattle.machine_report.specs.Arrivals.{last_moment, of_four, queue_of, ranged}
 use Rattle.machine_report.specs.Arrivals.{◌>>=◌}
 use Rattle.std.proofs.Common.{◌⊎◌, inl, inr}
 use Rattle.device_rows.specs.Trace.{records_of}

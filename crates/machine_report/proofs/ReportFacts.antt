@@ -35,7 +35,8 @@ pub one_device_sum : (device : ℕ → Option DeviceReport) (n : ℕ) (told : Op
     → after ≡ with_device told before → after ≡ sums_of_devices device (n + 1)
 one_device_sum device n told before after is so_far added = added ∙ (λ i. with_device (is i) (so_far i)) ∙ sym (more-device-sums device n)
 
-pub one_processor : (s : Settings) (processor : ℕ → Option ProcessorReport) (n : ℕ) (told : Option ProcessorReport) (start before after : List ℕ)
+pub one_processor : (s : Settings) (processor : ℕ → Option ProcessorReport) (n : ℕ) (told : Option ProcessorReport)
+    (start before after : List ℕ)
     → told ≡ processor n → before ≡ start ++ lines_of_processors s processor n
     → after ≡ before ++ processor_lines s n told → after ≡ start ++ lines_of_processors s processor (n + 1)
 one_processor s processor n told start before after is so_far added = grind (arith, common_steps, more-processors)

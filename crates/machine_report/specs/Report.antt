@@ -3,7 +3,8 @@ use Rattle.std.specs.Prelude.{ℕ, zero, suc, ◌+◌, ◌-◌, ◌*◌, List, [
 use Rattle.machine_model.specs.declared.{application.ApplicationReport.ApplicationReport, device.DeviceReport.DeviceReport}
 use Rattle.{machine_model.specs.declared.waits.WaitCounts.WaitCounts, machine_words.specs.declared.settings.Settings.Settings}
 use Rattle.machine_model.specs.{declared.processor.ProcessorReport.ProcessorReport, Machine.{Machine, device_report, processor_report}}
-use Rattle.{machine_model.specs.Waits.held, replay_text.specs.Lines.{ended, words}, machine_report.specs.declared.report.{ApplicationLine.ApplicationLine, Totals.Totals}}
+use Rattle.{machine_model.specs.Waits.held, replay_text.specs.Lines.{ended, words}}
+use Rattle.machine_report.specs.declared.report.{ApplicationLine.ApplicationLine, Totals.Totals}
 
 -- what is told of waits
 unfoldable pub waits_text : WaitCounts → List ℕ
