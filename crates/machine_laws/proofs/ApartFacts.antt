@@ -1,5 +1,6 @@
 -- An application on a processor of its own is what the deliveries make of it.
-use Rattle.std.proofs.Common.{◌≡◌, ◌∙◌, ℕ, ◌+◌, ◌-◌, ◌<◌, ◌≤◌, ◌^◌, Bool, true, false, Option, Some, None, List, [], ◌∷◌, ◌++◌, map, refl, sym, ap}
+use Rattle.std.proofs.Common.{◌≡◌, ◌∙◌, ℕ, ◌+◌, ◌-◌, ◌<◌, ◌≤◌, ◌^◌, Bool, true, false, Option, Some, None, List, [], ◌∷◌, ◌++◌, map, refl}
+use Rattle.std.proofs.Common.{sym, ap}
 use Rattle.std.{proofs.{Common.{subst, arith}, lemmas.{List.append-nil}}, specs.{List.AllByRecursion}}
 use Rattle.std.specs.Prelude.{◌==◌, ◌&&◌, if◌then◌else◌, is_some, length, not, position}
 use Rattle.{machine_words.specs.declared.settings.Settings.Settings, device_places.specs.Places.{at, changed}}
@@ -7,14 +8,23 @@ use Rattle.machine_laws.specs.{Lives.{Event, InTurn, behind, next, packet}, Fate
 use Rattle.machine_laws.specs.Applications.{ApplicationEnds, ApplicationIsFed, ApplicationServes, deliveries, ended_until, fed_all, in_hand}
 use Rattle.machine_laws.specs.Applications.{placed_all, used_all, with_delivery}
 use Rattle.machine_model.specs.declared.processor.{Work.{Work, TheVariants.{Nothing, Interrupt, Poll, Packet, Use}}}
-use Rattle.machine_model.specs.declared.{processor.Upcoming.{Upcoming, TheVariants.{Never, Expires}}, application.Activity.{Activity, TheVariants.Asleep}}
+use Rattle.machine_model.specs.declared.processor.Upcoming.{Upcoming}
+use Rattle.machine_model.specs.declared.processor.Upcoming.TheVariants.{Never, Expires}
+use Rattle.machine_model.specs.declared.application.Activity.{Activity}
+use Rattle.machine_model.specs.declared.application.Activity.TheVariants.{Asleep}
 use Rattle.machine_model.specs.declared.tasks.Task.{Task, TheVariants.{Application, Thread}}
 use Rattle.poll_runs.specs.declared.bench.{Next.TheVariants.{Gone, Repoll}, Once.Once}
-use Rattle.machine_model.specs.{Tasks.{is_application, runnable, with_application}, Waits.held, Softirq.{polled_once, pushed}, Devices.{asks_at, has_room_at}}
-use Rattle.machine_model.specs.{Device.{after_packet, expired, interrupted, polled, without_next}, Devices.{is_fired_at, next_packet_at, with_device}}
+use Rattle.machine_model.specs.Tasks.{is_application, runnable, with_application}
+use Rattle.machine_model.specs.Waits.{held}
+use Rattle.machine_model.specs.Softirq.{polled_once, pushed}
+use Rattle.machine_model.specs.Devices.{asks_at, has_room_at}
+use Rattle.machine_model.specs.Device.{after_packet, expired, interrupted, polled, without_next}
+use Rattle.machine_model.specs.Devices.{is_fired_at, next_packet_at, with_device}
 use Rattle.machine_model.specs.Application.{ApplicationView, fed, has_place, went_on}
-use Rattle.machine_model.specs.Processor.{ProcessorView, arrives, delivers, delivers_oldest, disturbed, ends_by, ends_current, ends_interrupt}
-use Rattle.machine_model.specs.Processor.{ends_poll, ends_run, happens, interrupts, is_busy, is_polling, looks, polls, scheduled, set_aside, spent, step}
+use Rattle.machine_model.specs.Processor.{ProcessorView, arrives, delivers, delivers_oldest, disturbed, ends_by, ends_current}
+use Rattle.machine_model.specs.Processor.{ends_interrupt}
+use Rattle.machine_model.specs.Processor.{ends_poll, ends_run, happens, interrupts, is_busy, is_polling, looks, polls, scheduled}
+use Rattle.machine_model.specs.Processor.{set_aside, spent, step}
 use Rattle.machine_model.specs.Processor.{takes_up, upcoming, woken}
 use Rattle.machine_laws.proofs.{WalkFacts.{IsFirst, Walk, either, nexted, started, walk-any}, SocketFacts.{feeds}}
 use Rattle.machine_laws.proofs.ApplicationFacts.{Rising, Works, asleep-is, asleep-went, works-all, works-later, works-went}
@@ -63,7 +73,8 @@ alone-scheduled : (s : Settings) (a : ApplicationView) (b : Bool) (n : ℕ) (p :
     → Alone s a (if b then scheduled n p else p)
 alone-scheduled s a b n p h =
     either (Alone s a) b (scheduled n p) p
-    (λ yes. either (Alone s a) p.settings.threaded (record p { tasks = p.tasks ++ Thread n ∷ [] }) (record p { softirq = pushed n p.softirq })
+    (λ yes. either (Alone s a) p.settings.threaded (record p { tasks = p.tasks ++ Thread n ∷ [] })
+    (record p { softirq = pushed n p.softirq })
     (λ y. alone-of s a p (record p { tasks = p.tasks ++ Thread n ∷ [] }) h refl refl h.unused refl
     (threads-append p.tasks (Thread n ∷ []) h.tasks (refl, tt)))
     (λ y. alone-of s a p (record p { softirq = pushed n p.softirq }) h refl refl h.unused refl h.tasks)) (λ no. h)
@@ -132,7 +143,8 @@ threads-polled n given p all =
     let counts = record p.counts { polls = held (p.counts.polls + 1); work = held (p.counts.work + given) } in
     let q : ProcessorView = record p { devices = changed (polled p.clock given p.settings) n p.devices; counts = counts } in
     let once : Once = record { work = given; next = if full then Repoll else Gone } in
-    either (λ (r : ProcessorView). AllThreads r.tasks) p.settings.threaded (record q { tasks = if full then Thread n ∷ q.tasks else q.tasks })
+    either (λ (r : ProcessorView). AllThreads r.tasks) p.settings.threaded
+    (record q { tasks = if full then Thread n ∷ q.tasks else q.tasks })
     (record q { softirq = polled_once once q.softirq }) (λ y. threads-full full n p.tasks all) (λ y. all)
 
 threads-looks : (n given : ℕ) (p : ProcessorView) → AllThreads p.tasks → AllThreads (looks n given p).tasks
@@ -176,7 +188,8 @@ alone-ended s a p apart goes h settings =
     feeds (λ gives uses b. b ≡ fed_by s p.ends gives a) p (record {
       none = h.application;
       gives = λ m came is.
-          ap (λ (x : Settings). fed p.ends came x p.application) h.settings ∙ ap (λ (b : ApplicationView). fed p.ends came s b) h.application;
+          ap (λ (x : Settings). fed p.ends came x p.application) h.settings
+          ∙ ap (λ (b : ApplicationView). fed p.ends came s b) h.application;
       uses = λ came is. absurd (cc (ap used_by is, h.unused));
     }) in
     record {
@@ -235,7 +248,8 @@ alone-arrives s a moment n p apart goes h =
 
 -- ---- over a life
 
-fed-delivery : (s : Settings) (now : ℕ) (o : Option (ℕ × ℕ)) (ds : List (ℕ × ℕ)) → fed_by s now o (fed_all s ds) ≡ fed_all s (with_delivery now o ds)
+fed-delivery : (s : Settings) (now : ℕ) (o : Option (ℕ × ℕ)) (ds : List (ℕ × ℕ)) → fed_by s now o (fed_all s ds)
+    ≡ fed_all s (with_delivery now o ds)
 unfolding fed_all
 fed-delivery s now None ds = refl
 fed-delivery s now (Some (number, came)) ds = refl
@@ -298,7 +312,8 @@ works-on s until events fits turns apart =
     let ds = deliveries s events in
     subst (λ (a : ApplicationView). Works s (now s events) (placed_all true s ds) (placed_all false s ds) (used_all s ds) a)
     (sym (application-is-fed s events apart))
-    (works-all s (now s events) ds apart (omega (arith, (since s until events fits turns).within, fits)) (rising-on s until events fits turns))
+    (works-all s (now s events) ds apart (omega (arith, (since s until events fits turns).within, fits))
+    (rising-on s until events fits turns))
 
 pub application-serves : ApplicationServes
 application-serves s until events fits turns apart = (works-on s until events fits turns apart).serves

@@ -1,6 +1,8 @@
 -- An application on a processor of its own uses what it was fed, in order, and one packet after the other.
 use Rattle.std.proofs.Common.{◌≡◌, ◌∙◌, ℕ, ◌+◌, ◌-◌, ◌*◌, ◌<◌, ◌≤◌, ◌^◌, Bool, true, false, List, [], ◌∷◌, ◌++◌, append_assoc}
-use Rattle.std.proofs.{Common.{length, length-append, map, refl, sym, ap, subst, arith}, lemmas.{Bool.{and_parts, leb-true}, List.{append-nil, map-append}}}
+use Rattle.std.proofs.Common.{length, length-append, map, refl, sym, ap, subst, arith}
+use Rattle.std.proofs.lemmas.Bool.{and_parts, leb-true}
+use Rattle.std.proofs.lemmas.List.{append-nil, map-append}
 use Rattle.std.{proofs.{lemmas.Grind.common_steps, Math.Nat.mul-le-mul_right}, specs.Prelude.{◌&&◌, if◌then◌else◌, nat_le}}
 use Rattle.{machine_words.specs.declared.settings.Settings.Settings, circular_buffer.specs.Buffer.{Buffer}}
 use Rattle.machine_laws.specs.Applications.{Follows, Serves, ended_until, ended_with, fed_all, in_hand, placed_all, use_of, used_all}
@@ -275,7 +277,8 @@ works-puts s t came placed away uses a w awake =
     }
 
 works-put : (s : Settings) (t came : ℕ) (placed away : List ℕ) (uses : List (ℕ × ℕ)) (a : ApplicationView) (w : Activity) → a.activity ≡ w
-    → t < 2 ^ 64 → Works s t placed away uses a → Works s t (placed ++ came ∷ []) away uses (woken_by w (held (t + s.app_wake)) (put came a))
+    → t < 2 ^ 64 → Works s t placed away uses a
+    → Works s t (placed ++ came ∷ []) away uses (woken_by w (held (t + s.app_wake)) (put came a))
 works-put s t came placed away uses a Asleep is fits w =
     let v = w.serves in
     let none : uses ++ use_of a ≡ uses ++ [] = ap (λ (x : Activity). uses ++ at_end a.end (in_hand x)) is in
@@ -382,7 +385,8 @@ works-all s t ((now, came) ∷ earlier) apart fits rising =
     let before = works-all s now earlier apart small rising.1 in
     let went = works-went s now (placed_all true s earlier) (placed_all false s earlier) (used_all s earlier) a before in
     let after =
-    works-fed s now came (placed_all true s earlier) (placed_all false s earlier) (used_all s earlier ++ ended_until now s.use_time a) b small
+    works-fed s now came (placed_all true s earlier) (placed_all false s earlier) (used_all s earlier ++ ended_until now s.use_time a)
+    b small
     went in
     subst
     (λ (x : ApplicationView). Works s t (placed_all true s earlier ++ (if has_place b then came ∷ [] else []))

@@ -1,17 +1,34 @@
 -- On an idle processor a device's NAPI timer leads to its packets at once.
-use Rattle.std.proofs.Common.{◌≡◌, ◌∙◌, ℕ, zero, suc, ◌+◌, ◌-◌, ◌<◌, ◌≤◌, ◌^◌, Bool, true, false, Option, Some, None, List, [], ◌∷◌, ◌++◌, length, refl, sym, ap}
-use Rattle.std.proofs.{Common.{subst, arith, get_or}, lemmas.{Bool.{eqb-true, eqb-false, leb-true, eq-eqb}, List.Sums.position_or_len_is, Grind.common_steps}}
-use Rattle.std.specs.{List.position_or_len, Option.{option_and_then, option_map_or}, Prelude.{◌==◌, ◌&&◌, ◌||◌, if◌then◌else◌, is_some, nat_le, nat_lt, not}}
+use Rattle.std.proofs.Common.{◌≡◌, ◌∙◌, ℕ, zero, suc, ◌+◌, ◌-◌, ◌<◌, ◌≤◌, ◌^◌, Bool, true, false, Option, Some, None, List, [], ◌∷◌, ◌++◌}
+use Rattle.std.proofs.Common.{length, refl, sym, ap}
+use Rattle.std.proofs.Common.{subst, arith, get_or}
+use Rattle.std.proofs.lemmas.Bool.{eqb-true, eqb-false, leb-true, eq-eqb}
+use Rattle.std.proofs.lemmas.List.Sums.{position_or_len_is}
+use Rattle.std.proofs.lemmas.Grind.{common_steps}
+use Rattle.std.specs.List.{position_or_len}
+use Rattle.std.specs.Option.{option_and_then, option_map_or}
+use Rattle.std.specs.Prelude.{◌==◌, ◌&&◌, ◌||◌, if◌then◌else◌, is_some, nat_le, nat_lt, not}
 use Rattle.std.specs.Prelude.{position, slice_get, drop}
-use Rattle.{machine_words.specs.declared.settings.Settings.Settings, device_places.{proofs.PlaceFacts.below-some, specs.Places.{at, changed}}}
+use Rattle.machine_words.specs.declared.settings.Settings.{Settings}
+use Rattle.device_places.proofs.PlaceFacts.{below-some}
+use Rattle.device_places.specs.Places.{at, changed}
 use Rattle.machine_laws.specs.{Deferrals.DeferralIsBounded, Lives.{Event, behind}}
-use Rattle.machine_model.specs.declared.{device.Phase.{Phase, TheVariants.{Quiet, Coalescing, Raised, Scheduled, Deferred, Fired}}, devices.Timer.Timer}
-use Rattle.machine_model.specs.declared.processor.{Work.{Work, TheVariants.{Nothing, Interrupt, Poll, Packet, Use}}, ProcessorCounts.ProcessorCounts}
+use Rattle.machine_model.specs.declared.device.Phase.{Phase}
+use Rattle.machine_model.specs.declared.device.Phase.TheVariants.{Quiet, Coalescing, Raised, Scheduled, Deferred, Fired}
+use Rattle.machine_model.specs.declared.devices.Timer.{Timer}
+use Rattle.machine_model.specs.declared.processor.Work.{Work}
+use Rattle.machine_model.specs.declared.processor.Work.TheVariants.{Nothing, Interrupt, Poll, Packet, Use}
+use Rattle.machine_model.specs.declared.processor.ProcessorCounts.{ProcessorCounts}
 use Rattle.machine_model.specs.declared.{processor.Upcoming.{Upcoming, TheVariants.{Ends, Expires}}, device.DeviceCounts.DeviceCounts}
-use Rattle.machine_model.specs.{Device.{DeviceView, asks, expired, interrupted, is_fired, next_packet, without_next}, Devices.{Devices, asks_at, is_fired_at}}
-use Rattle.machine_model.specs.{Devices.next_packet_at, Softirq.{RunView, SoftirqView, asked_in, begun, is_spent, next_of, pushed}, Waits.held}
-use Rattle.machine_model.specs.Processor.{ProcessorView, begins, begins_run, disturbed, ends_by, ends_current, ends_poll, goes_on, happens, interrupts}
-use Rattle.machine_model.specs.Processor.{ends_interrupt, is_busy, is_polling, leaves_softirq, looks, polls, rests, scheduled, set_aside, spent, step}
+use Rattle.machine_model.specs.Device.{DeviceView, asks, expired, interrupted, is_fired, next_packet, without_next}
+use Rattle.machine_model.specs.Devices.{Devices, asks_at, is_fired_at}
+use Rattle.machine_model.specs.Devices.{next_packet_at}
+use Rattle.machine_model.specs.Softirq.{RunView, SoftirqView, asked_in, begun, is_spent, next_of, pushed}
+use Rattle.machine_model.specs.Waits.{held}
+use Rattle.machine_model.specs.Processor.{ProcessorView, begins, begins_run, disturbed, ends_by, ends_current, ends_poll, goes_on}
+use Rattle.machine_model.specs.Processor.{happens, interrupts}
+use Rattle.machine_model.specs.Processor.{ends_interrupt, is_busy, is_polling, leaves_softirq, looks, polls, rests, scheduled, set_aside}
+use Rattle.machine_model.specs.Processor.{spent, step}
 use Rattle.machine_model.specs.Processor.{takes_up, upcoming, woken}
 use Rattle.machine_model.specs.{Softirq.{filled, next_from}, declared.tasks.Task.TheVariants.Thread}
 use Rattle.machine_model.specs.Device as device
@@ -35,11 +52,13 @@ below-is [] n asks = cc asks
 below-is (place ∷ more) zero asks = omega arith
 below-is (place ∷ more) (suc n) asks = omega (arith, below-is more n asks)
 
-position-is : (ds : Devices) (n : ℕ) → asks_at (at n ds) ≡ true → ((k : ℕ) → k < n → asks_at (at k ds) ≡ false) → position asks_at ds ≡ Some n
+position-is : (ds : Devices) (n : ℕ) → asks_at (at n ds) ≡ true → ((k : ℕ) → k < n → asks_at (at k ds) ≡ false) → position asks_at ds
+    ≡ Some n
 position-is ds n asks none =
     let below : n < length ds = below-is ds n asks in
     let first : position_or_len asks_at ds ≡ n = position_or_len_is asks_at ds n None (omega (arith, below)) none (λ less. asks) in
-    let less : nat_lt (position_or_len asks_at ds) (length ds) ≡ true = lt-is (position_or_len asks_at ds) (length ds) (omega (arith, first, below)) in
+    let less : nat_lt (position_or_len asks_at ds) (length ds)
+    ≡ true = lt-is (position_or_len asks_at ds) (length ds) (omega (arith, first, below)) in
     subst (λ (b : Bool). (if b then Some (position_or_len asks_at ds) else None) ≡ Some n) (sym less) (ap (λ (k : ℕ). Some k) first)
   where
     lt-is : (a b : ℕ) → a < b → nat_lt a b ≡ true
@@ -49,7 +68,8 @@ position-none : (ds : Devices) → ((k : ℕ) → asks_at (at k ds) ≡ false) �
 position-none ds none =
     let last : position_or_len asks_at ds ≡ length ds =
     position_or_len_is asks_at ds (length ds) None (omega arith) (λ k below. none k) (λ less. absurd (omega (arith, less))) in
-    let more : nat_lt (position_or_len asks_at ds) (length ds) ≡ false = lt-not (position_or_len asks_at ds) (length ds) (omega (arith, last)) in
+    let more : nat_lt (position_or_len asks_at ds) (length ds)
+    ≡ false = lt-not (position_or_len asks_at ds) (length ds) (omega (arith, last)) in
     subst (λ (b : Bool). (if b then Some (position_or_len asks_at ds) else None) ≡ None) (sym more) refl
   where
     lt-not : (a b : ℕ) → b ≤ a → nat_lt a b ≡ false
@@ -91,13 +111,15 @@ interrupted-is n p polling single = by (is_polling p.settings) p.settings.thread
 
     by : (b t : Bool) → b ≡ true → t ≡ false → Interrupted n p
         (begins (Interrupt n) (if b then p.settings.interrupt else p.settings.interrupt + p.settings.packet)
-        (if b then (if t then record (x b) { tasks = p.tasks ++ Thread n ∷ [] } else record (x b) { softirq = pushed n p.softirq }) else x b))
+        (if b then (if t then record (x b) { tasks = p.tasks ++ Thread n ∷ [] } else record (x b) { softirq = pushed n p.softirq })
+        else x b))
     by true false polling single = record { work = refl; ends = refl; settings = refl; softirq = refl; devices = refl }
     by true true polling single = cc single
     by false t polling single = cc polling
 
 -- the timer's device asks, and no other does
-one-asks : (n : ℕ) (ds : Devices) (d : DeviceView) (until : ℕ) → ((k : ℕ) → asks_at (at k ds) ≡ false) → at n ds ≡ Some d → d.phase ≡ Deferred until
+one-asks : (n : ℕ) (ds : Devices) (d : DeviceView) (until : ℕ) → ((k : ℕ) → asks_at (at k ds) ≡ false) → at n ds ≡ Some d → d.phase
+    ≡ Deferred until
     → position asks_at (changed expired n ds) ≡ Some n
 unfolding map_at
 one-asks n ds d until quiet there deferred =
@@ -167,7 +189,8 @@ asks-first n clock s list run began polling is = by (nat_le s.budget 0 || nat_le
     by false none = rw is refl
 
 begins-first : (n : ℕ) (p : ProcessorView) → is_polling p.settings ≡ true → p.softirq.list ≡ n ∷ []
-    → begins_run p ≡ polls n (record p { softirq = next_of (begun p.clock p.settings.budget p.settings.weight p.settings.window p.softirq) })
+    → begins_run p ≡ polls n
+    (record p { softirq = next_of (begun p.clock p.settings.budget p.settings.weight p.settings.window p.softirq) })
 unfolding begins_run
 begins-first n p polling list =
     let s = p.settings in
@@ -185,7 +208,8 @@ unfolding looks
 looks-is n came p is =
     let q : ProcessorView = record p { devices = changed (without_next p.settings.backlog) n p.devices } in
     let f = λ (c : ℕ). begins (Packet (record { device = n; came = c; given = 0 })) p.settings.packet q in
-    if-on (nat_lt 0 p.settings.weight) (option_map_or f (next_packet_at p.settings.backlog (at n p.devices)) (ends_poll n 0 q)) (ends_poll n 0 p)
+    if-on (nat_lt 0 p.settings.weight) (option_map_or f (next_packet_at p.settings.backlog (at n p.devices)) (ends_poll n 0 q))
+    (ends_poll n 0 p)
     (some-weight p.settings)
     ∙ ap (λ (o : Option ℕ). option_map_or f o (ends_poll n 0 q)) is
   where
@@ -212,7 +236,8 @@ ended-interrupt n p work polling =
     let e : ProcessorView = record p { clock = p.ends; work = Nothing; counts = spent p.work (p.ends - p.clock) p.counts } in
     ap (λ (w : Work). ends_by w e) work ∙ if-on (is_polling p.settings) e (ends_interrupt n e) polling
 
-after-interrupt : (n : ℕ) (p : ProcessorView) → p.work ≡ Interrupt n → is_polling p.settings ≡ true → ((k : ℕ) → asks_at (at k p.devices) ≡ false)
+after-interrupt : (n : ℕ) (p : ProcessorView) → p.work ≡ Interrupt n → is_polling p.settings ≡ true
+    → ((k : ℕ) → asks_at (at k p.devices) ≡ false)
     → p.softirq.run ≡ None → p.softirq.list ≡ n ∷ [] → upcoming p ≡ Ends → PollsFirst n p (step p)
 unfolding step
 after-interrupt n p work polling quiet idle list second =
@@ -253,7 +278,8 @@ awake until n p =
     let counts = record p.counts { interrupt_time = held (p.counts.interrupt_time + p.settings.wake) } in
     record p { devices = changed expired n p.devices; clock = held (until + p.settings.wake); counts = counts }
 
-after-timer : (n until : ℕ) (d : DeviceView) (p : ProcessorView) → ((k : ℕ) → asks_at (at k p.devices) ≡ false) → is_polling p.settings ≡ true
+after-timer : (n until : ℕ) (d : DeviceView) (p : ProcessorView) → ((k : ℕ) → asks_at (at k p.devices) ≡ false) → is_polling p.settings
+    ≡ true
     → p.settings.threaded ≡ false → p.work ≡ Nothing → at n p.devices ≡ Some d → d.phase ≡ Deferred until
     → upcoming p ≡ Expires (record { at = until; device = n }) → Interrupted n (awake until n p) (step p)
 unfolding step disturbed
@@ -269,7 +295,8 @@ after-timer n until d p quiet polling single nothing there deferred first =
 next-backlog : (x : DeviceView) → next_packet true x ≡ slice_get (if length x.taken == 0 then x.ring else x.taken) 0
 next-backlog x = by (length x.taken == 0)
   where
-    by : (b : Bool) → slice_get (if b then record x { ring = []; taken = x.ring } else x).taken 0 ≡ slice_get (if b then x.ring else x.taken) 0
+    by : (b : Bool) → slice_get (if b then record x { ring = []; taken = x.ring } else x).taken 0
+        ≡ slice_get (if b then x.ring else x.taken) 0
     by true = refl
     by false = refl
 
@@ -337,5 +364,6 @@ deferral-steps s n until came d p goes r polls single nothing there deferred fir
 pub deferral-is-bounded : DeferralIsBounded
 deferral-is-bounded s events n until came d polls single nothing there deferred first found second third =
     let p = behind s events in
-    deferral-steps s n until came d p (goes-on s events) ((rested-on s events).resting nothing) polls single nothing there deferred first found
+    deferral-steps s n until came d p (goes-on s events) ((rested-on s events).resting nothing)
+    polls single nothing there deferred first found
     second third

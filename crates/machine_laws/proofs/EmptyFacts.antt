@@ -1,21 +1,29 @@
 -- After its last packet few polls of a device give nothing.
-use Rattle.std.proofs.Common.{◌≡◌, ◌∙◌, ℕ, ◌+◌, ◌-◌, ◌<◌, ◌≤◌, Bool, true, false, Option, Some, None, List, [], ◌∷◌, length, refl, sym, ap, subst, arith}
+use Rattle.std.proofs.Common.{◌≡◌, ◌∙◌, ℕ, ◌+◌, ◌-◌, ◌<◌, ◌≤◌, Bool, true, false, Option, Some, None, List, [], ◌∷◌, length, refl, sym}
+use Rattle.std.proofs.Common.{ap, subst, arith}
 use Rattle.std.{proofs.lemmas.{Bool.{eqb-true}, Grind.common_steps}, specs.{Prelude.{◌==◌, ◌&&◌, if◌then◌else◌}}}
 use Rattle.std.{specs.Prelude.{is_some, max, nat_lt, not}, proofs.Common.◌++◌}
 use Rattle.machine_model.specs.Softirq.{asked_in}
 use Rattle.{machine_words.specs.declared.settings.Settings.Settings, device_places.specs.Places.{at, changed}}
-use Rattle.machine_laws.specs.{Lives.{Event, behind, next, packet}, Fates.finds_room, Deferrals.{EmptyPollsAreFew, emptied, emptied_by, empty_polls}}
+use Rattle.machine_laws.specs.Lives.{Event, behind, next, packet}
+use Rattle.machine_laws.specs.Fates.{finds_room}
+use Rattle.machine_laws.specs.Deferrals.{EmptyPollsAreFew, emptied, emptied_by, empty_polls}
 use Rattle.machine_model.specs.declared.{device.Phase.{Phase, TheVariants.{Quiet, Coalescing, Raised, Scheduled, Deferred, Fired}}}
 use Rattle.machine_model.specs.declared.processor.{Work.{Work, TheVariants.{Nothing, Interrupt, Poll, Packet, Use}}}
 use Rattle.machine_model.specs.declared.{processor.Upcoming.{Upcoming, TheVariants.{Never, Expires}}, device.DeviceCounts.DeviceCounts}
-use Rattle.machine_model.specs.{Device.{DeviceView, after_packet, coalesced, completed, expired, has_room, interrupted, is_fired, is_masked, notified, opened}}
+use Rattle.machine_model.specs.Device.{DeviceView, after_packet, coalesced, completed, expired, has_room, interrupted, is_fired}
+use Rattle.machine_model.specs.Device.{is_masked, notified, opened}
 use Rattle.machine_model.specs.Device.{polled, raised_again, spliced, without_next}
-use Rattle.machine_model.specs.{Devices.{Devices, asks_at, has_room_at, is_fired_at, next_packet_at, with_device}, Kept.{is_scheduled, polled_by, scheduled_at}}
-use Rattle.machine_model.specs.{Waits.held, Processor.{ProcessorView, arrives, disturbed, ends_current, ends_run, happens, interrupts, is_busy, is_polling}}
+use Rattle.machine_model.specs.Devices.{Devices, asks_at, has_room_at, is_fired_at, next_packet_at, with_device}
+use Rattle.machine_model.specs.Kept.{is_scheduled, polled_by, scheduled_at}
+use Rattle.machine_model.specs.Waits.{held}
+use Rattle.machine_model.specs.Processor.{ProcessorView, arrives, disturbed, ends_current, ends_run, happens, interrupts, is_busy}
+use Rattle.machine_model.specs.Processor.{is_polling}
 use Rattle.machine_model.specs.Processor.{scheduled, step, takes_up, upcoming}
 use Rattle.machine_laws.proofs.{TableFacts.{at-either, at-kept, map_at}, WalkFacts.{Walk, either, walk-any}, EndFacts.{Ends, Looks, ends}}
 use Rattle.machine_laws.proofs.WorkFacts.{Goes, goes-devices, goes-on, goes-unasked, stirred, work-ended, work-stirred}
-use Rattle.machine_laws.proofs.{FateFacts.{at-arrived, made_at, room-made, undisturbed}, StandFacts.{Even, Stands, by_thread, devices-scheduled, one, polled-scheduled, polled_at, stands-on}}
+use Rattle.machine_laws.proofs.FateFacts.{at-arrived, made_at, room-made, undisturbed}
+use Rattle.machine_laws.proofs.StandFacts.{Even, Stands, by_thread, devices-scheduled, one, polled-scheduled, polled_at, stands-on}
 use Rattle.machine_model.specs.declared.processor.Upcoming.TheVariants as upcomings
 use Rattle.machine_model.specs.Device as device
 
@@ -111,7 +119,8 @@ few-interrupted s count polling (Some d) asks few = by d.phase polling asks few.
     counts : DeviceCounts
     counts = record d.counts { interrupts = held (d.counts.interrupts + 1) }
 
-    by : (phase : Phase) (polling : Bool) → device.asks phase ≡ true → count + rest_by (most s) phase d.deferrals ≤ most s → d.deferrals + 1 ≤ most s
+    by : (phase : Phase) (polling : Bool) → device.asks phase ≡ true → count + rest_by (most s) phase d.deferrals ≤ most s
+        → d.deferrals + 1 ≤ most s
         → Few s count (Some (if is_fired phase then record d { phase = Scheduled }
         else record d { phase = if polling then Scheduled else Quiet; frames = 0; counts = counts }))
     by Quiet polling asks sum low = cc asks
@@ -158,7 +167,8 @@ fews-walk s n count = record {
   stays = λ p free h still settled. h;
 }
 
-fews-takes : (s : Settings) (n count : ℕ) (p : ProcessorView) → Goes s p → Few s count (at n p.devices) → Few s count (at n (takes_up p).devices)
+fews-takes : (s : Settings) (n count : ℕ) (p : ProcessorView) → Goes s p → Few s count (at n p.devices)
+    → Few s count (at n (takes_up p).devices)
 fews-takes s n count p goes few =
     (walk-any (Fews s n count) (Fews s n count) (fews-walk s n count) p (goes-unasked s p goes) (λ busy. record { few = few })
     (λ idle. record { few = few })).few
@@ -182,7 +192,8 @@ few-deferred s count x until b d sum low = by (x == 0) b refl
     less : (x - 1) + 1 ≤ most s
     less = omega (arith, low, (most-is s).0)
 
-    by : (zero b : Bool) → (x == 0) ≡ zero → Few s count (Some (record d { deferrals = x - 1; phase = if not zero && b then Deferred until else Quiet }))
+    by : (zero b : Bool) → (x == 0) ≡ zero
+        → Few s count (Some (record d { deferrals = x - 1; phase = if not zero && b then Deferred until else Quiet }))
     by true b is = record { sum = omega (arith, sum); low = less }
     by false true is = let some : 0 < x = positive x is in record { sum = omega (arith, sum, some); low = less }
     by false false is = record { sum = omega (arith, sum); low = less }
@@ -201,7 +212,8 @@ few-completed s count now given d scheduled few = by (given == 0)
 
     by : (empty : Bool)
         → let x = if empty then d.deferrals else s.defer_hard_irqs in
-        Few s (if empty then count + 1 else 0) (Some (record d { deferrals = x - 1; phase = if not (x == 0) && gro then Deferred until else Quiet }))
+        Few s (if empty then count + 1 else 0)
+        (Some (record d { deferrals = x - 1; phase = if not (x == 0) && gro then Deferred until else Quiet }))
     by true =
         few-deferred s (count + 1) d.deferrals until gro d (omega (arith, few.sum, phase-rest (most s) d.phase d.deferrals scheduled))
         (omega (arith, few.low))
@@ -248,7 +260,8 @@ next-same backlog m n ds =
 
 -- a poll that looks for its first packet
 looks-first : (s : Settings) (n m count now : ℕ) (ds : Devices) → ((m == n) ≡ true → scheduled_at (at n ds) ≡ 1) → Few s count (at n ds)
-    → Looks (λ es w. Few s (if m == n && not (is_some (next_packet_at s.backlog (at m ds))) then count + 1 else count) (at n es)) s now m 0 ds
+    → Looks (λ es w. Few s (if m == n && not (is_some (next_packet_at s.backlog (at m ds))) then count + 1 else count) (at n es))
+    s now m 0 ds
 looks-first s n m count now ds scheduled few =
     let zero = zero-not s.weight s.weight_in.0 in
     let next = few-calm s count (without_next s.backlog) m n ds (calm-next s.backlog) few in
@@ -275,7 +288,8 @@ few-zero : (s : Settings) (b : Bool) (count : ℕ) (o : Option DeviceView) → F
 few-zero s true count o few = few-none s o few.low
 few-zero s false count o few = few
 
-looks-later : (s : Settings) (n m count given now : ℕ) (ds : Devices) → ((m == n) ≡ true → scheduled_at (at n ds) ≡ 1) → Few s count (at n ds)
+looks-later : (s : Settings) (n m count given now : ℕ) (ds : Devices) → ((m == n) ≡ true → scheduled_at (at n ds) ≡ 1)
+    → Few s count (at n ds)
     → Looks (λ es w. Few s (if m == n then 0 else count) (at n es)) s now m (given + 1) ds
 looks-later s n m count given now ds scheduled few =
     let es = changed (without_next s.backlog) m ds in
@@ -286,7 +300,8 @@ looks-later s n m count given now ds scheduled few =
       full = λ most. polls ds scheduled few;
     }
   where
-    by : (given : ℕ) {o : Option DeviceView} → (b zero : Bool) → zero ≡ false → Few s (if b then (if zero then count + 1 else 0) else count) o
+    by : (given : ℕ) {o : Option DeviceView} → (b zero : Bool) → zero ≡ false
+        → Few s (if b then (if zero then count + 1 else 0) else count) o
         → Few s (if b then 0 else count) o
     by given b true is few = cc is
     by given b false is few = few
@@ -295,7 +310,8 @@ looks-later s n m count given now ds scheduled few =
         → Few s (if m == n then 0 else count) (at n (changed (polled now (given + 1) s) m es))
     polls es scheduled few = each (given + 1 == s.weight) refl
       where
-        each : (full : Bool) → (given + 1 == s.weight) ≡ full → Few s (if m == n then 0 else count) (at n (changed (polled now (given + 1) s) m es))
+        each : (full : Bool) → (given + 1 == s.weight) ≡ full
+            → Few s (if m == n then 0 else count) (at n (changed (polled now (given + 1) s) m es))
         each true is = few-zero s (m == n) count _ (few-calm s count (polled now (given + 1) s) m n es (calm-full s now (given + 1) is) few)
         each false is =
             by given (m == n) (given + 1 == 0) (later given) (fews-polled s m n count now (given + 1) es scheduled few is)
@@ -337,7 +353,8 @@ ends-few s n count p goes stands few lone = record {
       subst (λ (w : Work). Looks (λ es v. Few s (emptied_by n w p count) (at n es)) p.settings p.ends m 0 p.devices) (sym is)
       (subst
       (λ (x : Settings). Looks
-      (λ es v. Few s (if m == n && not (is_some (next_packet_at x.backlog (at m p.devices))) then count + 1 else count) (at n es)) x p.ends m 0
+      (λ es v. Few s (if m == n && not (is_some (next_packet_at x.backlog (at m p.devices))) then count + 1 else count) (at n es))
+      x p.ends m 0
       p.devices) (sym goes.rests.settings) l);
   packet = λ hand is.
       let ds = changed (device.delivered p.ends hand.came) hand.device p.devices in
@@ -346,7 +363,8 @@ ends-few s n count p goes stands few lone = record {
       (λ here. at-kept scheduled_at (device.delivered p.ends hand.came) hand.device n p.devices (λ d. refl)
       ∙ is-scheduled hand.device (ap polled_by is) (ap (polled_at n) is) here)
       (few-calm s count (device.delivered p.ends hand.came) hand.device n p.devices (calm-delivered p.ends hand.came) few) in
-      subst (λ (w : Work). Looks (λ es v. Few s (emptied_by n w p count) (at n es)) p.settings p.ends hand.device (hand.given + 1) ds) (sym is)
+      subst (λ (w : Work). Looks (λ es v. Few s (emptied_by n w p count) (at n es)) p.settings p.ends hand.device (hand.given + 1) ds)
+      (sym is)
       (subst
       (λ (x : Settings). Looks (λ es v. Few s (if hand.device == n then 0 else count) (at n es)) x p.ends hand.device (hand.given + 1) ds)
       (sym goes.rests.settings) l);

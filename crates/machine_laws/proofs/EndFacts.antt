@@ -9,7 +9,8 @@ use Rattle.machine_model.specs.{Kept.polled_by, Softirq.polled_once, Waits.held}
 use Rattle.std.proofs.Common.{ap}
 use Rattle.machine_model.specs.declared.processor.{InHand.InHand, Work.{Work, TheVariants.{Nothing, Interrupt, Poll, Packet, Use}}}
 use Rattle.machine_model.specs.{Device.{delivered, polled, raised_again, without_next}, Devices.{Devices, next_packet_at}}
-use Rattle.machine_model.specs.Processor.{ProcessorView, delivers, delivers_oldest, ends_by, ends_current, ends_interrupt, ends_poll, is_polling, looks, spent}
+use Rattle.machine_model.specs.Processor.{ProcessorView, delivers, delivers_oldest, ends_by, ends_current, ends_interrupt, ends_poll}
+use Rattle.machine_model.specs.Processor.{is_polling, looks, spent}
 use Rattle.machine_laws.proofs.{WalkFacts.either, WorkFacts.looks-by}
 
 -- a poll that gave so many packets looks for one: what holds of the devices and of the work after that

@@ -4,18 +4,22 @@ use Rattle.std.proofs.{Common.{refl, sym, ap, subst, arith}, lemmas.{List.append
 use Rattle.std.specs.{Prelude.{◌==◌, ◌&&◌, if◌then◌else◌, is_some, not, position, slice_get}}
 use Rattle.{machine_words.specs.declared.settings.Settings.Settings}
 use Rattle.device_places.{specs.Places.{added_at, at, changed}}
-use Rattle.machine_laws.specs.{Lives.{Event, behind, next, packet}, Fates.{DeliversInOrder, came, delivered, delivery, delivery_by, delivery_of, finds_room}}
+use Rattle.machine_laws.specs.Lives.{Event, behind, next, packet}
+use Rattle.machine_laws.specs.Fates.{DeliversInOrder, came, delivered, delivery, delivery_by, delivery_of, finds_room}
 use Rattle.machine_laws.specs.Fates.{hand_of, packet_for, ring_in, taken_in}
 use Rattle.machine_model.specs.declared.processor.{Work.{Work, TheVariants.{Nothing, Interrupt, Poll, Packet, Use}}}
 use Rattle.machine_model.specs.declared.{processor.Upcoming.{Upcoming, TheVariants.{Never, Expires}}, tasks.Task.{TheVariants.Thread}}
-use Rattle.machine_model.specs.{Device.{DeviceView, after_packet, completed, expired, has_room, interrupted, is_fired, is_masked, next_packet, notified, opened, polled}}
-use Rattle.machine_model.specs.{Device.{raised_again, spliced, without_next}, Devices.{Devices, asks_at, has_room_at, is_fired_at, next_packet_at, with_device}}
+use Rattle.machine_model.specs.Device.{DeviceView, after_packet, completed, expired, has_room, interrupted, is_fired, is_masked}
+use Rattle.machine_model.specs.Device.{next_packet, notified, opened, polled}
+use Rattle.machine_model.specs.Device.{raised_again, spliced, without_next}
+use Rattle.machine_model.specs.Devices.{Devices, asks_at, has_room_at, is_fired_at, next_packet_at, with_device}
 use Rattle.machine_model.specs.{Softirq.{pushed}, Waits.held}
 use Rattle.machine_model.specs.Processor.{ProcessorView, arrives, disturbed, ends_current}
 use Rattle.machine_model.specs.Processor.{ends_run, happens, interrupts, is_busy, is_polling, scheduled, set_aside, step}
 use Rattle.machine_model.specs.Processor.{takes_up, upcoming, woken}
 use Rattle.machine_laws.proofs.{TableFacts.{at-either, at-kept, at-made, map_at}, WalkFacts.{Walk, either, walk-any}}
-use Rattle.machine_laws.proofs.{EndFacts.{Ends, Looks, ends}, WorkFacts.{Goes, goes-devices, goes-on, goes-unasked, stirred, work-ended, work-stirred}}
+use Rattle.machine_laws.proofs.EndFacts.{Ends, Looks, ends}
+use Rattle.machine_laws.proofs.WorkFacts.{Goes, goes-devices, goes-on, goes-unasked, stirred, work-ended, work-stirred}
 use Rattle.machine_model.specs.{Kept.polled_by, declared.device.Phase.TheVariants.{Quiet, Scheduled}}
 use Rattle.machine_model.specs.declared.processor.Upcoming.TheVariants as upcomings
 use Rattle.machine_model.specs.Device as device
@@ -34,7 +38,8 @@ seen-scheduled : {A : Type 0} (g : Option DeviceView → A) (n : ℕ) (x : A) (b
     → Seen g n x (if b then scheduled m p else p)
 seen-scheduled g n x b m p h =
     either (Seen g n x) b (scheduled m p) p
-    (λ yes. either (Seen g n x) p.settings.threaded (record p { tasks = p.tasks ++ Thread m ∷ [] }) (record p { softirq = pushed m p.softirq })
+    (λ yes. either (Seen g n x) p.settings.threaded (record p { tasks = p.tasks ++ Thread m ∷ [] })
+    (record p { softirq = pushed m p.softirq })
     (λ t. record { seen = h.seen }) (λ t. record { seen = h.seen })) (λ no. h)
 
 seen-interrupt : {A : Type 0} (g : Option DeviceView → A) → Blind g → (n : ℕ) (x : A) (m : ℕ) (p : ProcessorView) → Seen g n x p
@@ -70,7 +75,8 @@ seen-walk g b n x = record {
 pub seen-takes : {A : Type 0} (s : Settings) (g : Option DeviceView → A) → Blind g → (n : ℕ) (p : ProcessorView) → Goes s p
     → g (at n (takes_up p).devices) ≡ g (at n p.devices)
 seen-takes s g b n p goes =
-    (walk-any (Seen g n (g (at n p.devices))) (Seen g n (g (at n p.devices))) (seen-walk g b n (g (at n p.devices))) p (goes-unasked s p goes)
+    (walk-any (Seen g n (g (at n p.devices))) (Seen g n (g (at n p.devices))) (seen-walk g b n (g (at n p.devices))) p
+    (goes-unasked s p goes)
     (λ busy. record { seen = refl }) (λ idle. record { seen = refl })).seen
 
 -- ---- what disturbs a processor changes no device
@@ -102,7 +108,8 @@ undisturbed moment p =
     (λ busy. either (Undisturbed p) asked (set_aside moment p.work p) p
     (λ yes. record { devices = aside-devices moment p.work p; hand = λ n. aside-hand n moment p.work p refl })
     (λ no. record { devices = refl; hand = λ n. refl }))
-    (λ idle. either (Undisturbed p) asked (record p { clock = held (moment + p.settings.wake); counts = counts }) (record p { clock = moment })
+    (λ idle. either (Undisturbed p) asked (record p { clock = held (moment + p.settings.wake); counts = counts })
+    (record p { clock = moment })
     (λ yes. record { devices = refl; hand = λ n. refl }) (λ no. record { devices = refl; hand = λ n. refl }))
 
 -- ---- the work that is taken up has no packet in hand
@@ -151,7 +158,8 @@ hand-takes s n p goes = by (is_busy p.work) refl
     by : (b : Bool) → is_busy p.work ≡ b → hand_of n (takes_up p).work ≡ hand_of n p.work
     by true busy = ap (λ (q : ProcessorView). hand_of n q.work) (busy-takes p busy)
     by false idle =
-        (walk-any Any (NoHand n) (hand-walk n) p (goes-unasked s p goes) (λ busy. absurd (cc (busy, idle))) (λ no. record { settings = refl })).none
+        (walk-any Any (NoHand n) (hand-walk n) p (goes-unasked s p goes) (λ busy. absurd (cc (busy, idle)))
+        (λ no. record { settings = refl })).none
         ∙ sym (idle-hand n p.work idle)
 
 -- ---- a device's queues
@@ -226,7 +234,8 @@ taken-some taken ring c false some is = ap (λ (xs : List ℕ). xs ++ ring) (sym
 taken-none : (taken ring : List ℕ) (b : Bool) → (length taken == 0) ≡ b → slice_get (if b then ring else taken) 0 ≡ None
     → drop 1 (if b then ring else taken) ++ (if b then [] else ring) ≡ taken ++ ring
 taken-none taken ring true none is = rw (front-none ring is, no-length taken none) refl
-taken-none taken ring false some is = ap (λ (xs : List ℕ). drop 1 xs ++ ring) (front-none taken is) ∙ ap (λ (xs : List ℕ). xs ++ ring) (sym (front-none taken is))
+taken-none taken ring false some is = ap (λ (xs : List ℕ). drop 1 xs ++ ring) (front-none taken is)
+    ∙ ap (λ (xs : List ℕ). xs ++ ring) (sym (front-none taken is))
 
 next-taken : (d : DeviceView) (c : ℕ) (b : Bool) → (length d.taken == 0) ≡ b
     → let e : DeviceView = if b then record d { ring = []; taken = d.ring } else d in
@@ -245,9 +254,11 @@ next-none : (backlog : Bool) (d : DeviceView) → (backlog ≡ false → d.taken
     → queued (Some (without_next backlog d)) ≡ queued (Some d)
 unfolding queued
 next-none true d plain is = (next-taken d 0 (length d.taken == 0) refl).1 is
-next-none false d plain is = ap (λ (xs : List ℕ). d.taken ++ drop 1 xs) (front-none d.ring is) ∙ ap (λ (xs : List ℕ). d.taken ++ xs) (sym (front-none d.ring is))
+next-none false d plain is = ap (λ (xs : List ℕ). d.taken ++ drop 1 xs) (front-none d.ring is)
+    ∙ ap (λ (xs : List ℕ). d.taken ++ xs) (sym (front-none d.ring is))
 
-pub next-some-at : (backlog : Bool) (o : Option DeviceView) (c : ℕ) → (backlog ≡ false → taken_in o ≡ []) → next_packet_at backlog o ≡ Some c
+pub next-some-at : (backlog : Bool) (o : Option DeviceView) (c : ℕ) → (backlog ≡ false → taken_in o ≡ []) → next_packet_at backlog o
+    ≡ Some c
     → c ∷ queued (map_at (without_next backlog) o) ≡ queued o
 unfolding map_at
 next-some-at backlog None c plain is = cc is
@@ -332,7 +343,8 @@ ends-hold n p plain = record {
       let one = changed (without_next false) m p.devices in
       let two = changed (device.delivered p.ends came) m one in
       let kept : queued (at n (changed raised_again m two)) ≡ queued (at n one) =
-      at-kept queued raised_again m n two queued-raised ∙ at-kept queued (device.delivered p.ends came) m n one (queued-delivered p.ends came) in
+      at-kept queued raised_again m n two queued-raised
+      ∙ at-kept queued (device.delivered p.ends came) m n one (queued-delivered p.ends came) in
       ap (λ (xs : List ℕ). packet_for n (Some (m, came)) ++ xs) kept
       ∙ (look-some false m n came p.devices (λ no. plain (unpolled p.settings.backlog (is_polling p.settings) lone)) next
       ∙ without (Interrupt m) is refl);
@@ -392,7 +404,8 @@ unfolding map_at
 at-arrived Q s moment capacity m n ds here apart =
     at-either Q (after_packet moment s) m n (with_device capacity m ds)
     (λ same. subst (λ (o : Option DeviceView). Q true (map_at (after_packet moment s) o))
-    (sym (subst (λ (k : ℕ). at n (with_device capacity k ds) ≡ Some (made_at capacity (at n ds))) (sym (eqb-true m n same)) (with-here capacity n ds)))
+    (sym (subst (λ (k : ℕ). at n (with_device capacity k ds) ≡ Some (made_at capacity (at n ds))) (sym (eqb-true m n same))
+    (with-here capacity n ds)))
     (here same))
     (λ other. subst (λ (o : Option DeviceView). Q false o) (sym (with-apart capacity m n ds other)) (apart other))
 
@@ -479,7 +492,8 @@ disturbed-hand s n moment p goes =
     hand-takes s n (stirred moment p) (work-stirred s moment p goes) ∙ (undisturbed moment p).hand n
 
 -- a part of a device over what happens: that does to it what ends does, and no more
-pub part-happens : {A : Type 0} (s : Settings) (g : Option DeviceView → A) → Blind g → (Q : A → Type 0) (n : ℕ) (u : Upcoming) (p : ProcessorView)
+pub part-happens : {A : Type 0} (s : Settings) (g : Option DeviceView → A) → Blind g
+    → (Q : A → Type 0) (n : ℕ) (u : Upcoming) (p : ProcessorView)
     → Goes s p → Q (g (at n p.devices)) → Q (g (at n (ends_current p).devices)) → Q (g (at n (happens u p).devices))
 part-happens s g b Q n Never p goes stays ended = stays
 part-happens {A = A} s g b Q n upcomings.Ends p goes stays ended =

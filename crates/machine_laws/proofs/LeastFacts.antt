@@ -1,5 +1,6 @@
 -- No wait is less than what its work takes.
-use Rattle.std.proofs.Common.{◌≡◌, ◌∙◌, ℕ, ◌+◌, ◌-◌, ◌<◌, ◌≤◌, ◌^◌, Bool, true, false, Option, Some, None, List, [], ◌∷◌, map, refl, ap, arith}
+use Rattle.std.proofs.Common.{◌≡◌, ◌∙◌, ℕ, ◌+◌, ◌-◌, ◌<◌, ◌≤◌, ◌^◌, Bool, true, false, Option, Some, None, List, [], ◌∷◌, map, refl, ap}
+use Rattle.std.proofs.Common.{arith}
 use Rattle.std.{specs.{List.AllByRecursion, Prelude.{◌==◌, ◌&&◌, if◌then◌else◌, not}}}
 use Rattle.machine_words.specs.declared.settings.Settings.{Settings}
 use Rattle.machine_laws.specs.{Lives.{Event, InTurn, behind, next, packet}, Times.NoWaitIsLess}

@@ -1,22 +1,36 @@
 -- When nothing is left to happen, no packet is left.
-use Rattle.std.proofs.Common.{◌≡◌, ◌∙◌, ℕ, zero, suc, ◌+◌, ◌-◌, ◌<◌, ◌≤◌, ◌^◌, Bool, true, false, Option, Some, None, List, [], ◌∷◌, ◌++◌, length, refl, sym}
-use Rattle.std.proofs.{Common.{ap, subst, arith}, lemmas.{Bool.{eqb-true, eqb-false, leb-false, ltb-false}, List.Sums.{sum_by-append, sum_by-cons}}}
+use Rattle.std.proofs.Common.{◌≡◌, ◌∙◌, ℕ, zero, suc, ◌+◌, ◌-◌, ◌<◌, ◌≤◌, ◌^◌, Bool, true, false, Option, Some, None, List, [], ◌∷◌, ◌++◌}
+use Rattle.std.proofs.Common.{length, refl, sym}
+use Rattle.std.proofs.Common.{ap, subst, arith}
+use Rattle.std.proofs.lemmas.Bool.{eqb-true, eqb-false, leb-false, ltb-false}
+use Rattle.std.proofs.lemmas.List.Sums.{sum_by-append, sum_by-cons}
 use Rattle.std.specs.{Prelude.{◌==◌, ◌&&◌, if◌then◌else◌, is_some, min, nat_lt, not, position}, List.position_or_len}
 use Rattle.{machine_words.specs.declared.settings.Settings.Settings, device_places.specs.Places.{at, changed}}
 use Rattle.machine_laws.specs.{Lives.{Event, behind, next, packet}, Fates.{NothingIsLeft, ring_in, taken_in}}
 use Rattle.machine_model.specs.declared.{device.Phase.{Phase, TheVariants.{Quiet, Coalescing, Raised, Scheduled, Deferred, Fired}}}
 use Rattle.machine_model.specs.declared.processor.{Work.{Work, TheVariants.{Nothing, Interrupt, Poll, Packet, Use}}}
-use Rattle.machine_model.specs.declared.{processor.Upcoming.{Upcoming, TheVariants.{Never, Expires}}, tasks.Task.{Task, TheVariants.{Application, Thread}}}
+use Rattle.machine_model.specs.declared.processor.Upcoming.{Upcoming}
+use Rattle.machine_model.specs.declared.processor.Upcoming.TheVariants.{Never, Expires}
+use Rattle.machine_model.specs.declared.tasks.Task.{Task}
+use Rattle.machine_model.specs.declared.tasks.Task.TheVariants.{Application, Thread}
 use Rattle.poll_runs.specs.declared.bench.{Next.TheVariants.{Gone, Repoll}, Once.Once}
-use Rattle.machine_model.specs.{Tasks.{applications, is_application, runnable, with_application}, Application.{ApplicationView, has_place, put, refuses, used}}
-use Rattle.machine_model.specs.{Device.{DeviceView, after_packet, asks, expired, has_room, interrupted, polled, raised_again, timer_of, without_next}, Waits.held}
-use Rattle.machine_model.specs.{Devices.{Devices, asks_at, has_room_at, is_fired_at, next_packet_at, with_device}, Kept.{is_scheduled, scheduled_at}, Softirq.{RunView, polled_once, pushed}}
-use Rattle.machine_model.specs.Processor.{ProcessorView, arrives, begins, delivers, delivers_oldest, disturbed, ends_by, ends_current, ends_interrupt}
-use Rattle.machine_model.specs.Processor.{ends_poll, ends_run, happens, interrupts, is_busy, is_by, is_polling, looks, polls, scheduled, set_aside}
+use Rattle.machine_model.specs.Tasks.{applications, is_application, runnable, with_application}
+use Rattle.machine_model.specs.Application.{ApplicationView, has_place, put, refuses, used}
+use Rattle.machine_model.specs.Device.{DeviceView, after_packet, asks, expired, has_room, interrupted, polled, raised_again, timer_of}
+use Rattle.machine_model.specs.Device.{without_next}
+use Rattle.machine_model.specs.Waits.{held}
+use Rattle.machine_model.specs.Devices.{Devices, asks_at, has_room_at, is_fired_at, next_packet_at, with_device}
+use Rattle.machine_model.specs.Kept.{is_scheduled, scheduled_at}
+use Rattle.machine_model.specs.Softirq.{RunView, polled_once, pushed}
+use Rattle.machine_model.specs.Processor.{ProcessorView, arrives, begins, delivers, delivers_oldest, disturbed, ends_by, ends_current}
+use Rattle.machine_model.specs.Processor.{ends_interrupt}
+use Rattle.machine_model.specs.Processor.{ends_poll, ends_run, happens, interrupts, is_busy, is_by, is_polling, looks, polls, scheduled}
+use Rattle.machine_model.specs.Processor.{set_aside}
 use Rattle.machine_model.specs.Processor.{spent, step, takes_up, upcoming, uses, woken}
 use Rattle.machine_laws.proofs.{WalkFacts.{IsSettled, NoTask, Walk, either, nexted, started, walk-any}, SocketFacts.fed-here}
 use Rattle.machine_laws.proofs.WalkFacts as walks
-use Rattle.machine_laws.proofs.WorkFacts.{Goes, Rests, all_applications, goes-devices, goes-on, goes-unasked, looks-by, stirred, work-ended, work-stirred}
+use Rattle.machine_laws.proofs.WorkFacts.{Goes, Rests, all_applications, goes-devices, goes-on, goes-unasked, looks-by, stirred}
+use Rattle.machine_laws.proofs.WorkFacts.{work-ended, work-stirred}
 use Rattle.machine_laws.proofs.FateFacts.{at-arrived, made_at, queued, room-made}
 use Rattle.machine_laws.proofs.StandFacts.{Stands, by_thread, count, count_in, listed_at, places, polled_at, stands-on, threads}
 use Rattle.machine_laws.proofs.TendFacts.{Early, EarlyUp, TendAt, next-early, nothing-lone, tended-on}
@@ -79,7 +93,8 @@ tasked-of s p q h settings tasks less = record {
 tasked-scheduled : (s : Settings) (b : Bool) (n : ℕ) (p : ProcessorView) → Tasked s p → Tasked s (if b then scheduled n p else p)
 tasked-scheduled s b n p h =
     either (Tasked s) b (scheduled n p) p
-    (λ yes. either (Tasked s) p.settings.threaded (record p { tasks = p.tasks ++ Thread n ∷ [] }) (record p { softirq = pushed n p.softirq })
+    (λ yes. either (Tasked s) p.settings.threaded (record p { tasks = p.tasks ++ Thread n ∷ [] })
+    (record p { softirq = pushed n p.softirq })
     (λ y. tasked-of s p (record p { tasks = p.tasks ++ Thread n ∷ [] }) h refl (apps-more n p.tasks) (omega arith))
     (λ y. tasked-of s p (record p { softirq = pushed n p.softirq }) h refl refl (omega arith))) (λ no. h)
 
@@ -254,7 +269,8 @@ tasked-looks s n given p h =
     let q : ProcessorView = record p { devices = changed (without_next p.settings.backlog) n p.devices } in
     let first = tasked-of s p q h refl refl (omega arith) in
     looks-by (Tasked s) n given p
-    (λ came is less. tasked-of s q (begins (Packet (record { device = n; came = came; given = given })) p.settings.packet q) first refl refl (omega arith))
+    (λ came is less. tasked-of s q (begins (Packet (record { device = n; came = came; given = given })) p.settings.packet q)
+    first refl refl (omega arith))
     (λ none. tasked-polled s n given q first) (λ full. tasked-polled s n given p h)
 
 woken-apps : (b : Bool) (tasks : List Task) → applications tasks ≤ 1
@@ -275,7 +291,8 @@ tasked-delivers s n came p h =
       wakes = λ threaded here.
           let own : p.settings.threaded ≡ true = ap (λ (x : Settings). x.threaded) h.settings ∙ threaded in
           let apart : p.settings.apart ≡ false = ap (λ (x : Settings). x.apart) h.settings ∙ here in
-          subst (λ (a : ApplicationView). min 1 (length a.socket.items) ≤ applications (if wakes then with_application p.tasks else p.tasks))
+          subst (λ (a : ApplicationView). min 1 (length a.socket.items)
+          ≤ applications (if wakes then with_application p.tasks else p.tasks))
           (sym (fed-here p.settings p.clock came p.application apart))
           (by (has_place p.application) refl own apart (h.wakes threaded here) w.1 w.2);
     }
@@ -302,7 +319,8 @@ tasked-work s Nothing p h = h
 tasked-work s (Interrupt n) p h =
     let q = delivers_oldest n (next_packet_at false (at n p.devices)) p in
     either (Tasked s) (is_polling p.settings) p (ends_interrupt n p) (λ y. h)
-    (λ y. tasked-of s q (record q { devices = changed raised_again n q.devices }) (tasked-oldest s n (next_packet_at false (at n p.devices)) p h) refl refl
+    (λ y. tasked-of s q (record q { devices = changed raised_again n q.devices })
+    (tasked-oldest s n (next_packet_at false (at n p.devices)) p h) refl refl
     (omega arith))
 tasked-work s (Poll n) p h = tasked-looks s n 0 p h
 tasked-work s (Packet hand) p h =
@@ -478,7 +496,8 @@ placeless s n p goes r =
     let rests = goes.rests in
     let list : p.softirq.list ≡ [] =
     list-empty (is_polling p.settings) p.softirq.list r.list
-    (λ single. (rests.soft (soft-none (is_polling s) (not s.threaded) (sym (ap (λ (x : Settings). is_polling x) rests.settings) ∙ single))).0) in
+    (λ single. (rests.soft
+    (soft-none (is_polling s) (not s.threaded) (sym (ap (λ (x : Settings). is_polling x) rests.settings) ∙ single))).0) in
     let first : count n p.softirq.list ≡ 0 = ap (count n) list in
     let second : count_in n p.softirq.run ≡ 0 = no-run n p.softirq.run r.idle in
     let third : threads n p.tasks ≡ 0 = by p.settings.threaded refl rests in

@@ -1,10 +1,13 @@
 -- Each processor of a machine lived, and what happens is determined.
 use Rattle.std.proofs.Common.{◌≡◌, ◌∙◌, ℕ, zero, suc, ◌-◌, ◌/◌, ◌%◌, ◌<◌, ◌≤◌, ◌^◌, Bool, true, false, Some, List, [], ◌∷◌, length}
-use Rattle.std.proofs.{Common.{length-set, replicate, refl, slice_set, sym, ap, arith}, lemmas.{Option.slice_get_within, Bool.{eq-eqb, eqb-false}}}
+use Rattle.std.proofs.Common.{length-set, replicate, refl, slice_set, sym, ap, arith}
+use Rattle.std.proofs.lemmas.Option.{slice_get_within}
+use Rattle.std.proofs.lemmas.Bool.{eq-eqb, eqb-false}
 use Rattle.std.specs.Prelude.{◌==◌, slice_get}
 use Rattle.circular_buffer.proofs.Places.{slice_get-set_other, slice_get-set_same, slice_get-some}
 use Rattle.{std.proofs.lemmas.{Bool.{eqb-true}, Grind.common_steps}, machine_words.specs.declared.settings.Settings.Settings}
-use Rattle.machine_laws.specs.Lives.{ArrivesAsOne, EachLives, Ended, Event, InTurn, Lived, RunsAsOne, Took, behind, next, own, packet, packets_in}
+use Rattle.machine_laws.specs.Lives.{ArrivesAsOne, EachLives, Ended, Event, InTurn, Lived, RunsAsOne, Took, behind, next, own, packet}
+use Rattle.machine_laws.specs.Lives.{packets_in}
 use Rattle.machine_model.specs.Machine.{Arrives, Finishes, Machine, number_of, opened_machine, processor_of}
 use Rattle.machine_model.specs.Processor.{Advances, ProcessorView, after, arrives, is_by, is_due, opened_processor, step, upcoming}
 use Rattle.machine_model.specs.declared.processor.Upcoming.{Upcoming, TheVariants.{Never, Ends, Expires}}

@@ -1,13 +1,18 @@
 -- A NAPI timer is at most `gro-flush-timeout` ahead.
-use Rattle.std.proofs.Common.{◌≡◌, ℕ, ◌+◌, ◌<◌, ◌≤◌, ◌^◌, Bool, true, false, Option, Some, None, List, [], ◌∷◌, ◌++◌, length, refl, sym, ap, subst, arith}
+use Rattle.std.proofs.Common.{◌≡◌, ℕ, ◌+◌, ◌<◌, ◌≤◌, ◌^◌, Bool, true, false, Option, Some, None, List, [], ◌∷◌, ◌++◌, length, refl, sym}
+use Rattle.std.proofs.Common.{ap, subst, arith}
 use Rattle.std.specs.Prelude.{◌==◌, ◌&&◌, ◌||◌, if◌then◌else◌, nat_le, not}
 use Rattle.{machine_words.specs.declared.settings.Settings.Settings, device_places.specs.Places.{at, changed}}
 use Rattle.machine_laws.specs.{Deferrals.TimersAreNear, Lives.{Event, InTurn, behind, next, packet}}
-use Rattle.machine_model.specs.declared.{device.Phase.{Phase, TheVariants.{Quiet, Coalescing, Raised, Scheduled, Deferred, Fired}}, device.DeviceCounts.DeviceCounts}
+use Rattle.machine_model.specs.declared.device.Phase.{Phase}
+use Rattle.machine_model.specs.declared.device.Phase.TheVariants.{Quiet, Coalescing, Raised, Scheduled, Deferred, Fired}
+use Rattle.machine_model.specs.declared.device.DeviceCounts.{DeviceCounts}
 use Rattle.machine_model.specs.declared.processor.{Upcoming.{Upcoming, TheVariants.{Never, Expires}}}
-use Rattle.machine_model.specs.{Device.{DeviceView, after_packet, coalesced, completed, expired, has_room, interrupted, is_fired, is_masked, notified, polled}}
+use Rattle.machine_model.specs.Device.{DeviceView, after_packet, coalesced, completed, expired, has_room, interrupted, is_fired}
+use Rattle.machine_model.specs.Device.{is_masked, notified, polled}
 use Rattle.machine_model.specs.{Device.{raised_again, without_next}, Devices.{Devices, has_room_at, is_fired_at, with_device}, Waits.held}
-use Rattle.machine_model.specs.Processor.{ProcessorView, arrives, disturbed, ends_current, ends_run, happens, interrupts, is_busy, is_polling}
+use Rattle.machine_model.specs.Processor.{ProcessorView, arrives, disturbed, ends_current, ends_run, happens, interrupts, is_busy}
+use Rattle.machine_model.specs.Processor.{is_polling}
 use Rattle.machine_model.specs.Processor.{step, takes_up, upcoming}
 use Rattle.machine_laws.proofs.{TableFacts.{at-either, map_at}, WalkFacts.{Walk, either, walk-any}, EndFacts.{Ends, Looks, ends}}
 use Rattle.machine_laws.proofs.WorkFacts.{Goes, goes-devices, goes-on, goes-unasked, stirred, work-ended, work-stirred}
@@ -41,7 +46,8 @@ near-if : (end : ℕ) (b : Bool) (x y : Phase) → NearBy end x → NearBy end y
 near-if end true x y first second = first
 near-if end false x y first second = second
 
-near-changed : (end : ℕ) (f : DeviceView → DeviceView) (m n : ℕ) (ds : Devices) → ((d : DeviceView) → NearBy end d.phase → NearBy end (f d).phase)
+near-changed : (end : ℕ) (f : DeviceView → DeviceView) (m n : ℕ) (ds : Devices)
+    → ((d : DeviceView) → NearBy end d.phase → NearBy end (f d).phase)
     → Near end (at n ds) → Near end (at n (changed f m ds))
 unfolding map_at
 near-changed end f m n ds keeps near = at-either (λ b o. Near end o) f m n ds (λ here. by (at n ds) near) (λ other. near)
@@ -58,7 +64,8 @@ near-interrupted end polling d = by (is_fired d.phase) polling
     counts = record d.counts { interrupts = held (d.counts.interrupts + 1) }
 
     by : (fired polling : Bool) → NearBy end
-        (if fired then record d { phase = Scheduled } else record d { phase = if polling then Scheduled else Quiet; frames = 0; counts = counts }).phase
+        (if fired then record d { phase = Scheduled } else record d
+        { phase = if polling then Scheduled else Quiet; frames = 0; counts = counts }).phase
     by true polling = tt
     by false true = tt
     by false false = tt
@@ -112,7 +119,8 @@ near-polled now given s d near = by (given == s.weight)
     by : (full : Bool) → NearBy (now + s.gro_flush_timeout) (if full then e else completed now given s e).phase
     by true = near
     by false =
-        near-if (now + s.gro_flush_timeout) (not (deferrals == 0) && not (s.gro_flush_timeout == 0)) (Deferred (held (now + s.gro_flush_timeout))) Quiet
+        near-if (now + s.gro_flush_timeout) (not (deferrals == 0) && not (s.gro_flush_timeout == 0))
+        (Deferred (held (now + s.gro_flush_timeout))) Quiet
         (omega arith) tt
 
 near-next : (end : ℕ) (backlog : Bool) (d : DeviceView) → NearBy end d.phase → NearBy end (without_next backlog d).phase
@@ -199,7 +207,8 @@ near-disturbed s end n moment p goes near =
 
 -- ---- over a life
 
-near-happens : (s : Settings) (t n : ℕ) (u : Upcoming) (p : ProcessorView) → Goes s p → t ≤ time_by u p t → Near (t + s.gro_flush_timeout) (at n p.devices)
+near-happens : (s : Settings) (t n : ℕ) (u : Upcoming) (p : ProcessorView) → Goes s p → t ≤ time_by u p t
+    → Near (t + s.gro_flush_timeout) (at n p.devices)
     → Near (time_by u p t + s.gro_flush_timeout) (at n (happens u p).devices)
 near-happens s t n Never p goes less near = near
 near-happens s t n upcomings.Ends p goes less near =
@@ -221,7 +230,8 @@ unfolding made_at
 near-made end capacity None near = tt
 near-made end capacity (Some d) near = near
 
-near-arrives : (s : Settings) (end moment m n : ℕ) (p : ProcessorView) → Goes s p → Near end (at n p.devices) → Near end (at n (arrives moment m p).devices)
+near-arrives : (s : Settings) (end moment m n : ℕ) (p : ProcessorView) → Goes s p → Near end (at n p.devices)
+    → Near end (at n (arrives moment m p).devices)
 unfolding arrives
 near-arrives s end moment m n p goes near =
     let devices = with_device p.settings.ring m p.devices in

@@ -2,18 +2,30 @@
 use Rattle.std.proofs.Common.{◌≡◌, ◌∙◌, ℕ, ◌+◌, ◌-◌, Bool, true, false, Option, Some, None, List, [], ◌∷◌, ◌++◌, refl, sym, ap, subst}
 use Rattle.std.specs.{Option.option_map_or, Prelude.{◌==◌, ◌&&◌, if◌then◌else◌, is_some, length, nat_lt, not, position, slice_get}}
 use Rattle.{machine_words.specs.declared.settings.Settings.Settings, device_places.specs.Places.{at, changed}}
-use Rattle.machine_laws.specs.{Lives.{Event, InTurn, behind, next, packet}, Applications.{ReceivingIsApart, changed_application, deliveries, fed_all}}
+use Rattle.machine_laws.specs.Lives.{Event, InTurn, behind, next, packet}
+use Rattle.machine_laws.specs.Applications.{ReceivingIsApart, changed_application, deliveries, fed_all}
 use Rattle.machine_model.specs.declared.processor.{Work.{Work, TheVariants.{Nothing, Interrupt, Poll, Packet, Use}}, Rest.Rest}
-use Rattle.machine_model.specs.declared.{processor.Upcoming.{Upcoming, TheVariants.{Never, Expires}}, tasks.Task.{Task, TheVariants.{Application, Thread}}}
+use Rattle.machine_model.specs.declared.processor.Upcoming.{Upcoming}
+use Rattle.machine_model.specs.declared.processor.Upcoming.TheVariants.{Never, Expires}
+use Rattle.machine_model.specs.declared.tasks.Task.{Task}
+use Rattle.machine_model.specs.declared.tasks.Task.TheVariants.{Application, Thread}
 use Rattle.poll_runs.specs.declared.bench.{Next.TheVariants.{Gone, Repoll}, Once.Once}
-use Rattle.machine_model.specs.{Tasks.{after_first, runnable, with_application}, Waits.held, Softirq.{asked_in, begun, next_of, polled_once, pushed}}
-use Rattle.machine_model.specs.{Device.{after_packet, completed, delivered, expired, interrupted, notified, polled, raised_again, without_next}, Devices.{asks_at, has_room_at}}
+use Rattle.machine_model.specs.Tasks.{after_first, runnable, with_application}
+use Rattle.machine_model.specs.Waits.{held}
+use Rattle.machine_model.specs.Softirq.{asked_in, begun, next_of, polled_once, pushed}
+use Rattle.machine_model.specs.Device.{after_packet, completed, delivered, expired, interrupted, notified, polled, raised_again}
+use Rattle.machine_model.specs.Device.{without_next}
+use Rattle.machine_model.specs.Devices.{asks_at, has_room_at}
 use Rattle.machine_model.specs.{Devices.{is_fired_at, next_packet_at, with_device}, Application.{ApplicationView, fed, has_place, used}}
-use Rattle.machine_model.specs.Processor.{ProcessorView, arrives, begins, begins_run, delivers, delivers_oldest, disturbed, ends_by, ends_current}
-use Rattle.machine_model.specs.Processor.{ends_interrupt, ends_poll, ends_run, goes_on, happens, interrupts, is_busy, is_by, is_due, is_late, is_polling}
-use Rattle.machine_model.specs.Processor.{leaves_softirq, looks, opened_processor, polls, rests, runs, runs_first, scheduled, set_aside, spent, step}
+use Rattle.machine_model.specs.Processor.{ProcessorView, arrives, begins, begins_run, delivers, delivers_oldest, disturbed, ends_by}
+use Rattle.machine_model.specs.Processor.{ends_current}
+use Rattle.machine_model.specs.Processor.{ends_interrupt, ends_poll, ends_run, goes_on, happens, interrupts, is_busy, is_by, is_due}
+use Rattle.machine_model.specs.Processor.{is_late, is_polling}
+use Rattle.machine_model.specs.Processor.{leaves_softirq, looks, opened_processor, polls, rests, runs, runs_first, scheduled, set_aside}
+use Rattle.machine_model.specs.Processor.{spent, step}
 use Rattle.machine_model.specs.Processor.{takes_up, upcoming, uses, woken}
-use Rattle.machine_laws.proofs.{ApartFacts.{AllThreads, Alone, alone-of, alone-on, alone-stirred, not-wakes, threads-ended}, WorkFacts.{goes-on, stirred, work-ended}}
+use Rattle.machine_laws.proofs.ApartFacts.{AllThreads, Alone, alone-of, alone-on, alone-stirred, not-wakes, threads-ended}
+use Rattle.machine_laws.proofs.WorkFacts.{goes-on, stirred, work-ended}
 use Rattle.machine_model.specs.declared.processor.Upcoming.TheVariants as upcomings
 
 -- this processor with another application
@@ -23,15 +35,18 @@ other t b p = record p { settings = changed_application p.settings t; applicatio
 abbrev pub IsOther : Settings → ProcessorView → ProcessorView → Type 0
 IsOther t p q = (b : ApplicationView) × (q ≡ other t b p)
 
-is-if : (t : Settings) (c : Bool) (x y v w : ProcessorView) → IsOther t x v → IsOther t y w → IsOther t (if c then x else y) (if c then v else w)
+is-if : (t : Settings) (c : Bool) (x y v w : ProcessorView) → IsOther t x v → IsOther t y w
+    → IsOther t (if c then x else y) (if c then v else w)
 is-if t true x y v w first second = first
 is-if t false x y v w first second = second
 
-is-true : (t : Settings) (c : Bool) (x y v w : ProcessorView) → c ≡ true → IsOther t x v → IsOther t (if c then x else y) (if c then v else w)
+is-true : (t : Settings) (c : Bool) (x y v w : ProcessorView) → c ≡ true → IsOther t x v
+    → IsOther t (if c then x else y) (if c then v else w)
 is-true t true x y v w is first = first
 is-true t false x y v w is first = cc is
 
-is-option : (t : Settings) (o : Option ℕ) (f g : ℕ → ProcessorView) (x y : ProcessorView) → ((n : ℕ) → IsOther t (f n) (g n)) → IsOther t x y
+is-option : (t : Settings) (o : Option ℕ) (f g : ℕ → ProcessorView) (x y : ProcessorView) → ((n : ℕ) → IsOther t (f n) (g n))
+    → IsOther t x y
     → IsOther t (option_map_or f o x) (option_map_or g o y)
 is-option t None f g x y some none = none
 is-option t (Some n) f g x y some none = some n
@@ -88,7 +103,8 @@ first-is : (p : ProcessorView) → AllThreads p.tasks → runs_first p ≡ runs_
 unfolding runs_first
 first-is p all = ap (λ (tasks : List Task). runs_with tasks p) (all-runnable (length p.application.socket.items == 0) p.tasks all)
 
-is-first : (t : Settings) (b : ApplicationView) (p : ProcessorView) → AllThreads p.tasks → IsOther t (runs_first p) (runs_first (other t b p))
+is-first : (t : Settings) (b : ApplicationView) (p : ProcessorView) → AllThreads p.tasks
+    → IsOther t (runs_first p) (runs_first (other t b p))
 is-first t b p all =
     let r = is-runs t p.tasks b p all in
     (r.0, first-is (other t b p) all ∙ (r.1 ∙ ap (λ (q : ProcessorView). other t r.0 q) (sym (first-is p all))))
@@ -97,7 +113,8 @@ is-leaves : (t : Settings) (o : Option Rest) (b : ApplicationView) (p : Processo
     → IsOther t (leaves_softirq o p) (leaves_softirq o (other t b p))
 is-leaves t (Some rest) b p apart all = (b, refl)
 is-leaves t None b p apart all =
-    is-if t p.settings.threaded (runs_first p) (if p.settings.apart then p else uses p.application.socket.items p) (runs_first (other t b p))
+    is-if t p.settings.threaded (runs_first p) (if p.settings.apart then p else uses p.application.socket.items p)
+    (runs_first (other t b p))
     (if p.settings.apart then other t b p else uses b.socket.items (other t b p)) (is-first t b p all)
     (is-true t p.settings.apart p (uses p.application.socket.items p) (other t b p) (uses b.socket.items (other t b p)) apart (b, refl))
 
@@ -174,7 +191,8 @@ is-lone t n b p apart =
     is-map t (λ (q : ProcessorView). record q { devices = changed raised_again n q.devices }) (delivers_oldest n o p)
     (delivers_oldest n o (other t b p)) (is-oldest t n o b p apart) (λ c. (c, refl))
 
-is-polled : (t : Settings) (n given : ℕ) (b : ApplicationView) (p : ProcessorView) → IsOther t (ends_poll n given p) (ends_poll n given (other t b p))
+is-polled : (t : Settings) (n given : ℕ) (b : ApplicationView) (p : ProcessorView)
+    → IsOther t (ends_poll n given p) (ends_poll n given (other t b p))
 unfolding ends_poll polled completed
 is-polled t n given b p =
     let full = given == p.settings.weight in
@@ -185,7 +203,8 @@ is-polled t n given b p =
     (record q { softirq = polled_once once q.softirq }) (record (other t b q) { tasks = if full then Thread n ∷ q.tasks else q.tasks })
     (record (other t b q) { softirq = polled_once once q.softirq }) (b, refl) (b, refl)
 
-is-looks : (t : Settings) (n given : ℕ) (b : ApplicationView) (p : ProcessorView) → IsOther t (looks n given p) (looks n given (other t b p))
+is-looks : (t : Settings) (n given : ℕ) (b : ApplicationView) (p : ProcessorView)
+    → IsOther t (looks n given p) (looks n given (other t b p))
 unfolding looks
 is-looks t n given b p =
     let q : ProcessorView = record p { devices = changed (without_next p.settings.backlog) n p.devices } in
@@ -227,13 +246,15 @@ is-aside t moment (Poll n) b p = (b, refl)
 is-aside t moment (Packet hand) b p = (b, refl)
 is-aside t moment (Use came) b p = (b, refl)
 
-is-stirred : (t : Settings) (moment : ℕ) (b : ApplicationView) (p : ProcessorView) → IsOther t (stirred moment p) (stirred moment (other t b p))
+is-stirred : (t : Settings) (moment : ℕ) (b : ApplicationView) (p : ProcessorView)
+    → IsOther t (stirred moment p) (stirred moment (other t b p))
 is-stirred t moment b p =
     let asked = is_some (position asks_at p.devices) in
     let counts = record p.counts { interrupt_time = held (p.counts.interrupt_time + p.settings.wake) } in
     is-if t (is_busy p.work) (if asked then set_aside moment p.work p else p) (woken moment asked p)
     (if asked then set_aside moment p.work (other t b p) else other t b p) (woken moment asked (other t b p))
-    (is-if t asked (set_aside moment p.work p) p (set_aside moment p.work (other t b p)) (other t b p) (is-aside t moment p.work b p) (b, refl))
+    (is-if t asked (set_aside moment p.work p) p (set_aside moment p.work (other t b p)) (other t b p) (is-aside t moment p.work b p)
+    (b, refl))
     (is-if t asked (record p { clock = held (moment + p.settings.wake); counts = counts }) (record p { clock = moment })
     (record (other t b p) { clock = held (moment + p.settings.wake); counts = counts }) (record (other t b p) { clock = moment }) (b, refl)
     (b, refl))
@@ -278,14 +299,16 @@ made : (s t : Settings) (p q : ProcessorView) → p.settings ≡ s → IsOther t
     → (b : ApplicationView) × (q ≡ record p { settings = changed_application s t; application = b })
 made s t p q is o = (o.0, o.1 ∙ ap (λ (x : Settings). record p { settings = changed_application x t; application = o.0 }) is)
 
-unmade : (s t : Settings) (p q : ProcessorView) → (b : ApplicationView) × (q ≡ record p { settings = changed_application s t; application = b })
+unmade : (s t : Settings) (p q : ProcessorView)
+    → (b : ApplicationView) × (q ≡ record p { settings = changed_application s t; application = b })
     → p.settings ≡ s → IsOther t p q
 unmade s t p q o is =
     (o.0, o.1 ∙ ap (λ (x : Settings). record p { settings = changed_application x t; application = o.0 }) (sym is))
 
 -- the same events make of both the same, but for the settings and the application
 other-on : (s t : Settings) (events : List Event) → s.apart ≡ true
-    → (b : ApplicationView) × (behind (changed_application s t) events ≡ record (behind s events) { settings = changed_application s t; application = b })
+    → (b : ApplicationView) ×
+    (behind (changed_application s t) events ≡ record (behind s events) { settings = changed_application s t; application = b })
 unfolding behind step
 other-on s t [] apart = ((opened_processor (changed_application s t)).application, refl)
 other-on s t (packet moment n ∷ earlier) apart =
@@ -294,15 +317,18 @@ other-on s t (packet moment n ∷ earlier) apart =
     let settings = (goes-on s earlier).rests.settings in
     made s t (arrives moment n p) (arrives moment n (behind (changed_application s t) earlier))
     ((goes-on s (packet moment n ∷ earlier)).rests.settings)
-    (is-map t (λ (q : ProcessorView). arrives moment n q) p (behind (changed_application s t) earlier) (unmade s t p (behind (changed_application s t) earlier) before settings)
+    (is-map t (λ (q : ProcessorView). arrives moment n q) p (behind (changed_application s t) earlier)
+    (unmade s t p (behind (changed_application s t) earlier) before settings)
     (λ b. is-arrives s t (fed_all s (deliveries s earlier)) moment n b p apart (alone-on s earlier apart)))
 other-on s t (next ∷ earlier) apart =
     let p = behind s earlier in
     let before = other-on s t earlier apart in
     let goes = goes-on s earlier in
     made s t (step p) (step (behind (changed_application s t) earlier)) ((goes-on s (next ∷ earlier)).rests.settings)
-    (is-map t step p (behind (changed_application s t) earlier) (unmade s t p (behind (changed_application s t) earlier) before goes.rests.settings)
-    (λ b. is-happens s t (fed_all s (deliveries s earlier)) (upcoming p) b p apart (alone-on s earlier apart) (work-ended s p goes).rests.settings))
+    (is-map t step p (behind (changed_application s t) earlier)
+    (unmade s t p (behind (changed_application s t) earlier) before goes.rests.settings)
+    (λ b. is-happens s t (fed_all s (deliveries s earlier)) (upcoming p) b p apart (alone-on s earlier apart)
+    (work-ended s p goes).rests.settings))
 
 due-other : (s t : Settings) (b : ApplicationView) (moment : ℕ) (p : ProcessorView) (u : Upcoming)
     → is_by moment u (record p { settings = changed_application s t; application = b }) ≡ is_by moment u p

@@ -2,7 +2,8 @@
 use Rattle.std.proofs.Common.{◌≡◌, ◌∙◌, ℕ, zero, suc, ◌+◌, ◌<◌, Bool, true, false, Option, None, refl, sym, ap, subst, arith}
 use Rattle.std.specs.Prelude.{if◌then◌else◌}
 use Rattle.{machine_words.specs.declared.settings.Settings.Settings, machine_laws.specs.{Deferrals.EveryRunEnds, Lives.behind}}
-use Rattle.machine_model.{specs.Processor.{Advances, ProcessorView, after, is_due, step, upcoming}, proofs.LeftFacts.{left, load, step-asked}}
+use Rattle.machine_model.specs.Processor.{Advances, ProcessorView, after, is_due, step, upcoming}
+use Rattle.machine_model.proofs.LeftFacts.{left, load, step-asked}
 use Rattle.machine_model.specs.{Kept.polled_by, Softirq.asked_in}
 use Rattle.machine_laws.proofs.WorkFacts.{Goes, goes-on, work-happens}
 
@@ -19,7 +20,8 @@ step-goes s p goes = work-happens s (upcoming p) p goes
 step-left : (s : Settings) (until : ℕ) (p : ProcessorView) → Goes s p → is_due until p ≡ true → left load (step p) < left load p
 step-left s until p goes due =
     step-asked until p
-    (subst (λ (x : Settings). asked_in p.softirq.run ≡ (if x.threaded then None else polled_by p.work)) (sym goes.rests.settings) goes.asked) due
+    (subst (λ (x : Settings). asked_in p.softirq.run ≡ (if x.threaded then None else polled_by p.work)) (sym goes.rests.settings)
+    goes.asked) due
 
 one-more : (until : ℕ) (p q : ProcessorView) → is_due until p ≡ true → Advances until (step p) q → Advances until p q
 unfolding after

@@ -1,10 +1,12 @@
 -- What becomes of packets after their delivery to an application on the same processor: each is used in its order, or refused.
-use Rattle.std.proofs.Common.{◌≡◌, ◌∙◌, ℕ, ◌+◌, ◌-◌, Bool, true, false, Option, Some, None, List, [], ◌∷◌, ◌++◌, append_assoc, length, length-append, map}
+use Rattle.std.proofs.Common.{◌≡◌, ◌∙◌, ℕ, ◌+◌, ◌-◌, Bool, true, false, Option, Some, None, List, [], ◌∷◌, ◌++◌, append_assoc, length}
+use Rattle.std.proofs.Common.{length-append, map}
 use Rattle.std.proofs.{Common.{refl, sym, ap, subst, arith}, lemmas.{List.append-nil, Grind.common_steps}}
 use Rattle.std.specs.Prelude.{◌==◌, if◌then◌else◌, is_some, not, option_map, position}
 use Rattle.{machine_words.specs.declared.settings.Settings.Settings, device_places.specs.Places.{at, changed}}
 use Rattle.machine_laws.specs.Lives.{Event, behind, next, packet}
-use Rattle.machine_laws.specs.Fates.{TellsOfUse, UsesInOrder, counting, delivery, delivery_by, delivery_of, kept, placed, refused, resting, use_by, use_waits, used_by}
+use Rattle.machine_laws.specs.Fates.{TellsOfUse, UsesInOrder, counting, delivery, delivery_by, delivery_of, kept, placed, refused}
+use Rattle.machine_laws.specs.Fates.{resting, use_by, use_waits, used_by}
 use Rattle.machine_laws.specs.Fates as fate
 use Rattle.machine_model.specs.declared.processor.{Work.{Work, TheVariants.{Nothing, Interrupt, Poll, Packet, Use}}, Rest.Rest}
 use Rattle.machine_model.specs.declared.processor.{Upcoming.{Upcoming, TheVariants.{Never, Expires}}, ProcessorCounts.ProcessorCounts}
@@ -12,10 +14,13 @@ use Rattle.machine_model.specs.declared.tasks.Task.{TheVariants.Thread}
 use Rattle.poll_runs.specs.declared.bench.{Next.TheVariants.{Gone, Repoll}, Once.Once}
 use Rattle.machine_model.specs.{Waits.{WaitsView, counted, held, no_waits}, Softirq.{polled_once, pushed}}
 use Rattle.machine_model.specs.Application.{ApplicationView, fed, has_place, put, refuses, used}
-use Rattle.machine_model.specs.{Device.{after_packet, expired, interrupted, polled, raised_again, without_next}, Devices.{asks_at, has_room_at, is_fired_at}}
+use Rattle.machine_model.specs.Device.{after_packet, expired, interrupted, polled, raised_again, without_next}
+use Rattle.machine_model.specs.Devices.{asks_at, has_room_at, is_fired_at}
 use Rattle.machine_model.specs.Devices.{next_packet_at, with_device}
-use Rattle.machine_model.specs.Processor.{ProcessorView, arrives, delivers, delivers_oldest, disturbed, ends_by, ends_current, ends_interrupt}
-use Rattle.machine_model.specs.Processor.{ends_poll, ends_run, happens, interrupts, is_busy, is_polling, looks, scheduled, set_aside, spent, step}
+use Rattle.machine_model.specs.Processor.{ProcessorView, arrives, delivers, delivers_oldest, disturbed, ends_by, ends_current}
+use Rattle.machine_model.specs.Processor.{ends_interrupt}
+use Rattle.machine_model.specs.Processor.{ends_poll, ends_run, happens, interrupts, is_busy, is_polling, looks, scheduled, set_aside}
+use Rattle.machine_model.specs.Processor.{spent, step}
 use Rattle.machine_model.specs.Processor.{takes_up, upcoming, woken}
 use Rattle.machine_laws.proofs.{WalkFacts.{Walk, either, walk-any}, TallyFacts.counting-more}
 use Rattle.machine_laws.proofs.WorkFacts.{Goes, goes-devices, goes-on, goes-unasked, looks-by, stirred, work-ended, work-stirred}
@@ -95,7 +100,8 @@ feeds-work Q (Interrupt m) p counts is f =
     by false (Some came) polling found =
         let r : ProcessorView = record q { devices = changed (without_next false) m q.devices } in
         let d = delivers-fed m came r in (
-          subst (λ (a : ApplicationView). Q (Some (m, came)) [] a) (sym d.0) (f.gives m came (ap (λ (w : Work). delivery_of w p) is ∙ rw (polling, found) refl)),
+          subst (λ (a : ApplicationView). Q (Some (m, came)) [] a) (sym d.0)
+              (f.gives m came (ap (λ (w : Work). delivery_of w p) is ∙ rw (polling, found) refl)),
           d.1,
           ap used_by d.2,
         )
@@ -135,7 +141,8 @@ hold-scheduled : (xs : List ℕ) (r : ℕ) (v : WaitsView) (b : Bool) (n : ℕ) 
     → Holds xs r v (if b then scheduled n p else p)
 hold-scheduled xs r v b n p h =
     either (Holds xs r v) b (scheduled n p) p
-    (λ yes. either (Holds xs r v) p.settings.threaded (record p { tasks = p.tasks ++ Thread n ∷ [] }) (record p { softirq = pushed n p.softirq })
+    (λ yes. either (Holds xs r v) p.settings.threaded (record p { tasks = p.tasks ++ Thread n ∷ [] })
+    (record p { softirq = pushed n p.softirq })
     (λ t. record { items = h.items; refused = h.refused; waits = h.waits })
     (λ t. record { items = h.items; refused = h.refused; waits = h.waits })) (λ no. h)
 
@@ -235,7 +242,8 @@ use-stirred xs r v moment p u =
     let counts = record p.counts { interrupt_time = held (p.counts.interrupt_time + p.settings.wake) } in
     either (Uses xs r v) (is_busy p.work) (if asked then set_aside moment p.work p else p) (woken moment asked p)
     (λ busy. either (Uses xs r v) asked (set_aside moment p.work p) p (λ yes. use-aside xs r v moment p.work p refl u) (λ no. u))
-    (λ idle. either (Uses xs r v) asked (record p { clock = held (moment + p.settings.wake); counts = counts }) (record p { clock = moment })
+    (λ idle. either (Uses xs r v) asked (record p { clock = held (moment + p.settings.wake); counts = counts })
+    (record p { clock = moment })
     (λ yes. use-clock xs r v p (record p { clock = held (moment + p.settings.wake); counts = counts }) u refl refl refl)
     (λ no. use-clock xs r v p (record p { clock = moment }) u refl refl refl))
 
@@ -279,7 +287,8 @@ moved-none now a used b socket refused waits = record {
     rest k false = omega arith
 
 moved-gives : (s : Settings) (now m came : ℕ) (a : ApplicationView) → s.apart ≡ false → Moved now a (Some (m, came)) [] (fed now came s a)
-moved-gives s now m came a here = subst (λ (b : ApplicationView). Moved now a (Some (m, came)) [] b) (sym (fed-here s now came a here)) (by (has_place a) refl)
+moved-gives s now m came a here = subst (λ (b : ApplicationView). Moved now a (Some (m, came)) [] b) (sym (fed-here s now came a here))
+    (by (has_place a) refl)
   where
     by : (room : Bool) → has_place a ≡ room → Moved now a (Some (m, came)) [] (if room then put came a else refuses a)
     by true is = record {
@@ -298,7 +307,8 @@ moved-uses now came a =
     moved-none now a (came ∷ []) (used now came a) refl refl
     (λ xs before. ap (λ (w : WaitsView). counted (now - came) w) before ∙ sym (counting-more xs (now - came) no_waits))
 
-pub moved : (s : Settings) (p : ProcessorView) → p.settings ≡ s → s.apart ≡ false → Fed (Moved p.ends p.application) p p.work (ends_current p)
+pub moved : (s : Settings) (p : ProcessorView) → p.settings ≡ s → s.apart ≡ false
+    → Fed (Moved p.ends p.application) p p.work (ends_current p)
 moved s p settings here =
     feeds (Moved p.ends p.application) p (record {
       none = moved-none p.ends p.application [] p.application refl refl (λ xs before. same-waits xs p.application.waits before);
@@ -319,7 +329,8 @@ pub record Lives (s : Settings) (events : List Event) : Type 0 where
 pub record Happened (p : ProcessorView) (gives : Option (ℕ × ℕ)) (first : List ℕ) (q : ProcessorView) : Type 0 where
   pub items : first ++ (used_by q.work ++ (resting q.rest ++ q.application.socket.items))
       ≡ (used_by p.work ++ (resting p.rest ++ p.application.socket.items)) ++ placed (has_place p.application) gives
-  pub refused : (k : ℕ) → p.application.refused ≡ held k → q.application.refused ≡ held (k + length (placed (not (has_place p.application)) gives))
+  pub refused : (k : ℕ) → p.application.refused ≡ held k → q.application.refused
+      ≡ held (k + length (placed (not (has_place p.application)) gives))
   pub waits : (xs : List ℕ) → p.application.waits ≡ counting xs no_waits
       → q.application.waits ≡ counting (xs ++ map (λ came. p.ends - came) first) no_waits
   pub alone : (came : ℕ) → q.work ≡ Use came → q.rest ≡ None
@@ -353,7 +364,8 @@ uses-of p alone = record { items = refl; refused = refl; waits = refl; alone = a
 used-first : (w : Work) (rest : Option Rest) (items more : List ℕ) → ((came : ℕ) → w ≡ Use came → rest ≡ None)
     → used_by w ++ (resting rest ++ (items ++ more)) ≡ (used_by w ++ (resting rest ++ items)) ++ more
 used-first w rest items more alone =
-    ap (λ (xs : List ℕ). used_by w ++ xs) (sym (append_assoc (resting rest) items more)) ∙ sym (append_assoc (used_by w) (resting rest ++ items) more)
+    ap (λ (xs : List ℕ). used_by w ++ xs) (sym (append_assoc (resting rest) items more))
+    ∙ sym (append_assoc (used_by w) (resting rest ++ items) more)
 
 busy-or-not : (w : Work) → (is_busy w ≡ false) → Nothing ≡ w
 busy-or-not w idle = grind (arith, common_steps)
@@ -387,7 +399,8 @@ happened s (Expires timer) p goes here alone =
     let q : ProcessorView = record p { devices = changed expired timer.device p.devices } in
     let g = goes-devices s p q goes refl refl refl refl in
     happened-none p (disturbed timer.at q)
-    (use-disturbed s (used_by p.work ++ (resting p.rest ++ p.application.socket.items)) p.application.refused p.application.waits timer.at q g
+    (use-disturbed s (used_by p.work ++ (resting p.rest ++ p.application.socket.items))
+    p.application.refused p.application.waits timer.at q g
     (record { items = refl; refused = refl; waits = refl; alone = alone }))
 
 uses-arrive : (s : Settings) (moment n : ℕ) (p : ProcessorView) → Goes s p → ((came : ℕ) → p.work ≡ Use came → p.rest ≡ None)

@@ -1,6 +1,10 @@
 -- A device is scheduled if and only if its number is on the poll list, in the run, among the tasks or polled, and it is there once.
-use Rattle.std.proofs.Common.{◌≡◌, ◌∙◌, ℕ, ◌+◌, ◌-◌, ◌≤◌, Bool, true, false, Option, Some, None, List, [], ◌∷◌, ◌++◌, drop, length, refl, sym, ap, subst, arith}
-use Rattle.std.{proofs.lemmas.{Bool.eqb-true, Grind.common_steps}, specs.{Option.option_map_or, Prelude.{◌==◌, ◌&&◌, ◌||◌, if◌then◌else◌, is_some}}}
+use Rattle.std.proofs.Common.{◌≡◌, ◌∙◌, ℕ, ◌+◌, ◌-◌, ◌≤◌, Bool, true, false, Option, Some, None, List, [], ◌∷◌, ◌++◌, drop, length, refl}
+use Rattle.std.proofs.Common.{sym, ap, subst, arith}
+use Rattle.std.proofs.lemmas.Bool.{eqb-true}
+use Rattle.std.proofs.lemmas.Grind.{common_steps}
+use Rattle.std.specs.Option.{option_map_or}
+use Rattle.std.specs.Prelude.{◌==◌, ◌&&◌, ◌||◌, if◌then◌else◌, is_some}
 use Rattle.std.specs.Prelude.{nat_le, not, position, slice_get}
 use Rattle.{machine_words.specs.declared.settings.Settings.Settings, device_places.specs.Places.{at, changed}}
 use Rattle.machine_laws.specs.Lives.{Event, behind, next, packet}
@@ -8,17 +12,27 @@ use Rattle.poll_runs.specs.{Turn.asked_for, declared.bench.{Next.TheVariants.{Go
 use Rattle.machine_model.specs.declared.{device.Phase.{Phase, TheVariants.{Quiet, Coalescing, Raised, Scheduled, Deferred, Fired}}}
 use Rattle.machine_model.specs.declared.processor.{Work.{Work, TheVariants.{Nothing, Interrupt, Poll, Packet, Use}}}
 use Rattle.machine_model.specs.declared.device.DeviceCounts.{DeviceCounts}
-use Rattle.machine_model.specs.declared.{processor.Upcoming.{Upcoming, TheVariants.{Never, Expires}}, tasks.Task.{Task, TheVariants.{Application, Thread}}}
-use Rattle.machine_model.specs.{Device.{DeviceView, after_packet, asks, coalesced, completed, delivered, expired, interrupted, is_fired, is_masked, notified}}
+use Rattle.machine_model.specs.declared.processor.Upcoming.{Upcoming}
+use Rattle.machine_model.specs.declared.processor.Upcoming.TheVariants.{Never, Expires}
+use Rattle.machine_model.specs.declared.tasks.Task.{Task}
+use Rattle.machine_model.specs.declared.tasks.Task.TheVariants.{Application, Thread}
+use Rattle.machine_model.specs.Device.{DeviceView, after_packet, asks, coalesced, completed, delivered, expired, interrupted, is_fired}
+use Rattle.machine_model.specs.Device.{is_masked, notified}
 use Rattle.machine_model.specs.Device.{opened, polled, raised_again, spliced, without_next}
-use Rattle.machine_model.specs.{Devices.{Devices, asks_at, has_room_at, is_fired_at, next_packet_at, with_device}, Kept.{is_scheduled, polled_by, scheduled_at}}
+use Rattle.machine_model.specs.Devices.{Devices, asks_at, has_room_at, is_fired_at, next_packet_at, with_device}
+use Rattle.machine_model.specs.Kept.{is_scheduled, polled_by, scheduled_at}
 use Rattle.machine_model.specs.Softirq.{RunView, SoftirqView, asked_in, begun, ended, filled, next_of, polled_once, pushed}
 use Rattle.machine_model.specs.{Tasks.{runnable, with_application}, Application.{has_place, used}, Waits.held}
-use Rattle.machine_model.specs.Processor.{ProcessorView, arrives, begins, delivers, delivers_oldest, disturbed, ends_by, ends_current, ends_interrupt}
-use Rattle.machine_model.specs.Processor.{ends_poll, ends_run, happens, interrupts, is_busy, is_polling, looks, polls, scheduled, set_aside, spent, step}
+use Rattle.machine_model.specs.Processor.{ProcessorView, arrives, begins, delivers, delivers_oldest, disturbed, ends_by, ends_current}
+use Rattle.machine_model.specs.Processor.{ends_interrupt}
+use Rattle.machine_model.specs.Processor.{ends_poll, ends_run, happens, interrupts, is_busy, is_polling, looks, polls, scheduled}
+use Rattle.machine_model.specs.Processor.{set_aside, spent, step}
 use Rattle.machine_model.specs.Processor.{takes_up, upcoming, uses, woken}
-use Rattle.machine_laws.proofs.{TableFacts.{at-either, map_at}, WalkFacts.{Walk, either, nexted, started, walk-any}, FateFacts.{at-arrived, made_at}}
-use Rattle.machine_laws.proofs.WorkFacts.{Goes, Rests, goes-devices, goes-on, goes-unasked, looks-by, stirred, work-ended, work-stirred, work-walk}
+use Rattle.machine_laws.proofs.TableFacts.{at-either, map_at}
+use Rattle.machine_laws.proofs.WalkFacts.{Walk, either, nexted, started, walk-any}
+use Rattle.machine_laws.proofs.FateFacts.{at-arrived, made_at}
+use Rattle.machine_laws.proofs.WorkFacts.{Goes, Rests, goes-devices, goes-on, goes-unasked, looks-by, stirred, work-ended, work-stirred}
+use Rattle.machine_laws.proofs.WorkFacts.{work-walk}
 use Rattle.machine_model.specs.declared.processor.Upcoming.TheVariants as upcomings
 use Rattle.machine_model.specs.Device as device
 
@@ -80,7 +94,8 @@ listed-pushed n m q = omega (arith, count-append n q.list (m ∷ []))
 
 listed-told : (n m : ℕ) (full : Bool) (work : ℕ) (list : List ℕ) (run : Option RunView) (began : ℕ) → asked_in run ≡ Some m
     → let q : SoftirqView = record { list = list; run = run; began = began } in
-    listed_at n (polled_once (record { work = work; next = if full then Repoll else Gone }) q) + (if full then 0 else one m n) ≡ listed_at n q
+    listed_at n (polled_once (record { work = work; next = if full then Repoll else Gone }) q) + (if full then 0 else one m n)
+    ≡ listed_at n q
 unfolding listed_at count_in polled_once count
 listed-told n m full work list run began asked = grind (arith, common_steps, count-append)
 
@@ -150,7 +165,8 @@ masked-interrupted (Some d) never = by d.phase never
     counts = record d.counts { interrupts = held (d.counts.interrupts + 1) }
 
     by : (phase : Phase) → is_masked phase ≡ false
-        → is_masked ((if is_fired phase then record d { phase = Scheduled } else record d { phase = Quiet; frames = 0; counts = counts }).phase) ≡ false
+        → is_masked ((if is_fired phase then record d { phase = Scheduled } else record d
+        { phase = Quiet; frames = 0; counts = counts }).phase) ≡ false
     by Quiet never = refl
     by (Coalescing until) never = refl
     by Raised never = refl
@@ -259,7 +275,8 @@ bit-polled now given s (Some d) m n here is = by (given == s.weight)
     gone true until = refl
     gone false until = refl
 
-    by : (full : Bool) → scheduled_at (Some (if full then e else completed now given s e)) + (if full then 0 else one m n) ≡ scheduled_at (Some d)
+    by : (full : Bool) → scheduled_at (Some (if full then e else completed now given s e)) + (if full then 0 else one m n)
+        ≡ scheduled_at (Some d)
     by true = omega arith
     by false =
         let first = gone (not (deferrals == 0) && not (s.gro_flush_timeout == 0)) (held (now + s.gro_flush_timeout)) in
@@ -269,8 +286,10 @@ bit-polled now given s (Some d) m n here is = by (given == s.weight)
 bits-polled : (now given : ℕ) (s : Settings) (m n : ℕ) (ds : Devices) → ((m == n) ≡ true → scheduled_at (at n ds) ≡ 1)
     → scheduled_at (at n (changed (polled now given s) m ds)) + (if given == s.weight then 0 else one m n) ≡ scheduled_at (at n ds)
 bits-polled now given s m n ds is =
-    at-either (λ b o. scheduled_at o + (if given == s.weight then 0 else (if b then 1 else 0)) ≡ scheduled_at (at n ds)) (polled now given s) m n ds
-    (λ here. subst (λ (k : ℕ). scheduled_at (map_at (polled now given s) (at n ds)) + (if given == s.weight then 0 else k) ≡ scheduled_at (at n ds))
+    at-either (λ b o. scheduled_at o + (if given == s.weight then 0 else (if b then 1 else 0)) ≡ scheduled_at (at n ds))
+    (polled now given s) m n ds
+    (λ here. subst (λ (k : ℕ). scheduled_at (map_at (polled now given s) (at n ds)) + (if given == s.weight then 0 else k)
+    ≡ scheduled_at (at n ds))
     (ap (λ (b : Bool). if b then 1 else 0) here) (bit-polled now given s (at n ds) m n here (is here)))
     (λ other. by (given == s.weight))
   where
@@ -309,7 +328,8 @@ pub record Still (s : Settings) (n : ℕ) (p : ProcessorView) : Type 0 where
 pub record Stands (s : Settings) (n : ℕ) (p : ProcessorView) : Type 0 where
   pub even : Even s n (by_thread s (polled_at n p.work)) p
 
-even-of : (s : Settings) (n k l : ℕ) (p q : ProcessorView) → Even s n k p → q.softirq ≡ p.softirq → q.tasks ≡ p.tasks → q.devices ≡ p.devices → l ≡ k
+even-of : (s : Settings) (n k l : ℕ) (p q : ProcessorView) → Even s n k p → q.softirq ≡ p.softirq → q.tasks ≡ p.tasks → q.devices
+    ≡ p.devices → l ≡ k
     → Even s n l q
 even-of s n k l p q e softirq tasks devices same = record {
   same = rw (softirq, tasks, devices, same) e.same;
@@ -333,7 +353,8 @@ places-scheduled n m false p = omega arith
 places-scheduled n m true p = by p.settings.threaded
   where
     by : (t : Bool)
-        → places n (if t then record p { tasks = p.tasks ++ Thread m ∷ [] } else record p { softirq = pushed m p.softirq }) ≡ places n p + one m n
+        → places n (if t then record p { tasks = p.tasks ++ Thread m ∷ [] } else record p { softirq = pushed m p.softirq })
+        ≡ places n p + one m n
     by true = omega (arith, threads-append n p.tasks (Thread m ∷ []))
     by false = omega (arith, listed-pushed n m p.softirq)
 
@@ -361,7 +382,8 @@ never-interrupted : (s : Settings) (polling : Bool) (m n : ℕ) (ds : Devices) �
     → NeverMasked s n (changed (interrupted polling) m ds)
 never-interrupted s true m n ds same never lone = cc (same, lone)
 never-interrupted s false m n ds same never lone =
-    at-either (λ b o. masked_at o ≡ false) (interrupted false) m n ds (λ here. masked-interrupted (at n ds) (never lone)) (λ other. never lone)
+    at-either (λ b o. masked_at o ≡ false) (interrupted false) m n ds (λ here. masked-interrupted (at n ds) (never lone))
+    (λ other. never lone)
 
 stand-interrupt : (s : Settings) (n m : ℕ) (p : ProcessorView) → Still s n p → asks_at (at m p.devices) ≡ true → Stands s n (interrupts m p)
 unfolding interrupts
@@ -375,7 +397,8 @@ stand-interrupt s n m p h asks =
     let devices = devices-scheduled m polling q in
     record {
       even = record {
-        same = subst (λ (ds : Devices). places n (if polling then scheduled m q else q) + by_thread s 0 ≡ scheduled_at (at n ds)) (sym devices)
+        same = subst (λ (ds : Devices). places n (if polling then scheduled m q else q) + by_thread s 0 ≡ scheduled_at (at n ds))
+            (sym devices)
             (omega (arith, places-scheduled n m polling q, bits, h.even.same, no-thread s));
         never = subst (λ (ds : Devices). NeverMasked s n ds) (sym devices) (never-interrupted s polling m n p.devices same h.even.never);
       };
@@ -420,7 +443,8 @@ stand-walk s n =
       start = λ p h none polling some. record { rests = w.start p h.rests none polling some; even = even-start s n p none h.even };
       resume = λ rest p free h is quiet. record {
         even =
-            even-of s n 0 (by_thread s 0) p (begins (Use rest.came) rest.left (record p { rest = None })) h.even refl refl refl (no-thread s);
+            even-of s n 0 (by_thread s 0) p (begins (Use rest.came) rest.left (record p { rest = None })) h.even refl refl refl
+            (no-thread s);
       };
       settle = λ tasks p h is. record {
         rests = w.settle tasks p h.rests is;
@@ -531,10 +555,12 @@ even-polled s n m given p settings polling asked e =
     (λ t.
     let single : s.threaded ≡ false = sym (same-threaded s p settings) ∙ t in
     let none : by_thread s (one m n) ≡ 0 = ap (λ (b : Bool). if b then one m n else 0) single in
-    let told = listed-told n m full given p.softirq.list p.softirq.run p.softirq.began (run-asked s.threaded (asked_in p.softirq.run) m asked single) in
+    let told = listed-told n m full given p.softirq.list p.softirq.run p.softirq.began
+    (run-asked s.threaded (asked_in p.softirq.run) m asked single) in
     record { same = omega (arith, told, bits, e.same, none); never = never-polled s n ds polling })
   where
-    by : (full : Bool) → threads n (if full then Thread m ∷ p.tasks else p.tasks) + (if full then 0 else one m n) ≡ one m n + threads n p.tasks
+    by : (full : Bool) → threads n (if full then Thread m ∷ p.tasks else p.tasks) + (if full then 0 else one m n)
+        ≡ one m n + threads n p.tasks
     by true = omega arith
     by false = omega arith
 
@@ -642,7 +668,8 @@ polls-polling s m o never is = by (is_polling s) refl
 stand-work : (s : Settings) (n : ℕ) (w : Work) (p : ProcessorView) → p.work ≡ Nothing → p.settings ≡ s
     → asked_in p.softirq.run ≡ (if s.threaded then None else polled_by w)
     → (is_polling s ≡ false → polled_by w ≡ None) → Even s n (by_thread s (polled_at n w)) p → Stands s n (ends_by w p)
-stand-work s n Nothing p nothing settings asked polled e = idle-stands s n p nothing (even-of s n (by_thread s 0) 0 p p e refl refl refl (sym (no-thread s)))
+stand-work s n Nothing p nothing settings asked polled e = idle-stands s n p nothing
+    (even-of s n (by_thread s 0) 0 p p e refl refl refl (sym (no-thread s)))
 stand-work s n (Interrupt m) p nothing settings asked polled e =
     let e0 = even-of s n (by_thread s 0) 0 p p e refl refl refl (sym (no-thread s)) in
     either (Stands s n) (is_polling p.settings) p (ends_interrupt m p) (λ polling. idle-stands s n p nothing e0)

@@ -19,7 +19,8 @@ at-changed f n ds = at-here-from f n ds (at n ds) refl
 pub at-here : {A : Type 0} (f : A → A) (m n : ℕ) (ds : Places A) → (m == n) ≡ true → at n (changed f m ds) ≡ map_at f (at n ds)
 at-here f m n ds same = rw (eqb-true m n same) (at-changed f n ds)
 
-at-apart-from : {A : Type 0} (f : A → A) (m n : ℕ) (ds : Places A) (o : Option A) → (m == n) ≡ false → at n (changed_from f m o ds) ≡ at n ds
+at-apart-from : {A : Type 0} (f : A → A) (m n : ℕ) (ds : Places A) (o : Option A) → (m == n) ≡ false → at n (changed_from f m o ds)
+    ≡ at n ds
 at-apart-from f m n ds None other = refl
 at-apart-from f m n ds (Some d) other = get_or-set_other ds m n (Some (f d)) None (λ e. eqb-false m n other (sym e))
 

@@ -3,15 +3,23 @@ use Rattle.std.proofs.Common.{◌≡◌, ◌∙◌, ℕ, ◌+◌, ◌-◌, Bool,
 use Rattle.std.proofs.{Common.{refl, sym, ap, subst, arith}, lemmas.{List.append-nil, Bool.eqb-true}}
 use Rattle.std.specs.Prelude.{◌==◌, ◌&&◌, if◌then◌else◌, is_some, not}
 use Rattle.{machine_words.specs.declared.settings.Settings.Settings, device_places.specs.Places.{at, changed}}
-use Rattle.machine_laws.specs.{Lives.{Event, behind, next, packet}, Fates.{Tells, TellsOfDevice, came, counting, delivered, delivery, delivery_by}}
+use Rattle.machine_laws.specs.Lives.{Event, behind, next, packet}
+use Rattle.machine_laws.specs.Fates.{Tells, TellsOfDevice, came, counting, delivered, delivery, delivery_by}
 use Rattle.machine_laws.specs.Fates.{delivery_of, finds_room, hand_of, packet_for, waits}
 use Rattle.machine_model.specs.declared.processor.Upcoming.{Upcoming, TheVariants.{Never, Expires}}
-use Rattle.machine_model.specs.{Device.{DeviceView, after_packet, completed, expired, has_room, interrupted, is_fired, notified, polled, raised_again}}
-use Rattle.machine_model.specs.{Device.{spliced, without_next}, Devices.{Devices, has_room_at, next_packet_at, with_device}, Waits.{WaitsView, counted, held, no_waits}}
+use Rattle.machine_model.specs.Device.{DeviceView, after_packet, completed, expired, has_room, interrupted, is_fired, notified, polled}
+use Rattle.machine_model.specs.Device.{raised_again}
+use Rattle.machine_model.specs.Device.{spliced, without_next}
+use Rattle.machine_model.specs.Devices.{Devices, has_room_at, next_packet_at, with_device}
+use Rattle.machine_model.specs.Waits.{WaitsView, counted, held, no_waits}
 use Rattle.machine_model.specs.Processor.{ProcessorView, arrives, disturbed, ends_current, happens, is_busy, step, takes_up, upcoming}
 use Rattle.machine_model.specs.declared.device.Phase.TheVariants.{Quiet, Scheduled}
-use Rattle.machine_laws.proofs.{TableFacts.{at-either, at-kept, map_at}, WalkFacts.either, EndFacts.{Ends, Looks, ends}, WorkFacts.{Goes, goes-devices, goes-on}}
-use Rattle.machine_laws.proofs.FateFacts.{Blind, at-arrived, disturbed-part, holds-order, if-same, made_at, packet-by, part-happens, room-made, seen-takes}
+use Rattle.machine_laws.proofs.TableFacts.{at-either, at-kept, map_at}
+use Rattle.machine_laws.proofs.WalkFacts.{either}
+use Rattle.machine_laws.proofs.EndFacts.{Ends, Looks, ends}
+use Rattle.machine_laws.proofs.WorkFacts.{Goes, goes-devices, goes-on}
+use Rattle.machine_laws.proofs.FateFacts.{Blind, at-arrived, disturbed-part, holds-order, if-same, made_at, packet-by, part-happens}
+use Rattle.machine_laws.proofs.FateFacts.{room-made, seen-takes}
 use Rattle.machine_laws.proofs.WorkFacts.{work-ended}
 use Rattle.machine_model.specs.declared.processor.Upcoming.TheVariants as upcomings
 use Rattle.machine_model.specs.Device as device
@@ -113,7 +121,8 @@ looks-given s n m given now batch old ds g =
     record {
       some = λ came is. given-then now batch old (tally (at n ds)) (tally (at n (changed (without_next s.backlog) m ds))) g next;
       none = λ none.
-          given-then now batch old (tally (at n ds)) (tally (at n (changed (polled now given s) m (changed (without_next s.backlog) m ds)))) g
+          given-then now batch old (tally (at n ds))
+          (tally (at n (changed (polled now given s) m (changed (without_next s.backlog) m ds)))) g
           (at-kept tally (polled now given s) m n (changed (without_next s.backlog) m ds) (tally-polled now given s) ∙ next);
       full = λ most.
           given-then now batch old (tally (at n ds)) (tally (at n (changed (polled now given s) m ds))) g
@@ -145,7 +154,8 @@ ends-given n p there = record {
       let some : (m == n) ≡ true → is_some (at n one) ≡ true =
       λ same. at-kept is_some (without_next false) m n p.devices (λ d. refl)
       ∙ some-next (at n p.devices) came (subst (λ (k : ℕ). next_packet_at false (at k p.devices) ≡ Some came) (eqb-true m n same) next) in
-      let g : Given p.ends (packet_for n (Some (m, came))) (tally (at n one)) (tally (at n two)) = given-delivered p.ends came m n one some in
+      let g : Given p.ends (packet_for n (Some (m, came))) (tally (at n one)) (tally (at n two))
+      = given-delivered p.ends came m n one some in
       given-then p.ends (packet_for n (Some (m, came))) old (tally (at n two)) (tally (at n (changed raised_again m two)))
       (subst (λ (t : Tally). Given p.ends (packet_for n (Some (m, came))) t (tally (at n two))) first g)
       (at-kept tally raised_again m n two tally-raised);
@@ -170,7 +180,8 @@ ends-there n p = record {
       let one = changed (without_next false) m p.devices in
       let two = changed (device.delivered p.ends came) m one in
       at-kept is_some raised_again m n two (λ d. refl)
-      ∙ (at-kept is_some (device.delivered p.ends came) m n one (λ d. refl) ∙ at-kept is_some (without_next false) m n p.devices (λ d. refl));
+      ∙ (at-kept is_some (device.delivered p.ends came) m n one (λ d. refl)
+      ∙ at-kept is_some (without_next false) m n p.devices (λ d. refl));
   poll = λ m is. looks-there m 0 p.devices refl;
   packet = λ hand is.
       looks-there hand.device (hand.given + 1) (changed (device.delivered p.ends hand.came) hand.device p.devices)

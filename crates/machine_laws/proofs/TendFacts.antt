@@ -1,22 +1,34 @@
 -- A device whose interrupt isn't raised, deferred or handled has no packet, and its timer is below the end of the clock.
 use Rattle.std.proofs.Common.{◌≡◌, ◌∙◌, ℕ, suc, ◌+◌, ◌<◌, ◌≤◌, ◌^◌, Bool, true, false, Option, Some, None, List, [], ◌∷◌, ◌++◌, length}
 use Rattle.std.proofs.{Common.{refl, sym, ap, subst, arith}, lemmas.{Bool.{eqb-true, eq-eqb, ltb-false}}}
-use Rattle.std.specs.{Option.{option_map, option_map_or}, Prelude.{◌==◌, ◌&&◌, ◌||◌, if◌then◌else◌, is_some, nat_le, nat_lt, not, position, slice_get}}
+use Rattle.std.specs.Option.{option_map, option_map_or}
+use Rattle.std.specs.Prelude.{◌==◌, ◌&&◌, ◌||◌, if◌then◌else◌, is_some, nat_le, nat_lt, not, position, slice_get}
 use Rattle.{machine_words.specs.declared.settings.Settings.Settings, device_places.specs.Places.{at, changed}}
 use Rattle.machine_laws.specs.{Lives.{Event, behind, next, packet}, Fates.{taken_in}}
-use Rattle.machine_model.specs.declared.{device.Phase.{Phase, TheVariants.{Quiet, Coalescing, Raised, Scheduled, Deferred, Fired}}, devices.Timer.Timer}
+use Rattle.machine_model.specs.declared.device.Phase.{Phase}
+use Rattle.machine_model.specs.declared.device.Phase.TheVariants.{Quiet, Coalescing, Raised, Scheduled, Deferred, Fired}
+use Rattle.machine_model.specs.declared.devices.Timer.{Timer}
 use Rattle.machine_model.specs.declared.processor.{Work.{Work, TheVariants.{Nothing, Interrupt, Poll, Packet, Use}}, InHand.InHand}
 use Rattle.machine_model.specs.declared.{processor.Upcoming.{Upcoming, TheVariants.{Never, Expires}}, device.DeviceCounts.DeviceCounts}
-use Rattle.machine_model.specs.{Device.{DeviceView, after_packet, coalesced, completed, expired, has_room, interrupted, is_fired, is_masked, next_packet}}
+use Rattle.machine_model.specs.Device.{DeviceView, after_packet, coalesced, completed, expired, has_room, interrupted, is_fired}
+use Rattle.machine_model.specs.Device.{is_masked, next_packet}
 use Rattle.machine_model.specs.Device.{notified, opened, polled, raised_again, timer_of, without_next}
-use Rattle.machine_model.specs.{Devices.{Devices, asks_at, has_room_at, is_fired_at, next_packet_at, soonest_from, sooner, timer_at, with_device}, Kept.{given_by, is_scheduled, polled_by, scheduled_at}}
-use Rattle.machine_model.specs.{Waits.held, Softirq.asked_in, Processor.{ProcessorView, arrives, disturbed, ends_current, ends_run, happens, interrupts, is_busy}}
+use Rattle.machine_model.specs.Devices.{Devices, asks_at, has_room_at, is_fired_at, next_packet_at, soonest_from, sooner, timer_at}
+use Rattle.machine_model.specs.Devices.{with_device}
+use Rattle.machine_model.specs.Kept.{given_by, is_scheduled, polled_by, scheduled_at}
+use Rattle.machine_model.specs.Waits.{held}
+use Rattle.machine_model.specs.Softirq.{asked_in}
+use Rattle.machine_model.specs.Processor.{ProcessorView, arrives, disturbed, ends_current, ends_run, happens, interrupts, is_busy}
 use Rattle.machine_model.specs.Processor.{is_polling, set_aside, step, takes_up, upcoming, woken}
-use Rattle.machine_laws.proofs.{TableFacts.{at-apart, at-either, at-kept, map_at}, WalkFacts.{Walk, either, walk-any}, EndFacts.{Ends, Looks, ends}}
+use Rattle.machine_laws.proofs.TableFacts.{at-apart, at-either, at-kept, map_at}
+use Rattle.machine_laws.proofs.WalkFacts.{Walk, either, walk-any}
+use Rattle.machine_laws.proofs.EndFacts.{Ends, Looks, ends}
 use Rattle.machine_laws.proofs.WorkFacts.{Goes, goes-devices, goes-on, goes-unasked, stirred, work-ended, work-stirred}
-use Rattle.machine_laws.proofs.FateFacts.{IsPlain, at-arrived, look-none, made_at, plain-of, plain-on, queued, queued-delivered, queued-polled}
+use Rattle.machine_laws.proofs.FateFacts.{IsPlain, at-arrived, look-none, made_at, plain-of, plain-on, queued, queued-delivered}
+use Rattle.machine_laws.proofs.FateFacts.{queued-polled}
 use Rattle.machine_laws.proofs.FateFacts.{unbacked, unpolled}
-use Rattle.machine_laws.proofs.{StandFacts.{Even, Stands, by_thread, devices-scheduled, one, polled-scheduled, polled_at, stands-on}, EmptyFacts.{calm-full, calm-next}}
+use Rattle.machine_laws.proofs.StandFacts.{Even, Stands, by_thread, devices-scheduled, one, polled-scheduled, polled_at, stands-on}
+use Rattle.machine_laws.proofs.EmptyFacts.{calm-full, calm-next}
 use Rattle.machine_laws.proofs.{OverFacts.over, TimerFacts.{timer-same, timer_in}}
 use Rattle.machine_model.specs.declared.processor.Upcoming.TheVariants as upcomings
 use Rattle.machine_model.specs.Device as device
@@ -68,7 +80,8 @@ tend-interrupted polling d = by (is_fired d.phase) polling
     counts = record d.counts { interrupts = held (d.counts.interrupts + 1) }
 
     by : (fired polling : Bool) → Tend (not polling)
-        (if fired then record d { phase = Scheduled } else record d { phase = if polling then Scheduled else Quiet; frames = 0; counts = counts })
+        (if fired then record d { phase = Scheduled } else record d
+        { phase = if polling then Scheduled else Quiet; frames = 0; counts = counts })
     by true polling = record { early = tt; quiet = λ is free. cc is }
     by false true = record { early = tt; quiet = λ is free. cc is }
     by false false = record { early = tt; quiet = λ is free. cc free }
@@ -77,7 +90,8 @@ tends-interrupted : (polling : Bool) (m n : ℕ) (ds : Devices) → TendAt false
     → TendAt (not polling && m == n) (at n (changed (interrupted polling) m ds))
 unfolding map_at
 tends-interrupted polling m n ds t =
-    at-either (λ b o. TendAt (not polling && b) o) (interrupted polling) m n ds (λ here. by polling (at n ds)) (λ other. also polling (at n ds) t)
+    at-either (λ b o. TendAt (not polling && b) o) (interrupted polling) m n ds (λ here. by polling (at n ds))
+    (λ other. also polling (at n ds) t)
   where
     by : (polling : Bool) (o : Option DeviceView) → TendAt (not polling && true) (map_at (interrupted polling) o)
     by polling None = tt
@@ -107,7 +121,8 @@ tended-interrupt s n m p h =
     else record p.counts { interrupts = held (p.counts.interrupts + 1) } in
     let q : ProcessorView = record p { devices = changed (interrupted polling) m p.devices; counts = counts } in
     let first : TendAt (not (is_polling s) && m == n) (at n q.devices) =
-    subst (λ (x : Settings). TendAt (not (is_polling x) && m == n) (at n q.devices)) h.settings (tends-interrupted polling m n p.devices h.tend) in
+    subst (λ (x : Settings). TendAt (not (is_polling x) && m == n) (at n q.devices)) h.settings
+    (tends-interrupted polling m n p.devices h.tend) in
     record { tend = subst (λ (ds : Devices). TendAt (not (is_polling s) && m == n) (at n ds)) (sym (devices-scheduled m polling q)) first }
 
 idle-over : (s : Settings) (n : ℕ) (late : Bool) (p : ProcessorView) → Idle s n p → Idle s n (ends_run late p)
@@ -190,7 +205,8 @@ tends-again s m n ds t plain =
     by (Some d) t plain = tend-again true d t.early plain
 
 -- with an exemption that stays
-tends-early : (s : Settings) (m n : ℕ) (f : DeviceView → DeviceView) (ds : Devices) → ((d : DeviceView) → (f d).phase ≡ d.phase) → is_polling s ≡ false
+tends-early : (s : Settings) (m n : ℕ) (f : DeviceView → DeviceView) (ds : Devices) → ((d : DeviceView) → (f d).phase ≡ d.phase)
+    → is_polling s ≡ false
     → TendAt (lone s n (Interrupt m)) (at n ds) → TendAt (lone s n (Interrupt m)) (at n (changed f m ds))
 unfolding map_at
 tends-early s m n f ds phase single t =
@@ -203,7 +219,8 @@ tends-early s m n f ds phase single t =
       quiet = λ is free. cc (rw (single, here) at free);
     }
 
-next-empty : (backlog : Bool) (o : Option DeviceView) → (backlog ≡ false → taken_in o ≡ []) → next_packet_at backlog o ≡ None → queued o ≡ []
+next-empty : (backlog : Bool) (o : Option DeviceView) → (backlog ≡ false → taken_in o ≡ []) → next_packet_at backlog o ≡ None → queued o
+    ≡ []
 unfolding queued
 next-empty backlog None plain none = refl
 next-empty false (Some d) plain none = rw (plain refl, front-none d.ring none) refl
@@ -248,7 +265,8 @@ early-polled now given s d early = by (given == s.weight)
     by : (full : Bool) → Early (timer_of (if full then e else completed now given s e).phase)
     by true = early
     by false =
-        early-if (not (deferrals == 0) && not (s.gro_flush_timeout == 0)) (Deferred (held (now + s.gro_flush_timeout))) Quiet (omega arith) tt
+        early-if (not (deferrals == 0) && not (s.gro_flush_timeout == 0)) (Deferred (held (now + s.gro_flush_timeout))) Quiet
+        (omega arith) tt
 
 -- a device that has no packet completes
 tends-polled : (now given : ℕ) (s : Settings) (m n : ℕ) (ds : Devices) → queued (at n ds) ≡ [] → TendAt false (at n ds)
@@ -265,7 +283,8 @@ tends-polled now given s m n ds none t =
     }
 
 full-is : (given weight : ℕ) → given ≤ weight → nat_lt given weight ≡ false → (given == weight) ≡ true
-full-is given weight most not-less = let more : weight ≤ given = ltb-false given weight not-less in eq-eqb given weight (omega (arith, most, more))
+full-is given weight most not-less = let more : weight
+    ≤ given = ltb-false given weight not-less in eq-eqb given weight (omega (arith, most, more))
 
 looks-tend : (s : Settings) (n m given now : ℕ) (ds : Devices) → given ≤ s.weight → (s.backlog ≡ false → taken_in (at n ds) ≡ [])
     → ((k : ℕ) → s.backlog ≡ false → taken_in (at k ds) ≡ [])
@@ -301,7 +320,8 @@ ends-tend s n p goes stands plain h = record {
       let second = changed (device.delivered p.ends came) m first in
       let free : is_polling s ≡ false = sym same ∙ single in
       let kept : taken_in (at n second) ≡ taken_in (at n p.devices) =
-      at-kept taken_in (device.delivered p.ends came) m n first (λ d. refl) ∙ at-kept taken_in (without_next false) m n p.devices (λ d. refl) in
+      at-kept taken_in (device.delivered p.ends came) m n first (λ d. refl)
+      ∙ at-kept taken_in (without_next false) m n p.devices (λ d. refl) in
       tends-again s m n second
       (tends-early s m n (device.delivered p.ends came) first (λ d. refl) free
       (tends-early s m n (without_next false) p.devices (λ d. refl) free (work m is))) (kept ∙ untaken single n);
@@ -465,7 +485,8 @@ tended-arrives s n moment m p goes h =
 pub nothing-lone : (s : Settings) (n : ℕ) (w : Work) → (w ≡ Nothing) → lone s n w ≡ false
 nothing-lone s n w is = ap (lone s n) is
 
-ended-lone : (s : Settings) (n : ℕ) (ds : Devices) (w : Work) → TendAt false (at n ds) → ((m : ℕ) → w ≡ Interrupt m → ⊥) → TendAt (lone s n w) (at n ds)
+ended-lone : (s : Settings) (n : ℕ) (ds : Devices) (w : Work) → TendAt false (at n ds) → ((m : ℕ) → w ≡ Interrupt m → ⊥)
+    → TendAt (lone s n w) (at n ds)
 ended-lone s n ds Nothing t none = t
 ended-lone s n ds (Interrupt m) t none = absurd (none m refl)
 ended-lone s n ds (Poll m) t none = t
@@ -482,7 +503,8 @@ ends-free : (s : Settings) (n : ℕ) (p : ProcessorView) → TendAt false (at n 
     → ((m : ℕ) → (ends_current p).work ≡ Interrupt m → ⊥) → Tended s n (ends_current p)
 ends-free s n p t none = record { tend = ended-lone s n (ends_current p).devices (ends_current p).work t none }
 
-tended-happens : (s : Settings) (n : ℕ) (u : Upcoming) (p : ProcessorView) → Goes s p → Stands s n p → ((k : ℕ) → IsPlain p.settings k p.devices)
+tended-happens : (s : Settings) (n : ℕ) (u : Upcoming) (p : ProcessorView) → Goes s p → Stands s n p
+    → ((k : ℕ) → IsPlain p.settings k p.devices)
     → Tended s n p → Tended s n (happens u p)
 tended-happens s n Never p goes stands plain h = h
 tended-happens s n upcomings.Ends p goes stands plain h =

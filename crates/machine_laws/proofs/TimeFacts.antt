@@ -1,20 +1,33 @@
 -- Time never falls, and what arrived, what waits and what is under way is in its order.
-use Rattle.std.proofs.Common.{◌≡◌, ◌∙◌, ℕ, ◌+◌, ◌-◌, ◌<◌, ◌≤◌, ◌^◌, Bool, true, false, Option, Some, None, List, [], ◌∷◌, ◌++◌, refl, sym, ap}
+use Rattle.std.proofs.Common.{◌≡◌, ◌∙◌, ℕ, ◌+◌, ◌-◌, ◌<◌, ◌≤◌, ◌^◌, Bool, true, false, Option, Some, None, List, [], ◌∷◌, ◌++◌, refl, sym}
+use Rattle.std.proofs.Common.{ap}
 use Rattle.std.proofs.{Common.{subst, arith}, lemmas.{Bool.{leb-true}}}
 use Rattle.std.specs.{List.AllByRecursion, Prelude.{◌==◌, ◌&&◌, if◌then◌else◌, is_some, not, position}}
-use Rattle.{machine_words.specs.declared.settings.Settings.Settings, device_places.specs.Places.{at, changed}, circular_buffer.specs.Buffer.buffer}
-use Rattle.machine_laws.specs.{Lives.{Event, InTurn, behind, next, packet}, Times.ClocksNeverFall, Fates.{delivery_of, finds_room, taken_in}}
-use Rattle.machine_model.specs.declared.processor.{Work.{Work, TheVariants.{Nothing, Interrupt, Poll, Packet, Use}}, Rest.Rest, InHand.InHand}
+use Rattle.machine_words.specs.declared.settings.Settings.{Settings}
+use Rattle.device_places.specs.Places.{at, changed}
+use Rattle.circular_buffer.specs.Buffer.{buffer}
+use Rattle.machine_laws.specs.Lives.{Event, InTurn, behind, next, packet}
+use Rattle.machine_laws.specs.Times.{ClocksNeverFall}
+use Rattle.machine_laws.specs.Fates.{delivery_of, finds_room, taken_in}
+use Rattle.machine_model.specs.declared.processor.Work.{Work}
+use Rattle.machine_model.specs.declared.processor.Work.TheVariants.{Nothing, Interrupt, Poll, Packet, Use}
+use Rattle.machine_model.specs.declared.processor.Rest.{Rest}
+use Rattle.machine_model.specs.declared.processor.InHand.{InHand}
 use Rattle.machine_model.specs.declared.{processor.{Upcoming.{Upcoming, TheVariants.{Never, Expires}}}, tasks.Task.TheVariants.Thread}
-use Rattle.machine_model.specs.{Device.{after_packet, timer_of, expired, interrupted, polled, raised_again, without_next}, Softirq.{pushed}, Waits.held}
+use Rattle.machine_model.specs.Device.{after_packet, timer_of, expired, interrupted, polled, raised_again, without_next}
+use Rattle.machine_model.specs.Softirq.{pushed}
+use Rattle.machine_model.specs.Waits.{held}
 use Rattle.machine_model.specs.{Device.DeviceView, Devices.{Devices, asks_at, has_room_at, is_fired_at, with_device}}
 use Rattle.machine_model.specs.Application.{ApplicationView, fed, has_place, put, refuses}
 use Rattle.machine_model.specs.Processor.{ProcessorView, arrives, begins, disturbed, ends_current}
 use Rattle.machine_model.specs.Processor.{ends_run, happens, interrupts, is_busy, is_by, is_due, is_polling, scheduled, set_aside}
 use Rattle.machine_model.specs.Processor.{step, takes_up, upcoming, uses, woken}
-use Rattle.machine_laws.proofs.{TableFacts.{at-kept, map_at}, WalkFacts.{Walk, either, nexted, started, walk-any}, EndFacts.{Ends, Looks, ends}}
+use Rattle.machine_laws.proofs.TableFacts.{at-kept, map_at}
+use Rattle.machine_laws.proofs.WalkFacts.{Walk, either, nexted, started, walk-any}
+use Rattle.machine_laws.proofs.EndFacts.{Ends, Looks, ends}
 use Rattle.machine_laws.proofs.WorkFacts.{Goes, goes-devices, goes-on, goes-unasked, stirred, work-ended, work-stirred}
-use Rattle.machine_laws.proofs.FateFacts.{IsPlain, arrived-queued, at-arrived, look-none, look-some, next-some-at, plain-of, plain-on, queued, queued-blind}
+use Rattle.machine_laws.proofs.FateFacts.{IsPlain, arrived-queued, at-arrived, look-none, look-some, next-some-at, plain-of, plain-on}
+use Rattle.machine_laws.proofs.FateFacts.{queued, queued-blind}
 use Rattle.machine_laws.proofs.FateFacts.{made_at, queued-delivered, queued-polled, queued-raised, unbacked, unpolled}
 use Rattle.machine_laws.proofs.TimerFacts.{AllLate, Late, LateUp, NextBy, NotBefore, lates-delivered, lates-expired, lates-interrupted}
 use Rattle.machine_laws.proofs.TimerFacts.{lates-next, late-packet, lates-polled, lates-raised, next-is, next-late, not-due, timer_in}
@@ -106,13 +119,15 @@ timed-begins s t w time p b busy unpacked used-up = record {
 base-scheduled : (s : Settings) (t : ℕ) (b : Bool) (n : ℕ) (p : ProcessorView) → Base s t p → Base s t (if b then scheduled n p else p)
 base-scheduled s t b n p h =
     either (Base s t) b (scheduled n p) p
-    (λ yes. either (Base s t) p.settings.threaded (record p { tasks = p.tasks ++ Thread n ∷ [] }) (record p { softirq = pushed n p.softirq })
+    (λ yes. either (Base s t) p.settings.threaded (record p { tasks = p.tasks ++ Thread n ∷ [] })
+    (record p { softirq = pushed n p.softirq })
     (λ y. base-of s t p (record p { tasks = p.tasks ++ Thread n ∷ [] }) h refl refl refl refl refl)
     (λ y. base-of s t p (record p { softirq = pushed n p.softirq }) h refl refl refl refl refl)) (λ no. h)
 
 came-changed : (t : ℕ) (f : DeviceView → DeviceView) (m : ℕ) (ds : Devices) → ((d : DeviceView) → queued (Some (f d)) ≡ queued (Some d))
     → Came t ds → Came t (changed f m ds)
-came-changed t f m ds same all n = subst (λ (xs : List ℕ). AllByRecursion (λ came. came ≤ t) xs) (sym (at-kept queued f m n ds same)) (all n)
+came-changed t f m ds same all n = subst (λ (xs : List ℕ). AllByRecursion (λ came. came ≤ t) xs) (sym (at-kept queued f m n ds same))
+    (all n)
 
 timed-interrupt : (s : Settings) (t n : ℕ) (p : ProcessorView) → Base s t p → Timed s t (interrupts n p)
 unfolding interrupts
@@ -237,7 +252,8 @@ pub record Kept (t : ℕ) (ds : Devices) (w : Work) : Type 0 where
 same-came : (h g : InHand) → Packet h ≡ Packet g → h.came ≡ g.came
 same-came h g is = let same : h ≡ g = cc is in ap (λ (x : InHand). x.came) same
 
-looks-kept : (s : Settings) (t m given : ℕ) (ds : Devices) → t < 2 ^ 64 → ((n : ℕ) → s.backlog ≡ false → taken_in (at n ds) ≡ []) → AllLate t ds → Came t ds
+looks-kept : (s : Settings) (t m given : ℕ) (ds : Devices) → t < 2 ^ 64 → ((n : ℕ) → s.backlog ≡ false → taken_in (at n ds) ≡ [])
+    → AllLate t ds → Came t ds
     → Looks (λ es w. Kept t es w) s t m given ds
 looks-kept s t m given ds fits plain timers came = record {
   some = λ oldest is. record {
@@ -264,7 +280,8 @@ looks-kept s t m given ds fits plain timers came = record {
   };
 }
 
-ends-kept : (p : ProcessorView) → p.ends < 2 ^ 64 → ((n : ℕ) → IsPlain p.settings n p.devices) → AllLate p.ends p.devices → Came p.ends p.devices
+ends-kept : (p : ProcessorView) → p.ends < 2 ^ 64 → ((n : ℕ) → IsPlain p.settings n p.devices) → AllLate p.ends p.devices
+    → Came p.ends p.devices
     → Ends (λ o ds w. Kept p.ends ds w) p
 ends-kept p fits plain timers came =
     let t = p.ends in
@@ -284,10 +301,12 @@ ends-kept p fits plain timers came =
           λ n.
           (parts (λ x. x ≤ t) (if m == n then oldest ∷ [] else []) (queued (at n one))
           (subst (λ (xs : List ℕ). AllByRecursion (λ x. x ≤ t) xs)
-          (sym (look-some false m n oldest p.devices (λ no. plain n (unpolled p.settings.backlog (is_polling p.settings) lone)) found)) (came n))).1 in
+          (sym (look-some false m n oldest p.devices (λ no. plain n (unpolled p.settings.backlog (is_polling p.settings) lone)) found))
+          (came n))).1 in
           record {
             timers = lates-raised t m two (lates-delivered t t oldest m one (lates-next t false m p.devices timers));
-            came = came-changed t raised_again m two queued-raised (came-changed t (device.delivered t oldest) m one (queued-delivered t oldest) first);
+            came = came-changed t raised_again m two queued-raised
+                (came-changed t (device.delivered t oldest) m one (queued-delivered t oldest) first);
             hand = λ hand same. cc same;
           };
       poll = λ m is. looks-kept p.settings t m 0 p.devices fits untaken timers came;
@@ -359,7 +378,8 @@ ready-ended s t p h busy late plain =
       gives = λ m came is.
           subst (λ (x : Settings). Served s u (fed u came x p.application).socket.items) (sym h.settings)
           (served-fed s u came p.application
-          (λ fair. hand-delivery s u p.work p m came (ap (λ (x : Settings). is_polling x) h.settings ∙ polling-of (is_polling s) s.apart fair)
+          (λ fair. hand-delivery s u p.work p m came
+          (ap (λ (x : Settings). is_polling x) h.settings ∙ polling-of (is_polling s) s.apart fair)
           h.hand is)
           (served-later s t u p.application.socket.items e.1 h.socket));
       uses = λ came is. served-later s t u p.application.socket.items e.1 h.socket;
@@ -507,7 +527,8 @@ pub record Clocked (c : ℕ) (p : ProcessorView) : Type 0 where
 clock-scheduled : (c : ℕ) (b : Bool) (n : ℕ) (p : ProcessorView) → Clocked c p → Clocked c (if b then scheduled n p else p)
 clock-scheduled c b n p h =
     either (Clocked c) b (scheduled n p) p
-    (λ yes. either (Clocked c) p.settings.threaded (record p { tasks = p.tasks ++ Thread n ∷ [] }) (record p { softirq = pushed n p.softirq })
+    (λ yes. either (Clocked c) p.settings.threaded (record p { tasks = p.tasks ++ Thread n ∷ [] })
+    (record p { softirq = pushed n p.softirq })
     (λ y. record { clock = h.clock }) (λ y. record { clock = h.clock })) (λ no. h)
 
 clock-interrupt : (c n : ℕ) (p : ProcessorView) → Clocked c p → Clocked c (interrupts n p)
@@ -555,7 +576,8 @@ clock-stirred s t p fits h =
     let counts = record p.counts { interrupt_time = held (p.counts.interrupt_time + p.settings.wake) } in
     either (λ q. p.clock ≤ q.clock) (is_busy p.work) (if asked then set_aside t p.work p else p) (woken t asked p)
     (λ busy. either (λ q. p.clock ≤ q.clock) asked (set_aside t p.work p) p (λ yes. clock-aside s t p.work p refl h) (λ no. omega arith))
-    (λ idle. either (λ q. p.clock ≤ q.clock) asked (record p { clock = held (t + p.settings.wake); counts = counts }) (record p { clock = t })
+    (λ idle. either (λ q. p.clock ≤ q.clock) asked (record p { clock = held (t + p.settings.wake); counts = counts })
+    (record p { clock = t })
     (λ yes. let low : p.clock ≤ t = h.idle idle in omega (arith, low, fits)) (λ no. h.idle idle))
 
 clock-disturbed : (s : Settings) (t : ℕ) (p : ProcessorView) → t < 2 ^ 64 → Goes s p → Timed s t p → p.clock ≤ (disturbed t p).clock
@@ -717,7 +739,8 @@ since s until [] fits turns = record { timed = opened-timed s; within = omega ar
 since s until (packet moment n ∷ earlier) fits turns =
     let before = since s moment earlier (omega (arith, turns.0, fits)) turns.2 in
     let r =
-    rises-arrives s (now s earlier) moment n (behind s earlier) (omega (arith, turns.0, fits)) (goes-on s earlier) before.timed before.within
+    rises-arrives s (now s earlier) moment n (behind s earlier) (omega (arith, turns.0, fits)) (goes-on s earlier)
+    before.timed before.within
     turns.1 in
     record { timed = r.timed; within = turns.0 }
 since s until (next ∷ earlier) fits turns =

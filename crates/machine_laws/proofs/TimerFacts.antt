@@ -1,11 +1,15 @@
 -- Timers: none that is set is before what happens next.
-use Rattle.std.proofs.Common.{◌≡◌, ℕ, zero, suc, ◌+◌, ◌<◌, ◌≤◌, ◌^◌, Bool, true, false, Option, Some, None, [], ◌∷◌, refl, sym, subst, arith}
+use Rattle.std.proofs.Common.{◌≡◌, ℕ, zero, suc, ◌+◌, ◌<◌, ◌≤◌, ◌^◌, Bool, true, false, Option, Some, None, [], ◌∷◌, refl, sym, subst}
+use Rattle.std.proofs.Common.{arith}
 use Rattle.std.proofs.lemmas.{Bool.{leb-true, leb-false}}
 use Rattle.std.specs.{Option.{option_map, option_map_or}, Prelude.{◌==◌, ◌&&◌, ◌||◌, if◌then◌else◌, nat_le, not, length}}
 use Rattle.{machine_words.specs.declared.settings.Settings.Settings, device_places.specs.Places.{at, changed}}
-use Rattle.machine_model.specs.declared.{devices.Timer.Timer, device.Phase.{Phase, TheVariants.{Quiet, Coalescing, Raised, Scheduled, Deferred, Fired}}}
+use Rattle.machine_model.specs.declared.devices.Timer.{Timer}
+use Rattle.machine_model.specs.declared.device.Phase.{Phase}
+use Rattle.machine_model.specs.declared.device.Phase.TheVariants.{Quiet, Coalescing, Raised, Scheduled, Deferred, Fired}
 use Rattle.machine_model.specs.declared.processor.Upcoming.{Upcoming, TheVariants.{Never, Ends, Expires}}
-use Rattle.machine_model.specs.{Device.{DeviceView, after_packet, coalesced, completed, expired, has_room, interrupted, is_fired, notified, polled, raised_again}}
+use Rattle.machine_model.specs.Device.{DeviceView, after_packet, coalesced, completed, expired, has_room, interrupted, is_fired, notified}
+use Rattle.machine_model.specs.Device.{polled, raised_again}
 use Rattle.machine_model.specs.{Device.{spliced, timer_of, without_next}, Devices.{Devices, soonest_from, sooner, timer_at}, Waits.held}
 use Rattle.machine_model.specs.Processor.{ProcessorView, is_busy, is_by, is_due, upcoming}
 use Rattle.machine_laws.proofs.{TableFacts.{at-either, map_at}, FateFacts.packet-by}
@@ -57,7 +61,8 @@ soon-own k None (Some u) = tt
 soon-own k (Some t) None = omega arith
 soon-own k (Some t) (Some u) = soon-own-if (nat_le t u.at) (record { at = t; device = k }) u refl
 
-pub timer-same : (k : ℕ) (place : Option DeviceView) → timer_at k place ≡ option_map (λ (at : ℕ). record { at = at; device = k }) (timer_in place)
+pub timer-same : (k : ℕ) (place : Option DeviceView) → timer_at k place
+    ≡ option_map (λ (at : ℕ). record { at = at; device = k }) (timer_in place)
 timer-same k None = refl
 timer-same k (Some d) = refl
 
@@ -180,7 +185,8 @@ late-polled m now given s d less fits late =
 
 pub lates-polled : (m now given : ℕ) (s : Settings) (k : ℕ) (ds : Devices) → m ≤ now → now < 2 ^ 64 → AllLate m ds
     → AllLate m (changed (polled now given s) k ds)
-lates-polled m now given s k ds less fits all = late-changed m (polled now given s) k ds (λ d late. late-polled m now given s d less fits late) all
+lates-polled m now given s k ds less fits all = late-changed m (polled now given s) k ds
+    (λ d late. late-polled m now given s d less fits late) all
 
 late-expired : (m : ℕ) (phase : Phase) (d : DeviceView) → d.phase ≡ phase → Late m (timer_of (expired d).phase)
 late-expired m Quiet d is = rw is tt

@@ -3,7 +3,11 @@ use Rattle.std.specs.Prelude.{◌==◌, ◌&&◌, if◌then◌else◌, is_some, 
 use Rattle.std.proofs.Common.{◌≡◌, ◌<◌, ℕ, arith, Bool, true, false, Option, Some, None, List, [], ◌∷◌, length, refl}
 use Rattle.std.{proofs.lemmas.{List.Quantifiers.position-Some, Grind.common_steps}, specs.Option.option_map_or}
 use Rattle.{device_places.{proofs.PlaceFacts.none-of, specs.Places.at}, machine_words.specs.declared.settings.Settings.Settings}
-use Rattle.machine_model.specs.declared.{processor.{Work.{Work, TheVariants.{Nothing, Use}}, Rest.Rest}, tasks.Task.{Task, TheVariants.{Application, Thread}}}
+use Rattle.machine_model.specs.declared.processor.Work.{Work}
+use Rattle.machine_model.specs.declared.processor.Work.TheVariants.{Nothing, Use}
+use Rattle.machine_model.specs.declared.processor.Rest.{Rest}
+use Rattle.machine_model.specs.declared.tasks.Task.{Task}
+use Rattle.machine_model.specs.declared.tasks.Task.TheVariants.{Application, Thread}
 use Rattle.machine_model.specs.{Devices.asks_at, Softirq.{SoftirqView, asked_in, begun, ended, next_of}, Tasks.{after_first, runnable}}
 use Rattle.machine_model.specs.Processor.{ProcessorView, begins, begins_run, ends_run, goes_on, interrupts, is_busy, is_late, is_polling}
 use Rattle.machine_model.specs.Processor.{leaves_softirq, polls, rests, runs, runs_first, takes_up, uses}
@@ -105,7 +109,8 @@ walk-tasks P Q w [] p out held threaded before is =
     }) (λ t. (p.tasks, is, before))
 walk-tasks P Q w (Application ∷ more) p out held threaded before is =
     let q : ProcessorView = record p { tasks = Application ∷ more } in
-    walk-uses P Q w p.application.socket.items q refl (record { nothing = out.free.nothing; unasked = out.free.unasked }) held out.rest out.quiet
+    walk-uses P Q w p.application.socket.items q refl (record { nothing = out.free.nothing; unasked = out.free.unasked })
+    held out.rest out.quiet
     (λ apart. tt)
     (λ empty. record {
       quiet = out.quiet;

@@ -1,15 +1,30 @@
 -- A run's work is below budget and weight together, whatever happens; and what is polled by the run or by a thread.
-use Rattle.std.{proofs.lemmas.Grind.common_steps, specs.{List.AllByRecursion, Prelude.{◌==◌, ◌&&◌, IfSome, if◌then◌else◌, is_some, not, option_map, nat_lt}}}
-use Rattle.std.proofs.Common.{◌≡◌, ◌∙◌, ℕ, ◌+◌, ◌<◌, ◌≤◌, Bool, true, false, Option, Some, None, List, [], ◌∷◌, ◌++◌, length, refl, sym, arith}
-use Rattle.{poll_runs.specs.declared.bench.{Next.TheVariants.{Gone, Repoll}, Once.Once}, machine_words.specs.declared.settings.Settings.Settings}
-use Rattle.{device_places.specs.Places.{at, changed}, machine_laws.specs.Lives.{Event, behind, next, packet}, machine_laws.specs.Times.WorksWithin}
-use Rattle.machine_model.specs.declared.{processor.Work.{Work, TheVariants.{Nothing, Interrupt, Poll, Packet, Use}}, tasks.Task.{Task, TheVariants.{Application, Thread}}}
+use Rattle.std.proofs.lemmas.Grind.{common_steps}
+use Rattle.std.specs.List.{AllByRecursion}
+use Rattle.std.specs.Prelude.{◌==◌, ◌&&◌, IfSome, if◌then◌else◌, is_some, not, option_map, nat_lt}
+use Rattle.std.proofs.Common.{◌≡◌, ◌∙◌, ℕ, ◌+◌, ◌<◌, ◌≤◌, Bool, true, false, Option, Some, None, List, [], ◌∷◌, ◌++◌, length, refl, sym}
+use Rattle.std.proofs.Common.{arith}
+use Rattle.poll_runs.specs.declared.bench.Next.TheVariants.{Gone, Repoll}
+use Rattle.poll_runs.specs.declared.bench.Once.{Once}
+use Rattle.machine_words.specs.declared.settings.Settings.{Settings}
+use Rattle.device_places.specs.Places.{at, changed}
+use Rattle.machine_laws.specs.Lives.{Event, behind, next, packet}
+use Rattle.machine_laws.specs.Times.{WorksWithin}
+use Rattle.machine_model.specs.declared.processor.Work.{Work}
+use Rattle.machine_model.specs.declared.processor.Work.TheVariants.{Nothing, Interrupt, Poll, Packet, Use}
+use Rattle.machine_model.specs.declared.tasks.Task.{Task}
+use Rattle.machine_model.specs.declared.tasks.Task.TheVariants.{Application, Thread}
 use Rattle.machine_model.specs.declared.processor.{Upcoming.{Upcoming, TheVariants.{Never, Ends, Expires}}}
-use Rattle.machine_model.specs.{Kept.{given_by, polled_by}, Softirq.{RunView, SoftirqView, asked_in, ended, next_of, polled_once, polled_run, pushed}}
-use Rattle.machine_model.specs.{Tasks.{is_application, runnable, with_application}, Application.has_place, Devices.{next_packet_at, with_device, has_room_at}}
+use Rattle.machine_model.specs.Kept.{given_by, polled_by}
+use Rattle.machine_model.specs.Softirq.{RunView, SoftirqView, asked_in, ended, next_of, polled_once, polled_run, pushed}
+use Rattle.machine_model.specs.Tasks.{is_application, runnable, with_application}
+use Rattle.machine_model.specs.Application.{has_place}
+use Rattle.machine_model.specs.Devices.{next_packet_at, with_device, has_room_at}
 use Rattle.machine_model.specs.Device.{after_packet, expired, without_next}
-use Rattle.machine_model.specs.Processor.{ProcessorView, arrives, begins, delivers, delivers_oldest, disturbed, ends_by, ends_current, ends_interrupt, ends_poll}
-use Rattle.machine_model.specs.Processor.{ends_run, happens, interrupts, is_busy, is_polling, looks, polls, scheduled, set_aside, spent, step, takes_up}
+use Rattle.machine_model.specs.Processor.{ProcessorView, arrives, begins, delivers, delivers_oldest, disturbed, ends_by, ends_current}
+use Rattle.machine_model.specs.Processor.{ends_interrupt, ends_poll}
+use Rattle.machine_model.specs.Processor.{ends_run, happens, interrupts, is_busy, is_polling, looks, polls, scheduled, set_aside, spent}
+use Rattle.machine_model.specs.Processor.{step, takes_up}
 use Rattle.machine_model.specs.Processor.{upcoming, woken}
 use Rattle.{circular_buffer.specs.Buffer.buffer, machine_model.specs.{Application.used, Waits.held}}
 use Rattle.machine_model.specs.{Device.{interrupted, polled, raised_again}, Devices.{asks_at, is_fired_at}}
@@ -433,7 +448,8 @@ work-ends : (s : Settings) (work : Work) (p : ProcessorView) → Rests s p → p
     → asked_in p.softirq.run ≡ (if s.threaded then None else polled_by work)
     → (is_polling s ≡ false → polled_by work ≡ None) → given_by work < s.weight → Goes s (ends_by work p)
 unfolding ends_interrupt
-work-ends s Nothing p h nothing asked polled given = goes-ended s p nothing (record { rests = h; unasked = idle-asked s.threaded (asked_in p.softirq.run) asked })
+work-ends s Nothing p h nothing asked polled given = goes-ended s p nothing
+    (record { rests = h; unasked = idle-asked s.threaded (asked_in p.softirq.run) asked })
 work-ends s (Interrupt n) p h nothing asked polled given =
     let unasked = idle-asked s.threaded (asked_in p.softirq.run) asked in
     either (Goes s) (is_polling p.settings) p (ends_interrupt n p)

@@ -99,7 +99,8 @@ ApplicationEnds = (s : Settings) (until : ℕ) (events : List Event) → until <
     let a = (behind s events).application in
     let b = went_on (2 ^ 64 - 1) s.use_time a in
     let uses = used_all s ds ++ ended_until (2 ^ 64 - 1) s.use_time a in
-    Serves s (placed_all true s ds) (placed_all false s ds) uses b × (b.activity ≡ Asleep) × (placed_all true s ds ≡ map (λ (x : ℕ × ℕ). x.0) uses)
+    Serves s (placed_all true s ds) (placed_all false s ds) uses b × (b.activity ≡ Asleep) ×
+    (placed_all true s ds ≡ map (λ (x : ℕ × ℕ). x.0) uses)
 
 -- ---- the receiving side
 
