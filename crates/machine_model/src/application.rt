@@ -90,7 +90,9 @@ impl Application {
     /// Takes the oldest packet out of the socket.
     pub(crate) fn take(&mut self) -> Option<u64>
         ensures packet { result ≡ slice_get self.old.socket.items 0 }
-        ensures application { self.new ≡ record self.old { socket = buffer (drop 1 self.old.socket.items) self.old.socket.capacity } }
+        ensures application { self.new ≡ record self.old {
+          socket = buffer (drop 1 self.old.socket.items) self.old.socket.capacity;
+        } }
     {
         self.socket.pop_front()
     }

@@ -415,7 +415,8 @@ impl Processor {
     fn end_poll(&mut self, number: u32, given: u32) -> Result<(), AllocError>
         requires polled { polled_by self.old.work ≡ Some number }
         requires given { given ≤ self.old.settings.weight }
-        ensures { OnOk result (self.new ≡ ends_poll number given (record self.old { work = Nothing })) }
+        ensures { OnOk result
+            (self.new ≡ ends_poll number given (record self.old { work = Nothing })) }
     {
         let full = given == self.settings.weight;
         if !self.settings.threaded {

@@ -7,7 +7,8 @@ use Rattle.machine_words.specs.declared.words.{Sizes.Sizes, Tasks.Tasks}
 abbrev pub option_names : List Text
 option_names = codes "processors" ∷ codes "queues" ∷ codes "ring" ∷ codes "socket" ∷ codes "backlog" ∷ codes "budget" ∷ codes "weight"
     ∷ codes "window" ∷ codes "time-limit" ∷ codes "rx-nsecs" ∷ codes "rx-frames" ∷ codes "defer-hard-irqs" ∷ codes "gro-flush-timeout"
-    ∷ codes "threaded" ∷ codes "apart" ∷ codes "app-wake" ∷ codes "interrupt" ∷ codes "poll" ∷ codes "packet" ∷ codes "use" ∷ codes "wake" ∷ []
+    ∷ codes "threaded" ∷ codes "apart" ∷ codes "app-wake" ∷ codes "interrupt" ∷ codes "poll" ∷ codes "packet" ∷ codes "use"
+    ∷ codes "wake" ∷ []
 
 -- the number from `low` to `high` that one to ten digits write, or the default if the option isn't given
 abbrev pub number : ℕ → ℕ → ℕ → Option Text → Option ℕ
