@@ -1,39 +1,36 @@
 -- On an idle processor a device's NAPI timer leads to its packets at once.
-use Rattle.std.proofs.Common.{◌≡◌, ◌∙◌, ℕ, zero, suc, ◌+◌, ◌-◌, ◌<◌, ◌≤◌, ◌^◌, Bool, true, false, Option, Some, None, List, [], ◌∷◌, ◌++◌}
+use Rattle.std.proofs.Common.{◌≡◌, ◌∙◌, ℕ, zero, suc, ◌+◌, ◌-◌, ◌<◌, ◌≤◌, Bool, true, false, Option, Some, None, List, [], ◌∷◌, ◌++◌}
 use Rattle.std.proofs.Common.{length, refl, sym, ap}
-use Rattle.std.proofs.Common.{subst, arith, get_or}
-use Rattle.std.proofs.lemmas.Bool.{eqb-true, eqb-false, leb-true, eq-eqb}
+use Rattle.std.proofs.Common.{subst, arith}
 use Rattle.std.proofs.lemmas.List.Sums.{position_or_len_is}
 use Rattle.std.proofs.lemmas.Grind.{common_steps}
 use Rattle.std.specs.List.{position_or_len}
-use Rattle.std.specs.Option.{option_and_then, option_map_or}
+use Rattle.std.specs.Option.{option_map_or}
 use Rattle.std.specs.Prelude.{◌==◌, ◌&&◌, ◌||◌, if◌then◌else◌, is_some, nat_le, nat_lt, not}
-use Rattle.std.specs.Prelude.{position, slice_get, drop}
+use Rattle.std.specs.Prelude.{position, slice_get}
 use Rattle.machine_words.specs.declared.settings.Settings.{Settings}
-use Rattle.device_places.proofs.PlaceFacts.{below-some}
 use Rattle.device_places.specs.Places.{at, changed}
-use Rattle.machine_laws.specs.{Deferrals.DeferralIsBounded, Lives.{Event, behind}}
+use Rattle.machine_laws.specs.{Deferrals.DeferralIsBounded, Lives.{behind}}
 use Rattle.machine_model.specs.declared.device.Phase.{Phase}
-use Rattle.machine_model.specs.declared.device.Phase.TheVariants.{Quiet, Coalescing, Raised, Scheduled, Deferred, Fired}
-use Rattle.machine_model.specs.declared.devices.Timer.{Timer}
+use Rattle.machine_model.specs.declared.device.Phase.TheVariants.{Scheduled, Deferred}
 use Rattle.machine_model.specs.declared.processor.Work.{Work}
-use Rattle.machine_model.specs.declared.processor.Work.TheVariants.{Nothing, Interrupt, Poll, Packet, Use}
+use Rattle.machine_model.specs.declared.processor.Work.TheVariants.{Nothing, Interrupt, Poll, Packet}
 use Rattle.machine_model.specs.declared.processor.ProcessorCounts.{ProcessorCounts}
 use Rattle.machine_model.specs.declared.{processor.Upcoming.{Upcoming, TheVariants.{Ends, Expires}}, device.DeviceCounts.DeviceCounts}
 use Rattle.machine_model.specs.Device.{DeviceView, asks, expired, interrupted, is_fired, next_packet, without_next}
 use Rattle.machine_model.specs.Devices.{Devices, asks_at, is_fired_at}
 use Rattle.machine_model.specs.Devices.{next_packet_at}
-use Rattle.machine_model.specs.Softirq.{RunView, SoftirqView, asked_in, begun, is_spent, next_of, pushed}
+use Rattle.machine_model.specs.Softirq.{RunView, SoftirqView, asked_in, begun, next_of, pushed}
 use Rattle.machine_model.specs.Waits.{held}
 use Rattle.machine_model.specs.Processor.{ProcessorView, begins, begins_run, disturbed, ends_by, ends_current, ends_poll, goes_on}
 use Rattle.machine_model.specs.Processor.{happens, interrupts}
-use Rattle.machine_model.specs.Processor.{ends_interrupt, is_busy, is_polling, leaves_softirq, looks, polls, rests, scheduled, set_aside}
+use Rattle.machine_model.specs.Processor.{ends_interrupt, is_busy, is_polling, leaves_softirq, looks, polls, rests, set_aside}
 use Rattle.machine_model.specs.Processor.{spent, step}
 use Rattle.machine_model.specs.Processor.{takes_up, upcoming, woken}
 use Rattle.machine_model.specs.{Softirq.{filled, next_from}, declared.tasks.Task.TheVariants.Thread}
 use Rattle.machine_model.specs.Device as device
-use Rattle.machine_laws.proofs.{TableFacts.{at-apart, at-changed, at-either, at-here, map_at}, WorkFacts.{Goes, Rests, goes-on, stirred}}
-use Rattle.machine_laws.proofs.LeftFacts.{Resting, list-empty, rested-on, soft-none}
+use Rattle.machine_laws.proofs.{TableFacts.{at-apart, at-changed, at-either, map_at}, WorkFacts.{Goes, goes-on, stirred}}
+use Rattle.machine_laws.proofs.LeftFacts.{Resting, list-empty, rested-on}
 
 -- ---- choices
 

@@ -1,5 +1,5 @@
 -- What happens on a processor comes to an end.
-use Rattle.std.proofs.Common.{◌≡◌, ◌∙◌, ℕ, zero, suc, ◌+◌, ◌<◌, Bool, true, false, Option, None, refl, sym, ap, subst, arith}
+use Rattle.std.proofs.Common.{◌≡◌, ◌∙◌, ℕ, zero, suc, ◌<◌, Bool, true, false, None, refl, sym, ap, subst, arith}
 use Rattle.std.specs.Prelude.{if◌then◌else◌}
 use Rattle.{machine_words.specs.declared.settings.Settings.Settings, machine_laws.specs.{Deferrals.EveryRunEnds, Lives.behind}}
 use Rattle.machine_model.specs.Processor.{Advances, ProcessorView, after, is_due, step, upcoming}

@@ -4,8 +4,8 @@ use Rattle.{machine_words.specs.declared.settings.Settings.Settings, device_plac
 use Rattle.machine_laws.specs.{Fates.finds_room, Lives.{Event, InTurn, behind, next, packet}}
 use Rattle.machine_model.specs.{Device.{DeviceView, next_packet}, declared.device.Phase.TheVariants.Deferred}
 use Rattle.machine_model.specs.{Devices.next_packet_at, Processor.{Advances, ProcessorView, is_polling, step, upcoming}}
-use Rattle.machine_model.specs.declared.processor.{Upcoming.{Upcoming, TheVariants.{Never, Ends, Expires}}, Work.Work}
-use Rattle.machine_model.specs.declared.processor.Work.TheVariants.{Interrupt, Nothing, Packet, Poll, Use}
+use Rattle.machine_model.specs.declared.processor.{Upcoming.{Upcoming, TheVariants.{Ends, Expires}}, Work.Work}
+use Rattle.machine_model.specs.declared.processor.Work.TheVariants.{Nothing, Packet, Poll}
 
 -- a poll ends that gave nothing: one empty poll of its device more; with a packet of the device there is none since
 abbrev pub emptied_by : ℕ → Work → ProcessorView → ℕ → ℕ
