@@ -396,7 +396,7 @@ and-none : (b : Bool) → (b && not (0 == 0)) ≡ false
 and-none true = refl
 and-none false = refl
 
-rested-on : (s : Settings) (events : List Event) → Rested s (behind s events)
+pub rested-on : (s : Settings) (events : List Event) → Rested s (behind s events)
 unfolding behind step
 rested-on s [] = record {
   tasked = record { settings = refl; single = omega arith; wakes = λ threaded here. omega arith };
@@ -444,7 +444,7 @@ no-length : (xs : List ℕ) → (length xs == 0) ≡ true → xs ≡ []
 no-length [] is = refl
 no-length (x ∷ xs) is = let none : length (x ∷ xs) ≡ 0 = eqb-true (length (x ∷ xs)) 0 is in absurd (omega arith)
 
-list-empty : (b : Bool) (list : List ℕ) → (b && not (length list == 0)) ≡ false → (b ≡ false → list ≡ []) → list ≡ []
+pub list-empty : (b : Bool) (list : List ℕ) → (b && not (length list == 0)) ≡ false → (b ≡ false → list ≡ []) → list ≡ []
 list-empty false list is free = free refl
 list-empty true list is free = by (length list == 0) refl is
   where
@@ -452,7 +452,7 @@ list-empty true list is free = by (length list == 0) refl is
     by true none is = no-length list none
     by false some is = cc is
 
-soft-none : (a b : Bool) → a ≡ false → (a && b) ≡ false
+pub soft-none : (a b : Bool) → a ≡ false → (a && b) ≡ false
 soft-none false b is = refl
 soft-none true b is = cc is
 

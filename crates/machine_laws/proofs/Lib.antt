@@ -17,4 +17,6 @@ pub mod EmptyFacts
 pub mod TendFacts
 pub mod LeftFacts
 pub mod NearFacts
+pub mod BoundFacts
+pub mod RunFacts
 pub mod LifeFacts

@@ -1,11 +1,11 @@
 -- Laws of deferral.
-use Rattle.std.specs.Prelude.{◌≡◌, ◌≤◌, ◌<◌, ℕ, ◌+◌, ◌^◌, ◌==◌, ◌&&◌, max, not, is_some, Some, List, [], ◌∷◌, if◌then◌else◌}
+use Rattle.std.specs.Prelude.{◌≡◌, ◌≤◌, ◌<◌, ℕ, ◌+◌, ◌^◌, ◌==◌, ◌&&◌, max, not, is_some, true, false, Some, List, [], ◌∷◌, if◌then◌else◌}
 use Rattle.{machine_words.specs.declared.settings.Settings.Settings, device_places.specs.Places.at}
 use Rattle.machine_laws.specs.{Fates.finds_room, Lives.{Event, InTurn, behind, next, packet}}
-use Rattle.machine_model.specs.{Device.DeviceView, declared.device.Phase.TheVariants.Deferred}
-use Rattle.machine_model.specs.{Devices.next_packet_at, Processor.{Advances, ProcessorView, upcoming}}
-use Rattle.machine_model.specs.declared.processor.{Upcoming.{Upcoming, TheVariants.{Ends}}, Work.Work}
-use Rattle.machine_model.specs.declared.processor.Work.TheVariants.{Packet, Poll}
+use Rattle.machine_model.specs.{Device.{DeviceView, next_packet}, declared.device.Phase.TheVariants.Deferred}
+use Rattle.machine_model.specs.{Devices.next_packet_at, Processor.{Advances, ProcessorView, is_polling, step, upcoming}}
+use Rattle.machine_model.specs.declared.processor.{Upcoming.{Upcoming, TheVariants.{Never, Ends, Expires}}, Work.Work}
+use Rattle.machine_model.specs.declared.processor.Work.TheVariants.{Interrupt, Nothing, Packet, Poll, Use}
 
 -- a poll ends that gave nothing: one empty poll of its device more; with a packet of the device there is none since
 abbrev pub emptied_by : ℕ → Work → ProcessorView → ℕ → ℕ
@@ -38,3 +38,15 @@ abbrev pub TimersAreNear : Type 0
 TimersAreNear = (s : Settings) (moment : ℕ) (events : List Event) (n : ℕ) (d : DeviceView) (until : ℕ) → moment < 2 ^ 64
     → InTurn s moment events
     → at n (behind s events).devices ≡ Some d → d.phase ≡ Deferred until → until ≤ moment + s.gro_flush_timeout
+
+-- Law: on an idle processor with polling and without threads, when the next to happen is that a device's NAPI timer expires, and nothing
+-- else comes between: the device's interrupt, its poll and its oldest packet follow at once, and that is delivered at most `wake`,
+-- `interrupt`, `poll` and `packet` later. With the law before, it waited no longer than these and `gro-flush-timeout`.
+abbrev pub DeferralIsBounded : Type 0
+DeferralIsBounded = (s : Settings) (events : List Event) (n until came : ℕ) (d : DeviceView) → let p = behind s events in
+    is_polling s ≡ true → s.threaded ≡ false → p.work ≡ Nothing → at n p.devices ≡ Some d → d.phase ≡ Deferred until
+    → upcoming p ≡ Expires (record { at = until; device = n }) → next_packet s.backlog d ≡ Some came
+    → upcoming (step p) ≡ Ends
+    → upcoming (step (step p)) ≡ Ends
+    → ((step (step (step p))).work ≡ Packet (record { device = n; came = came; given = 0 }))
+    × ((step (step (step p))).ends ≤ until + (s.wake + (s.interrupt + (s.poll + s.packet))))

@@ -1,11 +1,12 @@
-//! Internal crate of the facade `machine`: laws of the receiving machine, which hold for all settings and all arrivals.
+//! Behind the door `machine`: laws of the receiving machine, which hold for all settings and all arrivals.
 //!
 //! Each law is the contract of a function that does nothing. `specs/` has their statements: `Lives` says what the life of a
-//! processor is, `Fates` what becomes of packets, `Times` what time and work come to.
+//! processor is, `Fates` what becomes of packets, `Times` what time and work come to, `Applications` what an application on a
+//! processor of its own does, and `Deferrals` what deferred interrupts lead to.
 #![tactic(auto)]
 
 ghost use Rattle.machine_laws.specs.Applications.{ApplicationEnds, ApplicationIsFed, ApplicationServes, ReceivingIsApart};
-ghost use Rattle.machine_laws.specs.Deferrals.{EmptyPollsAreFew, TimersAreNear};
+ghost use Rattle.machine_laws.specs.Deferrals.{DeferralIsBounded, EmptyPollsAreFew, EveryRunEnds, TimersAreNear};
 ghost use Rattle.machine_laws.specs.Fates.{DeliversInOrder, NothingIsLeft, TellsOfDevice, TellsOfUse, UsesInOrder};
 ghost use Rattle.machine_laws.specs.Lives.{ArrivesAsOne, EachLives, RunsAsOne};
 ghost use Rattle.machine_laws.specs.Times.{ClocksNeverFall, NoWaitIsLess, WorksWithin};
@@ -91,7 +92,18 @@ pub fn empty_polls_are_few()
     ensures { EmptyPollsAreFew }
 {}
 
+/// With no further packets, what happens on a processor comes to an end.
+pub fn every_run_ends()
+    ensures { EveryRunEnds }
+{}
+
 /// When a packet arrives for a device whose interrupt is deferred, its NAPI timer expires at most `gro-flush-timeout` later.
 pub fn timers_are_near()
     ensures { TimersAreNear }
+{}
+
+/// On an idle processor the oldest packet of a device whose NAPI timer expires is delivered at once: at most the times to wake up, of
+/// an interrupt, of a poll and of a packet later.
+pub fn deferral_is_bounded()
+    ensures { DeferralIsBounded }
 {}

@@ -1,5 +1,6 @@
 -- The application goes on, step by step.
-use Rattle.std.proofs.{Common.{◌≡◌, ◌∙◌, ℕ, ◌+◌, ◌≤◌, ◌<◌, Bool, true, false, List, [], ◌∷◌, length, refl, sym, arith}, lemmas.Grind.common_steps}
+use Rattle.std.proofs.{Common.{◌≡◌, ◌∙◌, ℕ, ◌+◌, ◌≤◌, ◌<◌, Bool, true, false, List, [], ◌∷◌, length, refl, sym, arith}}
+use Rattle.std.proofs.{lemmas.Grind.common_steps}
 use Rattle.std.specs.Prelude.{if◌then◌else◌}
 use Rattle.machine_words.specs.declared.settings.Settings.{Settings}
 use Rattle.machine_model.specs.declared.application.Activity.{Activity, TheVariants.Asleep}
@@ -37,7 +38,8 @@ went-goes moment use_time a over = by a.socket.items refl
   where
     by : (xs : List ℕ) → a.socket.items ≡ xs → went_on_with xs moment use_time a ≡ went_on moment use_time (goes_on use_time a)
     by [] is =
-        (rw over refl) ∙ sym (went-stays moment use_time (goes_on use_time a) (asleep moment (goes_on use_time a) (goes-none use_time a is)))
+        (rw over refl) ∙ sym (went-stays moment use_time (goes_on use_time a) (asleep moment (goes_on use_time a)
+        (goes-none use_time a is)))
     by (came ∷ more) is = rw (over, goes-more use_time a came more is) refl
 
 -- ---- how much is left
@@ -77,7 +79,8 @@ went-few [] moment use_time a = by (is_over moment a)
     by false = omega arith
 went-few (x ∷ xs) moment use_time a = by (is_over moment a) (went-few xs moment use_time (goes_on use_time a))
   where
-    by : (b : Bool) → length (went_on_with xs moment use_time (goes_on use_time a)).socket.items ≤ length (goes_on use_time a).socket.items
+    by : (b : Bool) → length (went_on_with xs moment use_time (goes_on use_time a)).socket.items
+        ≤ length (goes_on use_time a).socket.items
         → length (if b then went_on_with xs moment use_time (goes_on use_time a) else a).socket.items ≤ length a.socket.items
     by true rest = omega (arith, rest, goes-few use_time a)
     by false rest = omega arith

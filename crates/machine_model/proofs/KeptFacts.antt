@@ -1,13 +1,13 @@
 -- What is true of each processor stays so.
 use Rattle.std.proofs.Common.{◌≡◌, ◌∙◌, ℕ, ◌+◌, ◌<◌, ◌≤◌, Bool, true, false, Option, Some, None, length, refl, sym, arith}
-use Rattle.std.{proofs.lemmas.Grind.common_steps, specs.Prelude.{◌==◌, if◌then◌else◌, is_some}}
+use Rattle.std.{proofs.lemmas.Grind.common_steps, specs.Prelude.{◌==◌, if◌then◌else◌}}
 use Rattle.machine_words.specs.declared.settings.Settings.{Settings}
-use Rattle.{poll_runs.specs.declared.bench.Next.TheVariants.{Gone, Repoll}, device_places.specs.Places.{at, changed}}
+use Rattle.{poll_runs.specs.declared.bench.Next.TheVariants.{Gone, Repoll}, device_places.specs.Places.{changed}}
 use Rattle.poll_runs.specs.declared.bench.Once.{Once}
 use Rattle.machine_model.specs.{Device.{polled}, Devices.{Devices}, Processor.is_polling, Shown.{held_in, listed}}
 use Rattle.machine_model.specs.Kept.{Kept, all_scheduled, given_by, has_list, polled_by}
 use Rattle.machine_model.specs.Softirq.{RunView, SoftirqView, asked_in, begun, ended, next_of, polled_once, pushed}
-use Rattle.machine_model.specs.declared.processor.Work.{Work, TheVariants.{Nothing, Poll}}
+use Rattle.machine_model.specs.declared.processor.Work.{Work, TheVariants.{Nothing}}
 use Rattle.machine_model.proofs.ListedFacts.{asked-polled, listed-begun, listed-ended, listed-polled, listed-pushed, next-keeps}
 use Rattle.machine_model.proofs.{ListedFacts.weight-polled, PlacesFacts.{scheduled-polled}}
 

@@ -7,4 +7,5 @@ pub mod ApplicationFacts
 pub mod TimerFacts
 pub mod StepFacts
 pub mod MachineFacts
+pub mod WeightFacts
 pub mod LeftFacts

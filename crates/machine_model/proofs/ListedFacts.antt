@@ -3,7 +3,8 @@ use Rattle.std.proofs.lemmas.Grind.{common_steps}
 use Rattle.std.proofs.Common.{◌≡◌, ℕ, ◌+◌, Bool, true, false, Option, Some, None, List, [], ◌∷◌, ◌++◌, drop, length, length-append, refl}
 use Rattle.std.{proofs.Common.arith, specs.Prelude.{is_some, slice_get, if◌then◌else◌, option_map}}
 use Rattle.poll_runs.specs.Turn.{asked_for}
-use Rattle.{poll_runs.specs.declared.bench.{Next.TheVariants.{Gone, Repoll}, Once.Once}, machine_model.specs.Softirq.{RunView, SoftirqView}}
+use Rattle.{poll_runs.specs.declared.bench.{Next.TheVariants.{Gone, Repoll}, Once.Once}}
+use Rattle.{machine_model.specs.Softirq.{RunView, SoftirqView}}
 use Rattle.machine_model.specs.Softirq.{asked_in, begun, ended, filled, is_spent, next_from, next_of, pushed, polled_once, polled_run}
 use Rattle.machine_model.specs.Shown.{weight_in, listed}
 

@@ -1,9 +1,9 @@
 -- Sums over a processor's devices as one of them changes, and how many are scheduled.
-use Rattle.std.proofs.Common.{◌+◌, ◌<◌, ◌≤◌, Bool, true, false, Option, Some, None, [], ◌∷◌, ◌++◌, length, replicate, arith, ◌≡◌, ℕ}
-use Rattle.std.{proofs.lemmas.{List.Sums.sum_by-cons, Grind.common_steps}, specs.Prelude.{◌==◌, not, sum_by, if◌then◌else◌}}
+use Rattle.std.proofs.Common.{◌+◌, ◌≤◌, Bool, true, false, Option, Some, None, [], ◌∷◌, ◌++◌, length, replicate, arith, ◌≡◌, ℕ}
+use Rattle.std.{proofs.lemmas.{List.Sums.sum_by-cons, Grind.common_steps}, specs.Prelude.{◌==◌, sum_by, if◌then◌else◌}}
 use Rattle.{device_places.{proofs.PlaceFacts.below-some, specs.Places.{at, changed}}, machine_model.specs.Devices.{Devices, asks_at}}
 use Rattle.machine_words.specs.declared.settings.Settings.{Settings}
-use Rattle.machine_model.specs.{Device.{DeviceView, after_packet, completed, expired, interrupted, is_fired, is_masked, notified, polled}}
+use Rattle.machine_model.specs.{Device.{DeviceView, after_packet, expired, interrupted, is_masked, notified, polled}}
 use Rattle.machine_model.specs.{Device.{asks, expired_phase, without_next}, Kept.{all_scheduled, is_scheduled, scheduled_at}}
 use Rattle.machine_model.specs.declared.device.Phase.{Phase}
 
@@ -75,7 +75,8 @@ same-next backlog d = grind (arith, common_steps)
 unmasked-open : (phase : Phase) → is_masked phase ≡ false → is_scheduled phase ≡ false
 unmasked-open phase clear = grind (arith, common_steps)
 
-notified-open : (moment : ℕ) (s : Settings) (d : DeviceView) → is_scheduled d.phase ≡ false → is_scheduled (notified moment s d).phase ≡ false
+notified-open : (moment : ℕ) (s : Settings) (d : DeviceView) → is_scheduled d.phase ≡ false
+    → is_scheduled (notified moment s d).phase ≡ false
 unfolding notified
 notified-open moment s d clear = grind (arith, common_steps)
 

@@ -1,5 +1,5 @@
 -- The soonest of timers, one after the other.
-use Rattle.std.proofs.{Common.{◌≡◌, ◌∙◌, ℕ, ◌+◌, ◌<◌, suc, Bool, true, false, Option, Some, None, length, drop, get_or, refl, sym, ap, arith}}
+use Rattle.std.proofs.{Common.{◌≡◌, ◌∙◌, ℕ, ◌+◌, ◌<◌, suc, Bool, true, false, Option, Some, None, length, drop, get_or, refl, ap, arith}}
 use Rattle.std.{proofs.{lemmas.Grind.common_steps, Math.Seq.drop-cons}, specs.Prelude.{nat_le, if◌then◌else◌}}
 use Rattle.machine_model.specs.{Devices.{Devices, soonest_from, sooner, timer_at}, declared.devices.Timer.Timer}
 

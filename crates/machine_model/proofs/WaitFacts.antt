@@ -1,6 +1,8 @@
 -- Buckets, and what is counted in them.
-use Rattle.std.proofs.{Math.Nat.{div-lt_iff_lt-mul, mod-eq_of_lt, one-le-pow, pow-le-pow_right, mul-le-mul}, Common.{◌≡◌, ℕ, ◌+◌, ◌-◌, ◌*◌}}
-use Rattle.std.{proofs.{Common.{◌/◌, ◌%◌, ◌^◌, ◌<◌, ◌≤◌, arith}, lemmas.Nat.{leading_length, pow-add}}, specs.Int.Count.count_leading_zeros}
+use Rattle.std.proofs.{Math.Nat.{div-lt_iff_lt-mul, mod-eq_of_lt, one-le-pow, pow-le-pow_right, mul-le-mul}}
+use Rattle.std.proofs.{Common.{◌≡◌, ℕ, ◌+◌, ◌-◌, ◌*◌}}
+use Rattle.std.{proofs.{Common.{◌/◌, ◌%◌, ◌^◌, ◌<◌, ◌≤◌, arith}, lemmas.Nat.{leading_length, pow-add}}}
+use Rattle.std.{specs.Int.Count.count_leading_zeros}
 
 -- a wait has fewer than 1024 of the bucket's first digits, and at most 54 digits follow them
 pub bucket-below : (wait rest : ℕ) → wait < 2 ^ 64 → rest ≡ 54 - count_leading_zeros 64 wait → 512 * rest + wait / 2 ^ rest < 28672

@@ -1,5 +1,5 @@
 -- The devices of a processor, by their numbers there.
-use Rattle.std.specs.Prelude.{ℕ, ◌+◌, ◌-◌, nat_le, Bool, false, List, [], ◌∷◌, ◌++◌, length, replicate, Option, Some, None, if◌then◌else◌}
+use Rattle.std.specs.Prelude.{ℕ, ◌+◌, ◌-◌, nat_le, Bool, false, [], ◌∷◌, ◌++◌, length, replicate, Option, Some, None, if◌then◌else◌}
 use Rattle.std.specs.Option.{option_and_then, option_map, option_map_or}
 use Rattle.{device_places.specs.Places.{Places, added}, machine_model.specs.declared.devices.Timer.Timer}
 use Rattle.machine_model.specs.Device.{DeviceView, asks, is_fired, has_room, next_packet, opened, timer_of}

@@ -1,7 +1,9 @@
 -- What is true of each processor.
-use Rattle.std.specs.Prelude.{◌≡◌, ◌≤◌, ◌<◌, ◌&&◌, not, Bool, true, false, is_some, List, ℕ, length, sum_by, Option, Some, None, if◌then◌else◌}
-use Rattle.{std.specs.Option.option_map_or, machine_words.specs.declared.settings.Settings.Settings, machine_model.specs.Device.DeviceView}
-use Rattle.machine_model.specs.{Devices.Devices, Shown.{listed, weight_in}, Softirq.{SoftirqView, asked_in}, Processor.{ProcessorView, is_polling}}
+use Rattle.std.specs.Prelude.{◌≡◌, ◌≤◌, ◌<◌, ◌&&◌, not, Bool, true, false, is_some, ℕ, sum_by, Option, Some, None, if◌then◌else◌}
+use Rattle.{std.specs.Option.option_map_or, machine_words.specs.declared.settings.Settings.Settings}
+use Rattle.{machine_model.specs.Device.DeviceView}
+use Rattle.machine_model.specs.{Devices.Devices, Shown.{listed, weight_in}, Softirq.{SoftirqView, asked_in}}
+use Rattle.machine_model.specs.{Processor.{ProcessorView, is_polling}}
 use Rattle.machine_model.specs.declared.{device.Phase.{Phase, TheVariants.Scheduled}, processor.Work.{Work, TheVariants.{Poll, Packet}}}
 
 -- how many devices are scheduled

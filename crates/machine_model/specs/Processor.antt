@@ -1,16 +1,17 @@
 -- A processor: what it takes up, and what happens as work ends, timers expire and packets arrive.
 use Rattle.std.specs.Prelude.{◌≡◌, ℕ, zero, suc, ◌+◌, ◌-◌, ◌<◌, ◌==◌, ◌||◌, ◌&&◌, not, nat_le, nat_lt, Bool, true, false, List, [], ◌∷◌}
-use Rattle.std.specs.{Prelude.{◌++◌, drop, length, position, slice_get, Option, Some, None, is_some, if◌then◌else◌}, Option.option_map_or}
+use Rattle.std.specs.{Prelude.{◌++◌, length, position, slice_get, Option, Some, None, is_some, if◌then◌else◌}, Option.option_map_or}
 use Rattle.{circular_buffer.specs.Buffer.{buffer}, device_places.specs.Places.{at, changed}}
 use Rattle.{machine_words.specs.declared.settings.Settings.Settings, poll_runs.specs.declared.bench.Next.TheVariants.{Gone, Repoll}}
 use Rattle.poll_runs.specs.declared.bench.Once.{Once}
 use Rattle.machine_model.specs.Device.{after_packet, delivered, expired, interrupted, polled, raised_again, without_next}
 use Rattle.machine_model.specs.Devices.{Devices, asks_at, has_room_at, is_fired_at, next_packet_at, soonest_from, with_device}
-use Rattle.machine_model.specs.Softirq.{RunView, SoftirqView, begun, asked_in, ended, is_spent, next_of, polled_once, pushed}
+use Rattle.machine_model.specs.Softirq.{SoftirqView, begun, asked_in, ended, is_spent, next_of, polled_once, pushed}
 use Rattle.machine_model.specs.{Application.{ApplicationView, fed, has_place, opened_application, used}, Waits.held}
 use Rattle.machine_model.specs.Tasks.{after_first, runnable, with_application}
 use Rattle.machine_model.specs.declared.{devices.Timer.Timer, tasks.Task.{Task, TheVariants.{Application, Thread}}}
-use Rattle.machine_model.specs.declared.processor.{ProcessorCounts.ProcessorCounts, TheConstants.ProcessorCounts.NONE, Work.Work, Rest.Rest}
+use Rattle.machine_model.specs.declared.processor.{ProcessorCounts.ProcessorCounts, TheConstants.ProcessorCounts.NONE, Work.Work}
+use Rattle.machine_model.specs.declared.processor.{Rest.Rest}
 use Rattle.machine_model.specs.declared.processor.{Work.TheVariants.{Nothing, Interrupt, Poll, Packet, Use}, Upcoming.Upcoming}
 use Rattle.machine_model.specs.declared.processor.Upcoming.TheVariants.{Never, Ends, Expires}
 

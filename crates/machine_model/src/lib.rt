@@ -1,4 +1,4 @@
-//! Internal crate of the facade `machine`: a receiving machine in time, over the driven runs of one thread.
+//! Behind the door `machine`: a receiving machine in time, over the driven runs of one thread.
 //!
 //! `specs/` is its definition: `Waits` has how waits are counted, `Device`, `Devices`, `Softirq` and `Application` what happens to
 //! a device, a poll list and an application, `Processor` what a processor takes up and what happens as time passes, `Machine` what

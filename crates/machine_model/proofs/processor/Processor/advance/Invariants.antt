@@ -3,7 +3,8 @@ use Rattle.machine_model.{specs.Processor.{after, is_due}, proofs.LeftFacts.{lef
 use Rattle.machine_model.proofs.processor.Processor.advance.Given as goal
 
 abbrev pub invariant-loop-self : goal.invariant-loop-self
-invariant-loop-self l = (count : ℕ) × ((n : ℕ) → n < count → is_due l.moment (after n l.fn.self) ≡ true) × (l.self ≡ after count l.fn.self)
+invariant-loop-self l = (count : ℕ) × ((n : ℕ) → n < count
+    → is_due l.moment (after n l.fn.self) ≡ true) × (l.self ≡ after count l.fn.self)
 
 abbrev pub decreases-loop-self : goal.decreases-loop-self
 decreases-loop-self l = left load l.self

@@ -1,5 +1,5 @@
 use Rattle.std.proofs.Common.{◌≡◌, ◌∙◌, None, arith, refl, sym}
-use Rattle.machine_model.{specs.Softirq.{asked_in, begun, next_of}, proofs.KeptFacts.{if-none, kept-begun, kept-next}}
+use Rattle.machine_model.{specs.Softirq.{begun}, proofs.KeptFacts.{kept-begun, kept-next}}
 use Rattle.machine_model.specs.declared.processor.Work.TheVariants.{Poll}
 use Rattle.machine_model.proofs.processor.Processor.begin_run.Goals as goal
 

@@ -1,7 +1,7 @@
-use Rattle.std.proofs.Common.{◌≡◌, ◌∙◌, ◌+◌, ◌<◌, Some, ap, refl, arith}
+use Rattle.std.proofs.Common.{◌∙◌, ◌+◌, ap, refl, arith}
 use Rattle.machine_model.specs.Processor.{ProcessorView, delivers, ends_current, looks}
-use Rattle.machine_model.specs.Kept.{given_by, polled_by}
-use Rattle.machine_model.specs.declared.processor.Work.TheVariants.{Nothing, Packet}
+use Rattle.machine_model.specs.Kept.{polled_by}
+use Rattle.machine_model.specs.declared.processor.Work.TheVariants.{Nothing}
 use Rattle.machine_model.proofs.processor.Processor.end_current.Goals as goal
 
 pub look-requires-in-Packet-clause-polled : goal.look-requires-in-Packet-clause-polled

@@ -1,8 +1,9 @@
-use Rattle.std.proofs.Common.{◌≡◌, Some, arith}
+use Rattle.std.proofs.Common.{◌≡◌, Some}
 use Rattle.machine_model.specs.Kept.{polled_by}
 use Rattle.machine_model.proofs.KeptFacts.{kept-alone, kept-asks, kept-polled}
 use Rattle.machine_model.proofs.processor.Processor.end_poll.Goals as goal
-use Rattle.machine_model.proofs.processor.Processor.end_poll.Goals.{else-not-self+else-full, else-not-self+then-full+in_ok-push_first, then-not-self}
+use Rattle.machine_model.proofs.processor.Processor.end_poll.Goals.{else-not-self+else-full}
+use Rattle.machine_model.proofs.processor.Processor.end_poll.Goals.{else-not-self+then-full+in_ok-push_first, then-not-self}
 
 pub invariant_of-self-2 : goal.invariant_of-self-2
 invariant_of-self-2 c =

@@ -1,5 +1,5 @@
-use Rattle.std.proofs.Common.{◌≡◌, ◌∙◌, None, arith, refl, sym}
-use Rattle.machine_model.{specs.{Kept.polled_by, Softirq.asked_in}, proofs.KeptFacts.{asks-unthreaded, if-none, kept-idle, kept-next}}
+use Rattle.std.proofs.Common.{◌∙◌, arith, refl, sym}
+use Rattle.machine_model.{specs.{Kept.polled_by}, proofs.KeptFacts.{asks-unthreaded, if-none, kept-idle, kept-next}}
 use Rattle.machine_model.specs.declared.processor.Work.TheVariants.{Poll}
 use Rattle.machine_model.proofs.processor.Processor.go_on.Goals as goal
 
@@ -21,5 +21,6 @@ invariant_of-self-in-None c =
     let none = kept-idle i.settings i.work i.devices i.softirq c.self.invariant (rw nothing refl) in
     let asked = rw c.next.ensures.softirq at (sym c.next.ensures.answer ∙ c.in-None.is) in
     rw c.next.ensures.softirq
-    (kept-next i.settings i.work i.work i.devices i.softirq c.self.invariant none (asked ∙ sym (if-none i.settings.threaded (polled_by i.work) (rw nothing refl)))
+    (kept-next i.settings i.work i.work i.devices i.softirq c.self.invariant none (asked ∙ sym (if-none i.settings.threaded
+    (polled_by i.work) (rw nothing refl)))
     c.self.invariant.within)

@@ -1,0 +1,341 @@
+-- On an idle processor a device's NAPI timer leads to its packets at once.
+use Rattle.std.proofs.Common.{◌≡◌, ◌∙◌, ℕ, zero, suc, ◌+◌, ◌-◌, ◌<◌, ◌≤◌, ◌^◌, Bool, true, false, Option, Some, None, List, [], ◌∷◌, ◌++◌, length, refl, sym, ap}
+use Rattle.std.proofs.{Common.{subst, arith, get_or}, lemmas.{Bool.{eqb-true, eqb-false, leb-true, eq-eqb}, List.Sums.position_or_len_is, Grind.common_steps}}
+use Rattle.std.specs.{List.position_or_len, Option.{option_and_then, option_map_or}, Prelude.{◌==◌, ◌&&◌, ◌||◌, if◌then◌else◌, is_some, nat_le, nat_lt, not}}
+use Rattle.std.specs.Prelude.{position, slice_get, drop}
+use Rattle.{machine_words.specs.declared.settings.Settings.Settings, device_places.{proofs.PlaceFacts.below-some, specs.Places.{at, changed}}}
+use Rattle.machine_laws.specs.{Deferrals.DeferralIsBounded, Lives.{Event, behind}}
+use Rattle.machine_model.specs.declared.{device.Phase.{Phase, TheVariants.{Quiet, Coalescing, Raised, Scheduled, Deferred, Fired}}, devices.Timer.Timer}
+use Rattle.machine_model.specs.declared.processor.{Work.{Work, TheVariants.{Nothing, Interrupt, Poll, Packet, Use}}, ProcessorCounts.ProcessorCounts}
+use Rattle.machine_model.specs.declared.{processor.Upcoming.{Upcoming, TheVariants.{Ends, Expires}}, device.DeviceCounts.DeviceCounts}
+use Rattle.machine_model.specs.{Device.{DeviceView, asks, expired, interrupted, is_fired, next_packet, without_next}, Devices.{Devices, asks_at, is_fired_at}}
+use Rattle.machine_model.specs.{Devices.next_packet_at, Softirq.{RunView, SoftirqView, asked_in, begun, is_spent, next_of, pushed}, Waits.held}
+use Rattle.machine_model.specs.Processor.{ProcessorView, begins, begins_run, disturbed, ends_by, ends_current, ends_poll, goes_on, happens, interrupts}
+use Rattle.machine_model.specs.Processor.{ends_interrupt, is_busy, is_polling, leaves_softirq, looks, polls, rests, scheduled, set_aside, spent, step}
+use Rattle.machine_model.specs.Processor.{takes_up, upcoming, woken}
+use Rattle.machine_model.specs.{Softirq.{filled, next_from}, declared.tasks.Task.TheVariants.Thread}
+use Rattle.machine_model.specs.Device as device
+use Rattle.machine_laws.proofs.{TableFacts.{at-apart, at-changed, at-either, at-here, map_at}, WorkFacts.{Goes, Rests, goes-on, stirred}}
+use Rattle.machine_laws.proofs.LeftFacts.{Resting, list-empty, rested-on, soft-none}
+
+-- ---- choices
+
+if-on : {A : Type 0} (b : Bool) (x y : A) → b ≡ true → (if b then x else y) ≡ x
+if-on true x y is = refl
+if-on false x y is = cc is
+
+if-of : {A : Type 0} (b : Bool) (x y : A) → b ≡ false → (if b then x else y) ≡ y
+if-of false x y is = refl
+if-of true x y is = cc is
+
+-- ---- the first device that asks
+
+below-is : (ds : Devices) (n : ℕ) → asks_at (at n ds) ≡ true → n < length ds
+below-is [] n asks = cc asks
+below-is (place ∷ more) zero asks = omega arith
+below-is (place ∷ more) (suc n) asks = omega (arith, below-is more n asks)
+
+position-is : (ds : Devices) (n : ℕ) → asks_at (at n ds) ≡ true → ((k : ℕ) → k < n → asks_at (at k ds) ≡ false) → position asks_at ds ≡ Some n
+position-is ds n asks none =
+    let below : n < length ds = below-is ds n asks in
+    let first : position_or_len asks_at ds ≡ n = position_or_len_is asks_at ds n None (omega (arith, below)) none (λ less. asks) in
+    let less : nat_lt (position_or_len asks_at ds) (length ds) ≡ true = lt-is (position_or_len asks_at ds) (length ds) (omega (arith, first, below)) in
+    subst (λ (b : Bool). (if b then Some (position_or_len asks_at ds) else None) ≡ Some n) (sym less) (ap (λ (k : ℕ). Some k) first)
+  where
+    lt-is : (a b : ℕ) → a < b → nat_lt a b ≡ true
+    lt-is a b below = grind (arith, common_steps)
+
+position-none : (ds : Devices) → ((k : ℕ) → asks_at (at k ds) ≡ false) → position asks_at ds ≡ None
+position-none ds none =
+    let last : position_or_len asks_at ds ≡ length ds =
+    position_or_len_is asks_at ds (length ds) None (omega arith) (λ k below. none k) (λ less. absurd (omega (arith, less))) in
+    let more : nat_lt (position_or_len asks_at ds) (length ds) ≡ false = lt-not (position_or_len asks_at ds) (length ds) (omega (arith, last)) in
+    subst (λ (b : Bool). (if b then Some (position_or_len asks_at ds) else None) ≡ None) (sym more) refl
+  where
+    lt-not : (a b : ℕ) → b ≤ a → nat_lt a b ≡ false
+    lt-not a b above = grind (arith, common_steps)
+
+-- ---- the timer expires
+
+takes-interrupt : (n : ℕ) (p : ProcessorView) → p.work ≡ Nothing → position asks_at p.devices ≡ Some n → takes_up p ≡ interrupts n p
+unfolding takes_up
+takes-interrupt n p nothing asks =
+    if-of (is_busy p.work) p
+    (option_map_or (λ (k : ℕ). interrupts k p) (position asks_at p.devices) (if is_some p.softirq.run then goes_on p else rests p))
+    (ap is_busy nothing)
+    ∙ ap (λ (o : Option ℕ). option_map_or (λ (k : ℕ). interrupts k p) o (if is_some p.softirq.run then goes_on p else rests p)) asks
+
+stirred-idle : (t : ℕ) (p : ProcessorView) → p.work ≡ Nothing → stirred t p ≡ woken t (is_some (position asks_at p.devices)) p
+stirred-idle t p nothing =
+    let asked = is_some (position asks_at p.devices) in
+    if-of (is_busy p.work) (if asked then set_aside t p.work p else p) (woken t asked p) (ap is_busy nothing)
+
+-- how an interrupt leaves the processor, with polling and without threads
+pub record Interrupted (n : ℕ) (p q : ProcessorView) : Type 0 where
+  pub work : q.work ≡ Interrupt n
+  pub ends : q.ends ≡ held (p.clock + p.settings.interrupt)
+  pub settings : q.settings ≡ p.settings
+  pub softirq : q.softirq ≡ pushed n p.softirq
+  pub devices : q.devices ≡ changed (interrupted true) n p.devices
+
+interrupted-is : (n : ℕ) (p : ProcessorView) → is_polling p.settings ≡ true → p.settings.threaded ≡ false → Interrupted n p (interrupts n p)
+unfolding interrupts
+interrupted-is n p polling single = by (is_polling p.settings) p.settings.threaded polling single
+  where
+    counts : ProcessorCounts
+    counts = if is_fired_at (at n p.devices) then record p.counts { timers = held (p.counts.timers + 1) }
+        else record p.counts { interrupts = held (p.counts.interrupts + 1) }
+
+    x : Bool → ProcessorView
+    x b = record p { devices = changed (interrupted b) n p.devices; counts = counts }
+
+    by : (b t : Bool) → b ≡ true → t ≡ false → Interrupted n p
+        (begins (Interrupt n) (if b then p.settings.interrupt else p.settings.interrupt + p.settings.packet)
+        (if b then (if t then record (x b) { tasks = p.tasks ++ Thread n ∷ [] } else record (x b) { softirq = pushed n p.softirq }) else x b))
+    by true false polling single = record { work = refl; ends = refl; settings = refl; softirq = refl; devices = refl }
+    by true true polling single = cc single
+    by false t polling single = cc polling
+
+-- the timer's device asks, and no other does
+one-asks : (n : ℕ) (ds : Devices) (d : DeviceView) (until : ℕ) → ((k : ℕ) → asks_at (at k ds) ≡ false) → at n ds ≡ Some d → d.phase ≡ Deferred until
+    → position asks_at (changed expired n ds) ≡ Some n
+unfolding map_at
+one-asks n ds d until quiet there deferred =
+    position-is (changed expired n ds) n
+    (ap asks_at (at-changed expired n ds) ∙ (ap (λ (o : Option DeviceView). asks_at (map_at expired o)) there
+    ∙ ap (λ (x : Phase). asks (device.expired_phase x)) deferred))
+    (λ k below. ap asks_at (at-apart expired n k ds (apart k below)) ∙ quiet k)
+  where
+    apart : (k : ℕ) → k < n → (n == k) ≡ false
+    apart k below = grind (arith, common_steps)
+
+-- after its interrupt none asks
+none-asks : (n : ℕ) (ds : Devices) → ((k : ℕ) → asks_at (at k ds) ≡ false) → (k : ℕ)
+    → asks_at (at k (changed (interrupted true) n (changed expired n ds))) ≡ false
+unfolding map_at interrupted
+none-asks n ds quiet k =
+    at-either (λ b o. asks_at o ≡ false) (interrupted true) n k (changed expired n ds) (λ here. by (at k (changed expired n ds)))
+    (λ other. ap asks_at (at-apart expired n k ds other) ∙ quiet k)
+  where
+    also : (d : DeviceView) (counts : DeviceCounts) (b : Bool)
+        → asks (if b then record d { phase = Scheduled } else record d { phase = Scheduled; frames = 0; counts = counts }).phase ≡ false
+    also d counts true = refl
+    also d counts false = refl
+
+    by : (o : Option DeviceView) → asks_at (map_at (interrupted true) o) ≡ false
+    by None = refl
+    by (Some d) = also d (record d.counts { interrupts = held (d.counts.interrupts + 1) }) (is_fired d.phase)
+
+-- ---- the interrupt ends
+
+takes-rests : (p : ProcessorView) → p.work ≡ Nothing → position asks_at p.devices ≡ None → p.softirq.run ≡ None → takes_up p ≡ rests p
+unfolding takes_up
+takes-rests p nothing quiet idle =
+    if-of (is_busy p.work) p
+    (option_map_or (λ (k : ℕ). interrupts k p) (position asks_at p.devices) (if is_some p.softirq.run then goes_on p else rests p))
+    (ap is_busy nothing)
+    ∙ (ap (λ (o : Option ℕ). option_map_or (λ (k : ℕ). interrupts k p) o (if is_some p.softirq.run then goes_on p else rests p)) quiet
+    ∙ ap (λ (o : Option RunView). if is_some o then goes_on p else rests p) idle)
+
+one-list : (n : ℕ) → (length (n ∷ []) == 0) ≡ false
+one-list n = refl
+
+rests-begins : (n : ℕ) (p : ProcessorView) → is_polling p.settings ≡ true → p.softirq.list ≡ n ∷ [] → rests p ≡ begins_run p
+unfolding rests
+rests-begins n p polling list =
+    if-on (is_polling p.settings && not (length p.softirq.list == 0)) (begins_run p) (leaves_softirq p.rest p)
+    (ap (λ (b : Bool). b && not (length p.softirq.list == 0)) polling ∙ ap (λ (xs : List ℕ). not (length xs == 0)) list)
+
+-- the run asks for the device
+asks-first : (n clock : ℕ) (s : Settings) (list : List ℕ) (run : Option RunView) (began : ℕ) → is_polling s ≡ true → list ≡ n ∷ []
+    → asked_in (next_of (begun clock s.budget s.weight s.window (record { list = list; run = run; began = began }))).run ≡ Some n
+unfolding next_of
+asks-first n clock s list run began polling is = by (nat_le s.budget 0 || nat_le s.window 0) (not-spent s polling)
+  where
+    r : RunView
+    r = record { own = list; repoll = []; asked = None; polls = 0; work = 0; budget = s.budget; weight = s.weight; window = s.window }
+
+    q : SoftirqView
+    q = record { list = []; run = Some r; began = clock }
+
+    not-spent : (x : Settings) → is_polling x ≡ true → (nat_le x.budget 0 || nat_le x.window 0) ≡ false
+    not-spent x polling = grind (arith, common_steps, x.window_in)
+
+    by : (b : Bool) → b ≡ false
+        → asked_in (if b then q else next_from (filled list [] []) r q).run ≡ Some n
+    by true none = cc none
+    by false none = rw is refl
+
+begins-first : (n : ℕ) (p : ProcessorView) → is_polling p.settings ≡ true → p.softirq.list ≡ n ∷ []
+    → begins_run p ≡ polls n (record p { softirq = next_of (begun p.clock p.settings.budget p.settings.weight p.settings.window p.softirq) })
+unfolding begins_run
+begins-first n p polling list =
+    let s = p.settings in
+    let q : ProcessorView = record p { softirq = next_of (begun p.clock s.budget s.weight s.window p.softirq) } in
+    ap (λ (o : Option ℕ). option_map_or (λ (k : ℕ). polls k q) o q)
+    (asks-first n p.clock s p.softirq.list p.softirq.run p.softirq.began polling list)
+
+-- ---- the poll looks for its first packet
+
+looks-is : (n came : ℕ) (p : ProcessorView) → next_packet_at p.settings.backlog (at n p.devices) ≡ Some came
+    → looks n 0 p
+    ≡ begins (Packet (record { device = n; came = came; given = 0 })) p.settings.packet
+    (record p { devices = changed (without_next p.settings.backlog) n p.devices })
+unfolding looks
+looks-is n came p is =
+    let q : ProcessorView = record p { devices = changed (without_next p.settings.backlog) n p.devices } in
+    let f = λ (c : ℕ). begins (Packet (record { device = n; came = c; given = 0 })) p.settings.packet q in
+    if-on (nat_lt 0 p.settings.weight) (option_map_or f (next_packet_at p.settings.backlog (at n p.devices)) (ends_poll n 0 q)) (ends_poll n 0 p)
+    (some-weight p.settings)
+    ∙ ap (λ (o : Option ℕ). option_map_or f o (ends_poll n 0 q)) is
+  where
+    some-weight : (x : Settings) → nat_lt 0 x.weight ≡ true
+    some-weight x = grind (arith, common_steps, x.weight_in)
+
+busy-takes : (p : ProcessorView) → is_busy p.work ≡ true → takes_up p ≡ p
+unfolding takes_up
+busy-takes p busy = rw busy refl
+
+-- ---- all three
+
+-- the interrupt has ended, and the first poll is under way
+pub record PollsFirst (n : ℕ) (p q : ProcessorView) : Type 0 where
+  pub work : q.work ≡ Poll n
+  pub ends : q.ends ≡ held (p.ends + p.settings.poll)
+  pub settings : q.settings ≡ p.settings
+  pub devices : q.devices ≡ p.devices
+
+ended-interrupt : (n : ℕ) (p : ProcessorView) → p.work ≡ Interrupt n → is_polling p.settings ≡ true
+    → ends_current p ≡ record p { clock = p.ends; work = Nothing; counts = spent p.work (p.ends - p.clock) p.counts }
+unfolding ends_current
+ended-interrupt n p work polling =
+    let e : ProcessorView = record p { clock = p.ends; work = Nothing; counts = spent p.work (p.ends - p.clock) p.counts } in
+    ap (λ (w : Work). ends_by w e) work ∙ if-on (is_polling p.settings) e (ends_interrupt n e) polling
+
+after-interrupt : (n : ℕ) (p : ProcessorView) → p.work ≡ Interrupt n → is_polling p.settings ≡ true → ((k : ℕ) → asks_at (at k p.devices) ≡ false)
+    → p.softirq.run ≡ None → p.softirq.list ≡ n ∷ [] → upcoming p ≡ Ends → PollsFirst n p (step p)
+unfolding step
+after-interrupt n p work polling quiet idle list second =
+    let e : ProcessorView = record p { clock = p.ends; work = Nothing; counts = spent p.work (p.ends - p.clock) p.counts } in
+    let s = p.settings in
+    let q = polls n (record e { softirq = next_of (begun e.clock s.budget s.weight s.window e.softirq) }) in
+    let is : happens (upcoming p) p ≡ q =
+    ap (λ (u : Upcoming). happens u p) second
+    ∙ (ap takes_up (ended-interrupt n p work polling)
+    ∙ (takes-rests e refl (position-none e.devices quiet) idle ∙ (rests-begins n e polling list ∙ begins-first n e polling list))) in
+    subst (λ (x : ProcessorView). PollsFirst n p x) (sym is) (record { work = refl; ends = refl; settings = refl; devices = refl })
+
+pub record TakesFirst (n came : ℕ) (p q : ProcessorView) : Type 0 where
+  pub work : q.work ≡ Packet (record { device = n; came = came; given = 0 })
+  pub ends : q.ends ≡ held (p.ends + p.settings.packet)
+
+ended-poll : (n : ℕ) (p : ProcessorView) → p.work ≡ Poll n
+    → ends_current p ≡ looks n 0 (record p { clock = p.ends; work = Nothing; counts = spent p.work (p.ends - p.clock) p.counts })
+unfolding ends_current
+ended-poll n p work =
+    let e : ProcessorView = record p { clock = p.ends; work = Nothing; counts = spent p.work (p.ends - p.clock) p.counts } in
+    ap (λ (w : Work). ends_by w e) work
+
+after-poll : (n came : ℕ) (p : ProcessorView) → p.work ≡ Poll n → next_packet_at p.settings.backlog (at n p.devices) ≡ Some came
+    → upcoming p ≡ Ends → TakesFirst n came p (step p)
+unfolding step
+after-poll n came p work found third =
+    let e : ProcessorView = record p { clock = p.ends; work = Nothing; counts = spent p.work (p.ends - p.clock) p.counts } in
+    let q = begins (Packet (record { device = n; came = came; given = 0 })) p.settings.packet
+    (record e { devices = changed (without_next p.settings.backlog) n p.devices }) in
+    let is : happens (upcoming p) p ≡ q =
+    ap (λ (u : Upcoming). happens u p) third ∙ (ap takes_up (ended-poll n p work ∙ looks-is n came e found) ∙ busy-takes q refl) in
+    subst (λ (x : ProcessorView). TakesFirst n came p x) (sym is) (record { work = refl; ends = refl })
+
+-- the timer expires on an idle processor
+abbrev pub awake : ℕ → ℕ → ProcessorView → ProcessorView
+awake until n p =
+    let counts = record p.counts { interrupt_time = held (p.counts.interrupt_time + p.settings.wake) } in
+    record p { devices = changed expired n p.devices; clock = held (until + p.settings.wake); counts = counts }
+
+after-timer : (n until : ℕ) (d : DeviceView) (p : ProcessorView) → ((k : ℕ) → asks_at (at k p.devices) ≡ false) → is_polling p.settings ≡ true
+    → p.settings.threaded ≡ false → p.work ≡ Nothing → at n p.devices ≡ Some d → d.phase ≡ Deferred until
+    → upcoming p ≡ Expires (record { at = until; device = n }) → Interrupted n (awake until n p) (step p)
+unfolding step disturbed
+after-timer n until d p quiet polling single nothing there deferred first =
+    let q : ProcessorView = record p { devices = changed expired n p.devices } in
+    let asks = one-asks n p.devices d until quiet there deferred in
+    let is : happens (upcoming p) p ≡ interrupts n (awake until n p) =
+    ap (λ (u : Upcoming). happens u p) first
+    ∙ (ap takes_up (stirred-idle until q nothing ∙ ap (λ (o : Option ℕ). woken until (is_some o) q) asks)
+    ∙ takes-interrupt n (awake until n p) nothing asks) in
+    subst (λ (x : ProcessorView). Interrupted n (awake until n p) x) (sym is) (interrupted-is n (awake until n p) polling single)
+
+next-backlog : (x : DeviceView) → next_packet true x ≡ slice_get (if length x.taken == 0 then x.ring else x.taken) 0
+next-backlog x = by (length x.taken == 0)
+  where
+    by : (b : Bool) → slice_get (if b then record x { ring = []; taken = x.ring } else x).taken 0 ≡ slice_get (if b then x.ring else x.taken) 0
+    by true = refl
+    by false = refl
+
+next-same : (backlog : Bool) (d : DeviceView) → next_packet backlog (interrupted true (expired d)) ≡ next_packet backlog d
+unfolding interrupted
+next-same backlog d = by (is_fired (expired d).phase) backlog
+  where
+    e : DeviceView
+    e = expired d
+
+    counts : DeviceCounts
+    counts = record d.counts { interrupts = held (d.counts.interrupts + 1) }
+
+    by : (b backlog : Bool)
+        → next_packet backlog (if b then record e { phase = Scheduled } else record e { phase = Scheduled; frames = 0; counts = counts })
+        ≡ next_packet backlog d
+    by true true = next-backlog (record e { phase = Scheduled }) ∙ sym (next-backlog d)
+    by true false = refl
+    by false true = next-backlog (record e { phase = Scheduled; frames = 0; counts = counts }) ∙ sym (next-backlog d)
+    by false false = refl
+
+next-there : (backlog : Bool) (n came : ℕ) (ds : Devices) (d : DeviceView) → at n ds ≡ Some d → next_packet backlog d ≡ Some came
+    → next_packet_at backlog (at n (changed (interrupted true) n (changed expired n ds))) ≡ Some came
+unfolding map_at
+next-there backlog n came ds d there found =
+    ap (next_packet_at backlog) (at-changed (interrupted true) n (changed expired n ds))
+    ∙ (ap (λ (o : Option DeviceView). next_packet_at backlog (map_at (interrupted true) o)) (at-changed expired n ds)
+    ∙ (ap (λ (o : Option DeviceView). next_packet_at backlog (map_at (interrupted true) (map_at expired o))) there
+    ∙ (next-same backlog d ∙ found)))
+
+deferral-steps : (s : Settings) (n until came : ℕ) (d : DeviceView) (p : ProcessorView) → Goes s p → Resting p → is_polling s ≡ true
+    → s.threaded ≡ false → p.work ≡ Nothing → at n p.devices ≡ Some d → d.phase ≡ Deferred until
+    → upcoming p ≡ Expires (record { at = until; device = n }) → next_packet s.backlog d ≡ Some came → upcoming (step p) ≡ Ends
+    → upcoming (step (step p)) ≡ Ends
+    → ((step (step (step p))).work ≡ Packet (record { device = n; came = came; given = 0 }))
+    × ((step (step (step p))).ends ≤ until + (s.wake + (s.interrupt + (s.poll + s.packet))))
+deferral-steps s n until came d p goes r polls single nothing there deferred first found second third =
+    let is : p.settings ≡ s = goes.rests.settings in
+    let polling : is_polling p.settings ≡ true = ap (λ (x : Settings). is_polling x) is ∙ polls in
+    let alone : p.settings.threaded ≡ false = ap (λ (x : Settings). x.threaded) is ∙ single in
+    let q = step p in
+    let i = after-timer n until d p r.quiet polling alone nothing there deferred first in
+    let q-settings : q.settings ≡ p.settings = i.settings in
+    let q-polling : is_polling q.settings ≡ true = ap (λ (x : Settings). is_polling x) q-settings ∙ polling in
+    let empty : p.softirq.list ≡ [] = list-empty (is_polling p.settings) p.softirq.list r.list (λ no. cc (no, polling)) in
+    let list : q.softirq.list ≡ n ∷ [] =
+    ap (λ (x : SoftirqView). x.list) i.softirq ∙ ap (λ (xs : List ℕ). xs ++ n ∷ []) empty in
+    let idle : q.softirq.run ≡ None = ap (λ (x : SoftirqView). x.run) i.softirq ∙ r.idle in
+    let quiet : (k : ℕ) → asks_at (at k q.devices) ≡ false =
+    λ k. ap (λ (ds : Devices). asks_at (at k ds)) i.devices ∙ none-asks n p.devices r.quiet k in
+    let f = after-interrupt n q i.work q-polling quiet idle list second in
+    let v = step q in
+    let v-settings : v.settings ≡ s = f.settings ∙ (q-settings ∙ is) in
+    let packet : next_packet_at v.settings.backlog (at n v.devices) ≡ Some came =
+    ap (λ (x : Settings). next_packet_at x.backlog (at n v.devices)) v-settings
+    ∙ (ap (λ (ds : Devices). next_packet_at s.backlog (at n ds)) (f.devices ∙ i.devices)
+    ∙ next-there s.backlog n came p.devices d there found) in
+    let l = after-poll n came v f.work packet third in
+    let one : p.settings.wake ≡ s.wake = ap (λ (x : Settings). x.wake) is in
+    let two : p.settings.interrupt ≡ s.interrupt = ap (λ (x : Settings). x.interrupt) is in
+    let three : q.settings.poll ≡ s.poll = ap (λ (x : Settings). x.poll) (q-settings ∙ is) in
+    let four : v.settings.packet ≡ s.packet = ap (λ (x : Settings). x.packet) v-settings in
+    (l.work, omega (arith, l.ends, f.ends, i.ends, one, two, three, four))
+
+pub deferral-is-bounded : DeferralIsBounded
+deferral-is-bounded s events n until came d polls single nothing there deferred first found second third =
+    let p = behind s events in
+    deferral-steps s n until came d p (goes-on s events) ((rested-on s events).resting nothing) polls single nothing there deferred first found
+    second third

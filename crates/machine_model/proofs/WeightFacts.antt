@@ -1,0 +1,311 @@
+-- What devices, the poll list and the tasks weigh in what is left to be done, and which timer is the soonest.
+use Rattle.std.proofs.Common.{◌≡◌, ◌∙◌, ℕ, zero, suc, ◌+◌, ◌-◌, ◌*◌, ◌≤◌, Bool, true, false, Option, Some, None, List, [], ◌∷◌, ◌++◌}
+use Rattle.std.proofs.Common.{◌⊎◌, inl, inr, length, length-append, drop, ap, refl, arith}
+use Rattle.std.proofs.lemmas.{Bool.eqb-true, Grind.common_steps}
+use Rattle.std.specs.Prelude.{◌==◌, if◌then◌else◌, nat_le, slice_get, sum_by}
+use Rattle.std.specs.Option.{option_map, option_map_or}
+use Rattle.{poll_runs.specs.{Polls.is_repoll, Turn.asked_for, declared.bench.Once.Once}, device_places.specs.Places.{at, changed}}
+use Rattle.machine_words.specs.declared.settings.Settings.{Settings}
+use Rattle.machine_model.specs.declared.{device.Phase.{Phase, TheVariants.{Coalescing, Raised, Deferred, Fired}}, devices.Timer.Timer}
+use Rattle.machine_model.specs.declared.{tasks.Task.{Task, TheVariants.{Application, Thread}}}
+use Rattle.machine_model.specs.Device.{DeviceView, completed, delivered, expired, interrupted, next_packet, polled, raised_again}
+use Rattle.machine_model.specs.Device.{timer_of, without_next}
+use Rattle.machine_model.specs.Devices.{Devices, asks_at, next_packet_at, soonest_from, sooner, timer_at}
+use Rattle.machine_model.specs.Softirq.{RunView, SoftirqView, asked_in, begun, ended, filled, is_spent, next_from, next_of}
+use Rattle.machine_model.specs.Softirq.{polled_once, polled_run, pushed}
+use Rattle.machine_model.specs.Tasks.{after_first, applications, runnable, with_application}
+use Rattle.machine_model.proofs.{PlacesFacts.{map_at, sum-changed}}
+
+-- ---- devices
+
+abbrev pub phase_weight : Phase → ℕ
+phase_weight Raised = 3
+phase_weight Fired = 3
+phase_weight (Coalescing until) = 4
+phase_weight (Deferred until) = 4
+phase_weight _ = 0
+
+unfoldable pub weight_of : ℕ → DeviceView → ℕ
+weight_of w d = w * (length d.ring + length d.taken) + 5 * d.deferrals + phase_weight d.phase
+
+unfoldable pub weight_at : ℕ → Option DeviceView → ℕ
+weight_at w None = 0
+weight_at w (Some d) = weight_of w d
+
+abbrev pub weights : ℕ → Devices → ℕ
+weights w devices = sum_by (weight_at w) devices
+
+pub changed-weights : (w : ℕ) (f : DeviceView → DeviceView) (n : ℕ) (xs : Devices)
+    → weights w (changed f n xs) + weight_at w (at n xs) ≡ weights w xs + weight_at w (map_at f (at n xs))
+changed-weights w f n xs = sum-changed (weight_at w) f n xs
+
+-- a change that adds at most so much to a device adds at most so much to all
+pub weights-most : (w more : ℕ) (f : DeviceView → DeviceView) (n : ℕ) (xs : Devices)
+    → weight_at w (map_at f (at n xs)) ≤ weight_at w (at n xs) + more → weights w (changed f n xs) ≤ weights w xs + more
+weights-most w more f n xs most = omega (arith, changed-weights w f n xs, most)
+
+pub weights-less : (w less : ℕ) (f : DeviceView → DeviceView) (n : ℕ) (xs : Devices)
+    → weight_at w (map_at f (at n xs)) + less ≤ weight_at w (at n xs) → weights w (changed f n xs) + less ≤ weights w xs
+weights-less w less f n xs most = omega (arith, changed-weights w f n xs, most)
+
+pub asks-three : (phase : Phase) (w : ℕ) (d : DeviceView) → d.phase ≡ phase → asks_at (Some d) ≡ true → phase_weight d.phase ≡ 3
+asks-three phase w d is up = grind (arith, common_steps)
+
+pub weight-interrupted : (w : ℕ) (polling : Bool) (o : Option DeviceView) → asks_at o ≡ true
+    → weight_at w (map_at (interrupted polling) o) + 3 ≤ weight_at w o
+unfolding map_at weight_at weight_of interrupted
+weight-interrupted w polling None up = grind (arith, common_steps)
+weight-interrupted w polling (Some d) up = grind (arith, common_steps)
+
+pub weight-raised : (w : ℕ) (o : Option DeviceView) → weight_at w (map_at raised_again o) ≤ weight_at w o + 3
+unfolding map_at weight_at weight_of
+weight-raised w None = omega arith
+weight-raised w (Some d) = grind (arith, common_steps)
+
+pub weight-delivered : (w now came : ℕ) (o : Option DeviceView) → weight_at w (map_at (delivered now came) o) ≡ weight_at w o
+unfolding map_at weight_at weight_of
+weight-delivered w now came None = refl
+weight-delivered w now came (Some d) = refl
+
+-- a packet that is taken is one fewer
+pub drop-first : (xs : List ℕ) (came : ℕ) → slice_get xs 0 ≡ Some came → length (drop 1 xs) + 1 ≡ length xs
+drop-first [] came is = cc is
+drop-first (x ∷ xs) came is = omega arith
+
+pub drop-none : (xs : List ℕ) → length (drop 1 xs) ≤ length xs
+drop-none xs = grind (arith, common_steps)
+
+pub one-fewer : (w a r t : ℕ) → a + 1 ≡ r → w * (a + t) + w ≡ w * (r + t)
+one-fewer w a r t is = rw (← is) (omega arith)
+
+pub fewer : (w a r t : ℕ) → a ≤ r → w * (a + t) ≤ w * (r + t)
+fewer w a r t most = by (r - a) (omega (arith, most))
+  where
+    by : (d : ℕ) → a + d ≡ r → w * (a + t) ≤ w * (r + t)
+    by d is = rw (← is) (omega arith)
+
+pub weight-next : (w : ℕ) (backlog : Bool) (d : DeviceView) (came : ℕ) → next_packet backlog d ≡ Some came
+    → weight_of w (without_next backlog d) + w ≡ weight_of w d
+unfolding weight_of
+weight-next w true d came is = by (length d.taken == 0) refl is
+  where
+    by : (b : Bool) → (length d.taken == 0) ≡ b
+        → (let e = if b then record d { ring = []; taken = d.ring } else d in slice_get e.taken 0 ≡ Some came)
+        → (let e = if b then record d { ring = []; taken = d.ring } else d in
+        w * (length e.ring + length (drop 1 e.taken)) + 5 * e.deferrals + phase_weight e.phase + w
+        ≡ w * (length d.ring + length d.taken) + 5 * d.deferrals + phase_weight d.phase)
+    by true none is =
+        omega (
+          arith,
+          one-fewer w (length (drop 1 d.ring)) (length d.ring) 0 (drop-first d.ring came is),
+          same (length d.taken) (eqb-true (length d.taken) 0 none),
+        )
+      where
+        same : (t : ℕ) → t ≡ 0 → w * (length d.ring + t) ≡ w * (length d.ring + 0)
+        same t none = rw none refl
+    by false some is = omega (arith, one-fewer w (length (drop 1 d.taken)) (length d.taken) (length d.ring) (drop-first d.taken came is))
+weight-next w false d came is =
+    omega (arith, one-fewer w (length (drop 1 d.ring)) (length d.ring) (length d.taken) (drop-first d.ring came is))
+
+pub taken-less : (w : ℕ) (backlog : Bool) (o : Option DeviceView) (came : ℕ) → next_packet_at backlog o ≡ Some came
+    → weight_at w (map_at (without_next backlog) o) + w ≤ weight_at w o
+unfolding map_at weight_at
+taken-less w backlog None came is = cc is
+taken-less w backlog (Some d) came is = omega (arith, weight-next w backlog d came is)
+
+pub weight-looked : (w : ℕ) (backlog : Bool) (d : DeviceView) → weight_of w (without_next backlog d) ≤ weight_of w d
+unfolding weight_of
+weight-looked w true d = by (length d.taken == 0) refl
+  where
+    by : (b : Bool) → (length d.taken == 0) ≡ b
+        → (let e = if b then record d { ring = []; taken = d.ring } else d in
+        w * (length e.ring + length (drop 1 e.taken)) + 5 * e.deferrals + phase_weight e.phase
+        ≤ w * (length d.ring + length d.taken) + 5 * d.deferrals + phase_weight d.phase)
+    by true none =
+        omega (
+          arith,
+          fewer w (length (drop 1 d.ring)) (length d.ring) 0 (drop-none d.ring),
+          same (length d.taken) (eqb-true (length d.taken) 0 none),
+        )
+      where
+        same : (t : ℕ) → t ≡ 0 → w * (length d.ring + t) ≡ w * (length d.ring + 0)
+        same t none = rw none refl
+    by false some = omega (arith, fewer w (length (drop 1 d.taken)) (length d.taken) (length d.ring) (drop-none d.taken))
+weight-looked w false d = omega (arith, fewer w (length (drop 1 d.ring)) (length d.ring) (length d.taken) (drop-none d.ring))
+
+pub looked-most : (w : ℕ) (backlog : Bool) (o : Option DeviceView) → weight_at w (map_at (without_next backlog) o) ≤ weight_at w o + 0
+unfolding map_at weight_at
+looked-most w backlog None = omega arith
+looked-most w backlog (Some d) = omega (arith, weight-looked w backlog d)
+
+-- a poll that completes may leave deferrals behind, if it gave packets
+pub weight-completed : (w now given : ℕ) (s : Settings) (d : DeviceView)
+    → weight_of w (completed now given s d) ≤ weight_of w d + (if given == 0 then 0 else 5 * s.defer_hard_irqs)
+unfolding weight_of completed
+weight-completed w now given s d = grind (arith, common_steps)
+
+pub weight-polled : (w now given : ℕ) (s : Settings) (o : Option DeviceView)
+    → weight_at w (map_at (polled now given s) o)
+    ≤ weight_at w o + (if given == s.weight then 0 else (if given == 0 then 0 else 5 * s.defer_hard_irqs))
+unfolding map_at weight_at weight_of polled
+weight-polled w now given s None = omega arith
+weight-polled w now given s (Some d) = grind (arith, common_steps, weight-completed)
+
+pub weight-expired : (w at : ℕ) (d : DeviceView) → timer_of d.phase ≡ Some at → weight_of w (expired d) + 1 ≡ weight_of w d
+unfolding weight_of
+weight-expired w at d is = grind (arith, common_steps)
+
+pub expired-less : (w number : ℕ) (timer : Timer) (o : Option DeviceView) → timer_at number o ≡ Some timer
+    → weight_at w (map_at expired o) + 1 ≤ weight_at w o
+unfolding map_at weight_at
+expired-less w number timer None is = cc is
+expired-less w number timer (Some d) is = by (timer_of d.phase) refl
+  where
+    by : (t : Option ℕ) → timer_of d.phase ≡ t → weight_of w (expired d) + 1 ≤ weight_of w d
+    by None none = absurd (cc (none, is))
+    by (Some at) some = omega (arith, weight-expired w at d some)
+
+-- ---- the soonest timer is that of its device
+
+pub either : (a b : Option Timer) (timer : Timer) → sooner a b ≡ Some timer → (a ≡ Some timer) ⊎ (b ≡ Some timer)
+either None b timer is = inr is
+either (Some x) None timer is = inl is
+either (Some x) (Some y) timer is = by (nat_le x.at y.at) is
+  where
+    by : (b : Bool) → (if b then Some x else Some y) ≡ Some timer → (Some x ≡ Some timer) ⊎ (Some y ≡ Some timer)
+    by true e = inl e
+    by false e = inr e
+
+pub named : (number : ℕ) (o : Option DeviceView) (timer : Timer) → timer_at number o ≡ Some timer → timer.device ≡ number
+named number None timer is = cc is
+named number (Some d) timer is = by (timer_of d.phase) is
+  where
+    by : (t : Option ℕ) → option_map (λ at. record { at = at; device = number }) t ≡ Some timer → timer.device ≡ number
+    by None e = cc e
+    by (Some at) e = cc e
+
+pub soonest-is : (number : ℕ) (xs : Devices) (timer : Timer) → soonest_from number xs ≡ Some timer
+    → (number ≤ timer.device) × (timer_at timer.device (at (timer.device - number) xs) ≡ Some timer)
+unfolding soonest_from
+soonest-is number [] timer is = cc is
+soonest-is number (o ∷ more) timer is =
+    by (either (timer_at number o) (soonest_from (number + 1) more) timer is) (λ later. soonest-is (number + 1) more timer later)
+  where
+    by : (timer_at number o ≡ Some timer) ⊎ (soonest_from (number + 1) more ≡ Some timer)
+        → (soonest_from (number + 1) more ≡ Some timer
+        → (number + 1 ≤ timer.device) × (timer_at timer.device (at (timer.device - (number + 1)) more) ≡ Some timer))
+        → (number ≤ timer.device) × (timer_at timer.device (at (timer.device - number) (o ∷ more)) ≡ Some timer)
+    by (inl here) below =
+        let same = named number o timer here in
+        let first : timer.device - number ≡ zero = omega (arith, same) in
+        (omega (arith, same), rw first (ap (λ (n : ℕ). timer_at n o) same ∙ here))
+    by (inr later) below =
+        let rest = below later in
+        let next : timer.device - number ≡ suc (timer.device - (number + 1)) = omega (arith, rest.0) in
+        (omega (arith, rest.0), rw next rest.1)
+
+-- ---- the poll list, the run and the threads
+
+abbrev pub waiting : Option RunView → ℕ
+waiting None = 0
+waiting (Some r) = length r.own + length r.repoll
+
+unfoldable pub entries : SoftirqView → ℕ
+entries q = length q.list + waiting q.run
+
+pub entries-pushed : (n : ℕ) (q : SoftirqView) → entries (pushed n q) ≡ entries q + 1
+unfolding entries
+entries-pushed n q = omega (arith, length-append q.list (n ∷ []))
+
+pub filled-same : (own repoll list : List ℕ)
+    → length ((filled own repoll list).1)
+    + (length (asked_for (slice_get (filled own repoll list).0 0)) + (length (drop 1 (filled own repoll list).0) + length repoll))
+    ≡ length list + (length own + length repoll)
+filled-same own repoll list = grind (arith, common_steps)
+
+pub entries-next : (q : SoftirqView) → asked_in q.run ≡ None
+    → entries (next_of q) + length (asked_for (asked_in (next_of q).run)) ≡ entries q
+unfolding entries next_of
+entries-next q none = by q.run none
+  where
+    by : (run : Option RunView) → asked_in run ≡ None
+        → (let r = option_map_or (λ r. if is_spent r then record q { run = run } else next_from (filled r.own r.repoll q.list) r
+        (record q { run = run })) run (record q { run = run }) in
+        length r.list + waiting r.run + length (asked_for (asked_in r.run)) ≡ length q.list + waiting run)
+    by None none = omega arith
+    by (Some r) none = spent (is_spent r)
+      where
+        spent : (b : Bool)
+            → (let v = if b then record q { run = Some r } else next_from (filled r.own r.repoll q.list) r (record q { run = Some r }) in
+            length v.list + waiting v.run + length (asked_for (asked_in v.run)) ≡ length q.list + (length r.own + length r.repoll))
+        spent true = rw none (omega arith)
+        spent false = omega (arith, filled-same r.own r.repoll q.list)
+
+pub entries-begun : (moment budget weight window : ℕ) (q : SoftirqView) → entries (begun moment budget weight window q) ≤ entries q
+unfolding entries
+entries-begun moment budget weight window q = omega arith
+
+pub entries-ended : (q : SoftirqView) → entries (ended q) ≤ entries q
+unfolding entries ended
+entries-ended q = by q.run
+  where
+    by : (run : Option RunView) → length (option_map_or (λ r. r.own ++ q.list ++ r.repoll) run q.list) + 0 ≤ length q.list + waiting run
+    by None = omega arith
+    by (Some r) = omega (arith, length-append (r.own ++ q.list) r.repoll, length-append r.own q.list)
+
+pub one-asked : (asked : Option ℕ) → length (asked_for asked) ≤ 1
+one-asked asked = grind (arith, common_steps)
+
+pub entries-polled : (once : Once) (q : SoftirqView) → entries (polled_once once q) ≤ entries q + (if is_repoll once.next then 1 else 0)
+unfolding entries polled_once
+entries-polled once q = by q.run
+  where
+    by : (run : Option RunView)
+        → length q.list + waiting (option_map (polled_run once) run)
+        ≤ length q.list + waiting run + (if is_repoll once.next then 1 else 0)
+    by None = omega arith
+    by (Some r) = again (is_repoll once.next)
+      where
+        again : (b : Bool) → length q.list + (length r.own + length (r.repoll ++ (if b then asked_for r.asked else [])))
+            ≤ length q.list + (length r.own + length r.repoll) + (if b then 1 else 0)
+        again true = omega (arith, length-append r.repoll (asked_for r.asked), one-asked r.asked)
+        again false = omega (arith, length-append r.repoll [])
+
+abbrev pub threads : List Task → ℕ
+threads [] = 0
+threads (Application ∷ more) = threads more
+threads (Thread number ∷ more) = threads more + 1
+
+pub threads-thread : (xs : List Task) (n : ℕ) → threads (xs ++ Thread n ∷ []) ≡ threads xs + 1
+threads-thread [] n = refl
+threads-thread (Application ∷ more) n = threads-thread more n
+threads-thread (Thread m ∷ more) n = omega (arith, threads-thread more n)
+
+pub threads-application : (xs : List Task) → threads (xs ++ Application ∷ []) ≡ threads xs
+threads-application [] = refl
+threads-application (Application ∷ more) = threads-application more
+threads-application (Thread m ∷ more) = omega (arith, threads-application more)
+
+pub with-application : (xs : List Task) → threads (with_application xs) ≡ threads xs
+unfolding with_application
+with-application xs = by (applications xs == 0)
+  where
+    by : (b : Bool) → threads (if b then xs ++ Application ∷ [] else xs) ≡ threads xs
+    by true = threads-application xs
+    by false = refl
+
+pub if-application : (b : Bool) (xs : List Task) → threads (if b then with_application xs else xs) ≡ threads xs
+if-application true xs = with-application xs
+if-application false xs = refl
+
+pub same-runnable : (idle : Bool) (xs : List Task) → threads (runnable idle xs) ≡ threads xs
+same-runnable idle xs = grind (arith, common_steps)
+
+abbrev pub is_thread : Option Task → ℕ
+is_thread (Some (Thread number)) = 1
+is_thread _ = 0
+
+pub after-first : (xs : List Task) → threads (after_first xs) + is_thread (slice_get xs 0) ≡ threads xs
+after-first [] = refl
+after-first (Application ∷ more) = omega arith
+after-first (Thread number ∷ more) = omega arith
