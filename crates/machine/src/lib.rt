@@ -9,9 +9,9 @@
 
 pub use machine_laws::{
     application_ends, application_is_fed, application_serves, arrives_as_one, clocks_never_fall,
-    delivers_in_order, each_lives, empty_polls_are_few, no_wait_is_less, nothing_is_left,
-    receiving_is_apart, runs_as_one, tells_of_device, tells_of_use, timers_are_near, uses_in_order,
-    works_within,
+    deferral_is_bounded, delivers_in_order, each_lives, empty_polls_are_few, every_run_ends,
+    no_wait_is_less, nothing_is_left, receiving_is_apart, runs_as_one, tells_of_device,
+    tells_of_use, timers_are_near, uses_in_order, works_within,
 };
 pub use machine_lives::reports_live;
 pub use machine_model::{
