@@ -119,6 +119,8 @@ struct LineCard {
 }
 
 impl LineCard {
+    ghost use Rattle.std.specs.Prelude.{◌≤◌};
+
     fn take(&mut self, most: u32) -> u32
         ensures { result ≤ most }
     {

@@ -162,10 +162,16 @@ fn an_application_apart_is_reported(rt: HostRuntime) -> Result<(), Fail> {
 fn arrivals_are_read(rt: HostRuntime) -> Result<(), Fail> {
     let settings = Settings::default();
     let mut arrivals = Arrivals::new(rt.alloc(), ARRIVALS.as_bytes(), &settings)?;
-    for device in 1..3 {
-        let moment = 5;
-        assert_eq!(rt; arrivals.next()?, Some(Arrival { moment, device }));
-    }
+    let first = Arrival {
+        moment: 5,
+        device: 1,
+    };
+    let second = Arrival {
+        moment: 5,
+        device: 2,
+    };
+    assert_eq!(rt; arrivals.next()?, Some(first));
+    assert_eq!(rt; arrivals.next()?, Some(second));
     let fault = arrivals.next().err().ok_or("taken")?;
     assert_eq!(rt;
         (fault, fault.number()),
@@ -183,9 +189,21 @@ fn arrivals_are_read(rt: HostRuntime) -> Result<(), Fail> {
 fn flows_choose_queues(rt: HostRuntime) -> Result<(), Fail> {
     let settings = parse(rt.alloc(), &["--queues", "4"])??;
     let mut arrivals = Arrivals::new(rt.alloc(), FLOWS.as_bytes(), &settings)?;
-    for (moment, device) in [(5, 1), (6, 6), (7, 4)] {
-        assert_eq!(rt; arrivals.next()?, Some(Arrival { moment, device }));
-    }
+    let first = Arrival {
+        moment: 5,
+        device: 1,
+    };
+    let second = Arrival {
+        moment: 6,
+        device: 6,
+    };
+    let third = Arrival {
+        moment: 7,
+        device: 4,
+    };
+    assert_eq!(rt; arrivals.next()?, Some(first));
+    assert_eq!(rt; arrivals.next()?, Some(second));
+    assert_eq!(rt; arrivals.next()?, Some(third));
     let fault = arrivals.next().err().ok_or("taken")?;
     assert_eq!(rt; fault, MachineFault::BadFields { row: 4 });
     Ok(())
