@@ -111,72 +111,12 @@ fn a_device_tells_its_acts(rt: HostRuntime) -> Result<(), Fail> {
     Ok(())
 }
 
-/// A line card that is polled in all three ways: from the list, by its thread, and busily.
-#[derive(Drop)]
-struct LineCard {
-    /// The packets that no poll gave.
-    packets: u32,
-}
-
-impl LineCard {
-    ghost use Rattle.std.specs.Prelude.{◌≤◌};
-
-    fn take(&mut self, most: u32) -> u32
-        ensures { result ≤ most }
-    {
-        let work = self.packets.min(most);
-        self.packets -= work;
-        work
-    }
-}
-
-impl Bench for LineCard {
-    ghost use Rattle.std.specs.Prelude.{⊤};
-
-    ghost polls = { λ _ _ _ _ _. ⊤ };
-
-    ghost thread_polls = { λ _ _ _ _ _ _. ⊤ };
-
-    ghost busy_polls = { λ _ _ _ _ _ _. ⊤ };
-
-    fn poll_once(&mut self, _id: u32, weight: u32) -> Once {
-        Once {
-            work: self.take(weight),
-            next: Next::Gone,
-        }
-    }
-
-    fn poll_thread(&mut self, _id: u32, weight: u32, _most: u32) -> ThreadReport {
-        ThreadReport {
-            polls: 1,
-            work: self.take(weight),
-            next: Next::Gone,
-        }
-    }
-
-    fn busy_poll(&mut self, _id: u32, weight: u32, _rounds: u32) -> BusyReport {
-        BusyReport {
-            polls: 1,
-            work: self.take(weight),
-            ..BusyReport::NONE
-        }
-    }
-}
-
 // Polls in each way what is polled by numbers: one bound is enough.
 fn poll_in_each_way<B: Bench>(bench: &mut B) -> (Once, ThreadReport, BusyReport) {
     let once = bench.poll_once(1, 2);
     let by_thread = bench.poll_thread(1, 3, 1024);
     let busily = bench.busy_poll(1, 4, 1);
     (once, by_thread, busily)
-}
-
-#[test]
-fn one_trait_has_all_three_ways_to_poll(rt: HostRuntime) {
-    let mut card = LineCard { packets: 10 };
-    let (once, by_thread, busily) = poll_in_each_way(&mut card);
-    assert_eq!(rt; (once.work, by_thread.work, busily.work), (2, 3, 4));
-    assert_eq!(rt; card.packets, 1);
 }
 
 #[test]
