@@ -1,8 +1,7 @@
 pub mod Accepted
 pub mod DecidingFacts
-pub mod DigitFacts
-pub mod JoinFacts
 pub mod NumeralFacts
+pub mod PlainFacts
 pub mod RecordsFacts
 pub mod RowsFacts
 pub mod ShortFacts

@@ -20,3 +20,7 @@ refused_by error = tt
 pub refused_by_csv : (kind : ErrorKind) → kind ≡ OutOfMemory → IsRefused
 unfolding IsRefused
 refused_by_csv kind is = tt
+
+pub failed_by_read : Error → HasFailed
+unfolding HasFailed
+failed_by_read error = tt

@@ -1,8 +1,9 @@
 pub mod Adding
-pub mod Digits
+pub mod Block
 pub mod Failures
 pub mod Fault
 pub mod Laws
+pub mod Plain
 pub mod Record
 pub mod Row
 pub mod Source

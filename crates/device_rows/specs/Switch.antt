@@ -70,10 +70,3 @@ pub record Passes (table : List Switch) (row : Row) : Type 0 where
   pub value : value_fits row.event row.value ≡ true
   pub sets : set_by row.event ≡ None
   pub in_turn : (earlier : List Row) → Tracks table earlier → (n : ℕ) → refusal n row.event (switch_of row.device earlier) ≡ None
-
--- the row that a record tells as whatever number was added, one that passes
-pub record AddsShort (table : List Switch) (tells : ℕ → Result Row TraceFault) (before after : List Row) : Type 0 where
-  pub row : Row
-  pub told : (number : ℕ) → tells number ≡ Ok row
-  pub passes : Passes table row
-  pub added : after ≡ before ++ row ∷ []

@@ -4,19 +4,24 @@
 //! that it answers so. docs/FORMATS.md has the format. [`reader_of`], [`next_record`] and [`number_below_21`] serve other rows too.
 #![tactic(auto)]
 
-mod digits;
+mod block;
 mod event;
 mod fault;
 mod laws;
+mod plain;
 mod record;
 mod row;
+mod source;
 mod switch;
 mod trace;
 
+pub use block::Block;
 pub use event::Event;
 pub use fault::TraceFault;
 pub use laws::{first_fault_stands, first_records_decide};
+pub use plain::number;
 pub use record::number_below_21;
 pub use row::Row;
+pub use source::{Next, next_record, reader_of};
 pub use switch::Switch;
-pub use trace::{MOST_ROWS, Next, Trace, next_record, read_trace, reader_of};
+pub use trace::{MOST_ROWS, Trace, read_trace};

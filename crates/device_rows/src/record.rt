@@ -6,13 +6,10 @@ ghost use Rattle.csv.specs.Records.{fields_of};
 ghost use Rattle.device_places.specs.Range.{IsWithin};
 ghost use Rattle.device_rows.specs.Record.{first_four, four_of, is_numeral, is_title, numeral, of_fields, ranged, row_of, version_of};
 ghost use Rattle.device_rows.specs.Row.{device_fits, value_fits};
-ghost use Rattle.device_rows.specs.Switch.{AddsShort};
 
-use crate::digits::{DigitTable, NO_NUMBER};
 use crate::event::{Event, event_of};
 use crate::fault::TraceFault;
 use crate::row::Row;
-use crate::switch::Switches;
 use csv::ByteRecord;
 
 // The number that a field writes, 0 where it is empty, if all of its bytes are digits. A u64 holds it.
@@ -46,49 +43,8 @@ pub fn number_below_21(field: &[u8]) -> Option<u128>
     Some(u128::from(number) * 10 + u128::from(*last - b'0'))
 }
 
-// The number that one to twelve digits write.
-#[inline(always)]
-fn front_number(table: &DigitTable, field: &[u8]) -> Option<u64>
-    requires few { length field.now ≤ 12 }
-    ensures digits { IfSome result (λ number. all_ascii_digits field.now ≡ true) }
-    ensures number { IfSome result (λ number. number ≡ numeral field.now) }
-{
-    if field.len() <= 8 {
-        let number = table.number(field);
-        if number >= NO_NUMBER {
-            return None;
-        }
-        return Some(u64::from(number));
-    }
-    let (top, low) = field.split_at(field.len() - 8);
-    let high = table.number(top);
-    let low = table.number(low);
-    if high >= NO_NUMBER || low >= NO_NUMBER {
-        return None;
-    }
-    Some(u64::from(high) * 100000000 + u64::from(low))
-}
-
-// The number that nine to twenty digits write, eight at a time, where 64 bits hold it.
-#[inline(never)]
-fn long_number(table: &DigitTable, field: &[u8]) -> Option<u64>
-    ensures { IfSome result
-        (λ number. (is_numeral field.now ≡ true) × (number ≡ numeral field.now)) }
-{
-    if field.len() < 9 || field.len() > 20 {
-        return None;
-    }
-    let (front, last) = field.split_at(field.len() - 8);
-    let high = front_number(table, front)?;
-    let low = table.number(last);
-    if low >= NO_NUMBER {
-        return None;
-    }
-    high.checked_mul(100000000)?.checked_add(u64::from(low))
-}
-
-// Whether a row of this event may name this device, and bear this value.
-fn fits(event: Event, device: u128, value: u128) -> bool
+/// Whether a row of this event may name this device, and bear this value.
+pub(crate) fn fits(event: Event, device: u128, value: u128) -> bool
     ensures { result ≡ (device_fits event device && value_fits event value) }
 {
     let is_device = 1 <= device && device <= 16;
@@ -127,74 +83,6 @@ fn ranged(
     }
 }
 
-// Adds the row of these fields, the first of which writes this moment, where it has no fault, changes no switch, and its numbers
-// have few digits. It answers whether it did. The row is written straight to its place: an option of it would be moved in pieces.
-#[inline(always)]
-fn add_at(
-    table: &DigitTable,
-    switches: &Switches,
-    version: u32,
-    moment: u64,
-    fields: (&[u8], &[u8], &[u8], &[u8]),
-    rows: &mut Vec<Row>,
-) -> bool
-    requires room { vec_len rows.old < vec_capacity rows.old }
-    requires numeral { is_numeral fields.0.now ≡ true }
-    requires moment { moment ≡ numeral fields.0.now }
-    ensures added { result ≡ true → AddsShort switches.now.of
-        (λ number. of_fields version number fields.entry.0.now fields.entry.1.now
-        fields.entry.2.now fields.entry.3.now)
-        (vec_items rows.old) (vec_items rows.new) }
-    ensures count { result ≡ true → vec_len rows.new ≡ vec_len rows.old + 1 }
-    ensures capacity { vec_capacity rows.new ≡ vec_capacity rows.old }
-    ensures kept { result ≡ false → rows.new ≡ rows.old }
-{
-    let device = table.short_number(fields.1);
-    let value = table.number(fields.3);
-    if device >= NO_NUMBER || value >= NO_NUMBER {
-        return false;
-    }
-    let Some(event) = event_of(version, fields.2) else {
-        return false;
-    };
-    if !switches.pass(event, device, value) {
-        return false;
-    }
-    rows.push_reserved(Row {
-        moment,
-        device,
-        event,
-        value,
-    });
-    true
-}
-
-// Adds the row of a record as `add_short_row` does, if its moment has nine to twenty digits.
-#[inline(never)]
-fn add_long(
-    table: &DigitTable,
-    switches: &Switches,
-    version: u32,
-    fields: &ByteRecord,
-    rows: &mut Vec<Row>,
-) -> bool
-    requires room { vec_len rows.old < vec_capacity rows.old }
-    ensures added { result ≡ true → AddsShort switches.now.of
-        (λ number. row_of version number (fields_of fields.now)) (vec_items rows.old)
-        (vec_items rows.new) }
-    ensures count { result ≡ true → vec_len rows.new ≡ vec_len rows.old + 1 }
-    ensures capacity { vec_capacity rows.new ≡ vec_capacity rows.old }
-    ensures kept { result ≡ false → rows.new ≡ rows.old }
-{
-    let Some(four) = four_of(fields) else {
-        return false;
-    };
-    match long_number(table, four.0) {
-        Some(moment) => add_at(table, switches, version, moment, four, rows),
-        None => false,
-    }
-}
-
 // Row `number` of these fields.
 #[tactic(auto, unfolding(crate::specs::Record::of_fields))]
 fn of_fields(
@@ -223,7 +111,6 @@ fn of_fields(
 }
 
 // The four fields of a record that has four.
-#[inline(always)]
 #[tactic(auto, unfolding(crate::specs::Record::four_of))]
 fn four_of(fields: &ByteRecord) -> Option<(&[u8], &[u8], &[u8], &[u8])>
     ensures { option_map (λ four. (four.0.now, four.1.now, four.2.now, four.3.now)) result
@@ -247,38 +134,7 @@ fn first_four(fields: &ByteRecord) -> Option<(&[u8], &[u8], &[u8], &[u8])>
     Some((moment, device, event, value))
 }
 
-/// Adds the row that a record of a trace of this version tells, where neither the record nor the switches have a fault of it, it
-/// changes no switch, and its numbers have few digits: so are nearly all. It answers whether it did.
-#[inline(always)]
-pub(crate) fn add_short_row(
-    table: &DigitTable,
-    switches: &Switches,
-    version: u32,
-    fields: &ByteRecord,
-    rows: &mut Vec<Row>,
-) -> bool
-    requires room { vec_len rows.old < vec_capacity rows.old }
-    ensures added { result ≡ true → AddsShort switches.now.of
-        (λ number. row_of version number (fields_of fields.now)) (vec_items rows.old)
-        (vec_items rows.new) }
-    ensures count { result ≡ true → vec_len rows.new ≡ vec_len rows.old + 1 }
-    ensures capacity { vec_capacity rows.new ≡ vec_capacity rows.old }
-    ensures kept { result ≡ false → rows.new ≡ rows.old }
-{
-    let Some(four) = four_of(fields) else {
-        return false;
-    };
-    let moment = table.number(four.0);
-    if moment < NO_NUMBER {
-        add_at(table, switches, version, u64::from(moment), four, rows)
-    } else {
-        add_long(table, switches, version, fields, rows)
-    }
-}
-
 /// The row that a record of a trace of this version tells, whose number it is, or the first of the faults 2 to 5 that it has.
-#[cold]
-#[inline(never)]
 pub(crate) fn row_of(version: u32, number: u32, fields: &ByteRecord) -> Result<Row, TraceFault>
     ensures row { result ≡ row_of version number (fields_of fields.now) }
     ensures device { IfOk result (λ row. device_fits row.event row.device ≡ true) }

@@ -1,13 +1,15 @@
 //! What the rows so far leave each device: unopened, on or off.
 
-ghost use Rattle.std.specs.Prelude.{◌≡◌, ◌≢◌, ◌∷◌, ◌++◌, ℕ, List, [], Some, None, true, MatchResult, OnErr, OnOk};
+ghost use Rattle.std.specs.Prelude.{◌≡◌, ◌≢◌, ◌∷◌, ◌++◌, ℕ, List, [], Some, None, true, false, ◌+◌, length, MatchResult, OnErr, OnOk};
 ghost use Rattle.device_rows.specs.Row.{device_fits, is_device};
 ghost use Rattle.device_rows.specs.Switch.{Passes, Tracks, refusal, set_by, switch_of};
+ghost use Rattle.device_rows.specs.Trace.{IsAccepted};
 ghost use Rattle.device_rows.specs.declared.row.Row.{Row};
 ghost use Rattle.device_rows.specs.declared.switch.Switch.TheVariants.{Unopened};
 
 use crate::event::Event;
 use crate::fault::TraceFault;
+use crate::record::fits;
 use crate::row::Row;
 
 /// The devices of a trace are numbered from 1 to this.
@@ -120,5 +122,21 @@ impl Switches {
             self.of[place] = switch;
         }
         Ok(())
+    }
+
+    /// Takes the next row, whose number it is, if its numbers are in their ranges and nothing refuses it, and answers whether it did.
+    #[inline(always)]
+    pub(crate) fn accept(&mut self, number: u32, row: Row) -> bool
+        ensures accepted { result ≡ true → (earlier : List Row) → Tracks self.old.of earlier
+            → number ≡ length earlier + 1 → IsAccepted earlier row }
+        ensures tracks { result ≡ true → (earlier : List Row) → Tracks self.old.of earlier
+            → Tracks self.new.of (earlier ++ row ∷ []) }
+        ensures kept { result ≡ false → self.new.of ≡ self.old.of }
+    {
+        if self.pass(row.event, row.device, row.value) {
+            return true;
+        }
+        fits(row.event, u128::from(row.device), u128::from(row.value))
+            && self.admit(number, row).is_ok()
     }
 }

@@ -1,24 +1,27 @@
 //! Reading a trace.
 
-ghost use Rattle.std.specs.Prelude.{◌≡◌, ◌≤◌, length, ◌⊎◌, ℕ, List, [], Option, Some, Ok, Err, IfOk, IfErr, MatchResult, true, false, vec_items};
+ghost use Rattle.std.specs.Prelude.{◌≡◌, ◌≤◌, ◌<◌, ◌+◌, ◌++◌, length, OnOk, ◌⊎◌, ℕ, List, [], Option, Some, Ok, Err, IfOk, IfErr, MatchResult, true, false, vec_items};
 ghost use Rattle.csv.specs.Machine.{next_record};
 ghost use Rattle.csv.specs.Reading.{default_config, reader_state, records_from, strip_bom};
 ghost use Rattle.csv.specs.Records.{fields_of};
 ghost use Rattle.csv.specs.declared.parser.State.TheVariants as state;
 ghost use Rattle.device_places.specs.Range.{IsWithin};
-ghost use Rattle.device_rows.specs.Adding.{AddsNext, CanAdd};
+ghost use Rattle.device_rows.specs.Adding.{AddsNext, IsSoFar, rows_with};
+ghost use Rattle.device_rows.specs.Block.{Holds};
 ghost use Rattle.device_rows.specs.Failures.{HasFailed, IsRefused};
 ghost use Rattle.device_rows.specs.Source.{IsOpen, IsReadFailure, StandsAt, TakesNext};
 ghost use Rattle.device_rows.specs.Trace.{AcceptedAfter, TraceView, records_of, rows_after, trace_of, version_in, with_row};
-ghost use Rattle.device_rows.specs.declared.trace.Next.TheVariants as next;
+ghost use Rattle.device_rows.specs.declared.source.Next.TheVariants as next;
 ghost use Rattle.device_rows.specs.declared.row.Row.{Row};
 
-use crate::digits::DigitTable;
+use crate::block::Block;
 use crate::fault::TraceFault;
-use crate::record::{add_short_row, row_of, version_of};
+use crate::plain::{plain_row, plain_titles};
+use crate::record::{row_of, version_of};
 use crate::row::Row;
+use crate::source::{Next, next_record};
 use crate::switch::Switches;
-use csv::{ByteRecord, ErrorKind, Reader, ReaderBuilder};
+use csv::{ByteRecord, Reader};
 use std::alloc::Global;
 use std::io::Read;
 use std::marker::Model;
@@ -64,60 +67,7 @@ impl Trace {
     }
 }
 
-/// A reader of records of any length, with no header row of its own.
-pub fn reader_of<R: Read>(alloc: Global, source: R) -> Reader<R>
-    ensures opened { IsOpen result }
-    ensures start { (bytes : List ℕ) → R.remaining source ≡ Some bytes
-        → StandsAt R.remaining result (strip_bom bytes) }
-    ensures state { reader_state result ≡ state.StartRecord }
-{
-    ReaderBuilder::new()
-        .has_headers(false)
-        .flexible(true)
-        .from_reader(alloc, source)
-}
-
-/// What a read came to.
-#[derive(Clone, Copy)]
-pub enum Next {
-    /// A record.
-    Record,
-    /// The end of the text.
-    End,
-    /// The reader failed.
-    ReadFailed,
-    /// Memory was refused.
-    OutOfMemory,
-}
-
-/// Reads the next record. A record of any length and any bytes is one. It answers by a plain enum, which is in a register.
-pub fn next_record<R: Read>(reader: &mut Reader<R>, fields: &mut ByteRecord) -> Next
-    requires { IsOpen reader.old }
-    ensures opened { result ≡ next.Record → IsOpen reader.new }
-    ensures record { result ≡ next.Record → (bytes : List ℕ) → StandsAt R.remaining reader.old bytes
-        → TakesNext R.remaining
-        (next_record default_config (reader_state reader.old) [] [] bytes) true
-        (fields_of fields.new) reader.new }
-    ensures end { result ≡ next.End → (bytes : List ℕ) → StandsAt R.remaining reader.old bytes
-        → TakesNext R.remaining
-        (next_record default_config (reader_state reader.old) [] [] bytes) false
-        (fields_of fields.new) reader.new }
-    ensures failed { result ≡ next.ReadFailed → HasFailed }
-    ensures memory { result ≡ next.OutOfMemory → IsRefused }
-{
-    match reader.read_byte_record(fields) {
-        Ok(true) => Next::Record,
-        Ok(false) => Next::End,
-        Err(error) => match error.kind() {
-            ErrorKind::OutOfMemory => Next::OutOfMemory,
-            ErrorKind::Io(_) => Next::ReadFailed,
-            _ => unreachable!(),
-        },
-    }
-}
-
-// Adds the row of a record in full: any row, or the first of the faults 2 to 8 that it has.
-#[cold]
+// Adds the row of a record: any row, or the first of the faults 2 to 8 that it has.
 #[inline(never)]
 fn add_row(
     version: u32,
@@ -126,7 +76,9 @@ fn add_row(
     switches: &mut Switches,
     rows: &mut Vec<Row>,
 ) -> Result<(), TraceFault>
-    requires { CanAdd number switches.old.of rows.old }
+    requires number { number ≡ length (vec_items rows.old) + 1 }
+    requires room { length (vec_items rows.old) < 100000 }
+    requires so_far { IsSoFar switches.old.of rows.old }
     ensures { MatchResult result
         (λ _. AddsNext version (fields_of fields.now) switches.new.of rows.old rows.new)
         (λ fault. with_row version (vec_items rows.old) (fields_of fields.now) ≡ Err fault) }
@@ -137,25 +89,143 @@ fn add_row(
     Ok(())
 }
 
-// The same, without a call for nearly all rows.
-#[inline(always)]
-fn add_next(
-    table: &DigitTable,
+// Adds the plain rows that a text starts with, up to the first one that is refused, and answers the text behind them.
+#[inline(never)]
+fn add_plain<'t>(
     version: u32,
-    number: u32,
-    fields: &ByteRecord,
+    text: &'t [u8],
+    switches: &mut Switches,
+    rows: &mut Vec<Row>,
+) -> &'t [u8]
+    requires { IsSoFar switches.old.of rows.old }
+    ensures so_far { IsSoFar switches.new.of rows.new }
+    ensures behind { (used : List ℕ) × (text.now ≡ used ++ result.now) }
+    ensures same { (more : List ℕ)
+        → rows_with version (vec_items rows.old) state.StartRecord (text.now ++ more)
+        ≡ rows_with version (vec_items rows.new) state.StartRecord (result.now ++ more) }
+{
+    let mut left = text;
+    for before in rows.len() as u32..MOST_ROWS {
+        let Some((row, behind)) = plain_row(version, left) else {
+            break;
+        };
+        if !switches.accept(before + 1, row) {
+            break;
+        }
+        rows.push_reserved(row);
+        left = behind;
+    }
+    left
+}
+
+// Adds the plain rows of a block, up to the first record that is none or is refused.
+fn add_block<R: Read>(
+    alloc: Global,
+    version: u32,
+    block: &mut Block<R>,
     switches: &mut Switches,
     rows: &mut Vec<Row>,
 ) -> Result<(), TraceFault>
-    requires { CanAdd number switches.old.of rows.old }
-    ensures { MatchResult result
-        (λ _. AddsNext version (fields_of fields.now) switches.new.of rows.old rows.new)
-        (λ fault. with_row version (vec_items rows.old) (fields_of fields.now) ≡ Err fault) }
+    requires { IsSoFar switches.old.of rows.old }
+    ensures so_far { OnOk result (IsSoFar switches.new.of rows.new) }
+    ensures same { OnOk result ((bytes : List ℕ) → Holds R.remaining block.old bytes
+        → (left : List ℕ) × Holds R.remaining block.new left
+        × (rows_with version (vec_items rows.old) state.StartRecord bytes
+        ≡ rows_with version (vec_items rows.new) state.StartRecord left)) }
+    ensures fault { IfErr result IsReadFailure }
 {
-    if add_short_row(table, switches, version, fields, rows) {
-        return Ok(());
+    for _ in 0..u64::MAX {
+        let left = add_plain(version, block.text(), switches, rows).len();
+        let used = block.text().len() - left;
+        block.advance(used);
+        if block.has_line() || !block.refill(alloc)? {
+            break;
+        }
     }
-    add_row(version, number, fields, switches, rows)
+    Ok(())
+}
+
+// The trace of the rows so far and of those that the reader has left, or the first fault of them.
+fn read_rows<R: Read>(
+    alloc: Global,
+    version: u32,
+    reader: &mut Reader<R>,
+    mut switches: Switches,
+    mut rows: Vec<Row>,
+) -> Result<Trace, TraceFault>
+    requires reader { IsOpen reader.old }
+    requires version { IsWithin 1 2 version }
+    requires so_far { IsSoFar switches.of rows }
+    ensures version { IfOk result (λ trace. trace.version ≡ version) }
+    ensures rows { IfOk result (λ trace. (bytes : List ℕ) → StandsAt R.remaining reader.old bytes
+        → rows_with version (vec_items rows) (reader_state reader.old) bytes ≡ Ok trace.rows) }
+    ensures fault { IfErr result (λ fault. (bytes : List ℕ) → StandsAt R.remaining reader.old bytes
+        → IsReadFailure fault
+        ⊎ (rows_with version (vec_items rows) (reader_state reader.old) bytes ≡ Err fault)) }
+{
+    let mut fields = ByteRecord::with_capacity(alloc, RECORD_BYTES, 4)?;
+    for before in rows.len() as u32..MOST_ROWS + 1 {
+        match next_record(reader, &mut fields) {
+            Next::Record => {}
+            Next::End => break,
+            Next::ReadFailed => return Err(TraceFault::ReadFailed),
+            Next::OutOfMemory => return Err(TraceFault::OutOfMemory),
+        }
+        if before == MOST_ROWS {
+            return Err(TraceFault::TooManyRows);
+        }
+        add_row(version, before + 1, &fields, &mut switches, &mut rows)?;
+    }
+    Ok(Trace { version, rows })
+}
+
+// The trace of a block behind the titles.
+fn plain_trace<R: Read + Drop>(
+    alloc: Global,
+    version: u32,
+    mut block: Block<R>,
+) -> Result<Trace, TraceFault>
+    requires { IsWithin 1 2 version }
+    ensures version { IfOk result (λ trace. trace.version ≡ version) }
+    ensures rows { IfOk result (λ trace. (bytes : List ℕ) → Holds R.remaining block bytes
+        → rows_with version [] state.StartRecord bytes ≡ Ok trace.rows) }
+    ensures fault { IfErr result (λ fault. (bytes : List ℕ) → Holds R.remaining block bytes
+        → IsReadFailure fault ⊎ (rows_with version [] state.StartRecord bytes ≡ Err fault)) }
+{
+    // Room for all rows at once: what is never written costs nothing, and no row is moved.
+    let mut rows = Vec::with_capacity(alloc, MOST_ROWS as usize)?;
+    let mut switches = Switches::new();
+    add_block(alloc, version, &mut block, &mut switches, &mut rows)?;
+    let mut reader = block.records_left(alloc)?;
+    read_rows(alloc, version, &mut reader, switches, rows)
+}
+
+// The trace of a reader of a text of which nothing was used.
+fn record_trace<R: Read>(alloc: Global, reader: &mut Reader<R>) -> Result<Trace, TraceFault>
+    requires reader { IsOpen reader.old }
+    ensures rows { IfOk result (λ trace. (bytes : List ℕ) → StandsAt R.remaining reader.old bytes
+        → trace_of (records_from default_config 100002 (reader_state reader.old) bytes)
+        ≡ Ok trace.rows) }
+    ensures version { IfOk result (λ trace. (bytes : List ℕ) → StandsAt R.remaining reader.old bytes
+        → trace.version
+        ≡ version_in (records_from default_config 100002 (reader_state reader.old) bytes)) }
+    ensures fault { IfErr result (λ fault. (bytes : List ℕ) → StandsAt R.remaining reader.old bytes
+        → IsReadFailure fault
+        ⊎ (trace_of (records_from default_config 100002 (reader_state reader.old) bytes)
+        ≡ Err fault)) }
+{
+    let mut fields = ByteRecord::with_capacity(alloc, RECORD_BYTES, 4)?;
+    match next_record(reader, &mut fields) {
+        Next::Record => {}
+        Next::End => return Err(TraceFault::BadHeader),
+        Next::ReadFailed => return Err(TraceFault::ReadFailed),
+        Next::OutOfMemory => return Err(TraceFault::OutOfMemory),
+    }
+    let Some(version) = version_of(&fields) else {
+        return Err(TraceFault::BadHeader);
+    };
+    let rows = Vec::with_capacity(alloc, MOST_ROWS as usize)?;
+    read_rows(alloc, version, reader, Switches::new(), rows)
 }
 
 /// Reads the rows of a trace, or its first fault. It asks for at most 100002 records, of any length, so it ends where each of
@@ -173,54 +243,12 @@ pub fn read_trace<R: Read + Drop>(alloc: Global, source: R) -> Result<Trace, Tra
     ensures fault { IfErr result (λ fault. (bytes : List ℕ) → R.remaining source ≡ Some bytes
         → IsReadFailure fault ⊎ (trace_of (records_of bytes) ≡ Err fault)) }
 {
-    let mut reader = reader_of(alloc, source);
-    let mut fields = ByteRecord::with_capacity(alloc, RECORD_BYTES, 4)?;
-    match next_record(&mut reader, &mut fields) {
-        Next::Record => {}
-        Next::End => return Err(TraceFault::BadHeader),
-        Next::ReadFailed => return Err(TraceFault::ReadFailed),
-        Next::OutOfMemory => return Err(TraceFault::OutOfMemory),
-    }
-    let Some(version) = version_of(&fields) else {
-        return Err(TraceFault::BadHeader);
+    let mut block = Block::new(alloc, source);
+    block.fill_line(alloc)?;
+    let Some((version, left)) = plain_titles(block.text()) else {
+        return record_trace(alloc, &mut block.records(alloc));
     };
-    read_rows(alloc, &DigitTable::new(), version, &mut reader, &mut fields)
-}
-
-// Reads the rows that the reader has left, or the first fault of them. By itself, so that its loop has the registers.
-#[inline(never)]
-fn read_rows<R: Read>(
-    alloc: Global,
-    table: &DigitTable,
-    version: u32,
-    reader: &mut Reader<R>,
-    fields: &mut ByteRecord,
-) -> Result<Trace, TraceFault>
-    requires reader { IsOpen reader.old }
-    requires version { IsWithin 1 2 version }
-    ensures version { IfOk result (λ trace. trace.version ≡ version) }
-    ensures rows { IfOk result (λ trace. (bytes : List ℕ) → StandsAt R.remaining reader.old bytes
-        → rows_after version [] (records_from default_config 100001 (reader_state reader.old) bytes)
-        ≡ Ok trace.rows) }
-    ensures fault { IfErr result (λ fault. (bytes : List ℕ) → StandsAt R.remaining reader.old bytes
-        → IsReadFailure fault
-        ⊎ (rows_after version []
-        (records_from default_config 100001 (reader_state reader.old) bytes) ≡ Err fault)) }
-{
-    // Room for all rows at once: what is never written costs nothing, and no row is moved.
-    let mut rows = Vec::with_capacity(alloc, MOST_ROWS as usize)?;
-    let mut switches = Switches::new();
-    for before in 0..MOST_ROWS + 1 {
-        match next_record(reader, fields) {
-            Next::Record => {}
-            Next::End => break,
-            Next::ReadFailed => return Err(TraceFault::ReadFailed),
-            Next::OutOfMemory => return Err(TraceFault::OutOfMemory),
-        }
-        if before == MOST_ROWS {
-            return Err(TraceFault::TooManyRows);
-        }
-        add_next(table, version, before + 1, fields, &mut switches, &mut rows)?;
-    }
-    Ok(Trace { version, rows })
+    let used = block.text().len() - left.len();
+    block.advance(used);
+    plain_trace(alloc, version, block)
 }

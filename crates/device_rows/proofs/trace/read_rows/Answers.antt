@@ -2,7 +2,7 @@ use Rattle.std.proofs.{Common.{◌≡◌, ◌∙◌, ◌-◌, length, ap, inr, t
 use Rattle.{std.{proofs.lemmas.Result.err_from_is_err_and, specs.Prelude.nat_lt}, csv.specs.{Records.fields_of, Reading.reader_state}}
 use Rattle.device_rows.{specs.Trace.rows_after, proofs.RowsFacts.{ends, goes-on, records-zero, rows-bad, rows-end, rows-good, rows-over}}
 use Rattle.device_rows.proofs.trace.read_rows.Goals.{else-loop-before-test, then-loop-before-test+in-End}
-use Rattle.device_rows.specs.declared.trace.Next.TheVariants as came
+use Rattle.device_rows.specs.declared.source.Next.TheVariants as came
 use Rattle.device_rows.proofs.trace.read_rows.Goals as goal
 
 pub returns-then-before-eq-MOST_ROWS-clause-fault : goal.returns-then-before-eq-MOST_ROWS-clause-fault

@@ -1,5 +1,5 @@
 use Rattle.std.proofs.{Common.{◌≡◌, ◌∙◌, refl, inr, sym, Some, None, rules, arith}, lemmas.Result.{IfErr-weaker, IfOk-weaker}}
-use Rattle.{csv.specs.{Records.fields_of, Reading.strip_bom}, device_rows.specs.{Record.version_of, declared.trace.Next.Next}}
+use Rattle.{csv.specs.{Records.fields_of, Reading.strip_bom}, device_rows.specs.{Record.version_of, declared.source.Next.Next}}
 use Rattle.device_rows.proofs.{DecidingFacts.{asked-decide, asked-version}, RowsFacts.{first-version, records-more, records-none}}
 use Rattle.device_rows.proofs.RowsFacts.{trace-none, trace-other, trace-rows}
 use Rattle.device_rows.proofs.trace.read_trace.Goals as goal

@@ -1,0 +1,147 @@
+//! Bytes that were read ahead of a source: the plain rows are taken from these, and `csv` gets those that are left.
+
+ghost use Rattle.std.specs.Prelude.{◌≤◌, length};
+
+use crate::fault::TraceFault;
+use crate::source::reader_of;
+use csv::Reader;
+use std::alloc::{AllocError, Global};
+use std::io::{Chain, Cursor, Read};
+
+// How many bytes a read asks for.
+const AHEAD: usize = 1 << 16;
+
+/// The bytes of the longest plain row with numbers of twenty digits, and more.
+const LONGEST_LINE: usize = 128;
+
+/// A source, and bytes that were read ahead of it.
+#[derive(Drop)]
+pub struct Block<R> {
+    source: R,
+    held: Vec<u8>,
+    at: usize,
+    ghost within: { at ≤ length held.items },
+}
+
+impl<R: Read> Block<R> {
+    ghost use Rattle.std.specs.Prelude.{◌≡◌, ◌≤◌, ◌∷◌, ℕ, List, Some, IfErr, IfOk, OnOk, drop, length};
+    ghost use Rattle.std.specs.Io.Chain.{chain_remaining};
+    ghost use Rattle.std.specs.Io.Cursor.{cursor_remaining};
+    ghost use Rattle.csv.specs.Reading.{reader_state, strip_bom};
+    ghost use Rattle.csv.specs.declared.parser.State.TheVariants as state;
+    ghost use Rattle.device_rows.specs.Block.{Holds, unread};
+    ghost use Rattle.device_rows.specs.Source.{IsOpen, IsReadFailure, StandsAt};
+
+    /// Nothing is read yet.
+    pub fn new(alloc: Global, source: R) -> Block<R>
+        ensures { (bytes : List ℕ) → R.remaining source ≡ Some bytes → Holds R.remaining result bytes }
+    {
+        Block {
+            source,
+            held: Vec::new(alloc),
+            at: 0,
+        }
+    }
+
+    /// The bytes that were read and not yet used.
+    pub fn text(&self) -> &[u8]
+        ensures { result.now ≡ unread self.now }
+    {
+        &self.held[self.at..]
+    }
+
+    /// So many bytes are used.
+    pub fn advance(&mut self, count: usize)
+        requires { count ≤ length (unread self.old) }
+        ensures unread { unread self.new ≡ drop count (unread self.old) }
+        ensures source { self.new.source ≡ self.old.source }
+    {
+        self.at += count;
+    }
+
+    /// Reads on, by one read. It answers whether any byte came: at the end of the source none does.
+    ///
+    /// # Errors
+    ///
+    /// `ReadFailed`, `OutOfMemory`. The block is of no use then.
+    pub fn refill(&mut self, alloc: Global) -> Result<bool, TraceFault>
+        ensures holds { OnOk result ((bytes : List ℕ) → Holds R.remaining self.old bytes
+            → Holds R.remaining self.new bytes) }
+        ensures fault { IfErr result IsReadFailure }
+    {
+        let mut held = Vec::with_capacity(alloc, self.text().len() + AHEAD)?;
+        held.extend_from_slice(self.text())?;
+        let before = held.len();
+        held.resize(before + AHEAD, 0)?;
+        let Ok(count) = self.source.read(&mut held[before..]) else {
+            return Err(TraceFault::ReadFailed);
+        };
+        held.truncate(before + count);
+        self.held = held;
+        self.at = 0;
+        Ok(count > 0)
+    }
+
+    /// Whether a line feed is among the unread bytes, or more than [`LONGEST_LINE`] of them.
+    pub fn has_line(&self) -> bool {
+        self.text().len() > LONGEST_LINE || self.text().contains(&b'\n')
+    }
+
+    /// Reads on to the end of a line, of the source, or to more than [`LONGEST_LINE`] bytes.
+    ///
+    /// # Errors
+    ///
+    /// As [`refill`](Block::refill).
+    pub fn fill_line(&mut self, alloc: Global) -> Result<(), TraceFault>
+        ensures holds { OnOk result ((bytes : List ℕ) → Holds R.remaining self.old bytes
+            → Holds R.remaining self.new bytes) }
+        ensures fault { IfErr result IsReadFailure }
+    {
+        for _ in 0..u64::MAX {
+            if self.has_line() || !self.refill(alloc)? {
+                break;
+            }
+        }
+        Ok(())
+    }
+
+    /// A reader of the records of a text of which nothing was used.
+    pub fn records(self, alloc: Global) -> Reader<Chain<Cursor<Vec<u8>>, R>>
+        ensures opened { IsOpen result }
+        ensures start { (bytes : List ℕ) → Holds R.remaining self bytes
+            → StandsAt (chain_remaining (cursor_remaining (λ held. Some held.items)) R.remaining)
+            result (strip_bom bytes) }
+        ensures state { reader_state result ≡ state.StartRecord }
+    {
+        let Block { source, held, at } = self;
+        let mut unread = Cursor::new(held);
+        unread.set_position(at as u64);
+        reader_of(alloc, unread.chain(source))
+    }
+}
+
+impl<R: Read + Drop> Block<R> {
+    ghost use Rattle.std.specs.Prelude.{◌≡◌, ◌≤◌, ◌∷◌, ℕ, List, Some, IfErr, IfOk, OnOk, drop, length};
+    ghost use Rattle.std.specs.Io.Chain.{chain_remaining};
+    ghost use Rattle.std.specs.Io.Cursor.{cursor_remaining};
+    ghost use Rattle.csv.specs.Reading.{reader_state, strip_bom};
+    ghost use Rattle.csv.specs.declared.parser.State.TheVariants as state;
+    ghost use Rattle.device_rows.specs.Block.{Holds, unread};
+    ghost use Rattle.device_rows.specs.Source.{IsOpen, IsReadFailure, StandsAt};
+
+    /// A reader of the records behind those that were used. A byte-order mark is taken off only at the start of a text, so an
+    /// empty line goes in front: it is no record.
+    pub fn records_left(self, alloc: Global) -> Result<Reader<Chain<Cursor<Vec<u8>>, R>>, AllocError>
+        ensures opened { IfOk result (λ reader. IsOpen reader) }
+        ensures start { IfOk result (λ reader. (bytes : List ℕ) → Holds R.remaining self bytes
+            → StandsAt (chain_remaining (cursor_remaining (λ held. Some held.items)) R.remaining)
+            reader (10 ∷ bytes)) }
+        ensures state { IfOk result (λ reader. reader_state reader ≡ state.StartRecord) }
+    {
+        let mut held = Vec::with_capacity(alloc, self.text().len() + 1)?;
+        held.push(b'\n')?;
+        held.extend_from_slice(self.text())?;
+        let Block { source, .. } = self;
+        Ok(reader_of(alloc, Cursor::new(held).chain(source)))
+    }
+}

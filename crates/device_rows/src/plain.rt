@@ -1,0 +1,100 @@
+//! Plain rows, read in one pass: digits, commas, an event's word, a line feed. Of any other row nothing is told here.
+
+ghost use Rattle.std.specs.Prelude.{IfSome};
+ghost use Rattle.device_places.specs.Range.{IsWithin};
+ghost use Rattle.device_rows.specs.Plain.{StartsWithEvent, StartsWithNumber, StartsWithRow, StartsWithTitles};
+
+use crate::event::Event;
+use crate::row::Row;
+
+// Below this, a number with one more digit fits 64 bits.
+const ROOM_FOR_DIGIT: u64 = 1844674407370955161;
+
+/// The number of one to twenty digits that a text starts with, where 64 bits hold it and `stop` ends it, and the text behind
+/// `stop`. It may know no number that stands there: one just below 2^64.
+#[inline(always)]
+pub fn number(text: &[u8], stop: u8) -> Option<(u64, &[u8])>
+    ensures { IfSome result (λ found. StartsWithNumber text.now stop found.0 found.1.now) }
+{
+    let mut number = 0;
+    for place in 0..text.len() {
+        let byte = text[place];
+        if byte.is_ascii_digit() {
+            if number >= ROOM_FOR_DIGIT {
+                return None;
+            }
+            number = number * 10 + u64::from(byte - b'0');
+        } else {
+            if byte != stop || place == 0 || place > 20 {
+                return None;
+            }
+            return Some((number, &text[place + 1..]));
+        }
+    }
+    None
+}
+
+// The event that a text starts with, in a trace of this version, and the text behind the comma that ends its word.
+#[inline(always)]
+fn event(version: u32, text: &[u8]) -> Option<(Event, &[u8])>
+    ensures { IfSome result (λ found. StartsWithEvent version text.now found.0 found.1.now) }
+{
+    match text {
+        [b'r', b'x', b',', rest @ ..] => Some((Event::Rx, rest)),
+        [b't', b'x', b',', rest @ ..] => Some((Event::Tx, rest)),
+        [b'd', b'o', b'n', b'e', b',', rest @ ..] => Some((Event::Finish, rest)),
+        [b's', b'o', b'f', b't', b'i', b'r', b'q', b',', rest @ ..] => Some((Event::Softirq, rest)),
+        [b'k', b't', b'h', b'r', b'e', b'a', b'd', b',', rest @ ..] => Some((Event::Kthread, rest)),
+        [b'o', b'p', b'e', b'n', b',', rest @ ..] => Some((Event::Opened, rest)),
+        [b'd', b'i', b's', b'a', b'b', b'l', b'e', b',', rest @ ..] => Some((Event::Disable, rest)),
+        [b'e', b'n', b'a', b'b', b'l', b'e', b',', rest @ ..] => Some((Event::Enable, rest)),
+        [
+            b't',
+            b'h',
+            b'r',
+            b'e',
+            b'a',
+            b'd',
+            b'e',
+            b'd',
+            b',',
+            rest @ ..,
+        ] => Some((Event::Threaded, rest)),
+        [b'b', b'u', b's', b'y', b',', rest @ ..] if version == 2 => Some((Event::Busy, rest)),
+        _ => None,
+    }
+}
+
+/// The plain row that a text starts with, and the text behind it. Its moment is any, and its device and its value are at most
+/// 65536.
+#[inline(always)]
+pub(crate) fn plain_row(version: u32, text: &[u8]) -> Option<(Row, &[u8])>
+    ensures { IfSome result (λ found. StartsWithRow version text.now found.0 found.1.now) }
+{
+    let (moment, text) = number(text, b',')?;
+    let (device, text) = number(text, b',')?;
+    let (event, text) = event(version, text)?;
+    let (value, text) = number(text, b'\n')?;
+    if device > 65536 || value > 65536 {
+        return None;
+    }
+    let row = Row {
+        moment,
+        device: device as u32,
+        event,
+        value: value as u32,
+    };
+    Some((row, text))
+}
+
+/// The version of a trace that starts with the titles, one line feed behind them, and the text behind that.
+pub(crate) fn plain_titles(text: &[u8]) -> Option<(u32, &[u8])>
+    ensures titles { IfSome result (λ found. StartsWithTitles text.now found.0 found.1.now) }
+    ensures range { IfSome result (λ found. IsWithin 1 2 found.0) }
+{
+    if let Some(rest) = text.strip_prefix(b"moment,device,event,value\n".as_slice()) {
+        return Some((1, rest));
+    }
+    let rest = text.strip_prefix(b"moment,device,event,value,2\n".as_slice())?;
+    Some((2, rest))
+}

@@ -1,0 +1,66 @@
+//! Reading records, one by one.
+
+ghost use Rattle.std.specs.Prelude.{◌≡◌, ℕ, List, [], Some, true, false};
+ghost use Rattle.csv.specs.Machine.{next_record};
+ghost use Rattle.csv.specs.Reading.{default_config, reader_state, strip_bom};
+ghost use Rattle.csv.specs.Records.{fields_of};
+ghost use Rattle.csv.specs.declared.parser.State.TheVariants as state;
+ghost use Rattle.device_rows.specs.Failures.{HasFailed, IsRefused};
+ghost use Rattle.device_rows.specs.Source.{IsOpen, StandsAt, TakesNext};
+ghost use Rattle.device_rows.specs.declared.source.Next.TheVariants as next;
+
+use csv::{ByteRecord, ErrorKind, Reader, ReaderBuilder};
+use std::alloc::Global;
+use std::io::Read;
+
+/// A reader of records of any length, with no header row of its own.
+pub fn reader_of<R: Read>(alloc: Global, source: R) -> Reader<R>
+    ensures opened { IsOpen result }
+    ensures start { (bytes : List ℕ) → R.remaining source ≡ Some bytes
+        → StandsAt R.remaining result (strip_bom bytes) }
+    ensures state { reader_state result ≡ state.StartRecord }
+{
+    ReaderBuilder::new()
+        .has_headers(false)
+        .flexible(true)
+        .from_reader(alloc, source)
+}
+
+/// What a read came to.
+#[derive(Clone, Copy)]
+pub enum Next {
+    /// A record.
+    Record,
+    /// The end of the text.
+    End,
+    /// The reader failed.
+    ReadFailed,
+    /// Memory was refused.
+    OutOfMemory,
+}
+
+/// Reads the next record. A record of any length and any bytes is one. It answers by a plain enum, which is in a register.
+pub fn next_record<R: Read>(reader: &mut Reader<R>, fields: &mut ByteRecord) -> Next
+    requires { IsOpen reader.old }
+    ensures opened { result ≡ next.Record → IsOpen reader.new }
+    ensures record { result ≡ next.Record → (bytes : List ℕ) → StandsAt R.remaining reader.old bytes
+        → TakesNext R.remaining
+        (next_record default_config (reader_state reader.old) [] [] bytes) true
+        (fields_of fields.new) reader.new }
+    ensures end { result ≡ next.End → (bytes : List ℕ) → StandsAt R.remaining reader.old bytes
+        → TakesNext R.remaining
+        (next_record default_config (reader_state reader.old) [] [] bytes) false
+        (fields_of fields.new) reader.new }
+    ensures failed { result ≡ next.ReadFailed → HasFailed }
+    ensures memory { result ≡ next.OutOfMemory → IsRefused }
+{
+    match reader.read_byte_record(fields) {
+        Ok(true) => Next::Record,
+        Ok(false) => Next::End,
+        Err(error) => match error.kind() {
+            ErrorKind::OutOfMemory => Next::OutOfMemory,
+            ErrorKind::Io(_) => Next::ReadFailed,
+            _ => unreachable!(),
+        },
+    }
+}
