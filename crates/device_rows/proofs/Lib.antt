@@ -1,4 +1,5 @@
 pub mod Accepted
+pub mod BlockFacts
 pub mod DecidingFacts
 pub mod NumeralFacts
 pub mod PlainFacts

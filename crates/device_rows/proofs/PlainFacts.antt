@@ -1,11 +1,17 @@
 -- How csv reads plain rows.
-use Rattle.std.proofs.Common.{◌≡◌, ◌∙◌, ℕ, ◌+◌, Bool, true, false, List, [], ◌∷◌, ◌++◌, length, refl, sym, ap, append_assoc, arith, Some, inl, inr}
-use Rattle.std.specs.{Prelude.{Ok, ◌&&◌, ◌||◌, ◌==◌, nat_le}, Char.is_ascii_digit, List.list_any, Str.all_ascii_digits}
-use Rattle.std.proofs.lemmas.Bool.{and_parts, Decides.nat_tests}
-use Rattle.csv.specs.{Machine.next_record, Reading.default_config, Writing.{default_writer, needs_byte}}
+use Rattle.std.proofs.Common.{◌≡◌, ◌∙◌, ℕ, suc, ◌+◌, ◌-◌, ◌*◌, ◌<◌, ◌≤◌, ◌^◌, true, false, List, [], ◌∷◌, ◌++◌, length, take, drop, refl, sym, ap}
+use Rattle.std.proofs.Common.{append_assoc, arith, Some, slice_index_or, take-append-drop, length-take-le}
+use Rattle.std.proofs.lemmas.{Bool.{and_parts, le-leb, Decides.nat_tests}, List.{drop_more, take_more, Folds.list_any_more}}
+use Rattle.std.proofs.lemmas.Int.Digits.{digits_value_push}
+use Rattle.std.specs.{Prelude.{◌&&◌, nat_le}, Char.{digit_value, is_ascii_digit, is_ascii_lowercase}, Str.all_ascii_digits}
+use Rattle.csv.specs.{Machine.next_record, Reading.{default_config, records_from, strip_bom}, Writing.{default_writer, needs_byte}}
+use Rattle.csv.specs.Records.{field_at}
 use Rattle.csv.proofs.RoundTrip.{field-run, record-same}
 use Rattle.csv.specs.declared.parser.State.TheVariants as state
-use Rattle.device_rows.specs.{Plain.IsPlain, Record.is_numeral}
+use Rattle.device_rows.specs.Plain.{IsPlain, StartsWithNumber, StartsWithRow, StartsWithTitles, StartsWithWord}
+use Rattle.device_rows.specs.Record.{event_of, four_of, is_numeral, numeral, version_of}
+use Rattle.device_rows.specs.declared.{event.Event.Event, row.Row.Row}
+use Rattle.device_rows.proofs.{NumeralFacts.digits-push, ShortFacts.short-row}
 
 -- a digit is no mark of csv's
 digit-plain : (byte : ℕ) → is_ascii_digit byte ≡ true → needs_byte default_writer byte ≡ false
@@ -51,8 +57,121 @@ numeral-starts (c ∷ cs) rest h =
     record-same [] [] c (cs ++ rest) (grind (arith, nat_tests)) (grind (arith, nat_tests))
 
 pub four-read : (m d e v rest : List ℕ) → is_numeral m ≡ true → IsPlain d → IsPlain e → IsPlain v
-    → next_record default_config state.StartRecord [] [] (m ++ 44 ∷ d ++ 44 ∷ e ++ 44 ∷ v ++ 10 ∷ rest)
+    → next_record default_config state.StartRecord [] [] (m ++ 44 ∷ (d ++ 44 ∷ (e ++ 44 ∷ (v ++ 10 ∷ rest))))
     ≡ Some (m ∷ d ∷ e ∷ v ∷ [], state.StartRecord, rest)
 four-read m d e v rest is d-plain e-plain v-plain =
     numeral-starts m _ is ∙ comma-ends [] m _ (numeral-plain m is) ∙ comma-ends (m ∷ []) d _ d-plain
     ∙ comma-ends (m ∷ d ∷ []) e _ e-plain ∙ line-ends (m ∷ d ∷ e ∷ []) v rest v-plain
+
+digit-worth : (byte : ℕ) → is_ascii_digit byte ≡ true → digit_value byte ≡ byte - 48
+digit-worth byte h = grind (arith, nat_tests)
+
+-- one more digit at a text's start
+pub digits-more : (text : List ℕ) (place : ℕ) → place < length text → all_ascii_digits (take place text) ≡ true
+    → is_ascii_digit (slice_index_or text place 0) ≡ true → all_ascii_digits (take (place + 1) text) ≡ true
+digits-more text place below front digit =
+    rw (take_more text place 0 below, digits-push (take place text) (slice_index_or text place 0), front, digit) refl
+
+pub number-more : (text : List ℕ) (place : ℕ) → place < length text → is_ascii_digit (slice_index_or text place 0) ≡ true
+    → numeral (take (place + 1) text) ≡ numeral (take place text) * 10 + (slice_index_or text place 0 - 48)
+number-more text place below digit =
+    rw (take_more text place 0 below, ← digit-worth (slice_index_or text place 0) digit)
+    (digits_value_push 10 (take place text) (slice_index_or text place 0))
+
+letter-plain : (byte : ℕ) → is_ascii_lowercase byte ≡ true → needs_byte default_writer byte ≡ false
+letter-plain byte h = grind (arith, nat_tests)
+
+-- one more letter
+pub letters-more : (text : List ℕ) (place : ℕ) → place < length text → IsPlain (take place text)
+    → is_ascii_lowercase (slice_index_or text place 0) ≡ true → IsPlain (take (place + 1) text)
+letters-more text place below front letter =
+    list_any_more (needs_byte default_writer) text place 0 below ∙ rw (front, letter-plain (slice_index_or text place 0) letter) refl
+
+splits-at : (text : List ℕ) (place stop : ℕ) → place < length text → slice_index_or text place 0 ≡ stop
+    → text ≡ take place text ++ stop ∷ drop (place + 1) text
+splits-at text place stop below ends =
+    sym (take-append-drop place text) ∙ ap (λ l. take place text ++ l) (drop_more text place 0 below)
+    ∙ ap (λ s. take place text ++ s ∷ drop (place + 1) text) ends
+
+pub word-ends : (text : List ℕ) (place : ℕ) → place < length text → IsPlain (take place text) → slice_index_or text place 0 ≡ 44
+    → StartsWithWord text (take place text) (drop (place + 1) text)
+word-ends text place below plain ends = record { splits = splits-at text place 44 below ends; plain = plain }
+
+-- what a byte that is no digit splits off
+pub number-ends : (text : List ℕ) (place stop number : ℕ) → place < length text → 1 ≤ place → place ≤ 20
+    → all_ascii_digits (take place text) ≡ true → number ≡ numeral (take place text) → slice_index_or text place 0 ≡ stop
+    → StartsWithNumber text stop number (drop (place + 1) text)
+number-ends text place stop number below some few digits value ends =
+    let size : length (take place text) ≡ place = length-take-le place text (omega (arith, below)) in
+    record {
+      field = take place text;
+      splits = splits-at text place stop below ends;
+      is_one = rw (size, le-leb 1 place some, le-leb place 20 few, digits) refl;
+      value = value;
+    }
+
+lines : (m d w v tail rest : List ℕ) → (m ++ 44 ∷ (d ++ 44 ∷ (w ++ 44 ∷ (v ++ 10 ∷ tail)))) ++ rest
+    ≡ m ++ 44 ∷ (d ++ 44 ∷ (w ++ 44 ∷ (v ++ 10 ∷ (tail ++ rest))))
+lines m d w v tail rest =
+    append_assoc m _ rest ∙ ap (λ t. m ++ 44 ∷ t) (append_assoc d _ rest ∙ ap (λ t. d ++ 44 ∷ t) (append_assoc w _ rest
+    ∙ ap (λ t. w ++ 44 ∷ t) (append_assoc v (10 ∷ tail) rest)))
+
+pub row-starts : (version : ℕ) (text behind-m behind-d w behind-w rest : List ℕ) (moment device value : ℕ) (event : Event)
+    → StartsWithNumber text 44 moment behind-m → StartsWithNumber behind-m 44 device behind-d → StartsWithWord behind-d w behind-w
+    → event_of version w ≡ Some event → StartsWithNumber behind-w 10 value rest → moment < 2 ^ 64
+    → StartsWithRow version text (record { moment = moment; device = device; event = event; value = value }) rest
+unfolding four_of field_at
+row-starts version text behind-m behind-d w behind-w rest moment device value event m d word names v small =
+    let whole : text ≡ m.field ++ 44 ∷ (d.field ++ 44 ∷ (w ++ 44 ∷ (v.field ++ 10 ∷ rest))) =
+    m.splits ∙ ap (λ t. m.field ++ 44 ∷ t) (d.splits ∙ ap (λ t. d.field ++ 44 ∷ t) (word.splits ∙ ap (λ t. w ++ 44 ∷ t) v.splits)) in
+    record {
+      used = m.field ++ 44 ∷ (d.field ++ 44 ∷ (w ++ 44 ∷ (v.field ++ 10 ∷ [])));
+      splits = whole ∙ sym (lines m.field d.field w v.field [] rest);
+      fields = m.field ∷ d.field ∷ w ∷ v.field ∷ [];
+      reads = λ more. ap (λ t. next_record default_config state.StartRecord [] [] (t ++ more)) whole
+          ∙ ap (λ t. next_record default_config state.StartRecord [] [] t) (lines m.field d.field w v.field rest more)
+          ∙ four-read m.field d.field w v.field (rest ++ more) m.is_one (numeral-plain d.field d.is_one) word.plain
+          (numeral-plain v.field v.is_one);
+      tells = λ fits bears number. short-row version moment device value event m.field d.field w v.field m.is_one m.value d.is_one d.value
+          v.is_one v.value names small fits bears number;
+    }
+
+abbrev pub titles : List ℕ
+titles = 109 ∷ 111 ∷ 109 ∷ 101 ∷ 110 ∷ 116 ∷ 44 ∷ 100 ∷ 101 ∷ 118 ∷ 105 ∷ 99 ∷ 101 ∷ 44 ∷ 101 ∷ 118 ∷ 101 ∷ 110 ∷ 116 ∷ 44
+    ∷ 118 ∷ 97 ∷ 108 ∷ 117 ∷ 101 ∷ 10 ∷ []
+
+abbrev pub titles-of-two : List ℕ
+titles-of-two = 109 ∷ 111 ∷ 109 ∷ 101 ∷ 110 ∷ 116 ∷ 44 ∷ 100 ∷ 101 ∷ 118 ∷ 105 ∷ 99 ∷ 101 ∷ 44 ∷ 101 ∷ 118 ∷ 101 ∷ 110 ∷ 116 ∷ 44
+    ∷ 118 ∷ 97 ∷ 108 ∷ 117 ∷ 101 ∷ 44 ∷ 50 ∷ 10 ∷ []
+
+pub titles-start : (text rest : List ℕ)
+    → text ≡ titles ++ rest
+    → StartsWithTitles text 1 rest
+unfolding next_record records_from strip_bom version_of field_at
+titles-start text rest e = record {
+  used = titles;
+  splits = e;
+  fields = (109 ∷ 111 ∷ 109 ∷ 101 ∷ 110 ∷ 116 ∷ []) ∷ (100 ∷ 101 ∷ 118 ∷ 105 ∷ 99 ∷ 101 ∷ []) ∷ (101 ∷ 118 ∷ 101 ∷ 110 ∷ 116 ∷ [])
+      ∷ (118 ∷ 97 ∷ 108 ∷ 117 ∷ 101 ∷ []) ∷ [];
+  reads = λ count more. rw (e, suc-of count) refl;
+  tells = refl;
+}
+  where
+    suc-of : (n : ℕ) → n + 1 ≡ suc n
+    suc-of n = omega arith
+
+pub titles-of-two-start : (text rest : List ℕ)
+    → text ≡ titles-of-two ++ rest
+    → StartsWithTitles text 2 rest
+unfolding next_record records_from strip_bom version_of field_at
+titles-of-two-start text rest e = record {
+  used = titles-of-two;
+  splits = e;
+  fields = (109 ∷ 111 ∷ 109 ∷ 101 ∷ 110 ∷ 116 ∷ []) ∷ (100 ∷ 101 ∷ 118 ∷ 105 ∷ 99 ∷ 101 ∷ []) ∷ (101 ∷ 118 ∷ 101 ∷ 110 ∷ 116 ∷ [])
+      ∷ (118 ∷ 97 ∷ 108 ∷ 117 ∷ 101 ∷ []) ∷ (50 ∷ []) ∷ [];
+  reads = λ count more. rw (e, suc-of count) refl;
+  tells = refl;
+}
+  where
+    suc-of : (n : ℕ) → n + 1 ≡ suc n
+    suc-of n = omega arith

@@ -1,4 +1,6 @@
 -- How the rows of the records that are left follow from the next record.
+use Rattle.std.proofs.{Common.{◌<◌, length-append}, lemmas.Bool.lt-ltb}
+use Rattle.device_rows.specs.Adding.{rows_with}
 use Rattle.std.proofs.Common.{◌≡◌, ◌∙◌, ℕ, suc, ◌+◌, ◌-◌, ◌≤◌, true, false, List, [], ◌∷◌, ◌++◌, length, refl, sym, ap, arith, Some, None}
 use Rattle.{std.{proofs.Common.Option, specs.Prelude.{Result, Ok, Err, nat_lt}}, csv.specs.Machine.{Read, next_record}}
 use Rattle.csv.specs.{Reading.{default_config, reader_state, records_from, records_next}, declared.reader.Reader.Reader}
@@ -48,26 +50,24 @@ module _ (version : ℕ) where
 
   -- the rows of all records are those of the next one and of the records behind it
   pub goes-on : {R : Type 0} (remaining : R → Option (List ℕ)) (reader after : Reader R) (fields : List (List ℕ)) (rows : List Row)
-      (before : ℕ) (all : Result (List Row) TraceFault)
-      (left : List ℕ) → before ≤ 100000
+      (all : Result (List Row) TraceFault) (left : List ℕ) → length rows ≤ 100000
       → TakesNext remaining (next_record default_config (reader_state reader) [] [] left) true fields after
-      → all ≡ rows_after version rows (records_from default_config (100001 - before) (reader_state reader) left)
-      → (rest : List ℕ) × StandsAt remaining after rest
-      × (all ≡ rows_after version rows (fields ∷ records_from default_config (100001 - (before + 1)) (reader_state after) rest))
-  goes-on {R} remaining reader after fields rows before all left small next so_far =
+      → all ≡ rows_with version rows (reader_state reader) left → (rest : List ℕ) × StandsAt remaining after rest
+      × (all ≡ rows_after version rows (fields ∷ records_from default_config (100001 - (length rows + 1)) (reader_state after) rest))
+  goes-on {R} remaining reader after fields rows all left small next so_far =
       let (rest, stands, one) =
-      records-more remaining reader after fields (100001 - before) (100001 - (before + 1)) left (omega arith) next in
+      records-more remaining reader after fields (100001 - length rows) (100001 - (length rows + 1)) left (omega (arith, small)) next in
       (rest, stands, so_far ∙ ap (rows_after version rows) one)
 
   -- the rows of all records are those so far where none is left, or none was asked for
   pub ends : {R : Type 0} (remaining : R → Option (List ℕ)) (reader after : Reader R) (fields : List (List ℕ)) (rows : List Row)
-      (before : ℕ) (all : Result (List Row) TraceFault)
-      (left : List ℕ) → before ≤ 100000
+      (all : Result (List Row) TraceFault) (left : List ℕ) → length rows ≤ 100000
       → TakesNext remaining (next_record default_config (reader_state reader) [] [] left) false fields after
-      → all ≡ rows_after version rows (records_from default_config (100001 - before) (reader_state reader) left) → all ≡ Ok rows
-  ends {R} remaining reader after fields rows before all left small next so_far =
+      → all ≡ rows_with version rows (reader_state reader) left → all ≡ Ok rows
+  ends {R} remaining reader after fields rows all left small next so_far =
       so_far ∙ ap (rows_after version rows)
-      (records-none remaining reader after fields (100001 - before) (100001 - (before + 1)) left (omega arith) next) ∙ rows-end rows
+      (records-none remaining reader after fields (100001 - length rows) (100001 - (length rows + 1)) left (omega (arith, small)) next)
+      ∙ rows-end rows
 
   pub rows-over : (rows : List Row) (fields : List (List ℕ)) (records : List (List (List ℕ))) → nat_lt (length rows) 100000 ≡ false
       → rows_after version rows (fields ∷ records) ≡ Err TraceFault.TooManyRows
@@ -103,6 +103,26 @@ module _ (version : ℕ) where
       → refusal (length rows + 1) row.event (switch_of row.device rows) ≡ None → with_row version rows fields ≡ Ok (rows ++ row ∷ [])
   unfolding with_row
   with_row-good rows fields row e h = rw (sym e, h) refl
+
+-- a record that tells one more row
+pub with-next : (version : ℕ) (rows : List Row) (row : Row) (fields : List (List ℕ)) (state after : State) (text rest : List ℕ)
+    → length rows < 100000 → next_record default_config state [] [] text ≡ Some (fields, after, rest)
+    → with_row version rows fields ≡ Ok (rows ++ row ∷ [])
+    → rows_with version rows state text ≡ rows_with version (rows ++ row ∷ []) after rest
+with-next version rows row fields state after text rest below reads one =
+    let left = 100001 - length (rows ++ row ∷ []) in
+    ap (rows_after version rows) (records-next (100001 - length rows) left state text (omega (arith, below, length-append rows (row ∷ [])))
+    ∙ ap (records_next (records_from default_config left)) reads)
+    ∙ rows-good version rows (rows ++ row ∷ []) fields (records_from default_config left after rest) (lt-ltb _ _ below) one
+
+-- an empty line in front
+pub with-empty : (version : ℕ) (rows : List Row) (text : List ℕ) → length rows ≤ 100000
+    → rows_with version rows State.StartRecord text ≡ rows_with version rows State.StartRecord (10 ∷ text)
+unfolding next_record
+with-empty version rows text few =
+    let n : 100001 - length rows ≡ suc (100000 - length rows) = omega (arith, few) in
+    ap (rows_after version rows) (records-next (100001 - length rows) (100000 - length rows) State.StartRecord text n
+    ∙ sym (records-next (100001 - length rows) (100000 - length rows) State.StartRecord (10 ∷ text) n))
 
 -- no first record
 pub trace-none : (records : List (List (List ℕ))) → records ≡ [] → trace_of records ≡ Err TraceFault.BadHeader

@@ -3,8 +3,8 @@ use Rattle.std.specs.Prelude.{◌≡◌, ℕ, ◌+◌, true, false, List, [], �
 use Rattle.std.specs.List.{list_any}
 use Rattle.csv.specs.{Machine.next_record, Reading.{default_config, records_from, strip_bom}, Writing.{default_writer, needs_byte}}
 use Rattle.csv.specs.declared.parser.State.TheVariants as state
-use Rattle.device_rows.specs.{Record.{event_of, is_numeral, numeral, row_of, version_of}, Row.{device_fits, value_fits}}
-use Rattle.device_rows.specs.declared.{event.Event.Event, row.Row.Row}
+use Rattle.device_rows.specs.{Record.{is_numeral, numeral, row_of, version_of}, Row.{device_fits, value_fits}}
+use Rattle.device_rows.specs.declared.row.Row.{Row}
 
 -- a field without a comma, a quote or an end of a line
 abbrev pub IsPlain : List ℕ → Type 0
@@ -17,11 +17,9 @@ pub record StartsWithNumber (text : List ℕ) (stop number : ℕ) (rest : List �
   pub is_one : is_numeral field ≡ true
   pub value : number ≡ numeral field
 
--- a text starts with the word of an event that a comma ends, and goes on with the rest
-pub record StartsWithEvent (version : ℕ) (text : List ℕ) (event : Event) (rest : List ℕ) : Type 0 where
-  pub word : List ℕ
+-- a text starts with a word that a comma ends, and goes on with the rest
+pub record StartsWithWord (text word rest : List ℕ) : Type 0 where
   pub splits : text ≡ word ++ 44 ∷ rest
-  pub names : event_of version word ≡ Some event
   pub plain : IsPlain word
 
 -- a text, whatever comes behind it, starts with a record that tells this row where its numbers are in their ranges

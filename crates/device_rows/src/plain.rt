@@ -2,9 +2,9 @@
 
 ghost use Rattle.std.specs.Prelude.{IfSome};
 ghost use Rattle.device_places.specs.Range.{IsWithin};
-ghost use Rattle.device_rows.specs.Plain.{StartsWithEvent, StartsWithNumber, StartsWithRow, StartsWithTitles};
+ghost use Rattle.device_rows.specs.Plain.{StartsWithNumber, StartsWithRow, StartsWithTitles, StartsWithWord};
 
-use crate::event::Event;
+use crate::event::event_of;
 use crate::row::Row;
 
 // Below this, a number with one more digit fits 64 bits.
@@ -34,35 +34,21 @@ pub fn number(text: &[u8], stop: u8) -> Option<(u64, &[u8])>
     None
 }
 
-// The event that a text starts with, in a trace of this version, and the text behind the comma that ends its word.
+// The word of lowercase letters that a text starts with, where a comma ends it, and the text behind the comma.
 #[inline(always)]
-fn event(version: u32, text: &[u8]) -> Option<(Event, &[u8])>
-    ensures { IfSome result (λ found. StartsWithEvent version text.now found.0 found.1.now) }
+fn plain_word(text: &[u8]) -> Option<(&[u8], &[u8])>
+    ensures { IfSome result (λ found. StartsWithWord text.now found.0.now found.1.now) }
 {
-    match text {
-        [b'r', b'x', b',', rest @ ..] => Some((Event::Rx, rest)),
-        [b't', b'x', b',', rest @ ..] => Some((Event::Tx, rest)),
-        [b'd', b'o', b'n', b'e', b',', rest @ ..] => Some((Event::Finish, rest)),
-        [b's', b'o', b'f', b't', b'i', b'r', b'q', b',', rest @ ..] => Some((Event::Softirq, rest)),
-        [b'k', b't', b'h', b'r', b'e', b'a', b'd', b',', rest @ ..] => Some((Event::Kthread, rest)),
-        [b'o', b'p', b'e', b'n', b',', rest @ ..] => Some((Event::Opened, rest)),
-        [b'd', b'i', b's', b'a', b'b', b'l', b'e', b',', rest @ ..] => Some((Event::Disable, rest)),
-        [b'e', b'n', b'a', b'b', b'l', b'e', b',', rest @ ..] => Some((Event::Enable, rest)),
-        [
-            b't',
-            b'h',
-            b'r',
-            b'e',
-            b'a',
-            b'd',
-            b'e',
-            b'd',
-            b',',
-            rest @ ..,
-        ] => Some((Event::Threaded, rest)),
-        [b'b', b'u', b's', b'y', b',', rest @ ..] if version == 2 => Some((Event::Busy, rest)),
-        _ => None,
+    for place in 0..text.len() {
+        let byte = text[place];
+        if byte == b',' {
+            return Some((&text[..place], &text[place + 1..]));
+        }
+        if !byte.is_ascii_lowercase() {
+            return None;
+        }
     }
+    None
 }
 
 /// The plain row that a text starts with, and the text behind it. Its moment is any, and its device and its value are at most
@@ -73,7 +59,8 @@ pub(crate) fn plain_row(version: u32, text: &[u8]) -> Option<(Row, &[u8])>
 {
     let (moment, text) = number(text, b',')?;
     let (device, text) = number(text, b',')?;
-    let (event, text) = event(version, text)?;
+    let (word, text) = plain_word(text)?;
+    let event = event_of(version, word)?;
     let (value, text) = number(text, b'\n')?;
     if device > 65536 || value > 65536 {
         return None;

@@ -118,6 +118,25 @@ fn add_plain<'t>(
     left
 }
 
+// Adds the plain rows among the bytes that are read.
+fn add_held<R: Read>(
+    version: u32,
+    block: &mut Block<R>,
+    switches: &mut Switches,
+    rows: &mut Vec<Row>,
+)
+    requires { IsSoFar switches.old.of rows.old }
+    ensures so_far { IsSoFar switches.new.of rows.new }
+    ensures same { (bytes : List ℕ) → Holds R.remaining block.old bytes
+        → (left : List ℕ) × Holds R.remaining block.new left
+        × (rows_with version (vec_items rows.old) state.StartRecord bytes
+        ≡ rows_with version (vec_items rows.new) state.StartRecord left) }
+{
+    let left = add_plain(version, block.text(), switches, rows).len();
+    let used = block.text().len() - left;
+    block.advance(used);
+}
+
 // Adds the plain rows of a block, up to the first record that is none or is refused.
 fn add_block<R: Read>(
     alloc: Global,
@@ -135,11 +154,12 @@ fn add_block<R: Read>(
     ensures fault { IfErr result IsReadFailure }
 {
     for _ in 0..u64::MAX {
-        let left = add_plain(version, block.text(), switches, rows).len();
-        let used = block.text().len() - left;
-        block.advance(used);
-        if block.has_line() || !block.refill(alloc)? {
-            break;
+        add_held(version, block, switches, rows);
+        if block.has_line() {
+            return Ok(());
+        }
+        if !block.refill(alloc)? {
+            return Ok(());
         }
     }
     Ok(())

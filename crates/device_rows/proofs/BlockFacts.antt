@@ -1,0 +1,63 @@
+-- What is left behind the bytes that were read ahead.
+use Rattle.std.proofs.Common.{◌≡◌, ◌∙◌, ℕ, ◌+◌, ◌-◌, ◌≤◌, List, [], ◌∷◌, ◌++◌, Some, None, Option, length, take, drop, refl, sym, ap, arith}
+use Rattle.std.proofs.{Common.{append_assoc, length-append, take_all, take_at, take-take, drop_at}, lemmas.List.take-append-le}
+use Rattle.{std.specs.Io.KnownBytes.Consumes, csv.specs.{Reading.{default_config, records_from, strip_bom}, declared.parser.State.State}}
+use Rattle.device_rows.specs.{Block.{Holds, unread}, Plain.StartsWithTitles, declared.block.Block.{Block}}
+use lib.Seq.{take-append-add}
+
+-- a line feed starts no byte-order mark
+pub no-mark : (bytes : List ℕ) → strip_bom (10 ∷ bytes) ≡ 10 ∷ bytes
+unfolding strip_bom
+no-mark [] = refl
+no-mark (a ∷ []) = refl
+no-mark (a ∷ b ∷ bytes) = refl
+
+-- the bytes that a read took stand behind those that were unread
+pub read-on : (held taken items behind bytes : List ℕ) (before after : Option (List ℕ)) → before ≡ Some behind → Consumes before after taken
+    → bytes ≡ held ++ behind → items ≡ held ++ taken → (left : List ℕ) × (after ≡ Some left) × (bytes ≡ items ++ left)
+read-on held taken items behind bytes None after known took all made = cc known
+read-on held taken items behind bytes (Some xs) None known took all made = absurd took
+read-on held taken items behind bytes (Some xs) (Some ys) known took all made =
+    let same : behind ≡ taken ++ ys = cc (known, took) in
+    (ys, refl, all ∙ ap (λ b. held ++ b) same ∙ sym (append_assoc held taken ys) ∙ ap (λ i. i ++ ys) (sym made))
+
+-- behind the unread bytes a read put others, of which the first so many count
+pub put-behind : (held ahead zeros taken spare rest items : List ℕ) (before count size : ℕ) → before ≡ length held
+    → ahead ≡ take (before + 65536) held ++ zeros → count ≤ length taken → before + count ≤ size
+    → items ≡ take (before + count) (take size ((take before ahead ++ (taken ++ spare)) ++ rest)) → items ≡ held ++ take count taken
+put-behind held ahead zeros taken spare rest items before count size long made few fits is =
+    let whole : take (before + 65536) held ≡ held = take_all (before + 65536) held (omega (arith, long)) in
+    let all : ahead ≡ held ++ zeros = rw whole at made in
+    let front : take before ahead ≡ held = rw all (take_at held zeros before (sym long)) in
+    let flat : (take before ahead ++ (taken ++ spare)) ++ rest ≡ held ++ (taken ++ (spare ++ rest)) =
+    rw front (append_assoc held (taken ++ spare) rest ∙ ap (λ t. held ++ t) (append_assoc taken spare rest)) in
+    let cut : take (length held + count) (held ++ (taken ++ (spare ++ rest))) ≡ held ++ take count taken =
+    take-append-add held (taken ++ (spare ++ rest)) count ∙ ap (λ t. held ++ t) (take-append-le count taken (spare ++ rest) few) in
+    is ∙ take-take (before + count) size _ fits ∙ ap (take (before + count)) flat
+    ∙ ap (λ n. take (n + count) (held ++ (taken ++ (spare ++ rest)))) long ∙ cut
+
+-- the block where some of its unread bytes were used
+pub used-up : {R : Type 0} (remaining : R → Option (List ℕ)) (old new : Block R) (text used rest left : List ℕ) (count : ℕ)
+    → text ≡ unread old → text ≡ used ++ rest → count ≡ length text - length rest → unread new ≡ drop count (unread old)
+    → new.source ≡ old.source → Holds remaining old left
+    → (behind : List ℕ) × (left ≡ text ++ behind) × Holds remaining new (rest ++ behind)
+used-up {R} remaining old new text used rest left count is splits size behind same holds =
+    let both : length text ≡ length used + length rest = ap (λ t. length t) splits ∙ length-append used rest in
+    let long : length used ≡ count = omega (arith, size, both) in
+    let left-over : drop count (unread old) ≡ rest =
+    ap (drop count) (sym is ∙ splits) ∙ drop_at used rest count long in
+    (holds.behind, holds.all ∙ ap (λ t. t ++ holds.behind) (sym is), record {
+      behind = holds.behind;
+      known = ap remaining same ∙ holds.known;
+      all = ap (λ t. t ++ holds.behind) (sym (behind ∙ left-over));
+    })
+
+-- the titles were used: the records behind them are those of the bytes that are left
+pub titles-used : {R : Type 0} (remaining : R → Option (List ℕ)) (old new : Block R) (text rest bytes : List ℕ) (count version : ℕ)
+    → text ≡ unread old → (titles : StartsWithTitles text version rest) → count ≡ length text - length rest
+    → unread new ≡ drop count (unread old) → new.source ≡ old.source → Holds remaining old bytes
+    → (left : List ℕ) × Holds remaining new left × (records_from default_config 100002 State.StartRecord (strip_bom bytes)
+    ≡ titles.fields ∷ records_from default_config 100001 State.StartRecord left)
+titles-used {R} remaining old new text rest bytes count version is titles size behind same holds =
+    let (more, all, stands) = used-up remaining old new text titles.used rest bytes count is titles.splits size behind same holds in
+    (rest ++ more, stands, ap (λ b. records_from default_config 100002 State.StartRecord (strip_bom b)) all ∙ titles.reads 100001 more)
