@@ -1,7 +1,7 @@
 -- The rows of a trace are accepted, each after those before it.
 use Rattle.std.proofs.Common.{◌≡◌, ℕ, zero, suc, ◌<◌, List, [], ◌∷◌, ◌++◌, length, get_or, refl, sym, append_assoc, arith, Some}
 use Rattle.std.{proofs.lemmas.List.append-nil, specs.Prelude.slice_get}
-use Rattle.std.proofs.Common.{◌∙◌, ◌≤◌, ◌+◌, Vec, ap, subst, length-append, vec_capacity, vec_items, vec_len}
+use Rattle.std.proofs.Common.{◌∙◌, ◌+◌, Vec, ap, subst, length-append, vec_capacity, vec_items, vec_len}
 use Rattle.device_rows.specs.{Adding.IsSoFar, Switch.Tracks, Trace.{AcceptedAfter, IsAccepted}}
 use Rattle.device_rows.specs.declared.{row.Row.{Row}, switch.Switch.{Switch}}
 

@@ -10,7 +10,7 @@ use Rattle.csv.proofs.RoundTrip.{field-run, record-same}
 use Rattle.csv.specs.declared.parser.State.TheVariants as state
 use Rattle.device_rows.specs.Plain.{IsPlain, StartsWithNumber, StartsWithRow, StartsWithTitles, StartsWithWord}
 use Rattle.device_rows.specs.Record.{event_of, four_of, is_numeral, numeral, version_of}
-use Rattle.device_rows.specs.declared.{event.Event.Event, row.Row.Row}
+use Rattle.device_rows.specs.declared.{event.Event.Event}
 use Rattle.device_rows.proofs.{NumeralFacts.digits-push, ShortFacts.short-row}
 
 -- a digit is no mark of csv's

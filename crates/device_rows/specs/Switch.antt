@@ -1,5 +1,5 @@
 -- What the earlier rows of a device say of the next one: faults 6 to 8. See docs/FORMATS.md, "The trace".
-use Rattle.std.specs.Prelude.{◌≡◌, ℕ, ◌+◌, ◌<◌, ◌==◌, true, List, [], ◌∷◌, ◌++◌, map, filter, Option, Some, None, unwrap_or, slice_index_or}
+use Rattle.std.specs.Prelude.{◌≡◌, ℕ, ◌+◌, ◌<◌, ◌==◌, true, List, [], ◌∷◌, map, filter, Option, Some, None, unwrap_or, slice_index_or}
 use Rattle.{std.specs.Prelude.{Result, Ok, Err}, device_rows.specs.{Row.{device_fits, value_fits}, declared.event.Event.Event}}
 use Rattle.device_rows.specs.declared.event.Event.TheVariants.{Opened, Rx, Tx, Finish, Softirq, Kthread, Disable, Enable, Threaded, Busy}
 use Rattle.device_rows.specs.declared.{fault.TraceFault.{TraceFault, TheVariants.{UnknownDevice, OpenTwice, WrongState}}, row.Row.Row}

@@ -1,5 +1,5 @@
 use Rattle.std.proofs.lemmas.List.{take_rest}
-use Rattle.std.proofs.Common.{◌≡◌, ◌+◌, ◌<◌, length, true, slice_index_or, rules}
+use Rattle.std.proofs.Common.{◌≡◌, ◌+◌, true, slice_index_or, rules}
 use Rattle.{std.specs.Char.is_ascii_lowercase, device_rows.proofs.PlainFacts.{letters-more, word-ends}}
 use Rattle.device_rows.proofs.plain.plain_word.Goals as goal
 

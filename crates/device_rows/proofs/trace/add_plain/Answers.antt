@@ -1,6 +1,6 @@
-use Rattle.std.proofs.Common.{◌≡◌, ◌∙◌, ℕ, ◌+◌, ◌<◌, List, [], ◌∷◌, ◌++◌, Ok, length, vec_items, refl, sym, ap, rules, arith, append_assoc}
+use Rattle.std.proofs.Common.{◌≡◌, ◌∙◌, ◌+◌, ◌<◌, [], ◌∷◌, ◌++◌, Ok, length, vec_items, refl, sym, ap, arith, append_assoc}
 use Rattle.csv.specs.declared.parser.State.TheVariants as state
-use Rattle.device_rows.specs.{Adding.rows_with, Trace.{IsAccepted, with_row}}
+use Rattle.device_rows.specs.{Adding.rows_with, Trace.{with_row}}
 use Rattle.device_rows.proofs.{Accepted.so_far-push, RowsFacts.{with-next, with_row-good}}
 use Rattle.device_rows.proofs.trace.add_plain.Goals as goal
 

@@ -1,4 +1,4 @@
-use Rattle.std.proofs.Common.{◌≡◌, ℕ, ◌≤◌, List, length, vec_items}
+use Rattle.std.proofs.Common.{◌≡◌, ℕ, List, length, vec_items}
 use Rattle.{csv.specs.Reading.reader_state, device_rows.specs.{Adding.{IsSoFar, rows_with}, Source.{IsOpen, StandsAt}}}
 use Rattle.device_rows.proofs.trace.read_rows.Given as goal
 

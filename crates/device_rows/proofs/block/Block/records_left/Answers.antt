@@ -1,4 +1,4 @@
-use Rattle.std.proofs.Common.{◌≡◌, ◌∙◌, ℕ, List, ◌∷◌, Some, drop, subst, sym, ap, rules}
+use Rattle.std.proofs.Common.{◌≡◌, ◌∙◌, ◌∷◌, Some, drop, subst, sym, ap, rules}
 use Rattle.std.specs.{Fmt.option_append, Io.{Chain.chain_remaining, Cursor.cursor_remaining}}
 use Rattle.device_rows.{specs.{Block.unread, Source.StandsAt}, proofs.BlockFacts.no-mark}
 use Rattle.device_rows.proofs.block.Block.records_left.Goals as goal

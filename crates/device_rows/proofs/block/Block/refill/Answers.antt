@@ -1,4 +1,4 @@
-use Rattle.std.proofs.Common.{◌≡◌, ℕ, ◌+◌, ◌-◌, ◌≤◌, List, ◌++◌, length, take, refl, inl, rules}
+use Rattle.std.proofs.Common.{◌≡◌, ◌+◌, ◌-◌, ◌≤◌, ◌++◌, length, take, refl, inl, rules}
 use Rattle.{std.specs.Prelude.replicate, device_rows.{specs.{Block.unread, Failures.failed_by_read}, proofs.BlockFacts.{put-behind, read-on}}}
 use Rattle.device_rows.proofs.block.Block.refill.Goals as goal
 

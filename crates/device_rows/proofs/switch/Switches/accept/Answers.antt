@@ -1,7 +1,7 @@
-use Rattle.std.proofs.Common.{◌≡◌, ◌∙◌, ℕ, ◌+◌, List, length, Some, None, Ok, true, rules, sym}
+use Rattle.std.proofs.Common.{◌≡◌, ◌∙◌, ◌+◌, length, Some, Ok, true, rules, sym}
 use Rattle.std.specs.Prelude.{Result, Err, MatchResult}
 use Rattle.std.specs.Result.{is_ok}
-use Rattle.device_rows.specs.{Row.{device_fits, value_fits}, Switch.{refusal, switch_of}, declared.fault.TraceFault.TraceFault}
+use Rattle.device_rows.specs.{Row.{device_fits, value_fits}, Switch.{refusal, switch_of}}
 use Rattle.device_rows.proofs.SwitchFacts.{tracks-same}
 use Rattle.device_rows.proofs.switch.Switches.accept.Goals as goal
 
