@@ -1,6 +1,6 @@
 use Rattle.std.proofs.Common.{◌≡◌, inr, refl, rules, true, false}
 use Rattle.csv.specs.{Records.fields_of, Reading.strip_bom}
-use Rattle.device_rows.specs.declared.trace.Next.{Next}
+use Rattle.device_rows.specs.declared.source.Next.{Next}
 use Rattle.machine_report.{specs.Arrivals.{four_of, is_title}, proofs.ReadingFacts.{given-start, refused-start, refused-title}}
 use Rattle.machine_report.proofs.arrivals.Arrivals.new.Goals as goal
 

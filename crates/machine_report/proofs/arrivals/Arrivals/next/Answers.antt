@@ -1,6 +1,6 @@
 use Rattle.std.proofs.{Common.{◌≡◌, ◌≤◌, ◌-◌, ◌^◌, inl, inr, refl, rules, sym}, lemmas.Result.err_from_is_err_and}
 use Rattle.csv.specs.Records.{fields_of}
-use Rattle.{device_rows.specs.declared.trace.Next.Next, machine_report.proofs.ReadingFacts.{given-end, given-fault, given-next}}
+use Rattle.{device_rows.specs.declared.source.Next.Next, machine_report.proofs.ReadingFacts.{given-end, given-fault, given-next}}
 use Rattle.machine_report.specs.Endless.{endless_at}
 use Rattle.machine_report.proofs.arrivals.Arrivals.next.Goals as goal
 
