@@ -1,5 +1,6 @@
 -- How csv reads plain rows.
-use Rattle.std.proofs.Common.{◌≡◌, ◌∙◌, ℕ, suc, ◌+◌, ◌-◌, ◌*◌, ◌<◌, ◌≤◌, ◌^◌, true, false, List, [], ◌∷◌, ◌++◌, length, take, drop, refl, sym, ap}
+use Rattle.std.proofs.Common.{◌≡◌, ◌∙◌, ℕ, suc, ◌+◌, ◌-◌, ◌*◌, ◌<◌, ◌≤◌, ◌^◌, true, false, List, [], ◌∷◌, ◌++◌, length, take, drop, refl}
+use Rattle.std.proofs.Common.{sym, ap}
 use Rattle.std.proofs.Common.{append_assoc, arith, Some, slice_index_or, take-append-drop, length-take-le}
 use Rattle.std.proofs.lemmas.{Bool.{and_parts, le-leb, Decides.nat_tests}, List.{drop_more, take_more, Folds.list_any_more}}
 use Rattle.std.proofs.lemmas.Int.Digits.{digits_value_push}
@@ -30,7 +31,8 @@ numeral-plain field h =
 
 -- a plain field and the comma behind it
 comma-ends : (fields : List (List ℕ)) (x rest : List ℕ) → IsPlain x
-    → next_record default_config state.StartField fields [] (x ++ 44 ∷ rest) ≡ next_record default_config state.StartField (fields ++ x ∷ []) [] rest
+    → next_record default_config state.StartField fields [] (x ++ 44 ∷ rest)
+    ≡ next_record default_config state.StartField (fields ++ x ∷ []) [] rest
 unfolding next_record
 comma-ends fields x rest plain =
     let run = field-run fields x 44 rest refl in

@@ -34,7 +34,8 @@ impl<R: Read> Block<R> {
 
     /// Nothing is read yet.
     pub fn new(alloc: Global, source: R) -> Block<R>
-        ensures { (bytes : List ℕ) → R.remaining source ≡ Some bytes → Holds R.remaining result bytes }
+        ensures { (bytes : List ℕ) → R.remaining source ≡ Some bytes
+            → Holds R.remaining result bytes }
     {
         Block {
             source,

@@ -19,5 +19,6 @@ returns-else-is_ascii_digit c =
     let some : 1 ≤ c.loop-place.place = search rules in
     let few : c.loop-place.place ≤ 20 = search rules in
     let ends : slice_index_or c.args.text.now c.loop-place.place 0 ≡ c.args.stop = search rules in
-    rw (take_rest c.args.text.now (c.loop-place.place + 1)) (number-ends c.args.text.now c.loop-place.place c.args.stop c.loop-place.number below some few c.loop-place.invariant.digits
+    rw (take_rest c.args.text.now (c.loop-place.place + 1))
+    (number-ends c.args.text.now c.loop-place.place c.args.stop c.loop-place.number below some few c.loop-place.invariant.digits
     c.loop-place.invariant.value ends)

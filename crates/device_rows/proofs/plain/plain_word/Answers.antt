@@ -11,4 +11,5 @@ loop-place-preserved c =
 pub returns-then-byte-eq44 : goal.returns-then-byte-eq44
 returns-then-byte-eq44 c =
     let ends : slice_index_or c.args.text.now c.loop-place.place 0 ≡ 44 = search rules in
-    rw (take_rest c.args.text.now (c.loop-place.place + 1)) (word-ends c.args.text.now c.loop-place.place c.loop-place-test.true c.loop-place.invariant ends)
+    rw (take_rest c.args.text.now (c.loop-place.place + 1))
+    (word-ends c.args.text.now c.loop-place.place c.loop-place-test.true c.loop-place.invariant ends)

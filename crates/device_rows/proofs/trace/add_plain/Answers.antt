@@ -14,7 +14,8 @@ loop-before-init c = record {
 
 pub push_reserved-requires : goal.push_reserved-requires
 push_reserved-requires c =
-    omega (arith, c.loop-before-test.true, c.loop-before.invariant.count, c.loop-before.invariant.so_far.filled, c.loop-before.invariant.so_far.room)
+    omega (arith, c.loop-before-test.true, c.loop-before.invariant.count, c.loop-before.invariant.so_far.filled,
+    c.loop-before.invariant.so_far.room)
 
 pub loop-before-preserved : goal.loop-before-preserved
 loop-before-preserved c =
@@ -25,7 +26,8 @@ loop-before-preserved c =
     let tracks = c.accept.ensures.tracks c.if-not-accept.false (vec_items c.loop-before.rows) so_far.tracks in
     let starts = c.in-Some.ensures in
     let told = starts.tells next.device next.value (length (vec_items c.loop-before.rows) + 1) in
-    let one : with_row c.args.version (vec_items c.loop-before.rows) starts.fields ≡ Ok (vec_items c.loop-before.rows ++ c.in-Some.row ∷ []) =
+    let one : with_row c.args.version (vec_items c.loop-before.rows) starts.fields
+    ≡ Ok (vec_items c.loop-before.rows ++ c.in-Some.row ∷ []) =
     with_row-good c.args.version (vec_items c.loop-before.rows) starts.fields c.in-Some.row (sym told) next.in_turn in
     let pushed =
     so_far-push c.loop-before.switches.of c.accept.new.self.of c.loop-before.rows c.push_reserved.new.self c.in-Some.row so_far below

@@ -1,5 +1,6 @@
-use Rattle.std.proofs.{Common.{◌≡◌, ◌∙◌, ◌-◌, length, ap, inr, refl, sym, true, false, rules, arith, vec_items}, lemmas.Bool.{le-ltb, lt-ltb}}
-use Rattle.{std.{proofs.lemmas.Result.err_from_is_err_and, specs.Prelude.nat_lt}, csv.specs.{Records.fields_of, Reading.{default_config, reader_state, records_from}}}
+use Rattle.std.proofs.{Common.{◌≡◌, ◌∙◌, ◌-◌, length, ap, inr, refl, sym, true, false, rules, arith}, lemmas.Bool.{le-ltb, lt-ltb}}
+use Rattle.std.{proofs.{Common.vec_items, lemmas.Result.err_from_is_err_and}, specs.Prelude.nat_lt}
+use Rattle.csv.specs.{Records.fields_of, Reading.{default_config, reader_state, records_from}}
 use Rattle.device_rows.{specs.Trace.rows_after, proofs.RowsFacts.{ends, goes-on, records-zero, rows-bad, rows-end, rows-good, rows-over}}
 use Rattle.device_rows.proofs.trace.read_rows.Goals.{else-loop-before-test, then-loop-before-test+in-End}
 use Rattle.device_rows.specs.declared.source.Next.TheVariants as came
@@ -61,7 +62,8 @@ returns-clause-rows g c bytes start =
     let (left, at, so_far) = c.loop-before.invariant.goes_on bytes start in
     elim c.loop-before-test.branch [
       | else-loop-before-test w ↦ so_far ∙ ap (rows_after c.args.version (vec_items c.loop-before.rows))
-          (records-zero (100001 - length (vec_items c.loop-before.rows)) (reader_state c.loop-before.reader) left (search rules)) ∙ rows-end _ _
+          (records-zero (100001 - length (vec_items c.loop-before.rows)) (reader_state c.loop-before.reader) left (search rules))
+          ∙ rows-end _ _
       | then-loop-before-test+in-End w ↦
           let ended : w.next_record.result ≡ came.End = search rules in
           let next = w.next_record.ensures.end ended left at in

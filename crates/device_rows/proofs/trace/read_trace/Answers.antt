@@ -52,4 +52,5 @@ returns-clause-fault g c =
     let (left, stands, one) =
     titles-used g.R.Read.remaining c.fill_line.new.self c.advance.new.self c.text.result.now c.in-Some.left.now bytes _ c.in-Some.version
     c.text.ensures titles size c.advance.ensures.unread c.advance.ensures.source holds in
-    rw (asked-decide 100002 _ bytes (omega arith) refl ∙ trace-rows _ _ _ _ one titles.tells) (told left stands)) c.plain_trace.ensures.fault
+    rw (asked-decide 100002 _ bytes (omega arith) refl ∙ trace-rows _ _ _ _ one titles.tells) (told left stands))
+    c.plain_trace.ensures.fault

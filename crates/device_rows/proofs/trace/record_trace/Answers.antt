@@ -15,7 +15,8 @@ returns-in_default-clause-fault g c bytes start =
     let found : c.next_record.result ≡ Next.Record = search rules in
     let next = c.next_record.ensures.record found bytes start in
     let (rest, stands, one) =
-    records-more g.R.Read.remaining c.args.reader.now c.next_record.new.reader (fields_of c.next_record.new.fields) 100002 100001 bytes refl next in
+    records-more g.R.Read.remaining c.args.reader.now c.next_record.new.reader (fields_of c.next_record.new.fields) 100002 100001
+    bytes refl next in
     let other : version_of (fields_of c.next_record.new.fields) ≡ None = search rules in
     inr (trace-other _ _ _ one other)
 
@@ -25,7 +26,8 @@ returns-clause-rows g c =
     let found : c.next_record.result ≡ Next.Record = search rules in
     let next = c.next_record.ensures.record found bytes start in
     let (rest, stands, one) =
-    records-more g.R.Read.remaining c.args.reader.now c.next_record.new.reader (fields_of c.next_record.new.fields) 100002 100001 bytes refl next in
+    records-more g.R.Read.remaining c.args.reader.now c.next_record.new.reader (fields_of c.next_record.new.fields) 100002 100001
+    bytes refl next in
     let same : version_of (fields_of c.next_record.new.fields) ≡ Some c.in-Some.version = search rules in
     let all = rw c.in_ok-rows.ensures.items at (told rest stands) in
     trace-rows _ _ _ _ one same ∙ all) c.read_rows.ensures.rows
@@ -36,7 +38,8 @@ returns-clause-version g c =
     let found : c.next_record.result ≡ Next.Record = search rules in
     let next = c.next_record.ensures.record found bytes start in
     let (rest, stands, one) =
-    records-more g.R.Read.remaining c.args.reader.now c.next_record.new.reader (fields_of c.next_record.new.fields) 100002 100001 bytes refl next in
+    records-more g.R.Read.remaining c.args.reader.now c.next_record.new.reader (fields_of c.next_record.new.fields) 100002 100001
+    bytes refl next in
     let same : version_of (fields_of c.next_record.new.fields) ≡ Some c.in-Some.version = search rules in
     told ∙ sym (first-version _ _ _ _ one same)) c.read_rows.ensures.version
 
@@ -46,7 +49,8 @@ returns-clause-fault g c =
     let found : c.next_record.result ≡ Next.Record = search rules in
     let next = c.next_record.ensures.record found bytes start in
     let (rest, stands, one) =
-    records-more g.R.Read.remaining c.args.reader.now c.next_record.new.reader (fields_of c.next_record.new.fields) 100002 100001 bytes refl next in
+    records-more g.R.Read.remaining c.args.reader.now c.next_record.new.reader (fields_of c.next_record.new.fields) 100002 100001
+    bytes refl next in
     let same : version_of (fields_of c.next_record.new.fields) ≡ Some c.in-Some.version = search rules in
     let all = rw c.in_ok-rows.ensures.items at (told rest stands) in
     rw (trace-rows _ _ _ _ one same) all) c.read_rows.ensures.fault

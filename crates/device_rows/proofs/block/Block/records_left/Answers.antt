@@ -6,7 +6,9 @@ use Rattle.device_rows.proofs.block.Block.records_left.Goals as goal
 pub returns-clause-start : goal.returns-clause-start
 returns-clause-start g c bytes holds =
     let items : c.extend_from_slice.new.self.items ≡ 10 ∷ unread c.args.self = search rules in
-    let joined : option_append (Some (drop c.new.result.pos c.new.result.inner.items)) (g.R.Read.remaining c.args.self.source) ≡ Some (10 ∷ bytes) =
+    let joined : option_append (Some (drop c.new.result.pos c.new.result.inner.items)) (g.R.Read.remaining c.args.self.source)
+    ≡ Some (10 ∷ bytes) =
     rw (c.new.ensures.position, c.new.ensures.inner, items, holds.known) (ap (λ b. Some (10 ∷ b)) (sym holds.all)) in
-    subst (λ b. StandsAt (chain_remaining (cursor_remaining (λ held. Some held.items)) g.R.Read.remaining) c.reader_of.result b) (no-mark bytes)
+    subst (λ b. StandsAt (chain_remaining (cursor_remaining (λ held. Some held.items)) g.R.Read.remaining) c.reader_of.result b)
+    (no-mark bytes)
     (c.reader_of.ensures.start (10 ∷ bytes) (c.chain.ensures.bytes ∙ joined))

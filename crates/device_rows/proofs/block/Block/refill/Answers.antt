@@ -1,5 +1,6 @@
 use Rattle.std.proofs.Common.{◌≡◌, ◌+◌, ◌-◌, ◌≤◌, ◌++◌, length, take, refl, inl, rules}
-use Rattle.{std.specs.Prelude.replicate, device_rows.{specs.{Block.unread, Failures.failed_by_read}, proofs.BlockFacts.{put-behind, read-on}}}
+use Rattle.{std.specs.Prelude.replicate, device_rows.specs.{Block.unread, Failures.failed_by_read}}
+use Rattle.device_rows.proofs.BlockFacts.{put-behind, read-on}
 use Rattle.device_rows.proofs.block.Block.refill.Goals as goal
 
 pub returns-in_default-clause-fault : goal.returns-in_default-clause-fault
@@ -15,6 +16,7 @@ returns-clause-holds g c bytes holds =
     let items : c.truncate.new.self.items ≡ unread c.args.self.now ++ take c.in-Ok.count c.read.new.buf =
     put-behind (unread c.args.self.now) c.deref_mut.result.now _ c.read.new.buf _ _ c.truncate.new.self.items c.len-before.result
     c.in-Ok.count c.resize.new.self.len long ahead few fits c.truncate.ensures.items in
-    let (left, known, all) = read-on (unread c.args.self.now) (take c.in-Ok.count c.read.new.buf) c.truncate.new.self.items holds.behind bytes
+    let (left, known, all) =
+    read-on (unread c.args.self.now) (take c.in-Ok.count c.read.new.buf) c.truncate.new.self.items holds.behind bytes
     _ _ holds.known c.in-Ok.ensures.bytes.0 holds.all items in
     record { behind = left; known = known; all = all }
