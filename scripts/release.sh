@@ -15,9 +15,7 @@ stop() {
 }
 
 [ "$#" = 1 ] && [ -n "$1" ] || stop 64 'usage: scripts/release.sh FOLDER'
-for program in dpkg-deb tar sha256sum; do
-    command -v "$program" > /dev/null || stop 69 "there is no $program"
-done
+command -v dpkg-deb > /dev/null || stop 69 "there is no dpkg-deb, which makes the package"
 folder=$(realpath -m -- "$1")
 [ ! -e "$folder" ] || [ -d "$folder" ] || stop 73 "$folder is no folder"
 [ ! -d "$folder" ] || [ -z "$(ls -A -- "$folder")" ] || stop 73 "$folder isn't empty"
