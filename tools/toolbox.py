@@ -153,7 +153,8 @@ def check_target(path, replaces=True):
 
 class whole_file:
     """The name of a new file beside `path`, which takes its place once all of it is there. After a failure nothing has changed.
-    Unless it may replace one, a file that is there is kept, and is a refusal."""
+    Unless it may replace one, a file that is there is kept, and is a refusal. The new file has the mode of the one that it replaces;
+    before it is in place only the user can read it, so that a private file is never readable by others."""
 
     def __init__(self, path, replaces=True):
         check_target(path, replaces)
@@ -163,20 +164,31 @@ class whole_file:
 
     def __enter__(self):
         unfinished.add(self.new)
-        os.close(os.open(self.new, os.O_WRONLY | os.O_CREAT | os.O_EXCL, 0o666))
+        os.close(os.open(self.new, os.O_WRONLY | os.O_CREAT | os.O_EXCL, 0o600 if os.path.exists(self.path) else 0o666))
         return self.new
 
     def __exit__(self, kind, _error, _trace):
         try:
-            if kind is None and self.replaces:
-                if os.path.exists(self.path):
-                    os.chmod(self.new, os.stat(self.path).st_mode & 0o7777)
-                os.replace(self.new, self.path)
-            elif kind is None:
-                os.link(self.new, self.path)  # which fails where somebody made it meanwhile
+            if kind is None:
+                self.put()
         finally:
             unlink(self.new)
             unfinished.discard(self.new)
+
+    def put(self):
+        """Puts the new file in its place. It is on the disk before it has the name, whichever program wrote it: after a crash the
+        name is the old file's or the whole new one's."""
+        file = os.open(self.new, os.O_RDONLY)
+        try:
+            if self.replaces and os.path.exists(self.path):
+                os.fchmod(file, os.stat(self.path).st_mode & 0o7777)
+            os.fsync(file)
+        finally:
+            os.close(file)
+        if self.replaces:
+            os.replace(self.new, self.path)
+        else:
+            os.link(self.new, self.path)  # which fails if another program made it meanwhile
 
 
 def write_whole(path, text, replaces=True):
@@ -184,8 +196,6 @@ def write_whole(path, text, replaces=True):
     with whole_file(path, replaces) as new:
         with open(new, "w", newline="", encoding="utf-8", errors="surrogateescape") as file:
             file.writelines([text] if isinstance(text, str) else text)
-            file.flush()
-            os.fsync(file.fileno())
 
 
 def write_all(texts):
