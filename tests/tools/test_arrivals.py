@@ -205,6 +205,15 @@ class Traffic(Arrivals):
         self.assertEqual(self.rows(*words, "1"), self.rows(*words, "1"))
         self.assertNotEqual(self.rows(*words, "1"), self.rows(*words, "2"))
 
+    def test_the_seed_decides_when_packets_come(self):
+        """Not their sizes alone; and each device has times of its own."""
+        for kind in ("constant", "poisson", "bursts"):
+            words = ["--kind", kind, "--devices", "2", "--rate", "2000", "--bytes", "60", "--seed"]
+            times = [{(device, moment) for moment, device, _ in self.rows(*words, seed)} for seed in (1, 2)]
+            self.assertLess(len(times[0] & times[1]), len(times[0]) / 10, kind)
+            of = [{moment for device, moment in times[0] if device == number} for number in (1, 2)]
+            self.assertLess(len(of[0] & of[1]), len(of[0]) / 10, kind)
+
     def test_words_that_it_refuses(self):
         for words in (["--mix", "tx=1"], ["--devices", "4097"], ["--devices", "0"]):
             self.assertEqual(run("traffic", "--arrivals", *words).returncode, 2)
