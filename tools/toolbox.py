@@ -22,6 +22,8 @@ HEADERS = {"moment,device,event,value": 1, "moment,device,event,value,2": 2}
 RANGES = {"budget": 65535, "weight": 64, "window": 65535}  # docs/FORMATS.md, "The words"
 TICKS = {"ms": 1000, "us": 1000000}  # moments of a second
 
+NAME = os.environ.get("FINTAQUSH_NAME", "")  # as scripts/subcommands.py was asked for it, `fintaqush plot`
+
 MAIN = _thread.get_ident()
 unfinished = set()  # the files that are being written
 running = set()  # the programs of ours that are at work
@@ -59,11 +61,16 @@ def shown(name):
                    .encode("unicode_escape").decode() for letter in text)
 
 
+def called(tool):
+    """The name that a tool was called by: its own, or that of a subcommand."""
+    return NAME or tool
+
+
 def say(tool, text):
     """A line on standard error, where somebody reads that."""
     try:
         if sys.stderr is not None:
-            print(f"{tool}: {text}", file=sys.stderr, flush=True)
+            print(f"{called(tool)}: {text}", file=sys.stderr, flush=True)
     except (OSError, ValueError):
         pass
 
@@ -265,11 +272,12 @@ def version():
 def parser_of(text, **others):
     """What reads a tool's words, none of them shortened, and tells them."""
     import argparse
-    parser = argparse.ArgumentParser(description=text, formatter_class=argparse.RawDescriptionHelpFormatter, allow_abbrev=False, **others)
-    parser.add_argument("--version", action="version", version=f"{parser.prog} of Fintaqush {version()}", help="tell the version")
-    if sys.argv[1:] == ["--manual"] and text:
-        from manual import print_page  # once it has all its words
-        parser.parse_args = parser.parse_known_args = lambda *_: print_page(parser, version())
+    parser = argparse.ArgumentParser(**{"prog": NAME or None, "description": text, "formatter_class": argparse.RawDescriptionHelpFormatter,
+                                        "allow_abbrev": False, **others})
+    parser.add_argument("--version", action="version", version=f"{parser.prog} of Fintaqush {version()}", help="print the version")
+    if sys.argv[1:] in (["--manual"], ["--options"]) and text:
+        import manual  # once it has all its options
+        parser.parse_args = parser.parse_known_args = lambda *_: manual.describe(parser, sys.argv[1], version())
     return parser
 
 
