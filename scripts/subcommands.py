@@ -108,6 +108,8 @@ def main(given):
         end(2, "no subcommand; fintaqush --help lists them")
     if name in ("-h", "--help", "help"):
         show(usage())
+    if name == "--names":  # for scripts
+        show("".join(each + "\n" for each in sorted(FILES)))
     if name in ("--version", "--manual"):
         become("manual.py", [name])
     if name not in FILES:

@@ -65,6 +65,13 @@ def plain(line):
     return " ".join(re.split(r" {3,}|\s+# ", line.strip())[0].split())
 
 
+def listed_as(command):
+    """A command as commands.txt has it: a subcommand stands there as it is called in a checkout, however a page calls it."""
+    program, _, words = command.partition(" ")
+    name = next((name for name, file in SUBCOMMANDS.items() if program == f"tools/{file}"), None)
+    return f"./{command}" if program == "fintaqush" else f"./fintaqush {name} {words}" if name else command
+
+
 def blocks(text):
     """The blocks of a page, each the list of its lines: those between fences, and those that stand in by four spaces."""
     block, fence, before = [], False, ""
@@ -142,6 +149,7 @@ def read_list():
         if not line.strip() or line.startswith("#") and not line.startswith("#!"):
             continue
         if not line.startswith(" "):
+            line = listed_as(line)
             wrong += [f"{line} stands twice"] if line in entries else []
             entry = entries[line] = {"command": line}
             continue
@@ -235,7 +243,7 @@ def play(copy, command, wanted, entry):
 def judge_page(copy, entries, path):
     """What is wrong with the commands of a page."""
     for command, wanted in commands_of_page(path):
-        entry = entries.get(command, {})
+        entry = entries.get(listed_as(command), {})
         entry["is_used"] = True
         if "by" in entry or "not" in entry or any([is_missing(name, command) for name in entry.get("needs", "").split()]):
             continue

@@ -2,7 +2,7 @@
 the completion have them; then this process becomes the program.
 """
 
-from toolbox import (HOME, RANGES, TOP, Refusal, add_settings, called, check_input, number, parser_of, program, run_tool, settings_of, shown)
+from toolbox import (HOME, TOP, Refusal, add_settings, called, check_input, number, parser_of, program, run_tool, settings_of)
 
 import os
 import re
@@ -10,6 +10,9 @@ import signal
 import sys
 
 from machine_report import IN_NS, MEANS, OPTIONS
+
+sys.path.append(f"{TOP}/scripts")
+from words import MODES
 
 SERIES = """Prints a CSV line for each row of a trace: what the report would be after this row, by the proved program napi_series.
 
@@ -43,7 +46,8 @@ def replay_parser():
     for names, value, what in re.findall(r"^  ((?:-\w, )?--[\w-]+)(?: ([A-Z]))? +(.*(?:\n {18}.*)*)", options, re.M):
         text = " ".join(what.split()).replace("%", "%%")
         if names != "--version":
-            parser.add_argument(*names.split(", "), help=text, **({"metavar": value} if value else {"action": "store_true"}))
+            how = {"choices": MODES} if names == "--mode" else {"metavar": value} if value else {"action": "store_true"}
+            parser.add_argument(*names.split(", "), help=text, **how)
     parser.add_argument("trace", nargs="?", help="the trace (standard input)")
     return parser
 
