@@ -140,7 +140,7 @@ class FromFtrace(Arrivals):
                 (text[: text.rindex("\n", 0, -2) + 1], "it is cut: 622 of 623 events are there"), (without, "there is no packet in it: record the event net/net_dev_xmit"),
                 (without.replace("\nlost 0", "\nmissing net/net_dev_xmit\nlost 0"), "the kernel that recorded it has no event net/net_dev_xmit"),
                 (b"PERFILE2 and more", "this is the file of `perf record`: take the text of `perf script --ns`"),
-                (b"\x17\x08\x44tracing6", "this is the file of `trace-cmd record`"), (b"\xd4\xc3\xb2\xa1\x02\0\x04\0", "this is a capture, which tools/from-pcap reads"),
+                (b"\x17\x08\x44tracing6", "this is the file of `trace-cmd record`"), (b"\xd4\xc3\xb2\xa1\x02\0\x04\0", "this is a capture, which fintaqush from-pcap reads"),
                 (b"\x0a\x0d\x0d\x0a\x1c\0\0\0", "this is a capture"), (b"moment,device,bytes\n0,1,60\n", "line 1: no line of ftrace"),
                 (gzip.compress(text.encode())[:-700], "it isn't whole"), (b"\x1f\x8bxx", "it isn't whole"), (text.replace("recording 1", "recording 7"), "another version")):
             self.write("recorded", "")
