@@ -160,7 +160,8 @@ front k None (Some b) own later = refl
 front k (Some a) None own later = refl
 front k (Some a) (Some b) own later = front-some a b (omega (arith, own a refl, later b refl))
 
-behind-some : (t r o : Timer) → t.device < o.device → sooner (Some t) (earlier (Some r) (Some o)) ≡ earlier (sooner (Some t) (Some r)) (Some o)
+behind-some : (t r o : Timer) → t.device < o.device
+    → sooner (Some t) (earlier (Some r) (Some o)) ≡ earlier (sooner (Some t) (Some r)) (Some o)
 behind-some t r o lower = grind (arith, common_steps)
 
 swap : (t o : Timer) → t.device < o.device → earlier (Some o) (Some t) ≡ earlier (Some t) (Some o)
@@ -287,7 +288,8 @@ pub changed-kept : (f : DeviceView → DeviceView) (xs : Devices) (n : ℕ) (x :
     → x ≡ Some d
     → e ≡ f d
     → (old new : Pending) (now : Devices)
-    → ((change : DeviceView → DeviceView) (before : Devices) → now ≡ changed change n before → old ≡ pending_of before → new ≡ pending_of now)
+    → ((change : DeviceView → DeviceView) (before : Devices) → now ≡ changed change n before → old ≡ pending_of before
+    → new ≡ pending_of now)
     → now ≡ slice_set xs n (Some e)
     → (length xs ≤ 64) × (old ≡ pending_of xs)
     → (length (slice_set xs n (Some e)) ≤ 64) × (new ≡ pending_of (slice_set xs n (Some e)))
@@ -347,7 +349,8 @@ ends-more (x ∷ xs) count = by (asks_at x) refl (ends-more xs count)
     by : (b : Bool) → asks_at x ≡ b → position_or_len asks_at (xs ++ replicate count None)
         ≡ (if nat_lt (position_or_len asks_at xs) (length xs) then position_or_len asks_at xs else length xs + count)
         → position_or_len asks_at (x ∷ xs ++ replicate count None)
-        ≡ (if nat_lt (position_or_len asks_at (x ∷ xs)) (length (x ∷ xs)) then position_or_len asks_at (x ∷ xs) else length (x ∷ xs) + count)
+        ≡ (if nat_lt (position_or_len asks_at (x ∷ xs)) (length (x ∷ xs)) then position_or_len asks_at (x ∷ xs)
+        else length (x ∷ xs) + count)
     by true up more = grind (arith, common_steps)
     by false down more = grind (arith, common_steps)
 

@@ -19,5 +19,6 @@ returns c change before is was =
     let a = c.args in
     let x = c.index-places-number.result in
     let here = at-index a.places.now a.number x c.requires (sym c.index-places-number.is) in
-    lowest-other change a.number before a.places.now a.lowest c.requires (λ same. not-self a.number (rw same at (sym c.eq.ensures ∙ c.if-eq.false)))
+    lowest-other change a.number before a.places.now a.lowest c.requires
+    (λ same. not-self a.number (rw same at (sym c.eq.ensures ∙ c.if-eq.false)))
     (rw here (sym c.asks.ensures ∙ c.if-asks.false)) is was

@@ -6,7 +6,8 @@ pub invariant_of-self : goal.invariant_of-self
 invariant_of-self c =
     let places = c.self.inside.places.items in
     let size : c.len.result ≡ length places = search rules in
-    changed-kept (after_packet c.args.moment c.args.settings.now) places c.args.number c.index_mut.result.now c.in-Some.device c.arrive-is_taken.new.self
+    changed-kept (after_packet c.args.moment c.args.settings.now) places c.args.number
+    c.index_mut.result.now c.in-Some.device c.arrive-is_taken.new.self
     (omega (arith, size, c.if-number-len.true)) c.index_mut.ensures.value c.in-Some.is c.arrive-is_taken.ensures.device
     c.self.inside.pending c.pending_after-self-inside.result c.deref.result.now
     c.pending_after-self-inside.ensures c.deref.ensures.value c.self.invariant
