@@ -7,7 +7,7 @@ import subprocess
 import unittest
 
 import test_tools
-from tooltest import HAS_MACHINE, HERE, MACHINE, InFolder, run
+from tooltest import HAS_MACHINE, HERE, MACHINE, TOP, InFolder, run
 
 HEADER = "moment,device,bytes\n"
 
@@ -114,7 +114,7 @@ class FromFtrace(Arrivals):
 
     def test_a_recording_made_in_trouble(self):
         """Of 121 packets a backlog of 6 dropped three, which arrived too. The file names the pair; the rows are what its lines say."""
-        text = (HERE / "recorded-backlog.rec").read_text()
+        text = (TOP / "examples/veth-backlog.rec").read_text()
         sent = re.findall(r" (\d+)\.(\d{9}): net_dev_xmit: dev=va7 skbaddr=\S+ len=(\d+) rc=[01]$", text, re.M)
         times = [int(whole) * 10**9 + int(part) for whole, part, _ in sent]
         rows, notes, said = self.made("from-ftrace", text)
@@ -128,7 +128,7 @@ class FromFtrace(Arrivals):
 
     def test_recordings_that_it_refuses(self):
         """By one line each, and nothing is written."""
-        text = (HERE / "recorded-backlog.rec").read_text()
+        text = (TOP / "examples/veth-backlog.rec").read_text()
         event = "   a-1  [000] b....  5.000001: net_dev_xmit: dev=va1 skbaddr=0 len=61 rc=0\n"
         without = re.sub(r".*net_dev_xmit: .*\n", "", text)
         lines = sum(not line.startswith("#") for line in without.split("\ntrace\n")[1].splitlines())

@@ -8,7 +8,7 @@ import unittest
 
 import timing
 from timing import Made
-from tooltest import HERE, InFolder, run
+from tooltest import HERE, TOP, InFolder, run
 
 
 def recorded(interrupt, poll, packet, unit=1, noise=lambda: 0, threads=False):
@@ -352,7 +352,7 @@ class Recorded(InFolder):
 
     def test_what_it_refuses(self):
         """Cut anywhere, with lost events, of a kernel without the events, or of another version."""
-        text = (HERE / "recorded-backlog.rec").read_text()
+        text = (TOP / "examples/veth-backlog.rec").read_text()
         for changed, why in ((text[:-30], "isn't whole"), (text[: text.rindex("\n", 0, -2) + 1], "it is cut: 622 of 623 events are there"),
                              (text[:1000], "it is cut: its head has no end"), ("", "it is empty"), ("fintaqush-recording 1\n", "its head has no end"),
                              (text.replace("\nlost 0\n", "\nlost 5\n"), "the kernel lost 5 events, so its numbers would be wrong"),

@@ -1,4 +1,4 @@
-//! Internal crate of `replay`: what every replay of a trace shares, why it failed, and the lines that each report has; and how each
+//! Behind the door `replay`: what every replay of a trace shares, why it failed, and the lines that each report has; and how each
 //! program ends.
 #![tactic(auto)]
 
