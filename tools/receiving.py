@@ -9,6 +9,7 @@ import re
 from array import array
 from collections import Counter, defaultdict
 
+from arriving import BY_PAIR, BY_POLL, BY_STACK, KINDS, PollBegins, packet_of
 from recording import NET_RX, POLLED, SENT, SOFTIRQ, is_by_thread
 
 BACKLOG = "(no_device)"  # as napi_poll names the instance of a processor's backlog
@@ -27,10 +28,12 @@ def agree(pairs):
 
 
 class Receiving:
-    """What is seen of the instances that poll `polled`, with packets of the devices `senders`. Times are in ns."""
+    """What is seen of the instances that poll `polled`, with packets of the devices `senders`, or, if none is known, packets that `receivers` receive.
+    Times are in ns."""
 
-    def __init__(self, polled, senders):
+    def __init__(self, polled, senders, receivers=()):
         self.polled, self.senders, self.span = polled, senders, None
+        self.receivers, self.begins, self.received = set(receivers), PollBegins(), {BY_POLL: [], BY_STACK: []}
         self.sent, self.has_come = array("Q"), bytearray()  # when each packet was sent, and 1 unless it was dropped at a full ring
         self.sent_on, self.sent_by, self.sending = array("H"), [], set()  # the processor, the device and the tasks that sent it
         self.ended, self.begun, self.work, self.on, self.is_thread = array("Q"), array("Q"), array("L"), array("H"), bytearray()  # of each poll
@@ -42,8 +45,12 @@ class Receiving:
     def add(self, event):
         """Takes the next event of the recording."""
         self.span = (self.span[0] if self.span else event.time, event.time)
-        if event.name == "net_dev_xmit":
+        if self.receivers:
+            self.begins.look(event)
+        if event.name == BY_PAIR:
             self.add_packet(event)
+        elif event.name in KINDS:
+            self.add_received(event)
         elif event.name == "napi_poll":
             self.add_poll(event)
         elif event.name in ("softirq_entry", "softirq_exit") and int(event.parts(SOFTIRQ)[0]) == NET_RX:
@@ -68,6 +75,23 @@ class Receiving:
             self.sent_on.append(event.cpu)
             self.sent_by.append(sender)
             self.sending.add(event.task)
+
+    def add_received(self, event):
+        name, _, _ = packet_of(event)
+        if name in self.receivers:
+            self.received[KINDS[event.name]].append((self.begins.of(event), event.cpu, name))
+
+    def settle(self):
+        """Takes the packets that were received as arrivals, if none of another end is known. Returns by which events, or nothing."""
+        kind = next((kind for kind, packets in self.received.items() if packets), "")
+        if self.senders or not kind:
+            return ""
+        for time, cpu, name in sorted(self.received[kind]):
+            self.sent.append(time)
+            self.has_come.append(1)
+            self.sent_on.append(cpu)
+            self.sent_by.append(name)
+        return kind
 
     def add_poll(self, event):
         device, work, _ = event.parts(POLLED)
@@ -131,7 +155,7 @@ class Receiving:
         for ended, begun, work in zip(self.ended, self.begun, self.work):
             given += work
             if begun and work < FULL:
-                more = given - bisect.bisect_left(came, begun)
+                more = given - bisect.bisect_right(came, begun)
                 least = more if least is None else min(least, more)
         return max(0, least or 0)
 
