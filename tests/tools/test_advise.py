@@ -121,6 +121,25 @@ class Advise(InFolder):
         self.assertIn("wait to the end of use, p50, us", done.stdout)
         self.assertIn("  for task in $(pgrep -x 'server'); do taskset -apc 0 $task; done\n", done.stdout)
 
+    def test_a_card(self):
+        """Without a sender the packets that polls take arrive when the interrupt came: the waits of test_the_recorded_setting without waking, 3300 ns."""
+        lines = []
+        for line in quiet().text().splitlines(True):
+            found = re.search(r" (\d+)\.(\d{9}): napi_poll: .* work (\d+) ", line)
+            for place in range(int(found[3]) if found else 0):
+                time = int(found[1]) * 10**9 + int(found[2]) - (int(found[3]) - place) * 410
+                lines.append(f"{'<idle>-0'.rjust(20)} [003] ..s1. {time // 10**9}.{time % 10**9:09}: napi_gro_receive_entry: dev=vb1 napi_id=0x1 queue_mapping=1 skbaddr=0 "
+                             "vlan_tagged=0 vlan_proto=0x0000 vlan_tci=0x0000 protocol=0x0800 ip_summed=0 hash=0x00000000 l4_hash=0 len=46 data_len=0 truesize=832 "
+                             "mac_header_valid=1 mac_header=-14 nr_frags=0 gso_size=0 gso_type=0x0\n")
+            lines += [] if "net_dev_xmit" in line else [line]
+        told = self.object(file_of("".join(lines), sender="", pair=""))
+        values = {row["name"]: (row["measured"], row["predicted"]) for row in told["check"]}
+        self.assertEqual((values["polls"], values["runs"], told["packets"]), ((80, 80), (80, 80), 800))
+        self.assertEqual((values["delivered_p99"], values["delivered_p50"]), ((10450, 10448), (6350, 6344)))
+        self.assertTrue(any(note.startswith("arrivals are when polls took the packets (napi_gro_receive_entry)") for note in told["notes"]), told["notes"])
+        nothing = self.advised(file_of("".join(line for line in lines if "gro" not in line), sender="", pair=""), status=1)
+        self.assertIn("no arrival is in it", nothing.stderr)
+
     def test_drops(self):
         """Of 100 and 60 packets at once a backlog of 50 drops 50 and 10, of 99 one and none, and one of 197 none. The kernel takes one more packet
         than net.core.netdev_max_backlog."""

@@ -80,6 +80,29 @@ class FromPcap(Arrivals):
                                cwd=self.folder, capture_output=True, text=True, check=False)
         self.assertEqual((piped.stderr, (self.folder / "piped.csv").read_text()), ("", (self.folder / "made.csv").read_text()))
 
+    def test_flows(self):
+        """Packets of the same addresses and ports have the same number, others another one; what has neither, as ARP, has 0."""
+        ends = ("10.0.0.1.5000 > 10.0.0.2.9: UDP, length 18", "10.0.0.1.5001 > 10.0.0.2.9: UDP, length 18", "10.0.0.1.5000 > 10.0.0.2.9: UDP, length 19",
+                "Request who-has 10.0.0.2 tell 10.0.0.1, length 46", "vlan 5, p 0, ethertype IPv4 (0x0800), 10.0.0.1.5001 > 10.0.0.2.9: UDP, length 18",
+                "fe80::1.7 > fe80::2.9: UDP, length 3")
+        text = "".join(f"100.00000{place} eth0  In  ifindex 2 02:00:00:00:00:01 ethertype IPv4 (0x0800), length 60: {each}\n" for place, each in enumerate(ends))
+        self.write("recorded", text)
+        done = run("from-pcap", "recorded", "made", "--arrivals", "--flows", folder=self.folder)
+        self.assertEqual((done.stderr, done.returncode), ("", 0))
+        first, *rows = (self.folder / "made.csv").read_text().splitlines()
+        flows = [row.split(",")[3] for row in rows]
+        self.assertEqual((first, flows[0], flows[1], flows[3]), ("moment,device,bytes,flow", flows[2], flows[4], "0"))
+        self.assertEqual(len({flows[0], flows[1], flows[3], flows[5]}), 4)
+        # Of the definition of CRC-32 (IEEE 802.3), by its polynomial.
+        crc = 0xFFFFFFFF
+        for byte in b"10.0.0.1.5000 > 10.0.0.2.9":
+            crc ^= byte
+            for _ in range(8):
+                crc = crc >> 1 ^ (0xEDB88320 if crc & 1 else 0)
+        self.assertEqual(flows[0], str(crc ^ 0xFFFFFFFF))
+        self.taken((self.folder / "made.csv").read_text(), "--queues", "2")
+        self.assertEqual(run("from-pcap", "recorded", "none", "--flows", folder=self.folder).returncode, 2)
+
     def test_more_packets_than_a_trace_has(self):
         line = "{}.{:06} eth0  In  ifindex 2 02:00:00:00:00:01 ethertype IPv4 (0x0800), length 60: UDP\n"
         rows, _, said = self.made("from-pcap", "".join(line.format(100 + place // 10**6, place % 10**6) for place in range(120000)))
@@ -274,6 +297,18 @@ class Traffic(Arrivals):
         self.assertEqual({device for _, device, _ in rows}, set(range(1, 4097)))
         self.assertEqual({size for _, _, size in rows}, {60, 61})
         self.assertEqual(rows[0][0], 0)
+
+    def test_flows(self):
+        """The other columns are what they were; of 8 flows each queue of 4 has about a fourth of 4000 packets, within six deviations of 27."""
+        words = ["--kind", "poisson", "--rate", "4000"]
+        plain = self.rows(*words)
+        done = run("traffic", "--arrivals", *words, "--flows", "8")
+        first, *rows = done.stdout.splitlines()
+        rows = [tuple(map(int, row.split(","))) for row in rows]
+        self.assertEqual((first, [row[:3] for row in rows], {row[3] for row in rows}), ("moment,device,bytes,flow", plain, set(range(8))))
+        counts = [int(each) for each in re.findall(r"^device \d arrived (\d+)", self.taken(done.stdout, "--queues", "4"), re.M)]
+        self.assertTrue(len(counts) == 4 and all(abs(each - len(rows) / 4) < 165 for each in counts), counts)
+        self.assertEqual(run("traffic", "--flows", "8").returncode, 2)
 
     def test_the_seed_decides(self):
         words = ["--kind", "poisson", "--devices", "3", "--seed"]
