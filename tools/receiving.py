@@ -12,7 +12,6 @@ from collections import Counter, defaultdict
 from arriving import BY_PAIR, BY_POLL, BY_STACK, KINDS, PollBegins, packet_of
 from recording import NET_RX, POLLED, SENT, SOFTIRQ, is_by_thread
 
-BACKLOG = "(no_device)"  # as napi_poll names the instance of a processor's backlog
 TIMER = re.compile(r"hrtimer=\S+ function=(\w+)")
 SWITCH = re.compile(r"prev_comm=(.*) prev_pid=(\d{1,9}) prev_prio=(\d{1,3}) .*==> next_comm=(.*) next_pid=(\d{1,9}) ")
 KERNEL_TASKS = re.compile(r"swapper|ksoftirqd/|napi/|migration/|rcu|cpuhp/|idle_inject/")  # tasks that poll, or that take no time to speak of
