@@ -79,8 +79,8 @@ def locked(tool, path):
 class Progress:
     """How many rows there are, on standard error: over and over on a terminal, at each tenth elsewhere, where the file is one that is kept."""
 
-    def __init__(self, tool, all_rows, is_quiet):
-        self.tool, self.all_rows, self.count, self.told = tool, all_rows, 0, 0
+    def __init__(self, tool, all_rows, is_quiet, what="rows"):
+        self.tool, self.all_rows, self.count, self.told, self.what = tool, all_rows, 0, 0, what
         self.on_terminal = sys.stderr is not None and sys.stderr.isatty()
         self.is_quiet = is_quiet
         self.since = time.monotonic()
@@ -89,7 +89,7 @@ class Progress:
         self.count += 1
         tenth = self.count * 10 // self.all_rows
         if self.on_terminal:
-            print(f"\r\033[K{self.tool}: {self.count} of {self.all_rows} rows", end="", file=sys.stderr, flush=True)
+            print(f"\r\033[K{self.tool}: {self.count} of {self.all_rows} {self.what}", end="", file=sys.stderr, flush=True)
         elif tenth > self.told and not self.is_quiet:
             self.told = tenth
             say(self.tool, f"{self.count} of {self.all_rows} rows, {time.monotonic() - self.since:.0f} s")

@@ -102,18 +102,18 @@ class Advise(InFolder):
     def test_less_processor_time(self):
         """With a timer of 500 us bursts 400 us apart share some polls, and no interrupt is left but the first."""
         told = self.object(file_of(quiet()), "--goal", "cpu")
-        self.assertEqual({name: told["advised"]["options"][name] for name in ("threaded", "defer-hard-irqs", "gro-flush-timeout")},
-                         {"threaded": 0, "defer-hard-irqs": 2, "gro-flush-timeout": 500000})
+        self.assertEqual({name: told["advised"]["options"][name] for name in ("threaded", "defer_hard_irqs", "gro_flush_timeout")},
+                         {"threaded": 0, "defer_hard_irqs": 2, "gro_flush_timeout": 500000})
         self.assertEqual(told["set"], ["ip netns exec receiver sh -c 'echo 2 > /sys/class/net/vb1/napi_defer_hard_irqs'",
                                        "ip netns exec receiver sh -c 'echo 500000 > /sys/class/net/vb1/gro_flush_timeout'"])
         self.assertEqual(told["advised"]["values"]["interrupts"], 1)
-        self.assertLess(told["advised"]["values"]["kernel%"], told["now"]["kernel%"])
-        cheap, dear = told["advised"]["costs_80"]["kernel%"], told["advised"]["costs_120"]["kernel%"]
-        self.assertLess(cheap, told["advised"]["values"]["kernel%"])
-        self.assertGreater(dear, told["advised"]["values"]["kernel%"])
+        self.assertLess(told["advised"]["values"]["kernel_percent"], told["now"]["kernel_percent"])
+        cheap, dear = told["advised"]["costs_80"]["kernel_percent"], told["advised"]["costs_120"]["kernel_percent"]
+        self.assertLess(cheap, told["advised"]["values"]["kernel_percent"])
+        self.assertGreater(dear, told["advised"]["values"]["kernel_percent"])
         limited = self.object(file_of(quiet()), "--goal", "cpu", "--p99-below", "200")
         self.assertLess(limited["advised"]["costs_120"]["used_p99"], 200_000)
-        self.assertEqual(limited["advised"]["options"]["gro-flush-timeout"] in (0, 100000, 50000, 20000), True)
+        self.assertEqual(limited["advised"]["options"]["gro_flush_timeout"] in (0, 100000, 50000, 20000), True)
 
     def test_a_program_on_the_processor_that_polls(self):
         """It is advised to go elsewhere; the waits are those to the end of use."""
