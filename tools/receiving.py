@@ -185,13 +185,13 @@ class Receiving:
                 return [(time, max(time, read[1])) for read, (time, _) in zip(known, pairs)]
         return []
 
-    def other_tasks(self, known):
-        """The shares of the polling processor's time that tasks had which neither poll, nor send, nor are in `known`, process numbers: those
-        that can disturb. Beside tasks of real time only other ones of real time can."""
+    def other_tasks(self, known, processor=None):
+        """The shares of a processor's time, that of most polls if none is named, that tasks had which neither poll, nor send, nor are in `known`,
+        process numbers: those that can disturb. Beside tasks of real time only other ones of real time can."""
         if not self.span or self.span[1] == self.span[0]:
             return {}
         own, others = [], Counter()
-        for (name, process, priority), time in self.tasks.get(self.processor, {}).items():
+        for (name, process, priority), time in self.tasks.get(self.processor if processor is None else processor, {}).items():
             if process in known or re.match("ksoftirqd/|napi/", name):
                 own.append(priority)
             elif process and name not in self.sending and not KERNEL_TASKS.match(name):

@@ -173,6 +173,15 @@ class Advise(InFolder):
         self.assertIn("other tasks used processor 3 too (cc1 24 %): the prediction needs a processor of its own", self.advised(file_of(made)).stdout)
         self.assertEqual(self.object(file_of(quiet()))["other_tasks"], {})
 
+    def test_other_tasks_beside_the_program(self):
+        """Which reads on a processor of its own: 10 of 42 ms there."""
+        made = quiet()
+        made.switch(made.time, made.reader, "swapper/9-0", "cc1-77")
+        made.switch(made.time + 10**7, made.reader, "cc1-77", "swapper/9-0")
+        told = self.object(file_of(made))
+        self.assertEqual((told["other_tasks"], list(told["other_tasks_of_program"]), 0.2 < told["other_tasks_of_program"]["cc1"] < 0.3), ({}, ["cc1"], True))
+        self.assertIn("other tasks used processor 5, on which the program reads, too (cc1 24 %): the prediction needs", self.advised(file_of(made)).stdout)
+
     def test_what_is_set_and_not_modelled(self):
         told = self.object(file_of(quiet(), **{"sysctl.net.core.busy_read": 50, "device.vb1.ethtool.coalesce.adaptive-rx": "on", "udp.RcvbufErrors": "3 10",
                                                "device.vb1.rx-0.rps_cpus": "00000008"}))
