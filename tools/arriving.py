@@ -111,4 +111,4 @@ def why_no_packet(head, count):
     if not count:
         return "there is no event in it, so there is no packet in it"
     return ("there is no packet in it: record the event net/net_dev_xmit while the other end of a veth pair sends, or of a card "
-            "net/napi_gro_receive_entry or net/netif_receive_skb; a capture has the time of each packet (tools/from-pcap)")
+            "net/napi_gro_receive_entry or net/netif_receive_skb; a capture has the time of each packet (fintaqush from-pcap)")

@@ -1,4 +1,4 @@
-"""Repeats of made traffic over seeds: arrivals by tools/traffic for each seed, and the spread of what the machine makes of them."""
+"""Repeats of made traffic over seeds: arrivals by fintaqush traffic for each seed, and the spread of what the machine makes of them."""
 
 from toolbox import Refusal, ran, shown, unfinished
 
