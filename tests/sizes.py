@@ -1,7 +1,8 @@
 #!/usr/bin/env python3
 """sizes.py FOLDER: runs each program in FOLDER/NAME/out on inputs of all sizes, with all the memory that it needs: none fails, and its
 report has the counts of the input. The sizes are the powers of two and the numbers beside them, up to the most that there may be:
-100,000 rows, rings of 65,536 places, 16 devices, 8 pollers. The last line is `N passed, M failed`."""
+100,000 rows, rings of 65,536 places, 16 devices, 8 pollers. Address space is bounded, to twice what the greatest of these inputs took
+where threads don't share it. The last line is `N passed, M failed`."""
 
 import os
 import resource
@@ -11,7 +12,8 @@ import time
 from collections import Counter
 
 MOST_ROWS, MOST_PLACES, MOST_DEVICES, MOST_POLLERS = 100000, 65536, 16, 8
-MEMORY = 2048 << 20  # of address space, as ./replay gives it
+# MiB of address space: twice what the greatest input took (14, 37 and 95). With threads each has a stack, and malloc's own 64 MiB.
+MEMORY = {"napi_serial": 28, "napi_series": 74, "napi_machine": 190, "napi_replay": 8192}
 HEADER = b"moment,device,event,value\n"
 REPLAYS = [("napi_serial", []), ("napi_replay", ["--mode", "shared"]), ("napi_replay", ["--mode", "threads"]), ("napi_series", [])]
 
@@ -29,8 +31,9 @@ def sizes(most):
 def run(program, words, text):
     """The lines that a program prints; what it prints for a fault is an error."""
     begun = time.monotonic()
+    most = MEMORY[program] << 20
     done = subprocess.run([f"{crates}/{program}/out/{program}", *words], input=text, capture_output=True, check=False, timeout=300,
-                          preexec_fn=lambda: resource.setrlimit(resource.RLIMIT_AS, (MEMORY, MEMORY)))
+                          preexec_fn=lambda: resource.setrlimit(resource.RLIMIT_AS, (most, most)))
     took[" ".join([program, *words[:2]])] += time.monotonic() - begun
     if (done.returncode, done.stderr) != (0, b""):
         raise ValueError(f"status {done.returncode}, {done.stderr[:200]}")
