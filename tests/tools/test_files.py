@@ -90,7 +90,7 @@ class AllOrNone(InFolder):
         """A file may have no more than 1 kB here: the notes fit, the trace doesn't, and none of them stays."""
         self.write("captured", self.CAPTURED)
         for tool, words in (("from-pcap", ["captured", "made"]), ("from-pcap", ["captured", "made", "--arrivals"]),
-                            ("from-ftrace", [HERE / "recorded-apart.rec", "made"]), ("from-ftrace", [HERE / "recorded-backlog.rec", "made", "--arrivals"])):
+                            ("from-ftrace", [HERE / "recorded-apart.rec", "made"]), ("from-ftrace", [TOP / "examples/veth-backlog.rec", "made", "--arrivals"])):
             done = subprocess.run(["bash", "-c", 'ulimit -f 1; trap "" XFSZ; exec "$0" "$@"', sys.executable, "-BES", TOP / "tools" / tool, *words],
                                   capture_output=True, text=True, check=False, cwd=self.folder, env={**os.environ, "PROGRAM": REPLAY})
             self.assertEqual((done.returncode, done.stdout, self.names()), (1, "", ["captured"]), done.stderr)
