@@ -5,7 +5,11 @@ use Rattle.std.{proofs.{Common.{cond, vec_items}, lemmas.List.length-set}, specs
 use Rattle.poll_tasks.proofs.ListFacts.{each_set, filter_fewer, filter_more}
 use Rattle.poll_interrupts.{specs.Deals.is_own, proofs.EndFacts.not_other}
 use Rattle.{napi_calls.specs.declared.kept.Kept.Kept, poll_seats.specs.declared.seat.Seat.Seat}
-use Rattle.poll_workers.specs.Spreads.{HaveOwn, TakesSeat}
+use Rattle.poll_workers.specs.Spreads.{HaveOwn, IsEndOf, TakesSeat}
+use Rattle.poll_list.specs.declared.{list_in.ListIn.ListIn, shared.SharedList.SharedList}
+use Rattle.poll_tasks.specs.{Tasks.IsAt, declared.signals.Bell.Bell}
+use Rattle.{poll_seats.specs.declared.thread_poller.Own.Own, poll_interrupts.specs.Deals.poller_by}
+use Rattle.std.{specs.Prelude.{IfSome, Option, Some, None}, proofs.lemmas.Bool.eqb-true}
 
 module _ {R : Type 0} (count pollers : ℕ) (sat : List Seat) (seats : List (Kept R (Vec Seat))) (k : ℕ)
     (have : HaveOwn count pollers sat seats) (within : k < length seats) where
@@ -48,6 +52,24 @@ module _ {R : Type 0} (count pollers : ℕ) (sat : List Seat) (seats : List (Kep
             ∙ append-nil (filter (by n) sat)),
         q.1,
       )
+
+-- ---- the list and the bell of a station's poller
+
+pub by_station : (pollers number k n : ℕ) → is_own k pollers number ≡ true → n ≡ number → poller_by pollers n ≡ k
+by_station pollers number k n own e = ap (λ m. poller_by pollers m) e ∙ eqb-true (poller_by pollers number) k own
+
+pub wired_end : {R : Type 0} (lists : List (SharedList R)) (k n : ℕ) (given end : ListIn R) → IsEndOf lists k given → end ≡ given → n ≡ k
+    → IsEndOf lists n end
+wired_end lists k n given end is same e =
+    subst (λ m. IsEndOf lists m end) (sym e) (subst (λ x. IsEndOf lists k x) (sym same) is)
+
+pub wired_own : {R : Type 0} (lists : List (SharedList R)) (k n : ℕ) (given : ListIn R) (own : Option (Own R)) → IsEndOf lists k given
+    → IfSome own (λ o. o.list ≡ given) → n ≡ k → IfSome own (λ o. IsEndOf lists n o.list)
+wired_own lists k n given None is same e = tt
+wired_own lists k n given (Some o) is same e = wired_end lists k n given o.list is same e
+
+pub wired_bell : (bells : List Bell) (k n : ℕ) (here bell : Bell) → IsAt bells k here → bell ≡ here → n ≡ k → IsAt bells n bell
+wired_bell bells k n here bell is same e = subst (λ m. IsAt bells m bell) (sym e) (subst (λ b. IsAt bells k b) (sym same) is)
 
 -- ---- what is counted while one more is given out
 

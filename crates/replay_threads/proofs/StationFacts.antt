@@ -97,9 +97,9 @@ capped-small n h = min-eq_left (omega (arith, h))
 -- its run, told of the device as it is afterwards
 run-of : {rows : List Row} {device : ℕ} (station : Station Script) (end : Finished Script) → IsStationOf rows device station
     → end.device ≡ record station.device { made = length station.device.rows }
-    → HasRun answer after station.capacity station.thread station.device (acts station.device) end.totals
+    → HasRun answer after station.capacity station.thread station.device (acts station.device) end.closed end.totals
     → HasRun answer after end.device.opening.value (has_thread end.device.rows) (record end.device { made = 0 })
-    (length end.device.rows) end.totals
+    (length end.device.rows) end.closed end.totals
 run-of station end of ended run = grind (arith, common_steps)
 
 end-of : (answers : ℕ → ℕ → Bool → Type 0) (rows : List Row) (device : ℕ) (station : Station Script) (end : Finished Script)
@@ -190,6 +190,7 @@ all-polled rows (d ∷ ds) (e ∷ es) h = (
     sum = h.0.sum ∙ h.0.its_put;
     script = record e.device { made = 0 };
     is = record { opening = h.0.its_opening; acts = h.0.its_rows; made = refl };
+    closed = e.closed;
     totals = e.totals;
     run = h.0.its_run;
     counts = (refl, refl);
