@@ -4,6 +4,7 @@ use Rattle.std.proofs.Common.{◌≡◌, ◌≢◌, ℕ, zero, suc, ◌≤◌, �
 use Rattle.std.{proofs.Common.{ap, ◌∙◌, refl, subst, IsSome, Some, All, arith, rules, get_or, length}, specs.Prelude.{IfSome, filter, map}}
 use Rattle.std.specs.{Prelude.{Result, Ok, Err, IfOk, vec_items, MatchOption}, List.{AllByRecursion, AllZip}, Global.Vec}
 use Rattle.poll_interrupts.specs.Ends.{AreCallersAt, AreFinishesOf, IsCallerAt, IsDoneAt, IsFinishOf, IsTurnedAt, Outcome}
+use Rattle.{poll_tasks.specs.Asks.WasLet, poll_interrupts.specs.Acts.{after_acts, arrivals}}
 use Rattle.poll_interrupts.specs.{Runs.HasRun, Deals.{is_dealt, is_own, poller_by}, Calls.listings}
 use Rattle.poll_interrupts.specs.{Runs.{Ledger, Whose, WorksBy, blank, controller_number, worker_number}, declared.station.Station.Station}
 use Rattle.poll_interrupts.specs.declared.{station.Finished.Finished, worker.OwnSeats.OwnSeats, opening.{Loose.Loose, Placed.Placed}}
@@ -14,11 +15,11 @@ use Rattle.poll_tasks.proofs.ListFacts.{at_mapped, at_place, each_index, each_zi
 use Rattle.poll_tasks.proofs.ListFacts.{zip_both, zip_each, zip_empty, zip_filtered, zip_flip, zip_right, zip_same}
 use Rattle.poll_tasks.specs.{Paces.IsLawful, Stops.IsStop, Tasks.{EachAt, IsAt}, declared.signals.{Bell.Bell, Stop.Stop}}
 use Rattle.{poll_tasks.specs.{Asks.IsAsked, declared.{tasks.Turned.Turned, pace.{Setting.Setting, Pace.Pace}}}, rx_ring.specs.Ends.SameIn}
-use Rattle.{rx_ring.specs.{Ends.{capacity_of, put_list}, declared.ends.RxIn.RxIn, ReceiveRing.capped}}
+use Rattle.{rx_ring.specs.{Ends.{capacity_of, put_list}, declared.ends.RxIn.RxIn, ReceiveRing.{bytes_of, capped}, declared.packet.Packet.Packet}}
 use Rattle.{poll_seats.specs.SeatKeeping.{IsCallerOf, AreSameSeats, IsSameSeat}}
 use Rattle.poll_seats.specs.declared.{seat.Seat.Seat, poller.PollTask.PollTask, thread_poller.{ThreadSide.ThreadSide, Own.Own}}
 use Rattle.poll_seats.specs.Gives.{CanPoll, CanPollAlone, GivesCaller, GivesCallers, IsPolledAlone, IsPolledBy}
-use Rattle.napi_calls.specs.declared.{kept.Kept.Kept, types.{Caller.Caller, Control.Control, Napi.Napi, Off.Off}}
+use Rattle.napi_calls.specs.declared.{kept.Kept.Kept, types.{Caller.Caller, Napi.Napi}}
 use Rattle.napi_calls.specs.{Instance.IsSeatOf, Seats.{number_of, own_list}}
 use Rattle.poll_workers.specs.Courses.{ArePolled, Course, HasPolled, HasTurned, IsCourse, IsCrew, IsFreshSeat, Pushes, TakesTurns}
 use Rattle.poll_workers.specs.{Courses.TurnsIfThread, Finishes.{IsFinished, IsWorkedOf}, Spreads.{AreEndsOf, ArePollers, IsEndOf}}
@@ -70,7 +71,7 @@ module _ {R D : Type 0} (acts : D → ℕ) (answer : D → ℕ → Act) (after :
       same_whose (done.run whole).1 in
       let by_device = subst (λ (d : D). WorksBy w answer after d (acts d) (ledger_of work.seats.value work.rx false) left) device by_whose in
       let as_worker = ap (λ (c : Caller). c.pass) ended.of.worker_is in
-      let as_control = ap (λ (c : Control Off). c.pass) ended.of.control_is in
+      let as_control = ap (λ c. c.pass) ended.of.control_is in
       record {
         left = left;
         works = subst (λ (l : Ledger). WorksBy w answer after station.device (acts station.device) l left) nothing by_device;
@@ -86,23 +87,49 @@ module _ {R D : Type 0} (acts : D → ℕ) (answer : D → ℕ → Act) (after :
   pushes_of : Pushes lists pollers station.number end.closed.worker.value
   pushes_of =
       let new = made.list in
-      let lists = made.is.done.lists in
+      let pushed = made.is.done.lists in
       let none : own_list made.work.seats.value.caller.pass ≡ [] =
       ap (λ (s : OwnSeats). own_list s.caller.pass) made.seats ∙ opened.unused.caller.nothing_done in
-      let did : own_list worked.done.seats.value.caller.pass ≡ lists.did = lists.grown ∙ ap (λ l. l ++ lists.did) none in
+      let did : own_list worked.done.seats.value.caller.pass ≡ pushed.did = pushed.grown ∙ ap (λ l. l ++ pushed.did) none in
       record {
         list = new.0;
-        there = subst (λ n. IsAt _ (poller_by pollers n) new.0) opened.same_number new.1;
+        there = subst (λ n. IsAt lists (poller_by pollers n) new.0) opened.same_number new.1;
         end = worked.done.list;
-        of = lists.same.0 ∙ new.2.0;
-        pushed = lists.pushed ∙ ap (λ l. l ++ listings loose.value.number lists.did) new.2.1
-            ∙ ap (λ n. listings n lists.did) opened.same_number
+        of = pushed.same.0 ∙ new.2.0;
+        pushed = pushed.pushed ∙ ap (λ l. l ++ listings loose.value.number pushed.did) new.2.1
+            ∙ ap (λ n. listings n pushed.did) opened.same_number
             ∙ ap (λ l. listings station.number l) (sym did ∙ sym (ap (λ (c : Caller). own_list c.pass) ended.of.worker_is));
       }
 
   -- a station whose worker made all its acts, and which was ended, is finished
   finished_of : IsFinished acts answer after answers station end
-  finished_of = let run = run_of in search (rules, capped_small)
+  finished_of =
+      let work = made.work in
+      let done = made.is.done in
+      let device : work.device ≡ station.device = made.device ∙ opened.same_device in
+      let none : put_list work.rx ≡ [] = ap (λ (r : RxIn). put_list r) made.rx ∙ opened.nothing_put in
+      let some_put = ap (λ l. length l) none in
+      let few : length (put_list worked.done.rx) ≤ 4294967295 = (let h = done.few in omega (arith, h, some_put)) in
+      let brought : List Packet = arrivals answer after station.device (acts station.device) in
+      let brings : arrivals answer after work.device (acts work.device) ≡ brought =
+      ap (λ (d : D). arrivals answer after d (acts d)) device in
+      let places : capacity_of work.rx ≡ station.capacity = ap (λ (r : RxIn). capacity_of r) made.rx ∙ opened.places in
+      let all : length brought ≤ station.capacity → put_list worked.done.rx ≡ brought = λ room.
+      let long = ap (λ l. length l) brings in
+      done.put whole (omega (arith, some_put, long, places, room)) ∙ ap (λ l. l ++ arrivals answer after work.device (acts work.device)) none
+      ∙ brings in
+      record {
+        same_number = ended.same_number ∙ made.is.same_number ∙ opened.same_number;
+        let_go = subst (λ n. WasLet answers n (acts station.device)) opened.same_number
+            (subst (λ (d : D). WasLet answers loose.value.number (acts d)) device (done.let_go whole));
+        made = ended.same_device ∙ done.made whole ∙ ap (λ (d : D). after_acts after d (acts d)) device;
+        sum = ended.sum (omega (arith, few));
+        put = λ room. (
+          ended.put ∙ capped_small _ few ∙ ap (λ l. length l) (all room),
+          ended.bytes ∙ ap (λ l. capped (bytes_of l)) (all room),
+        );
+        run = run_of;
+      }
 
 -- ---- the stations of a run, how they ended, and what polled them
 
@@ -440,7 +467,7 @@ module _ {R D G : Type 0} (may_shut : Type 0) (answers : G → ℕ → ℕ → B
       let Poller : ℕ → PollTask R G → Type 0 =
       λ k task. IsAt pollers k task × IsPoller setting bells count (filter (λ (s : Seat). is_own k n s.number) seats) k task in
       let h = each_zip Poller (GivesCallers may_shut answers) pollers polled gives
-      (λ k d low. ((low, get_or_default pollers k d (get_or pollers k d) low), have k d low)) k d low in
+      (λ k d low. ((low, sym (get_or_default pollers k d (get_or pollers k d) low)), have k d low)) k d low in
       gave_own k (get_or polled k d) h.0 h.1.0 h.1.1 h.2
 
   -- each poller gave back the callers of its own instances
@@ -500,12 +527,12 @@ all_threads_at may_shut answers placed sides given at of =
     (zip_same _ _ _ _ (λ p k h. subst (λ (n : Napi). IsSeatOf n k.back.value.pass) h.1.napi h.2.of) (zip_both _ _ _ _ _ at of))
 
 -- and these took their turns
-module _ {R D G : Type 0} (may_shut : Type 0) (answers : G → ℕ → ℕ → Bool → Type 0) (setting : Setting R G) (lists : List (SharedList R))
+module _ {R G : Type 0} (may_shut : Type 0) (answers : G → ℕ → ℕ → Bool → Type 0) (setting : Setting R G) (lists : List (SharedList R))
     (bells : List Bell) where
   abbrev ByThread : Bool → ℕ → Caller → Caller → Type 0
   ByThread = TurnsIfThread R (IsAsked answers setting.gate.now) setting.pace lists (length bells)
 
-  turned_by : (loose : Kept R (Loose D)) (side : ThreadSide R G) (given : Turned (Kept R Caller)) (own : Option (Own R))
+  turned_by : {D : Type 0} (loose : Kept R (Loose D)) (side : ThreadSide R G) (given : Turned (Kept R Caller)) (own : Option (Own R))
       → side.own ≡ own → IsKeptThreadFor setting loose side → IsWiredSide lists bells side
       → MatchOption own (given.back ≡ side.caller)
       (λ o. IsPolledAlone R (IsAsked answers side.setting.now.gate.now) side.setting.now.pace side.number o.list side.caller.value
@@ -527,7 +554,7 @@ module _ {R D G : Type 0} (may_shut : Type 0) (answers : G → ℕ → ℕ → B
       (o.list, list, by_caller) in
       rw some both
 
-  pub all_turned : (loose : List (Kept R (Loose D))) (sides : List (ThreadSide R G)) (given : List (Turned (Kept R Caller)))
+  pub all_turned : {D : Type 0} (loose : List (Kept R (Loose D))) (sides : List (ThreadSide R G)) (given : List (Turned (Kept R Caller)))
       → AllZip (IsKeptThreadFor setting) loose sides → AllByRecursion (IsWiredSide lists bells) sides
       → AllZip (GivesCaller may_shut answers) sides given
       → AllZip (HasTurned (IsAsked answers setting.gate.now) setting.pace lists (length bells)) loose given

@@ -142,7 +142,7 @@ pub(crate) fn two_ends<R: Wait + Drop>(
     requires some { All (λ e. 2 ≤ vec_len e) (vec_items ends.old) }
     ensures left { (n : ℕ) → All (λ e. n + 2 ≤ vec_len e) (vec_items ends.old)
         → All (λ e. n ≤ vec_len e) (vec_items ends.new) }
-    ensures own { (lists : List SharedList) → AreEndsOf lists (vec_items ends.old)
+    ensures own { (lists : List (SharedList _)) → AreEndsOf lists (vec_items ends.old)
         → IsEndOf lists poller result.0 × IsEndOf lists poller result.1
         × AreEndsOf lists (vec_items ends.new) }
     ensures len { length (vec_items ends.new) ≡ length (vec_items ends.old) }

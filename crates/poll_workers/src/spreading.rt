@@ -159,9 +159,9 @@ pub(crate) fn spread<'t, 'p, 'n, R: Wait + Drop + Copy, D: Drop, G: Gate>(
     ensures threads { AllZip (IsKeptThreadFor setting.now) (vec_items loose)
         (vec_items result.threads) }
     // Each worker and each thread pushes into the list of its own poller, and wakes that one.
-    ensures wired_jobs { (lists : List SharedList) → AreEndsOf lists (vec_items ends)
+    ensures wired_jobs { (lists : List (SharedList _)) → AreEndsOf lists (vec_items ends)
         → AllByRecursion (IsWiredJob lists bells.now) (vec_items result.workers) }
-    ensures wired_threads { (lists : List SharedList) → AreEndsOf lists (vec_items ends)
+    ensures wired_threads { (lists : List (SharedList _)) → AreEndsOf lists (vec_items ends)
         → AllByRecursion (IsWiredSide lists bells.now) (vec_items result.threads) }
     ensures seats { (sat : List Seat) × AllZip IsSeatAt placed.now sat
         × AllZip IsKeptSeatFor (vec_items loose) sat

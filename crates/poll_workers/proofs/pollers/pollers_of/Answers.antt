@@ -1,7 +1,7 @@
 use Rattle.std.proofs.Common.{◌≡◌, ◌+◌, ◌∷◌, ◌++◌, ◌∙◌, [], ap, subst, sym, refl, length, length-append, vec_items, arith}
-use Rattle.std.proofs.{Common.{append_assoc, map}, lemmas.{Grind.common_steps, List.{map-append, nil_from_length}}}
+use Rattle.std.proofs.{Common.{append_assoc, map, rules}, lemmas.{Grind.common_steps, List.{map-append, nil_from_length}}}
 use Rattle.poll_tasks.specs.Tasks.{IsAt}
-use Rattle.{std.specs.{Vec.Iter.{into_iter_len}, Prelude.filter}, poll_tasks.proofs.{Zips.before_more, ListFacts.each_more}}
+use Rattle.{std.specs.{Vec.Iter.{into_iter_items, into_iter_len}, Prelude.filter}, poll_tasks.proofs.{Zips.before_more, ListFacts.{each_more, none_left}}}
 use Rattle.{poll_interrupts.specs.Deals.is_own, poll_seats.specs.declared.{seat.Seat.Seat}, poll_workers.specs.Spreads.IsPoller}
 use Rattle.poll_workers.proofs.PollerFacts.{count_of}
 use Rattle.poll_workers.proofs.pollers.pollers_of.Goals as goal
@@ -21,6 +21,7 @@ loop-begin-init g c =
         count = sym none;
         left = grind (arith, common_steps);
         as_many = grind (arith, common_steps);
+        long = grind (arith, common_steps);
         few = c.requires.few;
         room = c.requires.room.1;
         begins = λ count h. rw c.into_iter-begins.ensures.rest h;
@@ -57,6 +58,8 @@ loop-begin-preserved g c =
         whole = more.2;
         count = length-append c.loop-begin.invariant.0 (c.in-Some-next.own ∷ []) ∙ ap (λ n. n + 1) now.count ∙ sym longer;
         left = count_of _ _ _ _ _ now.left fewer longer;
+        long = (let a = now.long in let b = c.in-Some.ensures.items in let d = c.in-Some.ensures.len in
+            grind (arith, common_steps, a, b, d));
         as_many = (let same = now.as_many in omega (arith, fewer, less, same));
         few = now.few;
         room = grind (arith, now.room, c.push_reserved.ensures.capacity);
@@ -79,3 +82,10 @@ loop-begin-preserved g c =
             }));
       },
     )
+
+pub returns-clause-lists : goal.returns-clause-lists
+returns-clause-lists g c =
+    let now = c.loop-begin.invariant.2 in
+    let empty : into_iter_items c.loop-begin.begins ≡ [] =
+    nil_from_length _ (grind (arith, common_steps, now.long, c.in_default.ensures.len)) in
+    none_left _ _ _ now.lists (ap (λ l. map (λ b. b.list) l) empty)

@@ -17,6 +17,7 @@ invariant-loop-begin g l = (did : List (Kept g.row.R.Denot (Vec Seat))) × (rung
       ≡ map (λ b. b.list) (vec_items l.fn.begins);
   wakes : AllZip (λ bell begin. Wakes bell begin.pause) l.fn.bells (vec_items l.fn.begins)
       → AllZip (λ bell begin. Wakes bell begin.pause) l.rest (into_iter_items l.begins);
+  long : into_iter_len l.begins ≡ length (into_iter_items l.begins);
   as_many : into_iter_len l.seats ≡ into_iter_len l.begins;
   few : length l.fn.bells ≤ 8;
   room : length l.fn.bells ≤ vec_capacity l.pollers;

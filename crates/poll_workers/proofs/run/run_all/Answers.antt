@@ -25,10 +25,9 @@ end_run-requires-clause-callers g c =
 
 pub returns-in-Ok-clause-finished : goal.returns-in-Ok-clause-finished
 returns-in-Ok-clause-finished g c =
-    let same : length c.as_slice.result.now ≡ c.args.pollers = ap (λ l. length l) c.as_slice.ensures.value ∙ c.in_ok-bells.ensures.len.0 in
     let e = c.in-Ok.ensures in
-    rw same at (answer_finished _ _ _ _ _ _ _ _ _ _ _ _ _ _ e.pollers c.in_ok-placed.ensures.loose e.worked e.polled e.turned
-    c.end_run.result c.end_run.ensures.whole c.end_run.ensures.polled c.end_run.ensures.turned c.end_run.ensures.finished)
+    answer_finished _ _ _ _ _ _ _ _ _ _ _ _ _ _ e.pollers c.in_ok-placed.ensures.loose e.worked e.polled e.turned
+    c.end_run.result c.end_run.ensures.whole c.end_run.ensures.polled c.end_run.ensures.turned c.end_run.ensures.finished
 
 pub returns-in-Ok-clause-polled : goal.returns-in-Ok-clause-polled
 returns-in-Ok-clause-polled g c =
