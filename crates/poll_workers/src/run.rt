@@ -26,8 +26,8 @@ use poll_interrupts::{
     Device, Finished, Loose, Placed, Station, Worked, gather, open_all, shut_all, stop_of,
 };
 use poll_tasks::{
-    Bell, Driven, Gate, Pace, Rooms, Setting, Stop, StopFlags, Task, Tasks, Turned, drive, first_stop,
-    task_room,
+    Bell, Driven, Gate, Pace, Rooms, Setting, Stop, StopFlags, Task, Tasks, Turned, drive,
+    first_stop, task_room,
 };
 use std::alloc::{AllocError, Global};
 use std::sync::Wait;
@@ -204,7 +204,14 @@ where
         threads,
     };
     let flags = setting.flags;
-    Ok(drive(&setting.rt, tasks, rooms, bells, &flags.unpolled, &flags.refused))
+    Ok(drive(
+        &setting.rt,
+        tasks,
+        rooms,
+        bells,
+        &flags.unpolled,
+        &flags.refused,
+    ))
 }
 
 // Opens all stations, and runs them. Where memory is refused nothing was begun; a run that was cut short answers why.

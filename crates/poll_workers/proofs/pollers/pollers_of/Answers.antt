@@ -50,7 +50,7 @@ loop-begin-preserved g c =
         rest_count = (let a = now.rest_count in let b = ap (λ l. length l) cut in omega (arith, a, b, fewer));
         lists = ap (λ l. map (λ t. t.list) l ++ map (λ b. b.list) (into_iter_items c.next.new.self)) c.push_reserved.ensures.items
             ∙ ap (λ l. l ++ map (λ b. b.list) (into_iter_items c.next.new.self))
-                (map-append (λ t. t.list) (vec_items c.loop-begin.pollers) _)
+            (map-append (λ t. t.list) (vec_items c.loop-begin.pollers) _)
             ∙ append_assoc (map (λ t. t.list) (vec_items c.loop-begin.pollers)) _ _
             ∙ ap (λ l. map (λ t. t.list) (vec_items c.loop-begin.pollers) ++ map (λ b. b.list) l) (sym c.in-Some.ensures.items)
             ∙ now.lists;
