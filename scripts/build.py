@@ -21,6 +21,8 @@ AT_WORK = {}  # the crates that are being built, and the process of each
 CLEAR = "\r\033[K"  # the line of a terminal that one writes over
 LIBC = ctypes.CDLL(None)
 PARENT = os.getpid()
+NAME = os.environ.get("FINTAQUSH_NAME", "replay")  # as a subcommand of `fintaqush` was asked for it
+INSTALLED = not os.path.exists(f"{TOP}/crates.txt")  # by scripts/install.sh, which puts built programs there and no crates
 
 
 class Stop(Exception):
@@ -42,7 +44,7 @@ def write(text, end=1):
 
 def say(line):
     """In place of the line that tells how far a build is, where one stands."""
-    write(f"{CLEAR if AT_WORK and os.isatty(2) else ''}replay: {line}\n".encode(errors="surrogateescape"), 2)
+    write(f"{CLEAR if AT_WORK and os.isatty(2) else ''}{NAME}: {line}\n".encode(errors="surrogateescape"), 2)
 
 
 def end_by(call):
@@ -84,9 +86,21 @@ def kit():
 
 @functools.cache
 def crates():
-    """The crates of crates.txt by their names."""
+    """The crates of crates.txt by their names, or the programs of an installation."""
+    if INSTALLED:
+        return {name: Installed(name) for name in os.listdir(f"{TOP}/programs")}
     rows = re.findall(r"^ *(\w+)([^#:\n]*):([^#\n]*)", read(f"{TOP}/crates.txt"), re.M)
     return {name: Crate(name, kind, uses.split()) for name, kind, uses in rows}
+
+
+class Installed:
+    """A program that was proved and built before it was installed."""
+
+    def __init__(self, name):
+        self.name, self.made = name, f"{TOP}/programs/{name}"
+
+    def is_built(self):
+        return os.access(self.made, os.X_OK)
 
 
 class Crate:

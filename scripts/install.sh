@@ -1,7 +1,8 @@
 #!/usr/bin/env bash
 # scripts/install.sh [--library] [--python] [--uninstall] PREFIX: installs the C library, static and shared, with its headers, its
-# pkg-config and CMake files and its manual page, and the programs and tools with theirs. What isn't built yet is proved and built first.
-# --library leaves programs and tools out, which take most of the time. --python puts bindings/python where python3 looks below
+# pkg-config and CMake files and its manual page, and the command `fintaqush` and the proved programs with theirs, and completions for bash,
+# zsh and fish. What only `fintaqush` runs goes to PREFIX/lib/fintaqush. What isn't built yet is proved and built first.
+# --library leaves the command and the programs out, which take most of the time. --python puts bindings/python where python3 looks below
 # PREFIX, else into lib/python3/dist-packages. With DESTDIR set, all goes below that folder, for PREFIX.
 # --uninstall removes what an install put there, and nothing else. --programs tells the programs' names, and does nothing.
 # Exit status: 0 done; 64 the words are wrong; 69 a program is missing; 70 something couldn't be built; 73 it can't be written there.
@@ -41,23 +42,23 @@ major=${version%%.*}
 library_files=(lib/libfintaqush.a "lib/libfintaqush.so.$version" "lib/libfintaqush.so.$major" lib/libfintaqush.so
     include/fintaqush.h include/fintaqush.hpp include/fintaqush_tsan.h lib/pkgconfig/fintaqush.pc
     lib/cmake/Fintaqush/FintaqushConfig.cmake lib/cmake/Fintaqush/FintaqushConfigVersion.cmake share/man/man3/fintaqush.3)
-tools=() # the tools; and, with them, all that they run from
-parts=()
+home=lib/fintaqush # where what `fintaqush` runs lies, as in a checkout
+parts=(fintaqush scripts/{build,replay,subcommands,words}.py docs/usage.txt examples/{linux-veth-bursts,busy-poll}.csv examples/veth-backlog.rec)
 for file in "$top"/tools/*; do
-    [ -f "$file" ] || continue
-    parts+=("tools/${file##*/}")
-    [ ! -x "$file" ] || tools+=("${file##*/}")
+    [ ! -f "$file" ] || parts+=("tools/${file##*/}")
 done
-parts+=(scripts/words.py)
+mapfile -t subcommands < <("$top/fintaqush" --names)
+[ "$prefix" = /usr ] && zsh=vendor-completions || zsh=site-functions # where Debian's zsh looks
+completions=(share/bash-completion/completions/fintaqush "share/zsh/$zsh/_fintaqush" share/fish/vendor_completions.d/fintaqush.fish)
 python=("$top"/bindings/python/fintaqush/{*.py,py.typed})
-home=lib/fintaqush # where they lie, as in a checkout
-tool_files=("${programs[@]/#/bin/}" "${programs[@]/#/$home/programs/}" "${tools[@]/#/bin/}" "${parts[@]/#/$home/}")
-for name in "${programs[@]}" "${tools[@]}"; do
-    tool_files+=("share/man/man1/$name.1")
+command_files=("${programs[@]/#/bin/}" "${programs[@]/#/$home/programs/}" bin/fintaqush "${parts[@]/#/$home/}" "${completions[@]}" \
+    share/man/man1/fintaqush.1)
+for name in "${programs[@]}" "${subcommands[@]/#/fintaqush-}"; do
+    command_files+=("share/man/man1/$name.1")
 done
 
 if [ -n "$is_uninstall" ]; then
-    for file in "${library_files[@]}" "${tool_files[@]}"; do
+    for file in "${library_files[@]}" "${command_files[@]}"; do
         rm -f "$to/$file"
     done
     for package in "$to"/lib/python3*/*-packages/fintaqush; do
@@ -67,8 +68,8 @@ if [ -n "$is_uninstall" ]; then
         rm -rf "$package/__pycache__"
         rmdir "$package" 2> /dev/null || true
     done
-    rm -rf "$to/$home/tools/__pycache__" # Python's, of these files
-    rmdir "$to/lib/cmake/Fintaqush" "$to/$home"/{tools,scripts,programs} "$to/$home" 2> /dev/null || true
+    rm -rf "$to/$home"/{tools,scripts}/__pycache__ # Python's, of these files
+    rmdir "$to/lib/cmake/Fintaqush" "$to/$home"/{tools,scripts,programs,docs,examples} "$to/$home" 2> /dev/null || true
     exit 0
 fi
 
@@ -77,7 +78,7 @@ trap 'rm -rf "$scratch"' EXIT
 cc=${CC:-cc}
 command -v "$cc" > /dev/null || stop 69 "there is no $cc, which makes the shared library"
 [ -n "$is_library" ] && [ -z "$is_python" ] || command -v python3 > /dev/null ||
-    stop 69 "there is no python3, which the tools and the package are written in"
+    stop 69 "there is no python3, which the command and the package are written in"
 "$top/scripts/c_library.sh" "$scratch" || stop 70 "the C library couldn't be built"
 # the exports alone, of all that the archive has, each of this version
 echo "FINTAQUSH_$major { global: fq_*; local: *; };" > "$scratch/exports"
@@ -129,7 +130,7 @@ END
 cat > "$scratch/program" << 'END'
 #!/bin/sh
 case "$# ${1:-}" in
-    '1 -h' | '1 --help') echo 'usage: @NAME@ [WORD ..] < TRACE.csv; the words, the trace and each fault: man @NAME@' && exit ;;
+    '1 -h' | '1 --help') echo 'usage: @NAME@ [OPTION ..] < @INPUT@; its options, @INPUT@ and each fault: man @NAME@' && exit ;;
     '1 --version') echo '@NAME@ of Fintaqush @VERSION@' && exit ;;
 esac
 exec "$(dirname "$(readlink -f "$0")")/../lib/fintaqush/programs/@NAME@" "$@"
@@ -156,17 +157,24 @@ if [ -z "$is_library" ]; then
         page=$top/docs/man/$name.1
         [ -e "$page" ] || { page=$scratch/page && echo '.so man1/napi_replay.1' > "$page"; }
         put 755 "$top/crates/$name/out/$name" "$home/programs/$name"
-        sed -e "s|@NAME@|$name|g" -e "s|@VERSION@|$version|" "$scratch/program" > "$scratch/named"
+        [ "$name" = napi_machine ] && input=ARRIVALS.csv || input=TRACE.csv
+        sed -e "s|@NAME@|$name|g" -e "s|@INPUT@|$input|g" -e "s|@VERSION@|$version|" "$scratch/program" > "$scratch/named"
         put 755 "$scratch/named" "bin/$name"
         put 644 "$page" "share/man/man1/$name.1"
     done
     for file in "${parts[@]}"; do
         put "$(stat -c %a "$top/$file")" "$top/$file" "$home/$file"
     done
-    for name in "${tools[@]}"; do
-        "$top/tools/$name" --manual > "$scratch/page" || stop 70 "the manual page of $name couldn't be made, by python3"
-        put 644 "$scratch/page" "share/man/man1/$name.1"
-        ln -sf "../$home/tools/$name" "$to/bin/$name"
+    ln -sf "../$home/fintaqush" "$to/bin/fintaqush"
+    for name in '' "${subcommands[@]}"; do
+        # shellcheck disable=SC2086 # none, or a subcommand
+        "$top/fintaqush" $name --manual > "$scratch/page" || stop 70 "the manual page of $name couldn't be made, by python3"
+        put 644 "$scratch/page" "share/man/man1/fintaqush${name:+-$name}.1"
+    done
+    for file in "${completions[@]}"; do
+        shell=${file#share/}
+        "$top/fintaqush" completion "${shell%%[-/]*}" > "$scratch/completion" || stop 70 "the completion for ${shell%%[-/]*} couldn't be made"
+        put 644 "$scratch/completion" "$file"
     done
 fi
 if [ -n "$is_python" ]; then

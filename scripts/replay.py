@@ -7,9 +7,10 @@ import shlex
 import subprocess
 import threading
 
-from build import TOP, Stop, build, child, crates, end_by, kit, read, say, write
+from build import INSTALLED, TOP, Stop, build, child, crates, end_by, kit, read, say, write
 from words import RANGES, judge, quoted
 
+CALLED = os.environ.get("FINTAQUSH_NAME", "./replay")  # as a subcommand of `fintaqush` was asked for it
 MOST_KEPT = 8 << 20  # no trace is longer unless it is padded
 UNREADABLE = {errno.ENOENT: "there is no such file", errno.ENXIO: "this is a socket, not a trace", errno.EBADF: "this is closed",
               errno.EISDIR: "this is a folder, not a trace", errno.EAGAIN: "a read of it failed"}
@@ -54,7 +55,8 @@ def shown(name):
 
 
 def version():
-    number = re.search(r'^#define FQ_VERSION "(.*)"$', read(f"{TOP}/include/fintaqush.h"), re.M)[1]
+    home = os.path.dirname(os.path.dirname(TOP)) if INSTALLED else TOP
+    number = re.search(r'^#define FQ_VERSION "(.*)"$', read(f"{home}/include/fintaqush.h"), re.M)[1]
     sources, of_kit = (subprocess.run(["/usr/bin/env", *it], capture_output=True, text=True, check=False).stdout.strip()
                        for it in (("git", "-C", TOP, "describe", "--always", "--dirty"), ("rt", "version")))
     serial, every = ("proved and built" if crates()[name].is_built() else "not built here yet" for name in ("napi_serial", "napi_replay"))
@@ -84,22 +86,24 @@ class Call:
     def answer(self):
         if not re.fullmatch("[1-9][0-9]{0,6}|unlimited", self.memory):
             raise Stop(64, f"REPLAY_MEMORY={shown(self.memory)}: it is a number of MiB, or unlimited")
-        usage = read(f"{TOP}/docs/usage.txt")
+        usage = read(f"{TOP}/docs/usage.txt").replace("./replay", CALLED)
         if self.own & {"-h", "--help", "--version"}:
             if not write((version() if "--version" in self.own else usage).encode()):
                 raise Stop(4, "the text couldn't be written")
             return 0
         if "--build" in self.own:
             if self.own != {"--build"} or self.words or self.files:
-                raise Stop(64, "--build replays nothing, and stands alone (see ./replay --help)")
+                raise Stop(64, f"--build replays nothing, and stands alone (see {CALLED} --help)")
             return build(["napi_serial", "napi_replay"])
         wrong, is_unproved = self.open(), "--unproved" in self.own
         is_ready, first = is_unproved or self.crate.is_built(), None
         if (wrong or not is_ready) and (why := judge(self.words)):  # a mistyped option takes its value for a trace
-            raise Stop(64, f"{why} (see ./replay --help)")
+            raise Stop(64, f"{why} (see {CALLED} --help)")
         if wrong:
             write(usage.encode() if not self.files and os.isatty(0) else b"", 2)
             raise Stop(66, wrong)
+        if is_unproved and INSTALLED:
+            raise Stop(64, "--unproved runs the sources of a checkout, and this is an installed program, which is proved")
         if is_unproved:
             say("an unproved run: the program is made anew each time and nothing is checked (up to a minute)")
             return self.unproved("this was an UNPROVED run")[0]
@@ -181,7 +185,7 @@ class Call:
         write(said.encode(), 2)
         fault = re.search(r"^trace fault (\d+) \w+ row (\d+)$", said, re.M)
         if status == 64:
-            say(f"{judge(self.words) or 'the program knows no such words'} (see ./replay --help)")
+            say(f"{judge(self.words) or 'the program knows no such words'} (see {CALLED} --help)")
         elif said == "memory fault 11 OutOfMemory\n" and self.memory != "unlimited":
             say(f"{self.which}: it takes more memory than the program may have, {self.memory} MiB (REPLAY_MEMORY sets that)")
         elif status not in (0, 141) and not said:  # (141: who read the report has enough)
@@ -194,7 +198,7 @@ class Call:
         """The line, its text and the likely cause. A row counts records: nothing is told where its line isn't known for sure."""
         data = bytes(self.kept)
         if packed := next((packed for first, packed in PACKED.items() if fault == 1 and re.match(first, data)), ""):
-            return f": the file is {packed}{' ' + shlex.quote(self.name) if self.name else ''} | ./replay"
+            return f": the file is {packed}{' ' + shlex.quote(self.name) if self.name else ''} | {CALLED}"
         text = data.decode("latin-1").removeprefix("\xef\xbb\xbf")
         by_cr = "\n" not in text and re.search("\r[^\r]", text)
         lines = [f"{it.rstrip(chr(13))}\n" for it in re.split("\r" if by_cr else "\n", text)]

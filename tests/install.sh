@@ -1,6 +1,6 @@
 #!/usr/bin/env bash
 # scripts/install.sh: into a prefix and below a DESTDIR; programs that find the library by pkg-config and by CMake; each program and
-# tool as it is installed, from another folder, and the package for Python; and all of it removed again. scripts/package.sh likewise,
+# subcommand as it is installed, from another folder, and the package for Python; and all of it removed again. scripts/package.sh likewise,
 # in a root of its own. What needs a program that isn't installed is skipped. The last line is `N passed, M failed, K skipped`.
 set -uo pipefail
 unset CDPATH
@@ -57,7 +57,7 @@ END
 is_empty_of_files() { [ -z "$(find "$1" -type f -o -type l)" ]; }
 
 version=$(sed -n 's/^#define FQ_VERSION "\(.*\)"$/\1/p' "$top/include/fintaqush.h")
-unset PROGRAM SERIES
+unset PROGRAM SERIES MACHINE
 
 # there COMMAND ..: in a folder that has nothing to do with it.
 there() {
@@ -72,23 +72,61 @@ program_runs() {
     "$1/$2" "${words[@]}" < "$top/crates/$2/stdin" | diff - "$top/crates/$2/stdout"
 }
 
-# tool_starts BIN NAME
-tool_starts() { [ "$("$1/$2" --version)" = "$2 of Fintaqush $version" ] && "$1/$2" --help | grep -q "^usage: $2"; }
+# program_starts BIN NAME: it prints its version, and what it reads.
+program_starts() {
+    local input=TRACE
+    [ "$2" != napi_machine ] || input=ARRIVALS
+    [ "$("$1/$2" --version)" = "$2 of Fintaqush $version" ] && "$1/$2" --help | grep -q "^usage: $2 .*< $input.csv;"
+}
 
-# tools_work BIN: what they do by the programs beside them, and what they read.
-tools_work() {
-    local trace=$top/examples/linux-veth-bursts.csv words='--budget 16 --weight 8'
+# subcommand_starts BIN NAME: it prints its usage by this name, and refuses an option that doesn't exist.
+subcommand_starts() {
+    "$1/fintaqush" "$2" --help | grep -q "^usage: fintaqush $2" || return
+    case $2 in
+        replay) ends_with 64 "$1/fintaqush" replay --no-such-option 2> err && grep '^fintaqush replay: .*is no option' err ;;
+        *) [ "$("$1/fintaqush" "$2" --version)" = "fintaqush $2 of Fintaqush $version" ] &&
+            ends_with 2 "$1/fintaqush" "$2" --no-such-option 2> err && grep "^fintaqush $2: error: " err ;;
+    esac
+}
+
+# names_nothing_else FOLDER: the only commands are the programs and `fintaqush`, so that no other package has one of their names.
+names_nothing_else() { [ "$(ls "$1/bin" | paste -s -d ' ')" = 'fintaqush napi_machine napi_replay napi_serial napi_series' ]; }
+
+# subcommands_work BIN: what they do by the programs beside them, and what they read.
+subcommands_work() {
+    local trace=$top/examples/linux-veth-bursts.csv words='--budget 16 --weight 8' f=$1/fintaqush
     # shellcheck disable=SC2086 # words
-    "$1/raise" "$trace" $words > raised.csv && "$1/napi_serial" $words < raised.csv | grep '^total .* work 15245 ' &&
-        "$1/compare-runs" "$trace" --raise $words -- --budget 300 > table && "$1/plot" "$trace" --script | grep -q '^plot ' &&
-        "$1/steps" "$top/examples/two-packets.csv" --out page.html && "$1/sweep" "$top/examples/bursts.csv" --out rows.csv &&
-        "$1/napi_replay" < "$trace" | "$1/report2json" > report.json && "$1/compare-recording" "${trace%.csv}" > compared &&
-        "$1/from-ftrace" "$top/tests/tools/soft-tcp.txt" made $(printf -- '--pair va%d:vb%d ' 1 1 2 2 3 3 4 4 5 5 6 6) &&
-        diff made.csv "$top/tests/tools/soft-tcp.csv" && "$1/traffic" | "$1/napi_serial" > report &&
-        echo '1.000000 02:00:00:00:00:02 > 02:00:00:00:00:01, ethertype IPv4 (0x0800), length 60: UDP' | "$1/from-pcap" - captured &&
-        "$1/costs" "$top/tests/tools/soft-tcp.txt" --words > words && "$1/costs" "$top/tests/tools/recorded-apart.rec" --json > json && "$1/traffic" --arrivals > arrivals &&
-        { [ ! -e "$1/napi_machine" ] || [ "$("$1/what-if" arrivals --budget 16,64 | wc -l)" = 3 ]; } &&
-        { "$1/raise" "$trace" --buget 3; [ "$?" = 2 ]; }
+    "$f" raise "$trace" $words > raised.csv && "$1/napi_serial" $words < raised.csv | grep '^total .* work 15245 ' &&
+        "$f" compare "$trace" --raise $words -- --budget 300 > table && "$f" plot "$trace" --script | grep -q '^plot ' &&
+        "$f" steps "$top/examples/two-packets.csv" --out page.html && "$f" sweep "$top/examples/bursts.csv" --out rows.csv &&
+        "$1/napi_replay" < "$trace" | "$f" json > report.json && "$f" compare-recording "${trace%.csv}" > compared &&
+        "$f" from-ftrace "$top/tests/tools/soft-tcp.txt" made $(printf -- '--pair va%d:vb%d ' 1 1 2 2 3 3 4 4 5 5 6 6) &&
+        diff made.csv "$top/tests/tools/soft-tcp.csv" && "$f" traffic | "$1/napi_serial" > report &&
+        echo '1.000000 02:00:00:00:00:02 > 02:00:00:00:00:01, ethertype IPv4 (0x0800), length 60: UDP' | "$f" from-pcap - captured &&
+        "$f" costs "$top/tests/tools/soft-tcp.txt" --words > words && "$f" costs "$top/tests/tools/recorded-apart.rec" --json > json && "$f" traffic --arrivals > arrivals &&
+        [ "$("$f" what-if arrivals --budget 16,64 | wc -l)" = 3 ] && { "$f" raise "$trace" --buget 3; [ "$?" = 2 ]; }
+}
+
+# programs_work BIN: subcommands that are programs print what these do, and replay explains a fault, as the launcher of a checkout.
+programs_work() {
+    local f=$1/fintaqush bursts=$top/examples/bursts.csv
+    "$f" traffic --arrivals > arrivals && cmp <("$f" replay "$bursts" --budget 64) <("$1/napi_serial" --budget 64 < "$bursts") &&
+        cmp <("$f" replay --mode shared < "$bursts") <("$1/napi_replay" --mode shared < "$bursts") &&
+        cmp <("$f" series "$bursts" --every 10) <("$1/napi_series" --every 10 < "$bursts") &&
+        cmp <("$f" machine arrivals --budget 16) <("$1/napi_machine" --budget 16 < arrivals) &&
+        "$f" replay --json "$bursts" | grep -q '"line": "total"' && "$f" replay --build &&
+        printf 'moment,device,event,value\n0,1,Rx,9\n' > bad.csv && ends_with 2 "$f" replay bad.csv 2> err &&
+        grep "^fintaqush replay: bad.csv line 2, '0,1,Rx,9': the event is none of" err &&
+        ends_with 64 "$f" replay --unproved "$bursts" && "$f" replay --version | grep "^replay of Fintaqush $version"
+}
+
+# tries BIN: the tour, with python3 and the programs only.
+tries() {
+    mkdir few
+    for tool in sh env readlink dirname; do ln -s "$(command -v "$tool")" few/; done
+    ln -s "$(python3 -c 'import sys; print(sys.executable)')" few/python3
+    PATH=$PWD/few "$1/fintaqush" try > tour && grep -q '^ *total  squeezed  *312  *0 ' tour && grep -q 'of which 312 are squeezed' tour &&
+        [ "$(ls)" = "$(printf '%s\n' few fintaqush-try.html tour)" ]
 }
 
 # python_replays FOLDER: as napi_serial, by the package there.
@@ -98,10 +136,10 @@ python_replays() {
         diff - "$top/crates/napi_serial/stdout"
 }
 
-# pages_are_whole FOLDER: each manual page is read without a warning, and each program and tool beside it has one.
+# pages_are_whole FOLDER: each manual page is read without a warning, and each program and subcommand has one.
 pages_are_whole() {
     local page name
-    for name in "$1"/bin/*; do
+    for name in "$1"/bin/* $("$top/fintaqush" --names | sed 's/^/fintaqush-/'); do
         [ -e "$1/share/man/man1/${name##*/}.1" ] || { echo "$name has no manual page"; return 1; }
     done
     for page in "$1"/share/man/man?/*; do
@@ -132,13 +170,19 @@ check 'the shared library gives the calls alone, each of its version' exports_ca
 if has cmake 'programs by CMake'; then
     check 'programs by CMake' by_cmake
 fi
-for file in "$prefix"/bin/*; do
-    name=${file##*/}
-    check "$name tells its version and its words" there tool_starts "$prefix/bin" "$name"
-    case $name in napi_*) check "$name" there program_runs "$prefix/bin" "$name" ;; esac
+check 'the commands are the programs and fintaqush' names_nothing_else "$prefix"
+for name in $("$top/scripts/install.sh" --programs); do
+    check "$name prints its version and its usage" there program_starts "$prefix/bin" "$name"
+    check "$name" there program_runs "$prefix/bin" "$name"
 done
-check 'no tool is left out' [ "$(ls "$prefix/bin" | grep -cv '^napi_')" = "$(find "$top/tools" -maxdepth 1 -type f -perm -100 | wc -l)" ]
-check 'the tools work' there tools_work "$prefix/bin"
+for name in $("$top/fintaqush" --names); do
+    check "fintaqush $name" there subcommand_starts "$prefix/bin" "$name"
+done
+check 'the subcommands work' there subcommands_work "$prefix/bin"
+check 'the subcommands that are programs' there programs_work "$prefix/bin"
+check 'the tour' there tries "$prefix/bin"
+ln -s "$prefix/bin/fintaqush" "$scratch/linked"
+check 'by a symbolic link' there [ "$("$scratch/linked" --version)" = "fintaqush of Fintaqush $version" ]
 check 'the package for Python' there python_replays "$prefix"
 ! has man 'manual pages' || check 'manual pages' pages_are_whole "$prefix"
 touch "$prefix/lib/another"
@@ -164,7 +208,10 @@ if has dpkg-deb 'the Debian package'; then
     for name in $("$top/scripts/install.sh" --programs); do
         check "$name of the package" there program_runs "$scratch/root/usr/bin" "$name"
     done
-    check 'the tools of the package' there tools_work "$scratch/root/usr/bin"
+    check 'the commands of the package are the programs and fintaqush' names_nothing_else "$scratch/root/usr"
+    check 'it conflicts with no package' [ -z "$(dpkg-deb -f "$package" Conflicts)" ]
+    check 'the subcommands of the package' there subcommands_work "$scratch/root/usr/bin"
+    check 'its subcommands that are programs' there programs_work "$scratch/root/usr/bin"
     check 'the package for Python of it' there python_replays "$scratch/root/usr"
     check 'its files are whole' sh -c '[ -z "$(dpkg --root="$1" --verify fintaqush)" ]' sh "$scratch/root"
     check 'it is removed' by_dpkg -r fintaqush

@@ -2,13 +2,14 @@
 
 A command of a page is a line of a block that begins with a program's name, a line `$ COMMAND` with what it prints below it, or
 text in code of two words and more, of which the first one is a program's name. What stands behind three spaces, or behind `#`,
-is a remark. A synopsis, as `tools/raise TRACE WORD ..`, is held against the program's usage text. What proves, measures or installs
+is a remark. A synopsis, as `./fintaqush raise TRACE WORD ..`, is held against the program's usage text. What proves, measures or installs
 is run by hand: there has to be such a command.
 """
 import functools
 import os
 import pathlib
 import re
+import runpy
 import shutil
 import subprocess
 import tempfile
@@ -20,7 +21,8 @@ LIST = TOP / "tests/commands.txt"
 LONGEST = 900  # seconds; nothing is judged by its time
 PROGRAMS = set("""rt cc gcc g++ clang clang++ c++ make cmake ctest cargo rustc python3 bash sh awk sbatch trace-cmd apt apt-get git cp mv rm
     mkdir cd printf echo cat head pkg-config valgrind gnuplot man ip ethtool taskset tcpdump parallel perf sudo export curl ns3 tar diff
-    napi_machine napi_replay napi_series napi_serial""".split())
+    fintaqush napi_machine napi_replay napi_series napi_serial""".split())
+SUBCOMMANDS = runpy.run_path(str(TOP / "scripts/subcommands.py"))["FILES"]
 FOLDERS = r"(?:\./|\.\./)*(?:bench|crates|bindings|examples|scripts|tests|tools)/[\w./-]+"
 SETTINGS = re.compile(r"^([A-Z_]+=\S+ )+")
 SYNOPSIS = re.compile(r"\[[A-Z-]| \.\.(?: |$)|\.\.\]| \| -|[A-Z]\|[A-Z]")
@@ -51,7 +53,9 @@ def begins_a_command(text):
     words = SETTINGS.sub("", text).split()
     if not words:
         return False
-    if words[0] in PROGRAMS or re.match(r"\./(replay|test)$", words[0]):
+    if words[0] == "fintaqush" and len(words) == 2 and words[1] in SUBCOMMANDS:
+        return False  # the name of a subcommand
+    if words[0] in PROGRAMS or re.match(r"\./(replay|test|fintaqush)$", words[0]):
         return True
     return bool(re.fullmatch(FOLDERS, words[0])) and (len(words) > 1 or words[0].endswith(".sh")) and not words[0].endswith((".py", ".rt", ".md"))
 
@@ -59,6 +63,13 @@ def begins_a_command(text):
 def plain(line):
     """A command without the remark behind it, each gap one space."""
     return " ".join(re.split(r" {3,}|\s+# ", line.strip())[0].split())
+
+
+def listed_as(command):
+    """A command as commands.txt has it: a subcommand stands there as it is called in a checkout, however a page calls it."""
+    program, _, words = command.partition(" ")
+    name = next((name for name, file in SUBCOMMANDS.items() if program == f"tools/{file}"), None)
+    return f"./{command}" if program == "fintaqush" else f"./fintaqush {name} {words}" if name else command
 
 
 def blocks(text):
@@ -138,6 +149,7 @@ def read_list():
         if not line.strip() or line.startswith("#") and not line.startswith("#!"):
             continue
         if not line.startswith(" "):
+            line = listed_as(line)
             wrong += [f"{line} stands twice"] if line in entries else []
             entry = entries[line] = {"command": line}
             continue
@@ -156,7 +168,9 @@ def read_list():
 
 def synopsis(command):
     """What is wrong with a synopsis: each of its options stands in the program's usage text; for a built one that of the launcher."""
-    name = re.sub(r"^(\./|\.\./)+", "", SETTINGS.sub("", command).split()[0])
+    name, *words = re.sub(r"^(\./|\.\./)+", "", SETTINGS.sub("", command)).split()
+    if name == "fintaqush" and words[0] in SUBCOMMANDS:
+        name = "replay" if words[0] == "replay" else f"tools/{SUBCOMMANDS[words[0]]}"
     path = TOP / ("docs/usage.txt" if name == "replay" or name.startswith("napi_") else name)
     if name != "rt" and not path.is_file():
         yield f"{command}: there is no {name}"
@@ -188,7 +202,7 @@ class Copy:
                 (self.top / name).parent.mkdir(parents=True, exist_ok=True)
                 # What is built comes last, and so is the newest.
                 (shutil.copy if name in built else shutil.copy2)(TOP / name, self.top / name)
-        for name in built:
+        for name in [*built, "fintaqush"]:
             (self.room / "bin" / pathlib.Path(name).name).symlink_to(self.top / name)
 
     def run(self, command, folder=""):
@@ -229,7 +243,7 @@ def play(copy, command, wanted, entry):
 def judge_page(copy, entries, path):
     """What is wrong with the commands of a page."""
     for command, wanted in commands_of_page(path):
-        entry = entries.get(command, {})
+        entry = entries.get(listed_as(command), {})
         entry["is_used"] = True
         if "by" in entry or "not" in entry or any([is_missing(name, command) for name in entry.get("needs", "").split()]):
             continue

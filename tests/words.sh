@@ -1,8 +1,9 @@
 #!/usr/bin/env bash
 # tests/words.sh: runs the built programs with the words and the inputs of runs.txt, and compares what they wrote and how they
 # ended; then with real ends that fail, and a word that is no text. napi_serial has to answer as napi_replay, and refuses the
-# words that name another mode. Each run that differs is shown. The last line is `N passed, M failed`. It asks ./replay for the
-# programs, which builds them only where neither the gate nor an earlier call did.
+# words that name another mode. ends.py tries the exit status of all four programs with outputs that are closed or full. Each run
+# that differs is shown. The last line is `N passed, M failed`. It asks ./replay and scripts/build.sh for the programs, which build
+# them only where neither the gate nor an earlier call did.
 set -u
 tests=$(cd "$(dirname "$0")" && pwd)
 replay=$tests/../replay
@@ -63,7 +64,7 @@ begin() {
     for part in words in wanted.out wanted.err wanted.status; do : > "$folder/$part"; done
 }
 
-if ! "$replay" --build > "$folder/out" 2> "$folder/err"; then
+if ! { "$replay" --build && "$tests/../scripts/build.sh" napi_series napi_machine; } > "$folder/out" 2> "$folder/err"; then
     cat "$folder/err"
     echo "0 passed, 1 failed"
     exit 1
@@ -143,5 +144,14 @@ broken 'a pipe that is closed in the middle of a row' from_pipe
 want 2 'trace fault 1 BadHeader row 0'
 broken 'a pipe that is closed in the middle of the header' from_short_pipe
 
+python3 -B "$tests/ends.py" "$crates" > "$folder/ends"
+sed '/^[0-9]* passed, [0-9]* failed$/d' "$folder/ends"
+if [[ $(tail -n 1 "$folder/ends") =~ ^([0-9]+)' passed, '([0-9]+)' failed'$ ]]; then
+    passed=$((passed + BASH_REMATCH[1]))
+    failed=$((failed + BASH_REMATCH[2]))
+else
+    failed=$((failed + 1))
+    echo "ends.py didn't end"
+fi
 echo "$passed passed, $failed failed"
 [ "$failed" = 0 ]

@@ -2,7 +2,8 @@
 parallel on many machines. What is there isn't made again, and several calls may work on one file.
 """
 
-from toolbox import Refusal, add_program, begun, check_target, number, pair, say, shown, unfinished, why, write_whole
+from toolbox import (Progress, Refusal, add_program, begun, check_target, number, pair, read_now, say, share_of, shown, unfinished, why,
+                     write_whole)
 
 import contextlib
 import csv
@@ -76,27 +77,24 @@ def locked(tool, path):
                 return
 
 
-class Progress:
-    """How many rows there are, on standard error: over and over on a terminal, at each tenth elsewhere, where the file is one that is kept."""
+class Counted:
+    """How many rows there are, on standard error: by Progress on a terminal, at each tenth elsewhere, where the file is one that is kept."""
 
-    def __init__(self, tool, all_rows, is_quiet):
+    def __init__(self, tool, all_rows, is_passing):
         self.tool, self.all_rows, self.count, self.told = tool, all_rows, 0, 0
-        self.on_terminal = sys.stderr is not None and sys.stderr.isatty()
-        self.is_quiet = is_quiet
+        self.is_silent = is_passing or Progress.is_quiet or Progress.can_be_shown()
         self.since = time.monotonic()
+
+    def how_far(self):
+        """By the rows that are made, and by how far the programs have read that make others now."""
+        return min(1, (self.count + sum(share_of(file) or 0 for file in list(read_now) if file != -1)) / self.all_rows)
 
     def step(self):
         self.count += 1
         tenth = self.count * 10 // self.all_rows
-        if self.on_terminal:
-            print(f"\r\033[K{self.tool}: {self.count} of {self.all_rows} rows", end="", file=sys.stderr, flush=True)
-        elif tenth > self.told and not self.is_quiet:
+        if tenth > self.told and not self.is_silent:
             self.told = tenth
             say(self.tool, f"{self.count} of {self.all_rows} rows, {time.monotonic() - self.since:.0f} s")
-
-    def end(self):
-        if self.on_terminal and self.count:
-            print("\r\033[K", end="", file=sys.stderr, flush=True)
 
 
 class Combinations:
@@ -228,17 +226,17 @@ class Combinations:
 
     def play_missing(self, made, words, rows, missing):
         """Makes these, and writes each row as it ends; what another file's row tells, which held the same, isn't made again."""
-        progress = Progress(self.tool, len(missing), words.is_passing)
+        counted = Counted(self.tool, len(missing), words.is_passing)
         told = {key[1:]: row for key, row in rows.items()}
         known = [{**told[key[1:]], self.key[0]: key[0]} for key in missing if key[1:] in told]
         unknown = [key for key in missing if key[1:] not in told]
         there = set()  # a process of parallel's that is tried again tells its first rows again
-        for row in itertools.chain(known, self.rows_of(made, unknown, words) if unknown else []):
-            if self.key_of(row) not in there:
-                there.add(self.key_of(row))
-                self.append(words.out, row)
-                progress.step()
-        progress.end()
+        with Progress(f"making {len(missing)} rows", counted.how_far):
+            for row in itertools.chain(known, self.rows_of(made, unknown, words) if unknown else []):
+                if self.key_of(row) not in there:
+                    there.add(self.key_of(row))
+                    self.append(words.out, row)
+                    counted.step()
 
     def tell(self, words, text):
         """A line on standard error, where the file is one that is kept."""

@@ -1,7 +1,8 @@
 """Pictures by gnuplot, which plot and what-if draw."""
 
-from toolbox import Refusal, ran, shown
+from toolbox import Progress, Refusal, ran, shown
 
+import shutil
 import tempfile
 from pathlib import Path
 
@@ -28,15 +29,20 @@ def head(kind, size):
             "set format x '%.0f'", "set format y '%.0f'"]
 
 
+def check_gnuplot():
+    """Refuses to draw without gnuplot. A tool that works long asks before it does."""
+    if not shutil.which("gnuplot"):
+        raise Refusal(INSTALL)
+
+
 def by_gnuplot(script, *headings):
     """What gnuplot draws. It writes to a pipe, so that no name of a file reaches it."""
     with tempfile.TemporaryDirectory() as folder:
         path = Path(folder) / "script"
         path.write_text(script, encoding="utf-8")
-        try:
+        check_gnuplot()
+        with Progress("drawing by gnuplot"):
             status, out, said = ran(["gnuplot", "--default-settings", "-c", path, *headings])
-        except FileNotFoundError:
-            raise Refusal(INSTALL) from None
     if status != 0 or not out:
         told = [line for line in said.decode("utf-8", "replace").splitlines() if line.strip()]
         raise Refusal(f"gnuplot failed: {shown(told[-1]) if told else status}")

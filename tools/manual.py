@@ -1,12 +1,17 @@
-"""The manual page of a tool, made of the words that it tells of itself."""
+"""The manual pages, made of the options that each tool declares, and these options for the completion. Run by itself, as `fintaqush --manual`
+and `fintaqush --version` do, it prints the page or the version of the command."""
 
 import argparse
+import json
 import re
+import sys
+
+STATUS = "0 success; 1 error, with a message; 2 bad usage; 130 or 143 interrupted."
 
 
 def plain(text):
-    """A text as a manual page has it: of an installed tool, without the checkout's folder."""
-    return re.sub(r"^([.'])", r"\\&\1", text.replace("tools/", "").replace("\\", "\\e").replace("-", "\\-"), flags=re.M)
+    """A text as a manual page has it."""
+    return re.sub(r"^([.'])", r"\\&\1", text.replace("\\", "\\e").replace("-", "\\-"), flags=re.M)
 
 
 def paragraphs(text):
@@ -18,21 +23,62 @@ def paragraphs(text):
             yield from (".PP", plain(block))
 
 
+def shown_actions(parser):
+    return [action for action in parser._actions if action.help != argparse.SUPPRESS]
+
+
 def options(parser):
-    """Each of the words, with what it is."""
+    """Each of the options, with what it is."""
     formatter = argparse.HelpFormatter(parser.prog)
-    for action in parser._actions:
-        if action.help != argparse.SUPPRESS:
-            yield from (".TP", f".B {plain(formatter._format_action_invocation(action))}", plain(formatter._expand_help(action)))
+    for action in shown_actions(parser):
+        yield from (".TP", f".B {plain(formatter._format_action_invocation(action))}", plain(formatter._expand_help(action)))
 
 
-def print_page(parser, version):
-    """Prints it, and ends the tool."""
+def page_of(parser, version):
+    """The lines of a tool's manual page."""
     head, _, text = parser.description.partition("\n\n")
-    lines = [f'.TH {plain(parser.prog.upper())} 1 "" "Fintaqush {version}"', ".SH NAME",
-             f"{plain(parser.prog)} \\- {plain(' '.join(head.split()).rstrip('.'))}", ".SH SYNOPSIS",
-             plain(" ".join(parser.format_usage().removeprefix("usage: ").split())), ".SH DESCRIPTION", *list(paragraphs(text))[1:],
-             ".SH OPTIONS", *options(parser), ".SH EXIT STATUS", "0; 1 for what it refuses or couldn't do, with a line; 2 for words that it"
-             " doesn't know; 130 and 143 where it was interrupted.", ".SH SEE ALSO", ".BR napi_replay (1)"]
-    print("\n".join(lines))
+    name = parser.prog.replace(" ", "-")
+    has_status = re.search("^exit status", text, re.M | re.I)
+    return [f'.TH {plain(name.upper())} 1 "" "Fintaqush {version}"', ".SH NAME",
+            f"{plain(name)} \\- {plain(' '.join(head.split()).rstrip('.'))}", ".SH SYNOPSIS",
+            plain(" ".join(parser.format_usage().removeprefix("usage: ").split())), ".SH DESCRIPTION", *list(paragraphs(text))[1:],
+            ".SH OPTIONS", *options(parser), *([] if has_status else [".SH EXIT STATUS", STATUS]), ".SH SEE ALSO",
+            ".BR fintaqush (1), napi_replay (1)"]
+
+
+def described(parser):
+    """The options as an object: of each its names, its value and its choices, and what it is."""
+    formatter = argparse.HelpFormatter(parser.prog)
+    return [{"names": action.option_strings, "value": action.metavar or action.dest.upper() if action.nargs != 0 else "",
+             "choices": list(map(str, action.choices or [])), "what": formatter._expand_help(action)} for action in shown_actions(parser)]
+
+
+def describe(parser, how, version):
+    """Prints the manual page or the options, and ends the tool."""
+    print("\n".join(page_of(parser, version)) if how == "--manual" else json.dumps(described(parser)))
     parser.exit()
+
+
+def page_of_command(groups, version):
+    """The lines of the manual page of `fintaqush`."""
+    lines = [f'.TH FINTAQUSH 1 "" "Fintaqush {version}"', ".SH NAME", "fintaqush \\- how Linux polls received packets, and what other settings "
+             "would change", ".SH SYNOPSIS", ".B fintaqush", ".RI SUBCOMMAND \" [ARGUMENT ..]\"", ".SH DESCRIPTION",
+             "Each subcommand has a manual page of its own, fintaqush\\-SUBCOMMAND(1), and prints its options by \\-\\-help."]
+    for title, group in groups:
+        lines += [f".SH {plain(title.upper())}"]
+        for name, _, what in group:
+            lines += [".TP", f".BR fintaqush\\-{plain(name)} (1)", plain(what)]
+    return [*lines, ".SH EXIT STATUS", STATUS, ".SH SEE ALSO", ".BR napi_replay (1), napi_series (1), napi_machine (1), fintaqush (3)"]
+
+
+def main():
+    import toolbox
+    sys.path.append(f"{toolbox.TOP}/scripts")
+    from subcommands import GROUPS
+    how = sys.argv[1:]
+    print("\n".join(page_of_command(GROUPS, toolbox.version())) if how == ["--manual"] else f"fintaqush of Fintaqush {toolbox.version()}")
+
+
+if __name__ == "__main__":
+    from toolbox import run_tool
+    run_tool("fintaqush", main)

@@ -3,7 +3,7 @@ a trace has only the runs that somebody wrote down."""
 
 import re
 
-from toolbox import MOST_ROWS, Refusal, records_of, run_program, runs_of, text_of
+from toolbox import MOST_ROWS, Progress, Refusal, records_of, run_program, runs_of, text_of
 
 PENDING = re.compile(r"trace fault 12 Pending row (\d+)$")
 
@@ -131,5 +131,6 @@ def raise_runs(text, program, words, restarts=None):
     """The trace as it would have run by these words: behind each softirq row that leaves the list filled, one more, until it is
     empty or `restarts` stand there. Answers its bytes, and of each row the place of the one that it stands for."""
     raising = Raising(text, program, words, restarts)
-    rows, places = raising.whole()
+    with Progress("raising runs", lambda: raising.settled / max(1, len(raising.runs))):
+        rows, places = raising.whole()
     return text_of(raising.header, rows), places

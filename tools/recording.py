@@ -1,4 +1,4 @@
-"""Recordings: the text of ftrace, of `trace-cmd report` or of `perf script`, and tools/record's files, read line by line."""
+"""Recordings: the text of ftrace, of `trace-cmd report` or of `perf script`, and fintaqush record's files, read line by line."""
 
 from toolbox import Refusal, check_input, is_number, lines_in, shown
 
@@ -14,7 +14,7 @@ from arrivals import seconds
 
 MOST_LINE = 4096  # characters
 HEAD = "fintaqush-recording 1"
-CAPTURE = "this is a capture, which tools/from-pcap reads"
+CAPTURE = "this is a capture, which fintaqush from-pcap reads"
 OTHERS = {b"PERFILE2": "this is the file of `perf record`: take the text of `perf script --ns`", b"\xd4\xc3\xb2\xa1": CAPTURE,
           b"\x17\x08Dtraci": "this is the file of `trace-cmd record`: take the text of `trace-cmd report -t`", b"\xa1\xb2\xc3\xd4": CAPTURE,
           b"M<\xb2\xa1": CAPTURE, b"\n\r\r\n": CAPTURE, b"\x7fELF": "this is a program"}  # by their first bytes
@@ -100,7 +100,7 @@ def opened(recording):
 
 
 def head_in(lines):
-    """The head of tools/record's file, from the lines behind its first one on."""
+    """The head of fintaqush record's file, from the lines behind its first one on."""
     head = {}
     for line in lines:
         key, _, value = line.rstrip("\n").partition(" ")
@@ -117,12 +117,12 @@ def parts_of(lines):
         head = head_in(lines)
         return head, lines
     if first.startswith(HEAD.split()[0]):
-        raise Refusal(f"{first.strip()[:60]!r}: another version of tools/record wrote it; this one reads version 1")
+        raise Refusal(f"{first.strip()[:60]!r}: another version of fintaqush record wrote it; this one reads version 1")
     return {}, itertools.chain([first], lines)
 
 
 def head_of(recording):
-    """The head of tools/record's file, by its keys; of other tools' text it has none."""
+    """The head of fintaqush record's file, by its keys; of other tools' text it has none."""
     with opened(recording) as lines:
         return parts_of(lines)[0]
 
@@ -146,7 +146,7 @@ def events_in(recording, lost, head=None):
 def check_lost(lost):
     """Refuses a recording of which the kernel lost events."""
     if lost:
-        raise Refusal(f"{lost[0]}, so its numbers would be wrong: record for a shorter time, or with a larger buffer (tools/record "
+        raise Refusal(f"{lost[0]}, so its numbers would be wrong: record for a shorter time, or with a larger buffer (fintaqush record "
                       "--buffer)")
 
 

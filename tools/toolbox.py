@@ -22,9 +22,12 @@ HEADERS = {"moment,device,event,value": 1, "moment,device,event,value,2": 2}
 RANGES = {"budget": 65535, "weight": 64, "window": 65535}  # docs/FORMATS.md, "The words"
 TICKS = {"ms": 1000, "us": 1000000}  # moments of a second
 
+NAME = os.environ.get("FINTAQUSH_NAME", "")  # as scripts/subcommands.py was asked for it, `fintaqush plot`
+
 MAIN = _thread.get_ident()
 unfinished = set()  # the files that are being written
 running = set()  # the programs of ours that are at work
+read_now = set()  # the open files that they read
 
 
 class Refusal(Exception):
@@ -52,6 +55,65 @@ class Signals:
             raise Interrupted(number)
 
 
+class Progress:
+    """Shows while a block runs how far that is, and the time that is left: on standard error of a terminal, from the second second on, and not
+    by --quiet. `how_far` returns a share from 0 to 1, or None if that isn't known; `more` returns a text."""
+
+    is_quiet, is_shown, is_busy, CLEAR = False, False, False, "\r\033[K"
+
+    def __init__(self, what, how_far=lambda: None, more=lambda: ""):
+        self.what, self.how_far, self.more, self.over = what, how_far, more, None
+
+    @classmethod
+    def cleared(cls):
+        """What clears the line, if one is shown."""
+        was_shown, cls.is_shown = cls.is_shown, False
+        return cls.CLEAR if was_shown else ""
+
+    @classmethod
+    def can_be_shown(cls):
+        return not cls.is_quiet and sys.stderr is not None and sys.stderr.isatty()
+
+    def __enter__(self):
+        if self.can_be_shown() and not self.is_busy:  # of two, one in the other, the outer one is shown
+            import threading
+            Progress.is_busy, self.over = True, threading.Event()
+            try:
+                threading.Thread(target=self.show, daemon=True).start()
+            except RuntimeError:  # there isn't enough memory for it
+                pass
+        return self
+
+    def __exit__(self, *_):
+        if self.over:
+            self.over.set()
+            Progress.is_busy = False
+            print(self.cleared(), end="", file=sys.stderr, flush=True)
+
+    def show(self):
+        """Until the block ends, five times a second."""
+        import time
+        since, waits = time.monotonic(), 1
+        while not self.over.wait(waits):
+            waits, took, share = 0.2, time.monotonic() - since, self.how_far()
+            parts = [self.what, f"{100 * share:.0f} %" if share is not None else f"{took:.0f} s", self.more()]
+            if share and share < 1:
+                parts.append(f"{took * (1 - share) / share:.0f} s left")
+            Progress.is_shown = True
+            line = f"{called(os.path.basename(sys.argv[0]))}: {', '.join(filter(None, parts))}"
+            if not self.over.is_set():
+                print(f"{self.CLEAR}{line[:os.get_terminal_size(2).columns - 1 or 79]}", end="", file=sys.stderr, flush=True)
+
+
+def share_of(file):
+    """How much of an open file is read, by whoever reads it, as a share from 0 to 1; None if that isn't known."""
+    try:
+        size = os.fstat(file.fileno()).st_size
+        return min(1, os.lseek(file.fileno(), 0, os.SEEK_CUR) / size) if size else None
+    except (OSError, ValueError):
+        return None
+
+
 def shown(name):
     """A name as a terminal may have it: no control characters, and bytes that are no text as such."""
     text = str(name)
@@ -59,11 +121,16 @@ def shown(name):
                    .encode("unicode_escape").decode() for letter in text)
 
 
+def called(tool):
+    """The name that a tool was called by: its own, or that of a subcommand."""
+    return NAME or tool
+
+
 def say(tool, text):
     """A line on standard error, where somebody reads that."""
     try:
         if sys.stderr is not None:
-            print(f"{tool}: {text}", file=sys.stderr, flush=True)
+            print(f"{Progress.cleared()}{called(tool)}: {text}", file=sys.stderr, flush=True)
     except (OSError, ValueError):
         pass
 
@@ -153,7 +220,8 @@ def check_target(path, replaces=True):
 
 class whole_file:
     """The name of a new file beside `path`, which takes its place once all of it is there. After a failure nothing has changed.
-    Unless it may replace one, a file that is there is kept, and is a refusal."""
+    Unless it may replace one, a file that is there is kept, and is a refusal. The new file has the mode of the one that it replaces;
+    before it is in place only the user can read it, so that a private file is never readable by others."""
 
     def __init__(self, path, replaces=True):
         check_target(path, replaces)
@@ -163,29 +231,38 @@ class whole_file:
 
     def __enter__(self):
         unfinished.add(self.new)
-        os.close(os.open(self.new, os.O_WRONLY | os.O_CREAT | os.O_EXCL, 0o666))
+        os.close(os.open(self.new, os.O_WRONLY | os.O_CREAT | os.O_EXCL, 0o600 if os.path.exists(self.path) else 0o666))
         return self.new
 
     def __exit__(self, kind, _error, _trace):
         try:
-            if kind is None and self.replaces:
-                if os.path.exists(self.path):
-                    os.chmod(self.new, os.stat(self.path).st_mode & 0o7777)
-                os.replace(self.new, self.path)
-            elif kind is None:
-                os.link(self.new, self.path)  # which fails where somebody made it meanwhile
+            if kind is None:
+                self.put()
         finally:
             unlink(self.new)
             unfinished.discard(self.new)
 
+    def put(self):
+        """Puts the new file in its place. It is on the disk before it has the name, whichever program wrote it: after a crash the
+        name is the old file's or the whole new one's."""
+        file = os.open(self.new, os.O_RDONLY)
+        try:
+            if self.replaces and os.path.exists(self.path):
+                os.fchmod(file, os.stat(self.path).st_mode & 0o7777)
+            os.fsync(file)
+        finally:
+            os.close(file)
+        if self.replaces:
+            os.replace(self.new, self.path)
+        else:
+            os.link(self.new, self.path)  # which fails if another program made it meanwhile
+
 
 def write_whole(path, text, replaces=True):
     """Writes a text, or its lines, in place of what was there, all or nothing."""
-    with whole_file(path, replaces) as new:
+    with whole_file(path, replaces) as new, Progress(f"writing {shown(path)}"):
         with open(new, "w", newline="", encoding="utf-8", errors="surrogateescape") as file:
             file.writelines([text] if isinstance(text, str) else text)
-            file.flush()
-            os.fsync(file.fileno())
 
 
 def write_all(texts):
@@ -206,8 +283,9 @@ def write_out(path, text):
     if path:
         write_whole(path, text)
     else:
-        sys.stdout.writelines([text] if isinstance(text, str) else text)
-        sys.stdout.flush()
+        with Progress("writing"):
+            sys.stdout.writelines([text] if isinstance(text, str) else text)
+            sys.stdout.flush()
 
 
 def check_input(path):
@@ -234,11 +312,12 @@ def bytes_in(file):
 def lines_in(file, most, of):
     """The lines of an open file, none of them endless."""
     number = 0
-    while line := file.readline(most):
-        number += 1
-        if len(line) == most:
-            raise Refusal(f"line {number}: longer than any line of {of}")
-        yield line
+    with Progress("reading", lambda: share_of(file)):
+        while line := file.readline(most):
+            number += 1
+            if len(line) == most:
+                raise Refusal(f"line {number}: longer than any line of {of}")
+            yield line
 
 
 def read_bytes(path):
@@ -262,14 +341,22 @@ def version():
         return next(line.split('"')[1] for line in header if line.startswith("#define FQ_VERSION "))
 
 
+def be_quiet(*_):
+    """What --quiet does."""
+    Progress.is_quiet = True
+
+
 def parser_of(text, **others):
     """What reads a tool's words, none of them shortened, and tells them."""
     import argparse
-    parser = argparse.ArgumentParser(description=text, formatter_class=argparse.RawDescriptionHelpFormatter, allow_abbrev=False, **others)
-    parser.add_argument("--version", action="version", version=f"{parser.prog} of Fintaqush {version()}", help="tell the version")
-    if sys.argv[1:] == ["--manual"] and text:
-        from manual import print_page  # once it has all its words
-        parser.parse_args = parser.parse_known_args = lambda *_: print_page(parser, version())
+    parser = argparse.ArgumentParser(**{"prog": NAME or None, "description": text, "formatter_class": argparse.RawDescriptionHelpFormatter,
+                                        "allow_abbrev": False, **others})
+    parser.add_argument("--version", action="version", version=f"{parser.prog} of Fintaqush {version()}", help="print the version")
+    parser.add_argument("--quiet", action=type("Quiet", (argparse.Action,), {"__call__": be_quiet}), nargs=0, dest=argparse.SUPPRESS,
+                        help="no progress on standard error")
+    if sys.argv[1:] in (["--manual"], ["--options"]) and text:
+        import manual  # once it has all its options
+        parser.parse_args = parser.parse_known_args = lambda *_: manual.describe(parser, sys.argv[1], version())
     return parser
 
 
@@ -358,11 +445,13 @@ def ran(command, text=None, stdin=-1):
     """A program with this input as it ended: its status, and the bytes of its two outputs."""
     with begun(command, running, stdin=stdin, stdout=-1, stderr=-1) as process:  # -1 is subprocess.PIPE
         try:
+            read_now.add(stdin)
             out, said = process.communicate(text)
         except BaseException:
             process.kill()
             raise
         finally:
+            read_now.discard(stdin)
             running.discard(process)
     if process.returncode == -signal.SIGINT or Signals.is_over:
         raise Interrupted(signal.SIGINT)
@@ -371,7 +460,7 @@ def ran(command, text=None, stdin=-1):
 
 def lines_by(command, stdin, said):
     """The lines that a program writes of this input, as it writes them. What it says goes to an open file; the value is its status."""
-    with begun(command, running, stdin=stdin, stdout=-1, stderr=said) as process:
+    with Progress("reading", lambda: share_of(stdin)), begun(command, running, stdin=stdin, stdout=-1, stderr=said) as process:
         try:
             for line in process.stdout:
                 yield line.decode("utf-8", "replace")

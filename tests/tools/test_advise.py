@@ -173,7 +173,7 @@ class Advise(InFolder):
         whole = file_of(quiet())
         trace = quiet().text()
         for text, why in (
-                ("", "it is empty"), (trace, "this is no file of tools/record"), (whole[:-3000], "it is cut"), (whole[:200], "it is cut"),
+                ("", "it is empty"), (trace, "this is no file of fintaqush record"), (whole[:-3000], "it is cut"), (whole[:200], "it is cut"),
                 (file_of(quiet(), lost=7), "the kernel lost 7 events"), (file_of(quiet(), polled=""), "nothing polls vb1 in it"),
                 (file_of(re.sub(r".*net_dev_xmit.*\n", "", trace)), "no arrival is in it"),
                 (file_of(re.sub(r".*napi_poll.*\n", "", trace)), "nothing polls vb1 in it"),

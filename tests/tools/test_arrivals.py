@@ -7,7 +7,7 @@ import subprocess
 import unittest
 
 import test_tools
-from tooltest import HAS_MACHINE, HERE, MACHINE, InFolder, run
+from tooltest import HAS_MACHINE, HERE, MACHINE, TOP, InFolder, run
 
 HEADER = "moment,device,bytes\n"
 
@@ -114,7 +114,7 @@ class FromFtrace(Arrivals):
 
     def test_a_recording_made_in_trouble(self):
         """Of 121 packets a backlog of 6 dropped three, which arrived too. The file names the pair; the rows are what its lines say."""
-        text = (HERE / "recorded-backlog.rec").read_text()
+        text = (TOP / "examples/veth-backlog.rec").read_text()
         sent = re.findall(r" (\d+)\.(\d{9}): net_dev_xmit: dev=va7 skbaddr=\S+ len=(\d+) rc=[01]$", text, re.M)
         times = [int(whole) * 10**9 + int(part) for whole, part, _ in sent]
         rows, notes, said = self.made("from-ftrace", text)
@@ -128,7 +128,7 @@ class FromFtrace(Arrivals):
 
     def test_recordings_that_it_refuses(self):
         """By one line each, and nothing is written."""
-        text = (HERE / "recorded-backlog.rec").read_text()
+        text = (TOP / "examples/veth-backlog.rec").read_text()
         event = "   a-1  [000] b....  5.000001: net_dev_xmit: dev=va1 skbaddr=0 len=61 rc=0\n"
         without = re.sub(r".*net_dev_xmit: .*\n", "", text)
         lines = sum(not line.startswith("#") for line in without.split("\ntrace\n")[1].splitlines())
@@ -140,7 +140,7 @@ class FromFtrace(Arrivals):
                 (text[: text.rindex("\n", 0, -2) + 1], "it is cut: 622 of 623 events are there"), (without, "there is no packet in it: record the event net/net_dev_xmit"),
                 (without.replace("\nlost 0", "\nmissing net/net_dev_xmit\nlost 0"), "the kernel that recorded it has no event net/net_dev_xmit"),
                 (b"PERFILE2 and more", "this is the file of `perf record`: take the text of `perf script --ns`"),
-                (b"\x17\x08\x44tracing6", "this is the file of `trace-cmd record`"), (b"\xd4\xc3\xb2\xa1\x02\0\x04\0", "this is a capture, which tools/from-pcap reads"),
+                (b"\x17\x08\x44tracing6", "this is the file of `trace-cmd record`"), (b"\xd4\xc3\xb2\xa1\x02\0\x04\0", "this is a capture, which fintaqush from-pcap reads"),
                 (b"\x0a\x0d\x0d\x0a\x1c\0\0\0", "this is a capture"), (b"moment,device,bytes\n0,1,60\n", "line 1: no line of ftrace"),
                 (gzip.compress(text.encode())[:-700], "it isn't whole"), (b"\x1f\x8bxx", "it isn't whole"), (text.replace("recording 1", "recording 7"), "another version")):
             self.write("recorded", "")
@@ -204,6 +204,15 @@ class Traffic(Arrivals):
         words = ["--kind", "poisson", "--devices", "3", "--seed"]
         self.assertEqual(self.rows(*words, "1"), self.rows(*words, "1"))
         self.assertNotEqual(self.rows(*words, "1"), self.rows(*words, "2"))
+
+    def test_the_seed_decides_when_packets_come(self):
+        """Not their sizes alone; and each device has times of its own."""
+        for kind in ("constant", "poisson", "bursts"):
+            words = ["--kind", kind, "--devices", "2", "--rate", "2000", "--bytes", "60", "--seed"]
+            times = [{(device, moment) for moment, device, _ in self.rows(*words, seed)} for seed in (1, 2)]
+            self.assertLess(len(times[0] & times[1]), len(times[0]) / 10, kind)
+            of = [{moment for device, moment in times[0] if device == number} for number in (1, 2)]
+            self.assertLess(len(of[0] & of[1]), len(of[0]) / 10, kind)
 
     def test_words_that_it_refuses(self):
         for words in (["--mix", "tx=1"], ["--devices", "4097"], ["--devices", "0"]):

@@ -8,7 +8,7 @@ import unittest
 
 import timing
 from timing import Made
-from tooltest import HERE, InFolder, run
+from tooltest import HERE, TOP, InFolder, run
 
 
 def recorded(interrupt, poll, packet, unit=1, noise=lambda: 0, threads=False):
@@ -65,7 +65,7 @@ class Costs(InFolder):
         self.assertIn("poll 1500 ns (1500 to 1500), packet 330 ns (330 to 330): 600 polls of 0 to 64 packets by softirqs, of which 30 lie far off and "
                       "are left out; the line explains 100 %", told)
         self.assertIn("wake: not known: record net/net_dev_xmit", told)
-        self.assertTrue(told.endswith("use: not known: no read of a program is recorded (tools/record --program)\n--interrupt 2100 --poll 1500 --packet 330\n"))
+        self.assertTrue(told.endswith("use: not known: no read of a program is recorded (fintaqush record --program)\n--interrupt 2100 --poll 1500 --packet 330\n"))
 
     def test_costs_that_vary(self):
         """Within 3 %, also where stamps are of microseconds; and it says how far the polls lie from the line."""
@@ -352,11 +352,11 @@ class Recorded(InFolder):
 
     def test_what_it_refuses(self):
         """Cut anywhere, with lost events, of a kernel without the events, or of another version."""
-        text = (HERE / "recorded-backlog.rec").read_text()
+        text = (TOP / "examples/veth-backlog.rec").read_text()
         for changed, why in ((text[:-30], "isn't whole"), (text[: text.rindex("\n", 0, -2) + 1], "it is cut: 622 of 623 events are there"),
                              (text[:1000], "it is cut: its head has no end"), ("", "it is empty"), ("fintaqush-recording 1\n", "its head has no end"),
                              (text.replace("\nlost 0\n", "\nlost 5\n"), "the kernel lost 5 events, so its numbers would be wrong"),
-                             (text.replace("recording 1", "recording 2"), "another version of tools/record wrote it"),
+                             (text.replace("recording 1", "recording 2"), "another version of fintaqush record wrote it"),
                              (text.replace("\nlines 623", "\nlines 9"), "it is cut: 623 of 9 events"),
                              (re.sub(r".*(napi_poll|softirq_e).*\n", "", text).replace("lines 623", "lines 513"), "0 polls of (no_device) in softirqs or threads")):
             done = run("costs", "-", text=changed)

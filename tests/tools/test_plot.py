@@ -14,7 +14,7 @@ class Plot(InFolder):
                    "5,1,0,,,,,,,,,,2,1,0,,, 1:1\n6,2,1,on,0,2,0,2,500,0,-500,1,,,,0,,\n7,3,1,on,0,2,0,2,0,1000,1000,0,,,,0,,\n")
 
     def plot(self, text, *words):
-        return run("plot", "--series", self.write("series", text), "--out", self.folder / "picture.svg", *words)
+        return run("plot", "--series", self.write("series", text), "--force", "--out", self.folder / "picture.svg", *words)
 
     def test_the_curves(self):
         """Two packets wait until run 4 takes one and is squeezed, and run 5 takes the other."""
@@ -122,7 +122,7 @@ class Plot(InFolder):
         """Title, headings and legends have a line each, at least nine pixels apart."""
         self.plot(self.ROWS)
         trace = TOP / "examples/bursts.csv"
-        run("plot", trace, "--budget", "64", "--raise", "--beside", "--budget 300", "--size", "440x200", "--out", self.folder / "picture.svg")
+        run("plot", trace, "--budget", "64", "--raise", "--force", "--beside", "--budget 300", "--size", "440x200", "--out", self.folder / "picture.svg")
         picture = (self.folder / "picture.svg").read_text()
         texts = re.findall(r"translate\(([0-9.]+),([0-9.]+)\)[^>]*>\s*<text>(.*?)</text>", picture, re.S)
         texts = [(float(y), re.sub("<[^>]*>", "", words).strip()) for _, y, words in texts]
@@ -183,7 +183,7 @@ class Plot(InFolder):
     @skip_without("gnuplot")
     def test_every_example(self):
         for trace in sorted((TOP / "examples").glob("*.csv")):
-            done = run("plot", trace, "--out", self.folder / "picture.png")
+            done = run("plot", trace, "--force", "--out", self.folder / "picture.png")
             self.assertEqual((done.stderr, done.returncode), ("", 0), trace)
 
     def test_where_gnuplot_is_missing_it_says_so(self):

@@ -39,8 +39,8 @@ class Raise(InFolder):
         arrivals, which raise them, or says what it drops."""
         pages = [TOP / "README.md", TOP / "examples/README.md", *sorted((TOP / "docs").glob("*.md")), TOP / "replay"]
         commands = [line for page in pages for line in page.read_text().splitlines()
-                    if re.search(r"(^|[ `])(\./replay|tools/[a-z-]+) [^\[]*--(budget|weight) ", line)]
-        true = (r"--raise\b|tools/raise |tools/what-if |raised\.csv|compare-recording |linux-(veth-small-budget|napi-disable)\.csv --budget 64\b"
+                    if re.search(r"(^|[ `])(\./replay|tools/[a-z-]+|(\./)?fintaqush [a-z-]+) [^\[]*--(budget|weight) ", line)]
+        true = (r"--raise\b|(tools/|fintaqush )(raise|what-if) |raised\.csv|compare-recording |linux-(veth-small-budget|napi-disable)\.csv --budget 64\b"
                 r"|and \d+ packets dropped$")
         self.assertEqual([command for command in commands if not re.search(true, command)], [])
         self.assertGreater(len(commands), 8)

@@ -66,7 +66,7 @@ class Refused(InFolder):
     def test_without_root_it_says_so_at_once(self):
         front = [] if os.geteuid() else ["unshare", "-U"]  # where nobody is root
         done = subprocess.run([*front, sys.executable, "-BES", TOP / "tools/record", "--device", "none", "--out", "none/x"], capture_output=True, text=True, check=False)
-        self.assertEqual((done.stderr, done.stdout, done.returncode), ("record: only root may record: sudo tools/record ..\n", "", 1))
+        self.assertEqual((done.stderr, done.stdout, done.returncode), ("record: only root may record: sudo fintaqush record ..\n", "", 1))
 
     @unittest.skipUnless(IS_ROOT, "root")
     @unittest.skipUnless(HAS_IP, "ip")

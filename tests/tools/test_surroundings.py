@@ -21,13 +21,13 @@ WRITERS = {"raise": [TRACE], "report2json": ["-"], "traffic": [], "compare-runs"
            "plot": [TRACE, "--script"], "compare-recording": [TOP / "examples/linux-veth-small-budget", "--budget", "64"],
            "from-ftrace": [HERE / "soft-tcp.txt", "made", *(f"--pair=va{number}:vb{number}" for number in range(1, 7))],
            "from-pcap": ["captured", "made"], "costs": [HERE / "soft-tcp.txt"], "what-if": ["arrivals", "--without-parallel"],
-           "advise": [HERE / "recorded-apart.rec"]}
+           "advise": [HERE / "recorded-apart.rec"], "completion": ["bash"]}
 if not os.path.exists(MACHINE):
     del WRITERS["what-if"], WRITERS["advise"]
 SERIES_HEAD = "row,moment,device,state,waiting,arrived,dropped,polled,in_flight,limit,avail,stopped,polls,work,squeezed\n"
 CAPTURED = "100.000000 eth0  In  ifindex 2 02:00:00:00:00:01 ethertype IPv4 (0x0800), length 60: 10.0.0.1 > 10.0.0.2: UDP\n"
 ALL = ["raise", "report2json", "traffic", "compare-runs", "compare-recording", "plot", "from-ftrace", "from-pcap", "sweep", "steps", "what-if", "costs",
-       "record", "advise"]
+       "record", "advise", "completion", "try"]
 # As somebody has it, and as a machine has it that tells no locale.
 USUAL = dict(os.environ)
 BARE = {"PATH": os.environ["PATH"], "HOME": os.environ.get("HOME", "/"), "CI": "true"}
@@ -129,7 +129,7 @@ class Surroundings(InFolder):
         before = self.names()
         by_path = {"PATH": f"{self.folder}:{os.environ['PATH']}"}
         for number in (signal.SIGTERM, signal.SIGHUP):
-            for tool, words, variables in (("raise", [TRACE, "--out", old], {"PROGRAM": held}), ("plot", [TRACE, "--out", old], by_path),
+            for tool, words, variables in (("raise", [TRACE, "--out", old], {"PROGRAM": held}), ("plot", [TRACE, "--out", old, "--force"], by_path),
                                            ("steps", [TRACE, "--out", "page.html"], {"PROGRAM": held}),
                                            ("advise", [HERE / "recorded-apart.rec", "--plot", old], {"MACHINE": held}),
                                            ("sweep", [TRACE, "--without-parallel", "--resume", "--out", "rows"], {"PROGRAM": held})):
@@ -221,7 +221,7 @@ class Surroundings(InFolder):
         before = self.names()
         for tool, words, variables in (("raise", [TRACE, "--out", old], {"PROGRAM": held}),
                                        ("compare-runs", [TRACE, "--out", old, "--"], {"PROGRAM": held}),
-                                       ("plot", [TRACE, "--out", old], {"SERIES": held}), ("plot", [TRACE, "--out", old], by_path)):
+                                       ("plot", [TRACE, "--out", old, "--force"], {"SERIES": held}), ("plot", [TRACE, "--out", old, "--force"], by_path)):
             begun = os.open(self.folder / "begun", os.O_RDONLY | os.O_NONBLOCK)
             process = self.start(tool, words, variables=variables, stdout=subprocess.PIPE, start_new_session=True)
             names, said = self.interrupt(process, begun)
@@ -275,7 +275,7 @@ class Surroundings(InFolder):
         os.mkfifo(self.folder / "fifo.csv")
         words = {"compare-runs": ["--"], "plot": ["--script"], "from-pcap": ["made"], "from-ftrace": ["made"]}
         for tool in ALL:
-            if tool in ("traffic", "sweep", "steps", "what-if", "record", "advise"):
+            if tool in ("traffic", "sweep", "steps", "what-if", "record", "advise", "completion", "try"):
                 continue
             process = self.start(tool, ["fifo.csv", *words.get(tool, [])], stdout=subprocess.PIPE)
             until, end = time.monotonic() + MOST_SECONDS, None
@@ -318,7 +318,7 @@ class Surroundings(InFolder):
         names = self.names()
         words = {tool: WRITERS[tool] for tool in ("from-ftrace", "from-pcap")}
         words.update({"raise": [TRACE, "--out", old], "traffic": ["--out", old], "report2json": ["-", "--out", old],
-                      "compare-runs": [TRACE, "--out", old, "--budget", "1", "--"], "plot": [TRACE, "--out", old],
+                      "compare-runs": [TRACE, "--out", old, "--budget", "1", "--"], "plot": [TRACE, "--out", old, "--force"],
                       "sweep": [TRACE, "--without-parallel", "--resume", "--out", rows]})
         for tool, each in words.items():
             done = subprocess.run(["bash", "-c", 'ulimit -f 0; trap "" XFSZ; exec "$0" "$@"', sys.executable, "-B", TOP / "tools" / tool, *each],
@@ -343,7 +343,7 @@ class Surroundings(InFolder):
         (self.folder / "bytes").write_bytes(b"\xff\xfe")
         words = {"compare-runs": ["--"], "plot": ["--script"], "from-pcap": ["made"], "from-ftrace": ["made"], "what-if": ["--without-parallel"]}
         for tool in ALL:
-            if tool in ("traffic", "sweep", "compare-recording", "steps", "record"):
+            if tool in ("traffic", "sweep", "compare-recording", "steps", "record", "completion", "try"):
                 continue
             for name in ("folder.csv", "none.csv", b"\xff.csv", "bytes", "/dev/zero"):
                 done = run(tool, name, *words.get(tool, []), folder=self.folder)

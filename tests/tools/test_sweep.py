@@ -63,6 +63,34 @@ class Sweep(InFolder):
         self.assertIn("8 rows in", done.stderr)
         self.check_rows()
 
+    REPORT = """softirq 3 polls 1 work 10 squeezed 1
+busy 5 device 1 polls 200 work 3000
+kthread 7 device 2 polls 40000 work 500000
+softirq 8 polls 6 work 70 squeezed 1
+busy 9 device 2 polls 800 work 9000
+device 1 on arrived 0 dropped 1 polled 0 bytes 0 left 70 polls 0
+napi 1 granted 0 missed 0 disabled 0 again 0 released 0 word 0 held 0
+tx 1 sent 0 held 0 done 0 denied 0 limit 60 avail 60 stopped 0
+device 2 on arrived 0 dropped 20 polled 0 bytes 0 left 800 polls 0
+napi 2 granted 0 missed 0 disabled 0 again 0 released 0 word 0 held 0
+tx 2 sent 0 held 0 done 0 denied 0 limit 1500 avail 1500 stopped 0
+device 3 on arrived 0 dropped 300 polled 0 bytes 0 left 9000 polls 0
+napi 3 granted 0 missed 0 disabled 0 again 0 released 0 word 0 held 0
+tx 3 sent 0 held 0 done 0 denied 0 limit 700 avail 700 stopped 0
+list
+total devices 3 runs 2 polls 7 work 80 squeezed 2
+"""
+
+    def test_each_value_is_of_all_rows_and_devices(self):
+        """A program that prints this report: rows of all three kinds poll, each number has a digit of its own, and the greatest limit is
+        neither the first queue's nor the last one's."""
+        program = self.write("program", f"#!/bin/sh\ncat > '{self.folder}/read'\ncat '{self.write('report', self.REPORT)}'\n")
+        program.chmod(0o755)
+        done = run("sweep", self.folder / "burst.csv", "--out", self.out, "--program", program, "--without-parallel")
+        self.assertEqual((done.returncode, len(self.rows())), (0, 1), done.stderr)
+        self.assertEqual([self.rows()[0][name] for name in ("polls", "work", "squeezed", "dropped", "left", "greatest_limit")],
+                         [str(1 + 200 + 40000 + 6 + 800), str(10 + 3000 + 500000 + 70 + 9000), "2", "321", "9870", "1500"])
+
     @skip_without("parallel")
     def test_by_parallel(self):
         self.assertEqual(self.sweep().returncode, 0)

@@ -299,6 +299,43 @@ class FromPcap(InFolder):
 100.000300 eth1  In  ifindex 3 02:00:00:00:00:01 ethertype IPv4 (0x0800), length 62: 10.0.0.1 > 10.0.0.2: UDP
 """
 
+    LINE = "100.{:06} eth0  In  ifindex 2 02:00:00:00:00:01 ethertype IPv4 (0x0800), length {}: UDP\n"
+    NO_LENGTH = "no row: packets without a length of 1 to 65535 bytes, "
+
+    def test_every_length_that_a_row_has(self):
+        """1 and 65,535 bytes are the least and the most; what is beyond is counted in the notes. By a capture too."""
+        text = "".join(self.LINE.format(place, size) for place, size in enumerate((1, 65535, 0, 65536, 65534, 100000, 2)))
+        for words, rows in ((["--unit", "us"], [f"{place},1,rx,{size}" for place, size in ((0, 1), (1, 65535), (4, 65534), (6, 2))]),
+                            (["--arrivals"], [f"{1000 * place},1,{size}" for place, size in ((0, 1), (1, 65535), (4, 65534), (6, 2))])):
+            done = run("from-pcap", "-", "made", *words, text=text, folder=self.folder)
+            self.assertEqual((done.stderr, done.returncode), ("", 0))
+            made = [row for row in (self.folder / "made.csv").read_text().splitlines()[1:] if "open" not in row and "softirq" not in row]
+            self.assertEqual(made, rows)
+            self.assertIn(f"{self.NO_LENGTH}3\n", (self.folder / "made.notes").read_text())
+            for end in ("csv", "notes"):
+                (self.folder / f"made.{end}").unlink()
+
+    @HAS_TCPDUMP
+    def test_the_longest_packets_of_a_capture(self):
+        rows, notes = self.made([(100, 1, 11, 65535), (200, 1, 11, 65534), (300, 1, 12, 60)], "--unit", "us")
+        self.assertEqual([row.split(",")[3] for row in rows if ",rx," in row], ["65535", "65534", "60"])
+        self.assertFalse(any(note.startswith(self.NO_LENGTH) for note in notes), notes)
+
+    def test_packets_of_one_time_keep_their_places(self):
+        """Those with one time stamp stand as they do in the capture, whether it is in the order of time or has to be sorted."""
+        in_order = [(1, 900), (2, 64), (2, 62), (2, 1500), (2, 60), (2, 63), (3, 500)]
+        out_of_order = [*in_order[1:4], in_order[6], in_order[0], *in_order[4:6]]
+        for seen in (in_order, out_of_order):
+            text = "".join(self.LINE.format(*each) for each in seen)
+            for words, column in (([], 3), (["--arrivals"], 2)):
+                done = run("from-pcap", "-", "made", *words, text=text, folder=self.folder)
+                self.assertEqual((done.stderr, done.returncode), ("", 0))
+                rows = [row.split(",") for row in (self.folder / "made.csv").read_text().splitlines()[1:]]
+                sizes = [int(row[column]) for row in rows if "open" not in row and "softirq" not in row]
+                self.assertEqual(sizes, [size for _, size in in_order])
+                for end in ("csv", "notes"):
+                    (self.folder / f"made.{end}").unlink()
+
     def test_text_by_interfaces_in_microseconds(self):
         done = run("from-pcap", "-", self.folder / "made", "--unit", "us", "--delay", "250", text=self.TEXT)
         self.assertEqual((done.stderr, done.returncode), ("", 0))
@@ -342,6 +379,24 @@ class Traffic(InFolder):
         words = ["--kind", "poisson", "--devices", "3", "--mix", "tx=20,done=20,disable=5"]
         self.assertEqual(self.rows(*words, "--seed", "1"), self.rows(*words, "--seed", "1"))
         self.assertNotEqual(self.rows(*words, "--seed", "1"), self.rows(*words, "--seed", "2"))
+
+    def test_the_seed_decides_when_packets_come(self):
+        """Not their sizes alone: the times of another seed are others, of each kind of traffic; each device has times of its own."""
+        for kind in ("constant", "poisson", "bursts"):
+            words = ["--kind", kind, "--devices", "2", "--unit", "us", "--rate", "2000", "--seconds", "0.5", "--bytes", "60"]
+            times = [{(row[1], int(row[0])) for row in self.rows(*words, "--seed", seed) if row[2] == "rx"} for seed in (1, 2, 3)]
+            for first, second in ((0, 1), (0, 2), (1, 2)):
+                self.assertLess(len(times[first] & times[second]), len(times[first]) / 10, kind)
+            of = [{moment for device, moment in times[0] if device == str(number)} for number in (1, 2)]
+            self.assertLess(len(of[0] & of[1]), len(of[0]) / 10, kind)
+
+    def test_packets_of_one_moment_stand_as_they_come(self):
+        """A millisecond has many packets of five devices: they stand there as in the same trace in microseconds."""
+        for kind in ("constant", "poisson"):
+            words = ["--kind", kind, "--devices", "5", "--rate", "3000", "--seconds", "0.2", "--seed", "7"]
+            coarse, fine = ([row for row in self.rows(*words, "--unit", unit) if row[2] == "rx"] for unit in ("ms", "us"))
+            self.assertEqual(coarse, [[str(int(row[0]) // 1000), *row[1:]] for row in fine])
+            self.assertGreater(len({row[0] for row in fine}), 5 * len({row[0] for row in coarse}))
 
     def test_any_mix_is_a_trace_that_is_taken(self):
         for version, busy in (("1", ""), ("2", ",busy=20")):

@@ -9,3 +9,4 @@ pub mod StepFacts
 pub mod MachineFacts
 pub mod WeightFacts
 pub mod LeftFacts
+pub mod PendingFacts

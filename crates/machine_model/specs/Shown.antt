@@ -1,7 +1,9 @@
--- How the definition sees a driven run.
-use Rattle.std.specs.{Prelude.{ℕ, ◌+◌, Bool, true, false, ◌++◌, length, Option, Some, None}, Option.option_map_or}
+-- How the program has it: a driven run, and what it keeps so that it needn't search at each step.
+use Rattle.std.specs.{Prelude.{ℕ, ◌+◌, ◌==◌, ◌||◌, ◌&&◌, nat_lt, Bool, true, false, ◌++◌, length, position, Option, Some, None}}
+use Rattle.std.specs.{Prelude.{if◌then◌else◌}, Option.option_map_or}
 use Rattle.{poll_runs.specs.Turn.asked_for, poll_runs.specs.declared.polling_run.PollingRun.PollingRun}
-use Rattle.machine_model.specs.Softirq.{RunView, SoftirqView}
+use Rattle.machine_model.specs.{Devices.{Devices, asks_at, soonest_from}, Softirq.{RunView, SoftirqView}}
+use Rattle.machine_model.specs.declared.devices.{Pending.Pending, Timer.Timer}
 
 abbrev pub shown : PollingRun → RunView
 shown run = record {
@@ -29,3 +31,16 @@ held_in run = option_map_or (λ r. length (asked_for r.asked ++ r.own) + length 
 
 abbrev pub listed : SoftirqView → ℕ
 listed q = length q.list + held_in q.run
+
+-- ---- of the devices
+
+-- the lowest device that asks, and the soonest timer
+abbrev pub pending_of : Devices → Pending
+pending_of devices = record { lowest = position asks_at devices; soonest = soonest_from 0 devices }
+
+-- the sooner of two timers, the one of the lower device at one time
+abbrev pub earlier : Option Timer → Option Timer → Option Timer
+earlier None other = other
+earlier (Some timer) None = Some timer
+earlier (Some timer) (Some other) =
+    if nat_lt other.at timer.at || other.at == timer.at && nat_lt other.device timer.device then Some other else Some timer

@@ -1,8 +1,12 @@
 //! The devices of a processor.
 
-ghost use Rattle.std.specs.Prelude.{◌≡◌, ◌≤◌, ◌<◌, ◌+◌, ◌-◌, ◌++◌, IfSome, OnOk, length, replicate, None};
-ghost use Rattle.machine_model.specs.Devices.{asks_at, soonest_from, sooner, timer_at};
+ghost use Rattle.std.specs.Prelude.{◌≡◌, ◌≤◌, ◌<◌, ◌+◌, ◌-◌, ◌++◌, ◌==◌, IfSome, OnOk, length, nat_lt, position, replicate, None, false, true};
+ghost use Rattle.std.specs.Option.{option_map_or};
+ghost use Rattle.device_places.specs.Places.{changed};
+ghost use Rattle.machine_model.specs.Device.{DeviceView};
+ghost use Rattle.machine_model.specs.Devices.{Devices, asks_at, soonest_from, sooner, timer_at};
 ghost use Rattle.machine_model.specs.Kept.{all_scheduled};
+ghost use Rattle.machine_model.specs.Shown.{earlier, pending_of};
 
 use crate::device::{Device, DeviceReport};
 use machine_words::Settings;
@@ -18,21 +22,33 @@ pub struct Timer {
     pub device: u32,
 }
 
+/// What a processor asks of its devices at each step. It is kept as they change, since a search goes through all of them.
+#[derive(Clone, Copy)]
+pub(crate) struct Pending {
+    /// The lowest device that asks for an interrupt.
+    pub(crate) lowest: Option<usize>,
+    /// The soonest timer.
+    pub(crate) soonest: Option<Timer>,
+}
+
 /// The devices of a processor, each at its number there; each is made by its first packet.
 #[derive(Drop)]
 pub(crate) struct Devices {
     places: Vec<Option<Device>>,
+    pending: Pending,
 }
 
 impl Model for Devices {
-    ghost use Rattle.std.specs.Prelude.{◌≤◌, length};
+    ghost use Rattle.std.specs.Prelude.{◌≡◌, ◌≤◌, length};
     ghost use Rattle.machine_model.specs.Devices as devices;
+    ghost use Rattle.machine_model.specs.Shown.{pending_of};
 
     ghost Value = { devices.Devices };
 
     ghost view = { λ d. d.places.items };
 
-    ghost invariant = { λ d. length d.places.items ≤ 64 };
+    ghost invariant = { λ d. (length d.places.items ≤ 64)
+        × (d.pending ≡ pending_of d.places.items) };
 }
 
 // Whether the device in this place, if there is one, asks for an interrupt.
@@ -76,6 +92,111 @@ fn soonest_in(places: &[Option<Device>]) -> Option<Timer>
     best
 }
 
+// The soonest timer of the devices, by time and then by number, of these two.
+fn earlier(first: Option<Timer>, second: Option<Timer>) -> Option<Timer>
+    ensures { result ≡ earlier first second }
+{
+    match (first, second) {
+        (Some(timer), Some(other))
+            if other.at < timer.at || other.at == timer.at && other.device < timer.device => {
+            Some(other)
+        }
+        (Some(timer), _) => Some(timer),
+        (None, other) => other,
+    }
+}
+
+// The lowest device that asks for an interrupt.
+fn lowest_in(places: &[Option<Device>]) -> Option<usize>
+    ensures { result ≡ position asks_at places.now }
+{
+    places.iter().position(|place| asks(place))
+}
+
+// Whether the lowest device that asks is below this one.
+fn is_below(lowest: Option<usize>, number: usize) -> bool
+    ensures { result ≡ option_map_or (λ other. nat_lt other number) lowest false }
+{
+    match lowest {
+        Some(other) => other < number,
+        None => false,
+    }
+}
+
+// Whether a timer is that of this device.
+fn is_of(timer: Option<Timer>, number: usize) -> bool
+    ensures { result ≡ option_map_or (λ t. t.device == number) timer false }
+{
+    match timer {
+        Some(timer) => timer.device as usize == number,
+        None => false,
+    }
+}
+
+// Whether the two are one timer.
+fn is_same(first: Option<Timer>, second: Option<Timer>) -> bool
+    ensures { result ≡ true → first ≡ second }
+{
+    match (first, second) {
+        (Some(timer), Some(other)) => timer.at == other.at && timer.device == other.device,
+        _ => false,
+    }
+}
+
+// The lowest device that asks, after this one changed.
+fn lowest_after(lowest: Option<usize>, number: usize, places: &[Option<Device>]) -> Option<usize>
+    requires { number < length places.now }
+    ensures { (change : DeviceView → DeviceView) (before : Devices)
+        → places.now ≡ changed change number before
+        → lowest ≡ position asks_at before
+        → result ≡ position asks_at places.now }
+{
+    if is_below(lowest, number) {
+        return lowest;
+    }
+    if asks(&places[number]) {
+        return Some(number);
+    }
+    if lowest == Some(number) {
+        return lowest_in(places);
+    }
+    lowest
+}
+
+// The soonest timer, after this device changed.
+fn soonest_after(soonest: Option<Timer>, number: usize, places: &[Option<Device>]) -> Option<Timer>
+    requires number { number < length places.now }
+    requires few { length places.now ≤ 64 }
+    ensures { (change : DeviceView → DeviceView) (before : Devices)
+        → places.now ≡ changed change number before
+        → soonest ≡ soonest_from 0 before
+        → result ≡ soonest_from 0 places.now }
+{
+    let own = timer_in(&places[number], number as u32);
+    if is_same(own, soonest) {
+        return soonest;
+    }
+    if is_of(soonest, number) {
+        return soonest_in(places);
+    }
+    earlier(soonest, own)
+}
+
+// What is asked of the devices, after this one changed.
+fn pending_after(pending: Pending, number: usize, places: &[Option<Device>]) -> Pending
+    requires number { number < length places.now }
+    requires few { length places.now ≤ 64 }
+    ensures { (change : DeviceView → DeviceView) (before : Devices)
+        → places.now ≡ changed change number before
+        → pending ≡ pending_of before
+        → result ≡ pending_of places.now }
+{
+    Pending {
+        lowest: lowest_after(pending.lowest, number, places),
+        soonest: soonest_after(pending.soonest, number, places),
+    }
+}
+
 // Makes the places up to a number.
 fn make_place(places: &mut Vec<Option<Device>>, number: usize) -> Result<(), AllocError>
     requires number { number < 64 }
@@ -84,6 +205,7 @@ fn make_place(places: &mut Vec<Option<Device>>, number: usize) -> Result<(), All
         ≡ places.old.items ++ replicate (number + 1 - length places.old.items) None) }
     ensures few { length places.new.items ≤ 64 }
     ensures scheduled { all_scheduled places.old.items ≤ all_scheduled places.new.items }
+    ensures pending { pending_of places.new.items ≡ pending_of places.old.items }
 {
     for _ in places.len()..number + 1 {
         places.push(None)?;
@@ -106,6 +228,10 @@ impl Devices {
     {
         Devices {
             places: Vec::new(alloc),
+            pending: Pending {
+                lowest: None,
+                soonest: None,
+            },
         }
     }
 
@@ -114,14 +240,14 @@ impl Devices {
         ensures lowest { result ≡ position asks_at self.now }
         ensures below { IfSome result (λ number. number < 64) }
     {
-        self.places.iter().position(|place| asks(place))
+        self.pending.lowest
     }
 
     /// The soonest timer, of those at one time that of the lowest device.
     pub(crate) fn soonest(&self) -> Option<Timer>
         ensures { result ≡ soonest_from 0 self.now }
     {
-        soonest_in(&self.places)
+        self.pending.soonest
     }
 
     /// Makes a device at its first packet, with a ring for so many packets. Fails if there is no memory for it.
@@ -150,7 +276,9 @@ impl Devices {
     {
         if number < self.places.len() {
             if let Some(device) = &mut self.places[number] {
-                return device.arrive(moment, settings);
+                let is_taken = device.arrive(moment, settings);
+                self.pending = pending_after(self.pending, number, &self.places);
+                return is_taken;
             }
         }
         false
@@ -163,6 +291,7 @@ impl Devices {
         if number < self.places.len() {
             if let Some(device) = &mut self.places[number] {
                 device.expire();
+                self.pending = pending_after(self.pending, number, &self.places);
             }
         }
     }
@@ -187,6 +316,7 @@ impl Devices {
         if number < self.places.len() {
             if let Some(device) = &mut self.places[number] {
                 device.interrupt(polling);
+                self.pending = pending_after(self.pending, number, &self.places);
             }
         }
     }
@@ -198,6 +328,7 @@ impl Devices {
         if number < self.places.len() {
             if let Some(device) = &mut self.places[number] {
                 device.raise_again();
+                self.pending = pending_after(self.pending, number, &self.places);
             }
         }
     }
@@ -235,6 +366,7 @@ impl Devices {
         if number < self.places.len() {
             if let Some(device) = &mut self.places[number] {
                 device.end_poll(now, given, settings);
+                self.pending = pending_after(self.pending, number, &self.places);
             }
         }
     }

@@ -3,6 +3,7 @@
 ghost use Rattle.std.specs.Prelude.{◌≡◌, ◌++◌, IfOk, codes, string_bytes};
 ghost use Rattle.machine_report.specs.Fault.{line_of, number_of, status_of};
 
+use replay_text::Fault;
 use std::alloc::{AllocError, Global};
 use std::fmt;
 use thiserror::Error;
@@ -103,5 +104,21 @@ pub fn status(fault: &MachineFault) -> u8
     match fault {
         MachineFault::OutOfMemory | MachineFault::OutputFailed => 4,
         _ => 2,
+    }
+}
+
+impl Fault for MachineFault {
+    ghost use Rattle.machine_report.specs.Fault.{line_of, status_of};
+
+    ghost line = { line_of };
+
+    ghost status = { status_of };
+
+    fn line(&self, alloc: Global) -> Result<String, AllocError> {
+        fault_line(alloc, self)
+    }
+
+    fn status(&self) -> u8 {
+        status(self)
     }
 }

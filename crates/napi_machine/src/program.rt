@@ -1,61 +1,19 @@
 //! The whole program, but for its real ends: from the words, the input and the two outputs to the exit status.
 
-ghost use Rattle.std.specs.Prelude.{◌≡◌, ◌≢◌, ◌⊎◌, IfErr, OnOk, map, string_bytes, true, false};
-ghost use Rattle.std.specs.Io.KnownBytes.{Appends, Keeps};
-ghost use Rattle.device_rows.specs.Failures.{IsRefused};
-ghost use Rattle.napi_machine.specs.Program.{EndsBy, FailedBy, IsFault, IsReport, LeavesOutput, line_of};
-ghost use Rattle.napi_machine.specs.declared.program.ProgramFault.TheVariants.{Machine};
-ghost use Rattle.replay_text.specs.Stops.{HasStopped};
-ghost use Rattle.replay_text.specs.Written.{AppendsPart, Writes};
+ghost use Rattle.std.specs.Prelude.{◌≡◌, ◌≢◌, IfErr, OnOk, map, string_bytes};
+ghost use Rattle.std.specs.Io.KnownBytes.{Keeps};
+ghost use Rattle.std.specs.Process.{exit_status};
+ghost use Rattle.machine_report.specs.Fault.{line_of, status_of};
+ghost use Rattle.napi_machine.specs.Program.{IsFault, IsReport, LeavesOutput};
+ghost use Rattle.replay_text.specs.Program.{FailedBy};
+ghost use Rattle.replay_text.specs.Written.{Writes};
 
-use machine_report::{MachineFault, fault_line, run_machine, status};
+use machine_report::{MachineFault, run_machine};
 use machine_words::parse_words;
-use replay_text::{Ending, write_text};
-use replay_words::WordFault;
+use replay_text::{ProgramFault, end_by};
 use std::alloc::Global;
 use std::io::{Read, Write};
-use thiserror::Error;
-
-/// Why the program gave no report.
-#[derive(Clone, Copy, Debug, PartialEq, Eq, Error)]
-pub(crate) enum ProgramFault {
-    /// The words were refused, and nothing was read.
-    #[error(transparent)]
-    Words(WordFault),
-    /// The arrivals were refused, or an end or the memory failed.
-    #[error(transparent)]
-    Machine(MachineFault),
-}
-
-// Writes the line of a fault of the machine, and says whether it went out.
-#[tactic(auto, using(replay_text::proofs::OutFacts::none_out))]
-fn tell<E: Write>(alloc: Global, fault: &MachineFault, errors: &mut E) -> bool
-    ensures told { result ≡ true
-        → Appends (E.contents errors.old) (E.contents errors.new) (line_of (Machine fault.now)) }
-    ensures untold { result ≡ false → AppendsPart (E.contents errors.old) (E.contents errors.new)
-        (line_of (Machine fault.now)) }
-    ensures stopped { result ≡ false → HasStopped ⊎ IsRefused }
-{
-    match fault_line(alloc, fault) {
-        Ok(line) => write_text(errors, &line).is_ok(),
-        Err(_) => false,
-    }
-}
-
-// Ends the program by a fault: its line goes to `errors`, and the status is that of the fault.
-fn end_by<E: Write>(alloc: Global, fault: &ProgramFault, errors: &mut E) -> Ending
-    ensures { EndsBy fault.now (E.contents errors.old) (E.contents errors.new) result }
-{
-    match fault {
-        ProgramFault::Words(fault) => {
-            replay_text::end_by(alloc, &replay_text::ProgramFault::Words(*fault), errors)
-        }
-        ProgramFault::Machine(fault) => Ending {
-            status: status(fault),
-            told: tell(alloc, fault, errors),
-        },
-    }
-}
+use std::process::ExitCode;
 
 // Runs the machine that the words ask for on the arrivals of the input, and writes its report.
 fn run_asked<R: Read + Drop, W: Write>(
@@ -63,7 +21,7 @@ fn run_asked<R: Read + Drop, W: Write>(
     words: &[String],
     input: R,
     output: &mut W,
-) -> Result<(), ProgramFault>
+) -> Result<(), ProgramFault<MachineFault>>
     ensures written { OnOk result (Writes (IsReport (map string_bytes words.now))
         (R.remaining input) (W.contents output.old) (W.contents output.new)) }
     ensures fault { IfErr result (IsFault (map string_bytes words.now) (R.remaining input)) }
@@ -73,7 +31,7 @@ fn run_asked<R: Read + Drop, W: Write>(
     match parse_words(alloc, words) {
         Ok(settings) => match run_machine(alloc, input, output, &settings) {
             Ok(()) => Ok(()),
-            Err(fault) => Err(ProgramFault::Machine(fault)),
+            Err(fault) => Err(ProgramFault::Run(fault)),
         },
         Err(fault) => Err(ProgramFault::Words(fault)),
     }
@@ -89,23 +47,19 @@ pub(crate) fn run_program<R: Read + Drop, W: Write, E: Write>(
     input: R,
     output: &mut W,
     errors: &mut E,
-) -> Ending
+) -> ExitCode
     // What is written is the report of the bytes read, by the settings that the words ask for, and nothing else.
-    ensures written { result.status ≡ 0 → Writes (IsReport (map string_bytes words.now))
+    ensures written { exit_status result ≡ 0 → Writes (IsReport (map string_bytes words.now))
         (R.remaining input) (W.contents output.old) (W.contents output.new) }
-    ensures untold { result.status ≡ 0 → result.told ≡ false }
-    ensures quiet { result.status ≡ 0 → Keeps (E.contents errors.old) (E.contents errors.new) }
-    ensures failed { result.status ≢ 0
-        → FailedBy (IsFault (map string_bytes words.now) (R.remaining input))
+    ensures quiet { exit_status result ≡ 0 → Keeps (E.contents errors.old) (E.contents errors.new) }
+    ensures failed { exit_status result ≢ 0
+        → FailedBy line_of status_of (IsFault (map string_bytes words.now) (R.remaining input))
         (LeavesOutput (IsReport (map string_bytes words.now)) (R.remaining input)
         (W.contents output.old) (W.contents output.new))
-        (E.contents errors.old) (E.contents errors.new) result }
+        (E.contents errors.old) (E.contents errors.new) (exit_status result) }
 {
     match run_asked(alloc, words, input, output) {
-        Ok(()) => Ending {
-            status: 0,
-            told: false,
-        },
+        Ok(()) => ExitCode::SUCCESS,
         Err(fault) => end_by(alloc, &fault, errors),
     }
 }

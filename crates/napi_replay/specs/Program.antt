@@ -6,6 +6,7 @@ use Rattle.replay_threads.specs.SharedRun.{RanShared}
 use Rattle.replay_threads.specs.declared.polled.Polled.{Polled}
 use Rattle.replay_text.specs.Outside.{IsOutside}
 use Rattle.replay_text.specs.Program.{IsFaultOf, IsTextBy}
+use Rattle.replay_text.specs.Written.{IsFaultBy}
 use Rattle.replay_rows.specs.Answer.{replay_of}
 use Rattle.replay_text.specs.declared.fault.ReplayFault.{ReplayFault}
 use Rattle.replay_text.specs.declared.program.ProgramFault.{ProgramFault}
@@ -41,8 +42,9 @@ abbrev pub IsReport : List Text → List ℕ → List ℕ → Type 0
 IsReport words = IsTextBy (AskFor words) (λ asked. IsReportIn asked.0 asked.1)
 
 -- the fault is that of the words or of the bytes; else the reader, the memory, a writer or a thread failed
-abbrev pub IsFault : List Text → Option (List ℕ) → ProgramFault → Type 0
-IsFault words = IsFaultOf (asked_for words ≡ None) (AskFor words) (λ asked. IsOutsideIn asked.0) (λ asked. IsFaultIn asked.0 asked.1)
+abbrev pub IsFault : List Text → Option (List ℕ) → ProgramFault ReplayFault → Type 0
+IsFault words input = IsFaultOf (asked_for words ≡ None) (AskFor words)
+    (λ asked. IsFaultBy (IsOutsideIn asked.0) (IsFaultIn asked.0 asked.1) input)
 
 -- In shared mode the rows of the bytes read were played over instances that threads could share, and in threads mode polled as these
 -- settings say, whatever a gate answered that is always open.

@@ -1,19 +1,22 @@
 //! The whole program, but for its real ends: from the words, the input and the two outputs to the exit status.
 
-ghost use Rattle.std.specs.Prelude.{◌≡◌, ◌≢◌, IfErr, OnOk, map, string_bytes, false};
+ghost use Rattle.std.specs.Prelude.{◌≡◌, ◌≢◌, IfErr, OnOk, map, string_bytes};
 ghost use Rattle.std.specs.Io.KnownBytes.{Keeps};
+ghost use Rattle.std.specs.Process.{exit_status};
 ghost use Rattle.std.specs.Borrow.{Bor};
 ghost use Rattle.napi_replay.specs.Program.{IsFault, IsFaultIn, IsOutsideIn, IsReport, IsReportIn, Ran, RanIn};
+ghost use Rattle.replay_text.specs.Fault.{line_of, status_of};
 ghost use Rattle.replay_text.specs.Program.{FailedBy, LeavesOutput};
 ghost use Rattle.replay_text.specs.Written.{IsFaultBy, Leaves, Writes};
 
 use poll_workers::OpenGate;
 use replay_rows::replay_serial;
-use replay_text::{Ending, ProgramFault, ReplayFault, end_by};
+use replay_text::{ProgramFault, ReplayFault, end_by};
 use replay_threads::{replay_shared, replay_threads};
 use replay_words::{Mode, Settings, parse_words};
 use std::alloc::Global;
 use std::io::{Read, Write};
+use std::process::ExitCode;
 use std::sync::Wait;
 use std::thread::Threads;
 
@@ -55,7 +58,7 @@ fn replay_asked<H: Threads + Wait + Sync, R: Read + Drop, W: Write>(
     words: &[String],
     input: R,
     output: &mut W,
-) -> Result<(), ProgramFault>
+) -> Result<(), ProgramFault<ReplayFault>>
     ensures written { OnOk result (Writes (IsReport (map string_bytes words.now))
         (R.remaining input) (W.contents output.old) (W.contents output.new)) }
     ensures fault { IfErr result (IsFault (map string_bytes words.now) (R.remaining input)) }
@@ -66,7 +69,7 @@ fn replay_asked<H: Threads + Wait + Sync, R: Read + Drop, W: Write>(
     match parse_words(alloc, words) {
         Ok((mode, settings)) => match replay_in(rt, alloc, mode, input, output, &settings) {
             Ok(()) => Ok(()),
-            Err(fault) => Err(ProgramFault::Replay(fault)),
+            Err(fault) => Err(ProgramFault::Run(fault)),
         },
         Err(fault) => Err(ProgramFault::Words(fault)),
     }
@@ -83,28 +86,24 @@ pub fn run_program<H: Threads + Wait + Sync, R: Read + Drop, W: Write, E: Write>
     input: R,
     output: &mut W,
     errors: &mut E,
-) -> Ending
+) -> ExitCode
     // What is written is the report of the bytes read, in the mode and by the settings that the words ask for, and nothing
     // else.
-    ensures written { result.status ≡ 0 → Writes (IsReport (map string_bytes words.now))
+    ensures written { exit_status result ≡ 0 → Writes (IsReport (map string_bytes words.now))
         (R.remaining input) (W.contents output.old) (W.contents output.new) }
     // In shared mode its rows were played over shared instances; in threads mode they were polled by the settings that the words
     // ask for.
-    ensures run { result.status ≡ 0
+    ensures run { exit_status result ≡ 0
         → Ran (Bor H) (map string_bytes words.now) (R.remaining input) }
-    ensures untold { result.status ≡ 0 → result.told ≡ false }
-    ensures quiet { result.status ≡ 0 → Keeps (E.contents errors.old) (E.contents errors.new) }
-    ensures failed { result.status ≢ 0
-        → FailedBy (IsFault (map string_bytes words.now) (R.remaining input))
+    ensures quiet { exit_status result ≡ 0 → Keeps (E.contents errors.old) (E.contents errors.new) }
+    ensures failed { exit_status result ≢ 0
+        → FailedBy line_of status_of (IsFault (map string_bytes words.now) (R.remaining input))
         (LeavesOutput (IsReport (map string_bytes words.now)) (R.remaining input)
         (W.contents output.old) (W.contents output.new))
-        (E.contents errors.old) (E.contents errors.new) result }
+        (E.contents errors.old) (E.contents errors.new) (exit_status result) }
 {
     match replay_asked(rt, alloc, words, input, output) {
-        Ok(()) => Ending {
-            status: 0,
-            told: false,
-        },
+        Ok(()) => ExitCode::SUCCESS,
         Err(fault) => end_by(alloc, &fault, errors),
     }
 }

@@ -5,14 +5,14 @@
 mod program;
 
 use crate::program::run_program;
-use replay_text::{end_by, given_words};
+use replay_text::{ProgramFault, ReplayFault, end_by, given_words};
 use std::io;
 use std::process::ExitCode;
 
 // The program over its real ends.
 fn main(rt: HostRuntime) -> ExitCode {
     let mut errors = rt.stderr();
-    let ending = match given_words(&rt) {
+    match given_words(&rt) {
         Ok(words) => run_program(
             rt.alloc(),
             words.as_slice(),
@@ -20,7 +20,9 @@ fn main(rt: HostRuntime) -> ExitCode {
             &mut io::writer(&rt),
             &mut errors,
         ),
-        Err(fault) => end_by(rt.alloc(), &fault, &mut errors),
-    };
-    ExitCode::from(ending.status)
+        Err(fault) => {
+            let fault = ProgramFault::<ReplayFault>::Words(fault);
+            end_by(rt.alloc(), &fault, &mut errors)
+        }
+    }
 }

@@ -1,16 +1,19 @@
 //! The whole program, but for its real ends: from the words, the input and the two outputs to the exit status.
 
-ghost use Rattle.std.specs.Prelude.{◌≡◌, ◌≢◌, IfErr, OnOk, map, string_bytes, false};
+ghost use Rattle.std.specs.Prelude.{◌≡◌, ◌≢◌, IfErr, OnOk, map, string_bytes};
 ghost use Rattle.std.specs.Io.KnownBytes.{Keeps};
+ghost use Rattle.std.specs.Process.{exit_status};
 ghost use Rattle.napi_serial.specs.Program.{IsFault, IsReport};
+ghost use Rattle.replay_text.specs.Fault.{line_of, status_of};
 ghost use Rattle.replay_text.specs.Program.{FailedBy, LeavesOutput};
 ghost use Rattle.replay_text.specs.Written.{Writes};
 
 use replay_rows::replay_serial;
-use replay_text::{Ending, ProgramFault, end_by};
+use replay_text::{ProgramFault, ReplayFault, end_by};
 use replay_words::parse_serial_words;
 use std::alloc::Global;
 use std::io::{Read, Write};
+use std::process::ExitCode;
 
 // Replays the input as the words ask for, and writes the report.
 fn replay_asked<R: Read + Drop, W: Write>(
@@ -18,7 +21,7 @@ fn replay_asked<R: Read + Drop, W: Write>(
     words: &[String],
     input: R,
     output: &mut W,
-) -> Result<(), ProgramFault>
+) -> Result<(), ProgramFault<ReplayFault>>
     ensures written { OnOk result (Writes (IsReport (map string_bytes words.now))
         (R.remaining input) (W.contents output.old) (W.contents output.new)) }
     ensures fault { IfErr result (IsFault (map string_bytes words.now) (R.remaining input)) }
@@ -28,7 +31,7 @@ fn replay_asked<R: Read + Drop, W: Write>(
     match parse_serial_words(alloc, words) {
         Ok(settings) => match replay_serial(alloc, input, output, &settings) {
             Ok(()) => Ok(()),
-            Err(fault) => Err(ProgramFault::Replay(fault)),
+            Err(fault) => Err(ProgramFault::Run(fault)),
         },
         Err(fault) => Err(ProgramFault::Words(fault)),
     }
@@ -44,23 +47,19 @@ pub(crate) fn run_program<R: Read + Drop, W: Write, E: Write>(
     input: R,
     output: &mut W,
     errors: &mut E,
-) -> Ending
+) -> ExitCode
     // What is written is the report of the bytes read, by the settings that the words ask for, and nothing else.
-    ensures written { result.status ≡ 0 → Writes (IsReport (map string_bytes words.now))
+    ensures written { exit_status result ≡ 0 → Writes (IsReport (map string_bytes words.now))
         (R.remaining input) (W.contents output.old) (W.contents output.new) }
-    ensures untold { result.status ≡ 0 → result.told ≡ false }
-    ensures quiet { result.status ≡ 0 → Keeps (E.contents errors.old) (E.contents errors.new) }
-    ensures failed { result.status ≢ 0
-        → FailedBy (IsFault (map string_bytes words.now) (R.remaining input))
+    ensures quiet { exit_status result ≡ 0 → Keeps (E.contents errors.old) (E.contents errors.new) }
+    ensures failed { exit_status result ≢ 0
+        → FailedBy line_of status_of (IsFault (map string_bytes words.now) (R.remaining input))
         (LeavesOutput (IsReport (map string_bytes words.now)) (R.remaining input)
         (W.contents output.old) (W.contents output.new))
-        (E.contents errors.old) (E.contents errors.new) result }
+        (E.contents errors.old) (E.contents errors.new) (exit_status result) }
 {
     match replay_asked(alloc, words, input, output) {
-        Ok(()) => Ending {
-            status: 0,
-            told: false,
-        },
+        Ok(()) => ExitCode::SUCCESS,
         Err(fault) => end_by(alloc, &fault, errors),
     }
 }

@@ -4,6 +4,8 @@ use Rattle.napi_series.specs.Series.{series_by}
 use Rattle.napi_series.specs.Words.{series_asked_for}
 use Rattle.replay_text.specs.Outside.{IsOutside}
 use Rattle.replay_text.specs.Program.{IsFaultOf, IsTextBy}
+use Rattle.replay_text.specs.Written.{IsFaultBy}
+use Rattle.replay_text.specs.declared.fault.ReplayFault.{ReplayFault}
 use Rattle.replay_text.specs.declared.program.ProgramFault.{ProgramFault}
 use Rattle.replay_words.specs.Words.{Text, asked_of}
 use Rattle.replay_words.specs.declared.mode.Mode.TheVariants.{Serial}
@@ -18,7 +20,6 @@ abbrev pub IsSeries : List Text → List ℕ → List ℕ → Type 0
 IsSeries words = IsTextBy (AskFor words) (λ asked bytes text. series_by asked.1 asked.0 bytes ≡ Ok text)
 
 -- the fault is that of the words or of the bytes; else the reader, the memory or the writer failed
-abbrev pub IsFault : List Text → Option (List ℕ) → ProgramFault → Type 0
-IsFault words =
-    IsFaultOf (series_asked_for words ≡ None) (AskFor words) (λ asked. IsOutside)
-    (λ asked bytes fault. series_by asked.1 asked.0 bytes ≡ Err fault)
+abbrev pub IsFault : List Text → Option (List ℕ) → ProgramFault ReplayFault → Type 0
+IsFault words input = IsFaultOf (series_asked_for words ≡ None) (AskFor words)
+    (λ asked. IsFaultBy IsOutside (λ bytes fault. series_by asked.1 asked.0 bytes ≡ Err fault) input)

@@ -11,25 +11,24 @@ mod series;
 mod words;
 
 use crate::program::run_program;
-use replay_text::{Ending, end_by, given_words};
+use replay_text::{ProgramFault, ReplayFault, end_by, given_words};
 use std::io;
 use std::process::ExitCode;
 
 // The program over its real ends.
-fn run(rt: &HostRuntime) -> Ending {
+fn main(rt: HostRuntime) -> ExitCode {
     let mut errors = rt.stderr();
-    match given_words(rt) {
+    match given_words(&rt) {
         Ok(words) => run_program(
             rt.alloc(),
             words.as_slice(),
             rt.reader(),
-            &mut io::writer(rt),
+            &mut io::writer(&rt),
             &mut errors,
         ),
-        Err(fault) => end_by(rt.alloc(), &fault, &mut errors),
+        Err(fault) => {
+            let fault = ProgramFault::<ReplayFault>::Words(fault);
+            end_by(rt.alloc(), &fault, &mut errors)
+        }
     }
-}
-
-fn main(rt: HostRuntime) -> ExitCode {
-    ExitCode::from(run(&rt).status)
 }

@@ -1,47 +1,46 @@
--- How a program that replays ends.
-use Rattle.std.specs.{Prelude.{◌≡◌, ◌⊎◌, ℕ, false, true, List, ◌++◌, Option, codes}, Io.KnownBytes.Appends}
-use Rattle.replay_text.specs.{Fault.{line_of as replay_line, status_of as replay_status}, Stops.HasStopped, Written.AppendsPart}
-use Rattle.replay_text.specs.{Written.{IsFaultBy, LeavesBy}, declared.fault.ReplayFault.{ReplayFault, TheVariants.OutputFailed}}
-use Rattle.replay_text.specs.declared.program.{Ending.Ending, ProgramFault.{ProgramFault, TheVariants.{Words, Replay}}}
+-- How a program ends. `F` is the type of a run's faults; `line`, without its line feed, and `status` are what such a fault has.
+use Rattle.std.specs.{Prelude.{◌≡◌, ◌⊎◌, ℕ, List, ◌++◌, Option, codes}, Io.KnownBytes.Appends}
+use Rattle.replay_text.specs.{Stops.HasStopped, Written.{AppendsPart, IsFaultBy, LeavesBy}}
+use Rattle.replay_text.specs.declared.{fault.ReplayFault.{ReplayFault, TheVariants.OutputFailed}}
+use Rattle.replay_text.specs.declared.program.ProgramFault.{ProgramFault, TheVariants.{Words, Run}}
 use Rattle.{device_rows.specs.Failures.IsRefused, replay_words.specs.{Refusals.IsRefused as IsRefusedWords, Words.line_of as word_line}}
 use Rattle.replay_words.specs.{Words.status_of as word_status, declared.words.WordFault.TheVariants.{Usage, OutOfMemory}}
 
 -- the line on standard error, and the exit status
-abbrev pub line_of : ProgramFault → List ℕ
-line_of (Words fault) = word_line fault
-line_of (Replay fault) = replay_line fault ++ codes "\n"
+abbrev pub line_of : {F : Type 0} → (F → List ℕ) → ProgramFault F → List ℕ
+line_of line (Words fault) = word_line fault
+line_of line (Run fault) = line fault ++ codes "\n"
 
-abbrev pub status_of : ProgramFault → ℕ
-status_of (Words fault) = word_status fault
-status_of (Replay fault) = replay_status fault
+abbrev pub status_of : {F : Type 0} → (F → ℕ) → ProgramFault F → ℕ
+status_of status (Words fault) = word_status fault
+status_of status (Run fault) = status fault
 
 -- the text is one of the bytes, by what the words ask for
 abbrev pub IsTextBy : {A : Type 0} → (A → Type 0) → (A → List ℕ → List ℕ → Type 0) → List ℕ → List ℕ → Type 0
 IsTextBy {A} AskedFor IsText bytes text = (asked : A) × AskedFor asked × IsText asked bytes text
 
--- the fault is that of the words or, by what they ask for, that of the bytes, where these are known; else it is none of theirs
-abbrev pub IsFaultOf : {A : Type 0} → Type 0 → (A → Type 0) → (A → ReplayFault → Type 0) → (A → List ℕ → ReplayFault → Type 0)
-    → Option (List ℕ) → ProgramFault → Type 0
-IsFaultOf {A} Refused AskedFor IsOutside IsFault input (Words Usage) = Refused
-IsFaultOf {A} Refused AskedFor IsOutside IsFault input (Words OutOfMemory) = IsRefusedWords
-IsFaultOf {A} Refused AskedFor IsOutside IsFault input (Replay fault) =
-    (asked : A) × AskedFor asked × IsFaultBy (IsOutside asked) (IsFault asked) input fault
+-- the fault is that of the words, or by what they ask for one that the run can have
+abbrev pub IsFaultOf : {A F : Type 0} → Type 0 → (A → Type 0) → (A → F → Type 0) → ProgramFault F → Type 0
+IsFaultOf {A} Refused AskedFor CanBe (Words Usage) = Refused
+IsFaultOf {A} Refused AskedFor CanBe (Words OutOfMemory) = IsRefusedWords
+IsFaultOf {A} Refused AskedFor CanBe (Run fault) = (asked : A) × AskedFor asked × CanBe asked fault
 
--- the line of this fault is all that went to standard error where it was told, and else, where the writer stopped or memory was
--- refused, less of it did; the status is its status
-pub record EndsBy (fault : ProgramFault) (errors_old errors_new : Option (List ℕ)) (ending : Ending) : Type 0 where
-  pub status : ending.status ≡ status_of fault
-  pub line : ending.told ≡ true → Appends errors_old errors_new (line_of fault)
-  pub untold : ending.told ≡ false → AppendsPart errors_old errors_new (line_of fault)
-  pub stopped : ending.told ≡ false → HasStopped ⊎ IsRefused
+-- The exit status is the fault's. All of its line went to standard error and nothing else, or, because the writer stopped or memory was
+-- refused, only a part of the line.
+pub record EndsBy {F : Type 0} (line_in : F → List ℕ) (status_in : F → ℕ) (fault : ProgramFault F) (old new : Option (List ℕ)) (code : ℕ)
+    : Type 0 where
+  pub status : code ≡ status_of status_in fault
+  pub line : Appends old new (line_of line_in fault) ⊎ (AppendsPart old new (line_of line_in fault) × (HasStopped ⊎ IsRefused))
 
--- where the output failed a part of a text of the bytes read was written, and on each other fault nothing
-abbrev pub LeavesOutput : (List ℕ → List ℕ → Type 0) → Option (List ℕ) → Option (List ℕ) → Option (List ℕ) → ProgramFault → Type 0
-LeavesOutput IsText = LeavesBy (Replay OutputFailed) IsText
+-- if the output failed a part of a text of the bytes read was written, and on each other fault nothing
+abbrev pub LeavesOutput : (List ℕ → List ℕ → Type 0) → Option (List ℕ) → Option (List ℕ) → Option (List ℕ)
+    → ProgramFault ReplayFault → Type 0
+LeavesOutput IsText = LeavesBy (Run OutputFailed) IsText
 
 -- the program failed by some fault that it can have, and left its output by that
-pub record FailedBy (can_be leaves : ProgramFault → Type 0) (errors_old errors_new : Option (List ℕ)) (ending : Ending) : Type 0 where
-  pub fault : ProgramFault
+pub record FailedBy {F : Type 0} (line_in : F → List ℕ) (status_in : F → ℕ) (can_be leaves : ProgramFault F → Type 0)
+    (old new : Option (List ℕ)) (code : ℕ) : Type 0 where
+  pub fault : ProgramFault F
   pub why : can_be fault
   pub output : leaves fault
-  pub ends : EndsBy fault errors_old errors_new ending
+  pub ends : EndsBy line_in status_in fault old new code

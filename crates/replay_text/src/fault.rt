@@ -3,6 +3,7 @@
 ghost use Rattle.std.specs.Prelude.{◌≡◌, IfOk, string_bytes};
 ghost use Rattle.replay_text.specs.Fault.{line_of, number_of, status_of};
 
+use crate::program::Fault;
 use device_rows::TraceFault;
 use std::alloc::{AllocError, Global};
 use std::fmt;
@@ -144,5 +145,21 @@ pub fn status(fault: &ReplayFault) -> u8
         | ReplayFault::SpawnFailed => 4,
         ReplayFault::RingTooSmall { .. } => 3,
         _ => 2,
+    }
+}
+
+impl Fault for ReplayFault {
+    ghost use Rattle.replay_text.specs.Fault.{line_of, status_of};
+
+    ghost line = { line_of };
+
+    ghost status = { status_of };
+
+    fn line(&self, alloc: Global) -> Result<String, AllocError> {
+        fault_line(alloc, self)
+    }
+
+    fn status(&self) -> u8 {
+        status(self)
     }
 }

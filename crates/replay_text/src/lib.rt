@@ -1,5 +1,5 @@
-//! Behind the door `replay`: what every replay of a trace shares, why it failed, how a program that replays ends, and the lines that
-//! each report has.
+//! Behind the door `replay`: what every replay of a trace shares, why it failed, and the lines that each report has; and how each
+//! program ends.
 #![tactic(auto)]
 
 mod fault;
@@ -8,4 +8,4 @@ mod program;
 
 pub use fault::{ReplayFault, fault_line, status};
 pub use lines::{add_transmit, write_text};
-pub use program::{Ending, ProgramFault, end_by, given_words};
+pub use program::{Fault, ProgramFault, end_by, given_words};

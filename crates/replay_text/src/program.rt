@@ -1,90 +1,91 @@
-//! What programs that replay have in common: their words, why they failed, and how they ended.
+//! What all programs have in common: their arguments, why they failed, and how they end.
 
-ghost use Rattle.std.specs.Prelude.{◌≡◌, ◌⊎◌, false, true};
+ghost use Rattle.std.specs.Prelude.{◌≡◌, ◌≢◌, ◌⊎◌, ◌++◌, ℕ, IfOk, List, codes, false, string_bytes, true};
 ghost use Rattle.std.specs.Io.KnownBytes.{Appends};
+ghost use Rattle.std.specs.Process.{exit_status};
 ghost use Rattle.device_rows.specs.Failures.{IsRefused};
 ghost use Rattle.replay_text.specs.Program.{EndsBy, line_of, status_of};
 ghost use Rattle.replay_text.specs.Stops.{HasStopped};
 ghost use Rattle.replay_text.specs.Written.{AppendsPart};
 
-use crate::fault::{ReplayFault, fault_line, status};
 use crate::lines::write_out;
 use replay_words::{WordFault, word_line, word_status};
-use std::alloc::Global;
+use std::alloc::{AllocError, Global};
 use std::env;
 use std::io::{ErrorKind, Write};
-use thiserror::Error;
+use std::process::ExitCode;
 
-/// Why the program gave no report.
-#[derive(Clone, Copy, Debug, Error)]
-pub enum ProgramFault {
-    /// The words were refused, and nothing was read.
-    #[error(transparent)]
-    Words(WordFault),
-    /// The replay failed.
-    #[error(transparent)]
-    Replay(ReplayFault),
-}
+/// Why a program that accepted its arguments gave no report: the line on standard error, and the exit status.
+pub trait Fault {
+    /// The line on standard error, without its line feed.
+    ghost line: { Self → List ℕ };
 
-/// How the program ended.
-#[derive(Clone, Copy)]
-pub struct Ending {
     /// The exit status.
-    pub status: u8,
-    /// Whether the line of its fault went out whole; else less of it did. Where it ended well there is none.
-    pub told: bool,
+    ghost status: { Self → ℕ };
+
+    /// Returns the line on standard error, line feed included. The only error is out of memory.
+    fn line(&self, alloc: Global) -> Result<String, AllocError>
+        ensures { IfOk result (λ text. string_bytes text ≡ line self.now ++ codes "\n") };
+
+    /// Returns the exit status, which isn't 0.
+    fn status(&self) -> u8
+        ensures status { result ≡ status self.now }
+        ensures fails { result ≢ 0 };
 }
 
-impl ProgramFault {
-    /// The exit status of this fault.
-    pub fn status(&self) -> u8
-        ensures { result ≡ status_of self.now }
-    {
-        match self {
-            ProgramFault::Words(fault) => word_status(fault),
-            ProgramFault::Replay(fault) => status(fault),
-        }
-    }
+/// Why a program gave no report.
+#[derive(Clone, Copy, Debug)]
+pub enum ProgramFault<F> {
+    /// The arguments were rejected, and nothing was read.
+    Words(WordFault),
+    /// The arguments were accepted, and the run failed.
+    Run(F),
 }
 
-/// The words after the program's name. One that is no text is no word of the program.
-pub fn given_words(rt: &HostRuntime) -> Result<Vec<String>, ProgramFault> {
+/// Returns the arguments after the program's name. The fault is `Usage` if one of them isn't UTF-8.
+pub fn given_words(rt: &HostRuntime) -> Result<Vec<String>, WordFault> {
     match env::args(rt) {
         Ok(words) => words
             .skip(1)
             .collect(rt.alloc())
-            .map_err(|_| ProgramFault::Words(WordFault::OutOfMemory)),
-        Err(error) if error.kind() == ErrorKind::OutOfMemory => {
-            Err(ProgramFault::Words(WordFault::OutOfMemory))
-        }
-        Err(_) => Err(ProgramFault::Words(WordFault::Usage)),
+            .map_err(|_| WordFault::OutOfMemory),
+        Err(error) if error.kind() == ErrorKind::OutOfMemory => Err(WordFault::OutOfMemory),
+        Err(_) => Err(WordFault::Usage),
     }
 }
 
-// Writes the line of a fault, and says whether it went out.
+// Writes the line of a fault, and returns whether all of it was written.
 #[tactic(auto, using(crate::proofs::OutFacts::none_out))]
-fn tell<E: Write>(alloc: Global, fault: &ProgramFault, errors: &mut E) -> bool
+fn tell<F: Fault, E: Write>(alloc: Global, fault: &ProgramFault<F>, errors: &mut E) -> bool
     ensures told { result ≡ true
-        → Appends (E.contents errors.old) (E.contents errors.new) (line_of fault.now) }
-    ensures untold { result ≡ false
-        → AppendsPart (E.contents errors.old) (E.contents errors.new) (line_of fault.now) }
+        → Appends (E.contents errors.old) (E.contents errors.new) (line_of F.line fault.now) }
+    ensures untold { result ≡ false → AppendsPart (E.contents errors.old) (E.contents errors.new)
+        (line_of F.line fault.now) }
     ensures stopped { result ≡ false → HasStopped ⊎ IsRefused }
 {
     match fault {
         ProgramFault::Words(fault) => write_out(errors, word_line(fault).as_bytes()),
-        ProgramFault::Replay(fault) => match fault_line(alloc, fault) {
+        ProgramFault::Run(fault) => match fault.line(alloc) {
             Ok(line) => write_out(errors, line.as_bytes()),
             Err(_) => false,
         },
     }
 }
 
-/// Ends the program by a fault: its line goes to `errors`, and the status is that of the fault.
-pub fn end_by<E: Write>(alloc: Global, fault: &ProgramFault, errors: &mut E) -> Ending
-    ensures { EndsBy fault.now (E.contents errors.old) (E.contents errors.new) result }
+/// Ends the program after a fault: writes its line to `errors`, and returns its exit status, also if the line couldn't be written.
+pub fn end_by<F: Fault, E: Write>(
+    alloc: Global,
+    fault: &ProgramFault<F>,
+    errors: &mut E,
+) -> ExitCode
+    ensures ends { EndsBy F.line F.status fault.now
+        (E.contents errors.old) (E.contents errors.new) (exit_status result) }
+    ensures fails { exit_status result ≢ 0 }
 {
-    Ending {
-        status: fault.status(),
-        told: tell(alloc, fault, errors),
-    }
+    let _is_written = tell(alloc, fault, errors);
+    let status = match fault {
+        ProgramFault::Words(fault) => word_status(fault),
+        ProgramFault::Run(fault) => fault.status(),
+    };
+    ExitCode::from(status)
 }

@@ -1,6 +1,6 @@
 use Rattle.std.proofs.Common.{◌≡◌, Err, ap}
 use Rattle.machine_report.specs.declared.fault.MachineFault.TheVariants.{OutputFailed}
-use Rattle.napi_machine.specs.declared.program.ProgramFault.TheVariants.{Machine}
+use Rattle.replay_text.specs.declared.program.ProgramFault.TheVariants.{Run}
 use Rattle.napi_machine.proofs.program.run_asked.Goals as goal
 
 pub returns-in-Ok-run_machine-clause-written : goal.returns-in-Ok-run_machine-clause-written
@@ -14,5 +14,5 @@ returns-in-Err-run_machine-clause-output g c = (
       let failed : c.in-Err-run_machine.fault ≡ OutputFailed = cc is in
       let part = c.in-Err-run_machine.ensures.cut (ap Err failed) bytes known in
       (part.0, (c.in-Ok.settings, c.in-Ok.ensures.asked, part.1), part.2),
-  λ other. c.in-Err-run_machine.ensures.untouched (λ is. other (ap Machine is)),
+  λ other. c.in-Err-run_machine.ensures.untouched (λ is. other (ap Run is)),
 )

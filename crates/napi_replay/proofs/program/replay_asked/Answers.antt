@@ -1,5 +1,5 @@
 use Rattle.std.proofs.Common.{◌≡◌, ap}
-use Rattle.replay_text.specs.declared.{fault.ReplayFault.TheVariants.OutputFailed, program.ProgramFault.TheVariants.Replay}
+use Rattle.replay_text.specs.declared.{fault.ReplayFault.TheVariants.OutputFailed, program.ProgramFault.TheVariants.Run}
 use Rattle.napi_replay.proofs.program.replay_asked.Goals as goal
 
 pub returns-in-Ok-replay_in-clause-written : goal.returns-in-Ok-replay_in-clause-written
@@ -13,7 +13,7 @@ returns-in-Err-replay_in-clause-output g c = (
       let failed : c.in-Err-replay_in.fault ≡ OutputFailed = cc is in
       let part = c.in-Err-replay_in.ensures.output.0 failed bytes known in
       (part.0, ((c.in-Ok.mode, c.in-Ok.settings), c.in-Ok.ensures.asked, part.1), part.2),
-  λ other. c.in-Err-replay_in.ensures.output.1 (λ is. other (ap Replay is)),
+  λ other. c.in-Err-replay_in.ensures.output.1 (λ is. other (ap Run is)),
 )
 
 pub returns-in-Ok-replay_in-clause-run : goal.returns-in-Ok-replay_in-clause-run

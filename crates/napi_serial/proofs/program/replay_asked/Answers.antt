@@ -1,5 +1,5 @@
 use Rattle.std.proofs.Common.{◌≡◌, ap}
-use Rattle.replay_text.specs.declared.{fault.ReplayFault.TheVariants.OutputFailed, program.ProgramFault.TheVariants.Replay}
+use Rattle.replay_text.specs.declared.{fault.ReplayFault.TheVariants.OutputFailed, program.ProgramFault.TheVariants.Run}
 use Rattle.napi_serial.proofs.program.replay_asked.Goals as goal
 
 pub returns-in-Ok-replay_serial-clause-written : goal.returns-in-Ok-replay_serial-clause-written
@@ -13,5 +13,5 @@ returns-in-Err-replay_serial-clause-output g c = (
       let failed : c.in-Err-replay_serial.fault ≡ OutputFailed = cc is in
       let part = c.in-Err-replay_serial.ensures.output.0 failed bytes known in
       (part.0, (c.in-Ok.settings, c.in-Ok.ensures.asked, part.1), part.2),
-  λ other. c.in-Err-replay_serial.ensures.output.1 (λ is. other (ap Replay is)),
+  λ other. c.in-Err-replay_serial.ensures.output.1 (λ is. other (ap Run is)),
 )

@@ -1,5 +1,5 @@
 use Rattle.std.proofs.Common.{◌≡◌, ap}
-use Rattle.replay_text.specs.declared.{fault.ReplayFault.TheVariants.OutputFailed, program.ProgramFault.TheVariants.Replay}
+use Rattle.replay_text.specs.declared.{fault.ReplayFault.TheVariants.OutputFailed, program.ProgramFault.TheVariants.Run}
 use Rattle.napi_series.proofs.program.write_asked.Goals as goal
 
 pub returns-in-Ok-write_series-clause-written : goal.returns-in-Ok-write_series-clause-written
@@ -13,5 +13,5 @@ returns-in-Err-write_series-clause-output g c = (
       let failed : c.in-Err-write_series.fault ≡ OutputFailed = cc is in
       let part = c.in-Err-write_series.ensures.output.0 failed bytes known in
       (part.0, ((c.in-Ok.every, c.in-Ok.settings), c.in-Ok.ensures.asked, part.1), part.2),
-  λ other. c.in-Err-write_series.ensures.output.1 (λ is. other (ap Replay is)),
+  λ other. c.in-Err-write_series.ensures.output.1 (λ is. other (ap Run is)),
 )

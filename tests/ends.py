@@ -1,0 +1,169 @@
+#!/usr/bin/env python3
+"""ends.py FOLDER: the exit status of each program in FOLDER/NAME/out for success and for each kind of fault, with standard output and
+standard error open, closed, full, and a pipe that no program reads. docs/FORMATS.md says which status it is: that of the fault, whether
+or not its line could be written; a report that couldn't be written is a fault of its own (15). The last line is `N passed, M failed`."""
+
+import os
+import resource
+import subprocess
+import sys
+import tempfile
+
+TRACE = b"moment,device,event,value\n"
+OPENED = TRACE + b"0,1,open,4\n"
+ARRIVALS = b"moment,device,bytes\n"
+ZEROS, FOLDER, CLOSED = object(), object(), object()  # what standard input is, in place of a text
+UNWRITTEN = 4, b"output fault 15 OutputFailed\n"
+
+# The examples of docs/FORMATS.md.
+TWO_PACKETS = OPENED + b"1,1,rx,100\n1,1,rx,60\n2,0,softirq,0\n"
+REPORT = b"""softirq 4 polls 2 work 2 squeezed 0
+device 1 on arrived 2 dropped 0 polled 2 bytes 160 left 0 polls 2
+napi 1 granted 1 missed 1 disabled 0 again 1 released 1 word 0
+list
+total devices 1 runs 1 polls 2 work 2 squeezed 0
+"""
+THREADS_REPORT = b"device 1 arrived 2 bytes 160\ntotal devices 1\n"
+
+# Each a name, options, the input, the status and the line.
+WORDS = [
+    ("an option that there isn't", ["--frobnicate"], TWO_PACKETS, 64, "usage fault 64"),
+    ("an option that is no text", [b"--budget=\xff"], TWO_PACKETS, 64, "usage fault 64"),
+]
+INPUTS = [
+    ("an input that is a folder", [], FOLDER, 2, "{} fault 10 ReadFailed"),
+    ("an input that is closed", [], CLOSED, 2, "{} fault 10 ReadFailed"),
+    ("an input without end", [], ZEROS, 4, "memory fault 11 OutOfMemory"),
+    ("an empty input", [], b"", 2, "{} fault 1 BadHeader row 0"),
+]
+ROWS = [
+    ("a row of three fields", [], OPENED + b"1,1,rx\n", 2, "trace fault 2 BadFields row 2"),
+    ("a sign", [], OPENED + b"1,1,rx,-1\n", 2, "trace fault 3 BadNumber row 2"),
+    ("an event that there isn't", [], OPENED + b"1,1,RX,1\n", 2, "trace fault 4 BadEvent row 2"),
+    ("device 17", [], OPENED + b"1,17,rx,1\n", 2, "trace fault 5 OutOfRange row 2"),
+    ("a device that wasn't opened", [], OPENED + b"1,2,rx,1\n", 2, "trace fault 6 UnknownDevice row 2"),
+    ("a device that is opened twice", [], OPENED + b"1,1,open,4\n", 2, "trace fault 7 OpenTwice row 2"),
+    ("an enable out of turn", [], OPENED + b"1,1,enable,0\n", 2, "trace fault 8 WrongState row 2"),
+    ("100001 rows", [], OPENED + b"1,1,rx,1\n" * 100000, 2, "trace fault 9 TooManyRows row 100001"),
+]
+PENDING = [("an enable while a disable is pending", [], OPENED + b"1,1,rx,10\n1,1,disable,0\n1,1,enable,0\n", 2, "trace fault 12 Pending row 4")]
+THREADS = [("a ring that is too small", [], OPENED + b"1,1,rx,10\n" * 5, 3, "ring fault 13 RingTooSmall device 1 needs 5")]
+MACHINE = [
+    ("a row of two fields", [], ARRIVALS + b"0,1\n", 2, "arrivals fault 2 BadFields row 1"),
+    ("a sign", [], ARRIVALS + b"-1,1,60\n", 2, "arrivals fault 3 BadNumber row 1"),
+    ("a packet of no bytes", [], ARRIVALS + b"0,1,0\n", 2, "arrivals fault 5 OutOfRange row 1"),
+    ("a moment that falls", [], ARRIVALS + b"5,1,60\n4,1,60\n", 2, "arrivals fault 8 Falls row 2"),
+]
+MACHINE_ENDS = b"total devices 1 arrived 1 dropped 0 polled 1 refused 0 used 1\n"
+
+
+def in_mode(mode, cases):
+    """The same cases with the option for a mode in front."""
+    return [(name, ["--mode", mode, *words], *rest) for name, words, *rest in cases]
+
+
+def of_trace(cases):
+    return [(name, words, text, status, line.format("trace")) for name, words, text, status, line in cases]
+
+
+REPLAYED = of_trace(WORDS + INPUTS + ROWS + PENDING)
+# Each program with the options of a run that succeeds, its input, and how its output begins and ends; and the cases of its faults.
+PROGRAMS = [
+    ("napi_serial", [], TWO_PACKETS, REPORT, REPORT, REPLAYED),
+    ("napi_replay", ["--mode", "serial"], TWO_PACKETS, REPORT, REPORT, in_mode("serial", REPLAYED)),
+    ("napi_replay", ["--mode", "shared"], TWO_PACKETS, REPORT, REPORT, in_mode("shared", REPLAYED)),
+    ("napi_replay", ["--mode", "threads"], TWO_PACKETS, THREADS_REPORT, THREADS_REPORT,
+     in_mode("threads", of_trace(WORDS + INPUTS + ROWS) + THREADS)),
+    ("napi_series", [], TWO_PACKETS, b"row,moment,device,", b"\n", REPLAYED),
+    ("napi_machine", [], ARRIVALS + b"0,1,60\n", b"device 1 arrived 1 ", MACHINE_ENDS,
+     [(name, words, text, status, line.format("arrivals")) for name, words, text, status, line in WORDS + INPUTS + MACHINE]),
+]
+
+# How each of the two outputs may be.
+OPEN, SHUT, FULL, UNREAD = "open", "closed", "full", "a pipe that no program reads"
+passed = failed = 0
+
+
+def judge(name, seen, wanted):
+    """Counts whether what was seen is what is wanted, and shows both if not."""
+    global passed, failed
+    if seen == wanted:
+        passed += 1
+    else:
+        failed += 1
+        print(f"{name}: other than wanted\n    seen   {seen}\n    wanted {wanted}")
+
+
+def end_of(kind, taken):
+    """The file for an output of this kind; what it takes is in `taken`."""
+    if kind == FULL:
+        return os.open("/dev/full", os.O_WRONLY)
+    if kind == UNREAD:
+        read, written = os.pipe()
+        os.close(read)
+        return written
+    return os.dup(taken.fileno())
+
+
+def prepare(closes, is_bounded):
+    """What happens to the program's own ends before it begins. Its memory is bounded if its input has no end."""
+    if is_bounded:
+        resource.setrlimit(resource.RLIMIT_AS, (32 << 20, 32 << 20))
+    for handle in closes:
+        os.close(handle)
+
+
+def run(command, text, ends):
+    """The status of a program, and what its two outputs took."""
+    closes = [number for number, kind in enumerate([SHUT if text is CLOSED else OPEN, *ends]) if kind == SHUT]
+    with tempfile.TemporaryFile() as out, tempfile.TemporaryFile() as errors, tempfile.TemporaryFile() as given:
+        if isinstance(text, bytes):
+            given.write(text)
+            given.seek(0)
+        source = {ZEROS: "/dev/zero", FOLDER: "/"}.get(text)
+        handles = [os.open(source, os.O_RDONLY) if source else os.dup(given.fileno()), end_of(ends[0], out), end_of(ends[1], errors)]
+        done = subprocess.run(command, stdin=handles[0], stdout=handles[1], stderr=handles[2], check=False, timeout=60,
+                              preexec_fn=lambda: prepare(closes, text is ZEROS))
+        for handle in handles:
+            os.close(handle)
+        out.seek(0)
+        errors.seek(0)
+        return done.returncode, out.read(), errors.read()
+
+
+ENDS = [(OPEN, OPEN), (OPEN, SHUT), (OPEN, FULL), (OPEN, UNREAD), (SHUT, OPEN), (FULL, OPEN), (UNREAD, OPEN), (SHUT, SHUT), (FULL, FULL)]
+
+
+def try_faults(name, program, cases):
+    """A fault has its status by any ends, its line if standard error takes one, and nothing on standard output."""
+    for case, words, text, status, line in cases:
+        for ends in ENDS:
+            wanted = status, b"", f"{line}\n".encode() if ends[1] == OPEN else b""
+            judge(f"{name}: {case}, standard output {ends[0]}, standard error {ends[1]}", run([program, *words], text, ends), wanted)
+
+
+def try_success(name, program, words, text, begins, last):
+    """A report has status 0 whatever standard error is, and is a fault if standard output doesn't take it."""
+    for ends in ENDS:
+        status, out, said = run([program, *words], text, ends)
+        if ends[0] == OPEN:
+            seen, wanted = (status, out[: len(begins)], out[-len(last):], said), (0, begins, last, b"")
+        else:
+            seen, wanted = (status, out, said), (UNWRITTEN[0], b"", UNWRITTEN[1] if ends[1] == OPEN else b"")
+        judge(f"{name}: a report, standard output {ends[0]}, standard error {ends[1]}", seen, wanted)
+
+
+def main():
+    for name, words, text, begins, last, cases in PROGRAMS:
+        program = f"{sys.argv[1]}/{name}/out/{name}"
+        if not os.path.exists(program):
+            judge(f"{name} is built", False, True)
+            continue
+        title = " ".join([name, *words])
+        try_success(title, program, words, text, begins, last)
+        try_faults(title, program, cases)
+    print(f"{passed} passed, {failed} failed")
+    return failed > 0
+
+
+sys.exit(main())

@@ -1,0 +1,117 @@
+"""Tests of how the tools write files: whole or not at all, on the disk before they have their names, and never readable by more users than
+the file that they replace."""
+
+import os
+import stat
+import subprocess
+import sys
+import unittest.mock
+from pathlib import Path
+
+from tooltest import HEADER, HERE, REPLAY, TOP, InFolder, run
+
+sys.path.insert(0, str(TOP / "tools"))
+import toolbox  # noqa: E402
+
+TEXT = "a line\n" * 5000
+
+
+class Replaced(InFolder):
+    def mode(self, path):
+        return stat.S_IMODE(path.stat().st_mode)
+
+    def test_the_mode_stays(self):
+        """For each way to write a file in place of another one; a new file has what the umask leaves."""
+        for mode in (0o600, 0o640, 0o644, 0o664, 0o444, 0o400, 0o755):
+            old = self.write("old", "old\n")
+            old.chmod(mode)
+            toolbox.write_whole(str(old), TEXT)
+            self.assertEqual((old.read_text(), oct(self.mode(old))), (TEXT, oct(mode)))
+            old.unlink()
+        old = self.write("old.csv", "old\n")
+        old.chmod(0o600)
+        done = run("traffic", "--out", old)
+        self.assertEqual((done.stderr, oct(self.mode(old)), old.read_text()[: len(HEADER)]), ("", oct(0o600), HEADER))
+        for mask, mode in ((0o022, 0o644), (0o077, 0o600), (0o002, 0o664)):
+            done = subprocess.run(["sh", "-c", f'umask {mask:o}; exec "$0" "$@"', sys.executable, "-BES", TOP / "tools/traffic", "--out",
+                                   self.folder / f"new{mask}"], capture_output=True, check=False)
+            self.assertEqual((done.stderr, oct(self.mode(self.folder / f"new{mask}"))), (b"", oct(mode)))
+
+    def test_what_is_private_never_shows(self):
+        """The file that is to replace one that only its user reads is theirs alone from its first moment on, even if it fails."""
+        old = self.write("old.csv", "old\n")
+        old.chmod(0o600)
+        seen = []
+        really_open = os.open
+
+        def watched(path, *words, **others):
+            handle = really_open(path, *words, **others)
+            seen.append(stat.S_IMODE(os.fstat(handle).st_mode))
+            return handle
+        with unittest.mock.patch("os.open", watched), toolbox.whole_file(str(old)) as new:
+            Path(new).write_text("half of it")
+            seen.append(self.mode(Path(new)))
+        self.assertGreaterEqual(len(seen), 2)
+        self.assertEqual({mode & 0o077 for mode in [*seen, self.mode(old)]}, {0})
+
+    def test_it_is_on_the_disk_before_it_has_its_name(self):
+        """The kernel is asked to write all of it, and only then the name is put in place: in the place of a file, and as a new one."""
+        events = []
+        really_sync = os.fsync
+
+        def synced(handle):
+            really_sync(handle)
+            status = os.fstat(handle)
+            events.append(("fsync", status.st_ino, status.st_size))
+
+        def put(what, really):
+            def call(source, target):
+                events.append((what, os.stat(source).st_ino, Path(target).name))
+                really(source, target)
+            return call
+        by_name = [unittest.mock.patch(f"os.{name}", put(name, getattr(os, name))) for name in ("replace", "rename", "link")]
+        self.write("old", "old\n")
+        with unittest.mock.patch("os.fsync", synced), by_name[0], by_name[1], by_name[2]:
+            toolbox.write_whole(str(self.folder / "old"), TEXT)
+            toolbox.write_all({str(self.folder / name): text for name, text in (("first", TEXT), ("second", "short\n"))})
+            with toolbox.whole_file(str(self.folder / "drawn")) as new:  # by another program, as gnuplot
+                subprocess.run(["sh", "-c", 'printf text > "$0"', new], check=True)
+        sizes = {"old": len(TEXT), "first": len(TEXT), "second": 6, "drawn": 4}
+        self.assertEqual([each[2] for each in events if each[0] != "fsync"], list(sizes))
+        for place, (what, inode, name) in enumerate(events):
+            if what != "fsync":
+                self.assertIn(("fsync", inode, sizes[name]), events[:place])
+
+
+class AllOrNone(InFolder):
+    CAPTURED = "".join(f"100.{place:06} eth0  In  ifindex 2 02:00:00:00:00:01 ethertype IPv4 (0x0800), length 60: UDP\n" for place in range(200))
+
+    def test_a_failure_behind_the_first_file(self):
+        """A file may have no more than 1 kB here: the notes fit, the trace doesn't, and none of them stays."""
+        self.write("captured", self.CAPTURED)
+        for tool, words in (("from-pcap", ["captured", "made"]), ("from-pcap", ["captured", "made", "--arrivals"]),
+                            ("from-ftrace", [HERE / "recorded-apart.rec", "made"]), ("from-ftrace", [TOP / "examples/veth-backlog.rec", "made", "--arrivals"])):
+            done = subprocess.run(["bash", "-c", 'ulimit -f 1; trap "" XFSZ; exec "$0" "$@"', sys.executable, "-BES", TOP / "tools" / tool, *words],
+                                  capture_output=True, text=True, check=False, cwd=self.folder, env={**os.environ, "PROGRAM": REPLAY})
+            self.assertEqual((done.returncode, done.stdout, self.names()), (1, "", ["captured"]), done.stderr)
+            self.assertEqual(done.stderr, f"{tool}: File too large\n")
+            done = run(tool, *words, folder=self.folder)  # and with room for it all are there
+            self.assertEqual((done.returncode, {"made.csv", "made.notes"} - set(self.names())), (0, set()), done.stderr)
+            self.assertLess((self.folder / "made.notes").stat().st_size, 1024)
+            self.assertGreater((self.folder / "made.csv").stat().st_size, 1024)
+            for path in self.folder.glob("made.*"):
+                path.unlink()
+
+    def test_whatever_the_failure_is(self):
+        """Of three files the last one fails: its text ends by an error or a signal, its name is taken, its folder is gone."""
+        def lines(error):
+            yield "a line\n"
+            raise error
+        self.write("taken", "mine\n")
+        for name, text in (("third", lines(OSError(28, "full"))), ("third", lines(toolbox.Interrupted(2))), ("third", lines(KeyboardInterrupt())),
+                           ("taken", "text\n"), ("none/third", "text\n")):
+            with self.assertRaises((OSError, toolbox.Interrupted, KeyboardInterrupt, toolbox.Refusal)):
+                toolbox.write_all({str(self.folder / each): part for each, part in (("first", TEXT), ("second", "text\n"), (name, text))})
+            self.assertEqual((self.names(), (self.folder / "taken").read_text()), (["taken"], "mine\n"))
+        toolbox.write_all({str(self.folder / each): "text\n" for each in ("first", "second")})
+        self.assertEqual(self.names(), ["first", "second", "taken"])

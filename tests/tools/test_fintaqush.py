@@ -1,0 +1,194 @@
+"""Tests of the command `fintaqush`: how it finds its subcommands, what it refuses, its completions, and its tour."""
+
+import ast
+import os
+import pty
+import re
+import runpy
+import select
+import shutil
+import signal
+import subprocess
+import sys
+import time
+import unittest
+
+from tooltest import HAS_MACHINE, MACHINE, REPLAY, SERIES, TOP, InFolder, run, skip_without
+
+COMMAND = TOP / "fintaqush"
+SOURCE = TOP / "scripts/subcommands.py"
+FILES = runpy.run_path(str(SOURCE))["FILES"]
+PROGRAMS = {"PROGRAM": REPLAY, "SERIES": SERIES, "MACHINE": MACHINE}
+BURSTS = TOP / "examples/bursts.csv"
+
+
+def call(*words, command=COMMAND, text=None, folder=None, **variables):
+    return subprocess.run([command, *map(str, words)], input=text, capture_output=True, text=True, check=False, cwd=folder, timeout=600,
+                          env={**os.environ, **PROGRAMS, **variables})
+
+
+class Fintaqush(InFolder):
+    def test_help_lists_all_by_task(self):
+        done = call("--help")
+        self.assertEqual((done.returncode, done.stderr), (0, ""))
+        listed = re.findall(r"^  ([a-z][\w-]*) {2,}\S", done.stdout, re.M)
+        self.assertEqual(sorted(listed), sorted(FILES))
+        self.assertEqual(call("--names").stdout.split(), sorted(FILES))
+        self.assertEqual(call("help").stdout, done.stdout)
+        self.assertEqual(call("help", "raise").stdout, call("raise", "--help").stdout)
+
+    def test_each_tool_is_a_subcommand(self):
+        tools = {path.name for path in (TOP / "tools").iterdir() if path.is_file() and os.access(path, os.X_OK)}
+        self.assertEqual(set(FILES.values()), tools | {"programs.py"})
+
+    def test_each_goes_by_its_name(self):
+        for name in FILES:
+            done = call(name, "--help")
+            self.assertEqual((done.returncode, done.stderr), (0, ""), name)
+            self.assertTrue(done.stdout.startswith(f"usage: fintaqush {name}"), done.stdout[:80])
+            page = call(name, "--manual").stdout
+            self.assertTrue(page.startswith(f".TH FINTAQUSH\\-{name.upper().replace('-', chr(92) + '-')} 1 "), page[:80])
+        done = call("raise", "none.csv", folder=self.folder)
+        self.assertEqual((done.stderr, done.returncode), ("fintaqush raise: none.csv: there is no such file\n", 1))
+        self.assertIn("fintaqush raise: error: unrecognized arguments: --buget", call("raise", "x", "--buget").stderr)
+        done = call("replay", "none.csv", folder=self.folder)
+        self.assertEqual((done.stderr, done.returncode), ("fintaqush replay: none.csv: there is no such file\n", 66))
+
+    def test_a_subcommand_that_does_not_exist(self):
+        for name, near in (("plto", "plot"), ("from", "from-ftrace or from-pcap"), ("whatif", "what-if"), ("Steps", "steps")):
+            done = call(name)
+            self.assertEqual((done.stdout, done.returncode, done.stderr.count("\n")), ("", 2, 1))
+            self.assertIn(f"fintaqush: there is no subcommand '{name}': is {near} ", done.stderr)
+        self.assertNotIn("\x1b", call("\x1b[31m").stderr)
+        self.assertEqual((call().returncode, call("").returncode, call("--bad").returncode), (2, 2, 2))
+
+    def test_from_any_folder_and_by_a_link(self):
+        (self.folder / "link").symlink_to(COMMAND)
+        (self.folder / "second").symlink_to("link")
+        for command in (self.folder / "link", self.folder / "second"):
+            done = call("raise", BURSTS, command=command, folder="/")
+            self.assertEqual((done.returncode, done.stdout), (0, run("raise", BURSTS).stdout), done.stderr)
+
+    def test_what_it_runs_prints_what_the_program_prints(self):
+        text = BURSTS.read_text()
+        expected = subprocess.run([SERIES, "--every", "10"], input=text, capture_output=True, text=True, check=True).stdout
+        self.assertEqual(call("series", BURSTS, "--every", "10").stdout, expected)
+        self.assertEqual(call("series", "--every", "10", text=text).stdout, expected)
+        self.assertEqual(call("series", "--every", "0", text=text).returncode, 2)
+
+    @HAS_MACHINE
+    def test_the_machine(self):
+        arrivals = self.write("arrivals", "moment,device,bytes\n0,1,60\n5,1,60\n")
+        expected = subprocess.run([MACHINE, "--budget", "16"], input=arrivals.read_text(), capture_output=True, text=True, check=True).stdout
+        self.assertEqual(call("machine", arrivals, "--budget", "16").stdout, expected)
+        done = call("machine", "none", folder=self.folder)
+        self.assertEqual((done.stderr, done.returncode), ("fintaqush machine: none: there is no such file\n", 1))
+
+    def test_an_older_python_ends_by_a_line(self):
+        """It has to parse the file, so its syntax is an old one's."""
+        ast.parse(SOURCE.read_text(), feature_version=(3, 7))
+        self.assertNotRegex(SOURCE.read_text(), r"""\bf["']""")
+        fake = f"import runpy, sys; sys.version_info = (3, 8, 20, 'final', 0); sys.argv[1:] = ['plot']; runpy.run_path('{SOURCE}', run_name='__main__')"
+        done = subprocess.run([sys.executable, "-c", fake], capture_output=True, text=True, check=False)
+        self.assertEqual((done.stderr, done.returncode), ("fintaqush: it needs Python 3.9 or later, and python3 is 3.8\n", 1))
+        few = self.folder / "few"
+        few.mkdir()
+        for tool in ("sh", "env", "readlink", "dirname"):
+            (few / tool).symlink_to(shutil.which(tool))
+        done = call("plot", PATH=str(few))
+        self.assertEqual((done.stderr, done.returncode), ("fintaqush: there is no python3 on PATH; it needs Python 3.9 or later\n", 1))
+
+    def test_outputs_and_inputs_that_are_none(self):
+        for words in (["--help"], ["plot", "--help"], ["--version"], ["completion", "bash"]):
+            name = "fintaqush" if words[0].startswith("-") else f"fintaqush {words[0]}"
+            with open("/dev/full", "wb") as full:
+                done = subprocess.run([COMMAND, *words], stdout=full, stderr=subprocess.PIPE, text=True, check=False)
+            self.assertEqual((done.stderr, done.returncode), (f"{name}: No space left on device\n", 1))
+            done = subprocess.run(["sh", "-c", 'exec "$0" "$@" >&-', COMMAND, *words], stderr=subprocess.PIPE, text=True, check=False)
+            self.assertEqual((done.stderr, done.returncode), (f"{name}: standard output is closed\n", 1))
+        done = subprocess.run(["sh", "-c", 'exec "$0" json < "$1"', COMMAND, self.folder], capture_output=True, text=True, check=False)
+        self.assertEqual((done.stderr, done.returncode), ("fintaqush: standard input is a folder\n", 1))
+
+    def test_signals(self):
+        """To the process that was begun, which is the tool by then: a line, and 128 and the signal's number."""
+        os.mkfifo(self.folder / "fifo")
+        for number in (signal.SIGINT, signal.SIGTERM):
+            process = subprocess.Popen([COMMAND, "json", "fifo"], stderr=subprocess.PIPE, stdout=subprocess.DEVNULL, cwd=self.folder,
+                                       preexec_fn=lambda: signal.signal(signal.SIGINT, signal.SIG_DFL))
+            end = None
+            while end is None:
+                self.assertIsNone(process.poll())
+                try:
+                    end = os.open(self.folder / "fifo", os.O_WRONLY | os.O_NONBLOCK)
+                except OSError:
+                    time.sleep(0.02)
+            while process.poll() is None:
+                process.send_signal(number)
+                time.sleep(0.05)
+            os.close(end)
+            self.assertEqual((process.communicate()[1], process.returncode), (b"fintaqush json: interrupted\n", 128 + number))
+
+    @HAS_MACHINE
+    def test_the_tour(self):
+        done = call("try", folder=self.folder)
+        self.assertEqual((done.stderr, done.returncode, self.names()), ("", 0, ["fintaqush-try.html"]))
+        self.assertIn("With 16 there are 793 runs, of which 312 are squeezed; with 300 there are 528, and 0 are squeezed.", done.stdout)
+        self.assertRegex(done.stdout, r"dropped 3 packets")  # as recorded
+        self.assertEqual(re.findall(r"^ +(\d+) +(yes|no) ", done.stdout, re.M), [(str(size), apart) for size in (6, 12, 48) for apart in ("no", "yes")])
+        done = call("try", "--out", "fintaqush-try.html", folder=self.folder)
+        self.assertEqual((done.stderr, done.returncode), ("fintaqush try: fintaqush-try.html is there, and isn't overwritten\n", 1))
+
+
+class Completion(InFolder):
+    def test_each_option_is_there(self):
+        for shell in ("bash", "zsh", "fish"):
+            text = call("completion", shell).stdout
+            for name, options in (("plot", ["beside", "budget", "force"]), ("traffic", ["kind"]), ("machine", ["rx-nsecs"]), ("replay", ["mode"])):
+                self.assertIn(name, text)
+                for option in options:
+                    self.assertIn(f"-l {option} " if shell == "fish" else f"--{option}", text, (shell, option))
+
+    def test_bash(self):
+        script = self.write("script", call("completion", "bash").stdout)
+        asked = 'source "$0"; COMP_WORDS=("$@"); COMP_CWORD=$(($# - 1)); _fintaqush; echo "${COMPREPLY[*]}"'
+        for words, told in ((["pl"], "plot"), (["traffic", "--kind", ""], "constant poisson bursts"), (["plot", "--fo"], "--force"),
+                            (["replay", "--mode", "s"], "serial shared"), (["plot", "fil"], "")):
+            done = subprocess.run(["bash", "--norc", "-c", asked, script, "fintaqush", *words], capture_output=True, text=True, check=True)
+            self.assertEqual((done.stdout, done.stderr), (f"{told}\n", ""))
+
+    @skip_without("fish")
+    def test_fish(self):
+        script = self.write("script", call("completion", "fish").stdout)
+        for line, told in (("fintaqush pl", ["plot"]), ("fintaqush traffic --kind ", ["bursts", "constant", "poisson"]), ("fintaqush plot --fo", ["--force"])):
+            done = subprocess.run(["fish", "--no-config", "-c", f"source {script}; complete -C '{line}'"], capture_output=True, text=True, check=True,
+                                  env={**os.environ, "HOME": str(self.folder)})
+            self.assertEqual(sorted(each.split("\t")[0] for each in done.stdout.splitlines()), told)
+
+    @skip_without("zsh")
+    def test_zsh(self):
+        """On a terminal, by the TAB key."""
+        script = self.write("script", call("completion", "zsh").stdout)
+        for line, told in (("fintaqush pl", "fintaqush plot "), ("fintaqush plot --fo", "fintaqush plot --force"), ("fintaqush replay --mode th", "--mode threads")):
+            seen = self.typed(["zsh", "-f", "-i"], f"autoload -U compinit; compinit -u -D; PS1='> '; source {script}; echo re''ady\n", "ready", line + "\t", told)
+            self.assertIn(told, seen)
+
+    def typed(self, shell, first, ready, then, told):
+        """What a shell shows on its terminal."""
+        process, end = pty.fork()
+        if process == 0:
+            os.execvpe(shell[0], shell, {**os.environ, "TERM": "dumb", "COLUMNS": "200", "HOME": str(self.folder)})
+        seen = ""
+        for text, wanted in ((first, ready), (then, told)):
+            os.write(end, text.encode())
+            seen, until = "", time.monotonic() + 100
+            while wanted not in re.sub(r"\x08|\r|\x07", "", seen) and time.monotonic() < until:
+                if select.select([end], [], [], 0.1)[0]:
+                    seen += os.read(end, 65536).decode(errors="replace")
+        os.kill(process, signal.SIGKILL)
+        os.waitpid(process, 0)
+        os.close(end)
+        return re.sub(r"\x08|\r|\x07", "", seen)
+
+
+if __name__ == "__main__":
+    unittest.main()

@@ -1,0 +1,111 @@
+"""The subcommands that are proved programs: `series`, `machine` and `replay`. Their options are read here, so that --help, the manual page and
+the completion have them; then this process becomes the program.
+"""
+
+from toolbox import (HOME, TOP, Refusal, add_settings, called, check_input, number, parser_of, program, run_tool, settings_of)
+
+import os
+import re
+import signal
+import sys
+
+from machine_report import IN_NS, MEANS, OPTIONS
+
+sys.path.append(f"{TOP}/scripts")
+from words import MODES
+
+SERIES = """Prints a CSV line for each row of a trace: what the report would be after this row, by the proved program napi_series.
+
+    fintaqush series examples/bursts.csv --every 10 > series.csv
+
+The first line has the names of the columns, which docs/FORMATS.md and `man napi_series` explain. Nothing is printed before the whole trace is
+read and replayed. `fintaqush plot` draws a series.
+"""
+MACHINE = """Predicts what becomes of arrivals on a receiving Linux machine with these settings and costs, by the proved program napi_machine.
+
+    fintaqush from-pcap capture.pcap mine --arrivals
+    fintaqush machine mine.csv --budget 64 --ring 512
+
+Prints a line for each queue, two or three for each processor, and a total. Times and costs are in ns. `fintaqush what-if` tries many settings
+at once and prints a table; `fintaqush costs` fits the costs to a recording.
+"""
+
+
+def usage_text():
+    """The usage text of replay, by the name that it is called by."""
+    home = TOP if os.path.exists(f"{TOP}/docs/usage.txt") else HOME
+    with open(f"{home}/docs/usage.txt", encoding="utf-8") as file:
+        return file.read().replace("./replay", called("./replay"))
+
+
+def replay_parser():
+    """The options of replay, as its usage text has them: only for the manual page and the completion."""
+    head, options, after = re.fullmatch(r"usage: .*\n\n(.*?\n)\n(  --.*?\n)\n(.*)", usage_text(), re.S).groups()
+    parser = parser_of(f"Replays a trace of network devices by the polling rules of Linux, and prints the report.\n\n{head}\n{after}",
+                       usage="%(prog)s [OPTION ..] [TRACE | -]", add_help=False)
+    for names, value, what in re.findall(r"^  ((?:-\w, )?--[\w-]+)(?: ([A-Z]))? +(.*(?:\n {18}.*)*)", options, re.M):
+        text = " ".join(what.split()).replace("%", "%%")
+        if names != "--version":
+            how = {"choices": MODES} if names == "--mode" else {"metavar": value} if value else {"action": "store_true"}
+            parser.add_argument(*names.split(", "), help=text, **how)
+    parser.add_argument("trace", nargs="?", help="the trace (standard input)")
+    return parser
+
+
+def series_parser():
+    parser = parser_of(SERIES)
+    parser.add_argument("file", nargs="?", metavar="TRACE", help="the trace; - or none: standard input")
+    parser.add_argument("--every", type=number(1, 99999), metavar="N", help="only each Nth row, 1 to 99999 (1)")
+    add_settings(parser)
+    return parser
+
+
+def machine_parser():
+    parser = parser_of(MACHINE)
+    parser.add_argument("file", nargs="?", metavar="ARRIVALS", help="of from-pcap, from-ftrace or traffic, by --arrivals; - or none: standard input")
+    for name, (low, high, default) in OPTIONS.items():
+        parser.add_argument(f"--{name}", type=number(low, high), metavar="N",
+                            help=f"{MEANS[name]}, {low} to {high}{' ns' if name in IN_NS else ''} ({default})")
+    return parser
+
+
+def become(command, path):
+    """Replaces this process by a program that reads a file, or standard input."""
+    if path not in (None, "-"):
+        check_input(path)
+        with open(path, "rb") as file:
+            os.dup2(file.fileno(), 0)
+    elif sys.stdin is None:
+        raise Refusal("standard input is closed")
+    elif sys.stdin.isatty():
+        raise Refusal("no file is named, and standard input is a terminal")
+    signal.signal(signal.SIGPIPE, signal.SIG_DFL)
+    for each in (signal.SIGINT, signal.SIGTERM, signal.SIGHUP):
+        if callable(signal.getsignal(each)):
+            signal.signal(each, signal.SIG_DFL)
+    os.execv(command[0], command)
+
+
+def series():
+    words = series_parser().parse_args()
+    every = ["--every", str(words.every)] if words.every else []
+    become([program("napi_series"), *every, *settings_of(words)], words.file)
+
+
+def machine():
+    words = machine_parser().parse_args()
+    given = {name: getattr(words, name.replace("-", "_")) for name in OPTIONS}
+    become([program("napi_machine"), *(word for name, value in given.items() if value is not None for word in (f"--{name}", str(value)))], words.file)
+
+
+def replay():
+    """The launcher, which reads its options itself."""
+    if sys.argv[1:] in (["--manual"], ["--options"]):
+        return replay_parser().parse_args()
+    launcher = [f"{TOP}/replay"] if os.path.exists(f"{TOP}/replay") else [sys.executable, "-EsSB", f"{TOP}/scripts/replay.py"]
+    return os.execv(launcher[0], [*launcher, *sys.argv[1:]])
+
+
+if __name__ == "__main__":
+    name = sys.argv.pop(1)
+    run_tool(name, {"series": series, "machine": machine, "replay": replay}[name])
