@@ -1,5 +1,6 @@
 -- What a worker's run leaves behind: what each act adds to the events of its own, and the one history in which these stand.
-use Rattle.std.specs.Prelude.{◌≡◌, ◌⊎◌, ◌≤◌, ℕ, ◌<◌, zero, suc, Bool, true, false, List, [], ◌∷◌, ◌++◌, length, flat_map, if◌then◌else◌, Option}
+use Rattle.std.specs.Prelude.{◌≡◌, ◌⊎◌, ◌≤◌, ℕ, ◌<◌, zero, suc, Bool, true, false, List, [], ◌∷◌, ◌++◌, length, flat_map}
+use Rattle.std.specs.Prelude.{if◌then◌else◌, Option}
 use Rattle.rx_ring.specs.{declared.packet.{Packet.Packet, Totals.Totals}, ReceiveRing.totals_of}
 use Rattle.napi_model.specs.declared.{state.Seen.Seen, event.{Prep.Prep, Event.Event, Operation.{Operation, TheVariants.{Look, Schedule}}}}
 use Rattle.napi_model.specs.declared.event.Operation.TheVariants.{Hand, MarkDisable, TakeDisable, Unmark, Enable, SetThreaded}

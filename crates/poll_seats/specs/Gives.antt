@@ -4,7 +4,8 @@ use Rattle.napi_calls.specs.Instance.{IsSeatOf}
 use Rattle.poll_tasks.specs.{Asks.IsAsked, Paces.IsLawful, Stops.IsStop, Wakers.Wakes, declared.{pace.Pace.Pace, tasks.Turned.Turned}}
 use Rattle.poll_list.specs.declared.list_in.ListIn.{ListIn}
 use Rattle.std.specs.{Global.Vec, List.{AllByRecursion, AllZip}}
-use Rattle.std.specs.Prelude.{◌≡◌, ◌≢◌, ℕ, ◌+◌, ◌<◌, ◌≤◌, Bool, List, [], Some, None, IsSome, IfSome, MatchOption, vec_items, vec_len, vec_capacity}
+use Rattle.std.specs.Prelude.{◌≡◌, ◌≢◌, ℕ, ◌+◌, ◌<◌, ◌≤◌, Bool, List, [], Some, None, IsSome, IfSome, MatchOption, vec_items}
+use Rattle.std.specs.Prelude.{vec_len, vec_capacity}
 use Rattle.poll_seats.specs.declared.{poller.{PollTask.PollTask, Poller.Poller}, seat.Seat.Seat, thread_poller.ThreadSide.ThreadSide}
 use Rattle.poll_seats.specs.{declared.thread_poller.Alone.Alone, SeatKeeping.{AreSameSeats, IsCallerOf}}
 use Rattle.poll_seats.specs.{Turns.{TurnsAlone, TurnsByRun}, Serving.IsServed}

@@ -15,7 +15,7 @@ use Rattle.poll_tasks.proofs.ListFacts.{at_mapped, at_place, each_index, each_zi
 use Rattle.poll_tasks.proofs.ListFacts.{zip_both, zip_each, zip_empty, zip_filtered, zip_flip, zip_right, zip_same}
 use Rattle.poll_tasks.specs.{Paces.IsLawful, Stops.IsStop, Tasks.{EachAt, IsAt}, declared.signals.{Bell.Bell, Stop.Stop}}
 use Rattle.{poll_tasks.specs.{Asks.IsAsked, declared.{tasks.Turned.Turned, pace.{Setting.Setting, Pace.Pace}}}, rx_ring.specs.Ends.SameIn}
-use Rattle.{rx_ring.specs.{Ends.{capacity_of, put_list}, declared.ends.RxIn.RxIn, ReceiveRing.{bytes_of, capped}, declared.packet.Packet.Packet}}
+use Rattle.rx_ring.specs.{Ends.{capacity_of, put_list}, ReceiveRing.{bytes_of, capped}, declared.{ends.RxIn.RxIn, packet.Packet.Packet}}
 use Rattle.{poll_seats.specs.SeatKeeping.{IsCallerOf, AreSameSeats, IsSameSeat}}
 use Rattle.poll_seats.specs.declared.{seat.Seat.Seat, poller.PollTask.PollTask, thread_poller.{ThreadSide.ThreadSide, Own.Own}}
 use Rattle.poll_seats.specs.Gives.{CanPoll, CanPollAlone, GivesCaller, GivesCallers, IsPolledAlone, IsPolledBy}
@@ -69,7 +69,8 @@ module _ {R D : Type 0} (acts : D → ℕ) (answer : D → ℕ → Act) (after :
       let by_whose =
       subst (λ (v : Whose). WorksBy v answer after work.device (acts work.device) (ledger_of work.seats.value work.rx false) left)
       same_whose (done.run whole).1 in
-      let by_device = subst (λ (d : D). WorksBy w answer after d (acts d) (ledger_of work.seats.value work.rx false) left) device by_whose in
+      let by_device =
+      subst (λ (d : D). WorksBy w answer after d (acts d) (ledger_of work.seats.value work.rx false) left) device by_whose in
       let as_worker = ap (λ (c : Caller). c.pass) ended.of.worker_is in
       let as_control = ap (λ c. c.pass) ended.of.control_is in
       record {
@@ -116,8 +117,8 @@ module _ {R D : Type 0} (acts : D → ℕ) (answer : D → ℕ → Act) (after :
       let places : capacity_of work.rx ≡ station.capacity = ap (λ (r : RxIn). capacity_of r) made.rx ∙ opened.places in
       let all : length brought ≤ station.capacity → put_list worked.done.rx ≡ brought = λ room.
       let long = ap (λ l. length l) brings in
-      done.put whole (omega (arith, some_put, long, places, room)) ∙ ap (λ l. l ++ arrivals answer after work.device (acts work.device)) none
-      ∙ brings in
+      done.put whole (omega (arith, some_put, long, places, room))
+      ∙ ap (λ l. l ++ arrivals answer after work.device (acts work.device)) none ∙ brings in
       record {
         same_number = ended.same_number ∙ made.is.same_number ∙ opened.same_number;
         let_go = subst (λ n. WasLet answers n (acts station.device)) opened.same_number
@@ -519,7 +520,8 @@ all_can_run {R} {G} setting bells count n placed seats pollers at have few room 
     }
 
 -- so are those of the instances' threads
-pub all_threads_at : {R G : Type 0} (may_shut : Type 0) (answers : G → ℕ → ℕ → Bool → Type 0) (placed : List (Kept R Placed)) (sides : List (ThreadSide R G))
+pub all_threads_at : {R G : Type 0} (may_shut : Type 0) (answers : G → ℕ → ℕ → Bool → Type 0) (placed : List (Kept R Placed))
+    (sides : List (ThreadSide R G))
     (given : List (Turned (Kept R Caller)))
     → AllZip IsThreadAt placed sides → AllZip (GivesCaller may_shut answers) sides given → AllZip IsTurnedAt given placed
 all_threads_at may_shut answers placed sides given at of =

@@ -1,5 +1,6 @@
 -- Who polled what in a run, and by which numbers.
-use Rattle.{poll_tasks.specs.{Tasks.IsAt, declared.{pace.Pace.Pace, tasks.Turned.Turned}}, poll_workers.specs.Spreads.{IsEndOf, IsKeptSeatFor}}
+use Rattle.poll_tasks.specs.{Tasks.IsAt, declared.{pace.Pace.Pace, tasks.Turned.Turned}}
+use Rattle.poll_workers.specs.Spreads.{IsEndOf, IsKeptSeatFor}
 use Rattle.poll_seats.specs.{declared.seat.Seat.Seat, SeatKeeping.IsCallerOf, Gives.{IsPolledAlone, IsPolledBy}}
 use Rattle.poll_list.specs.{SharedList.{IsInOf, IsNewList, pushed_by}, declared.{list_in.ListIn.ListIn, shared.SharedList.SharedList}}
 use Rattle.std.specs.{Prelude.{◌≡◌, ◌≢◌, ℕ, ◌<◌, Bool, List, [], ◌∷◌, Some, None, filter, is_some, map, MatchBool, vec_items}, Global.Vec}

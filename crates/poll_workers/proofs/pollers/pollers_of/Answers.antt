@@ -1,7 +1,8 @@
 use Rattle.std.proofs.Common.{◌≡◌, ◌+◌, ◌∷◌, ◌++◌, ◌∙◌, [], ap, subst, sym, refl, length, length-append, vec_items, arith}
 use Rattle.std.proofs.{Common.{append_assoc, map, rules}, lemmas.{Grind.common_steps, List.{map-append, nil_from_length}}}
 use Rattle.poll_tasks.specs.Tasks.{IsAt}
-use Rattle.{std.specs.{Vec.Iter.{into_iter_items, into_iter_len}, Prelude.filter}, poll_tasks.proofs.{Zips.before_more, ListFacts.{each_more, none_left}}}
+use Rattle.std.specs.{Vec.Iter.{into_iter_items, into_iter_len}, Prelude.filter}
+use Rattle.poll_tasks.proofs.{Zips.before_more, ListFacts.{each_more, none_left}}
 use Rattle.{poll_interrupts.specs.Deals.is_own, poll_seats.specs.declared.{seat.Seat.Seat}, poll_workers.specs.Spreads.IsPoller}
 use Rattle.poll_workers.proofs.PollerFacts.{count_of}
 use Rattle.poll_workers.proofs.pollers.pollers_of.Goals as goal
@@ -69,7 +70,8 @@ loop-begin-preserved g c =
             let own = subst (λ o. vec_items o.value ≡ filter (λ (s : Seat). is_own (length c.loop-begin.invariant.0) n s.number) sat) more.1
             (have (length c.loop-begin.invariant.0) c.in-Some-next.own more.0).0 in
             rw c.push_reserved.ensures.items
-            (each_more (λ k task. IsPoller c.args.setting.now c.args.bells.now count (filter (λ (s : Seat). is_own k n s.number) sat) k task)
+            (each_more
+            (λ k task. IsPoller c.args.setting.now c.args.bells.now count (filter (λ (s : Seat). is_own k n s.number) sat) k task)
             (vec_items c.loop-begin.pollers) _ (now.pollers count n sat h wakes have) (record {
               has = refl;
               bell = subst (λ k. IsAt c.args.bells.now k c.in-Some-split_first.bell.now) now.bell_count (rung.0, rung.1);
