@@ -9,7 +9,7 @@ use Rattle.std.specs.{Global.Vec, List.{AllByRecursion, AllZip, remove}}
 use Rattle.{std.specs.Prelude.filter, poll_tasks.{specs.Tasks.EachAt, proofs.{ListFacts.{each_set, filter_more, zip_nil}, Zips.zip_long}}}
 use Rattle.poll_interrupts.specs.{Deals.is_own, declared.opening.Placed.Placed}
 use Rattle.napi_calls.specs.Instance.{callers_of, first_of_instance}
-use Rattle.std.proofs.Common.{◌∷◌, ◌++◌, refl, ap, ◌∙◌, subst}
+use Rattle.std.proofs.Common.{◌∷◌, ◌++◌, ap, ◌∙◌, subst}
 use Rattle.napi_model.specs.Step.{opening}
 use Rattle.{poll_tasks.specs.declared.tasks.Turned.Turned, rx_ring.specs.declared.{ends.{RxIn.RxIn, RxCtx.RxCtx}, packet.Packet.Packet}}
 use Rattle.rx_ring.specs.{declared.packet.Totals.Totals, Ends.{put_list, received_list, ring_of}, ReceiveRing.{IsInOrder, totals_of}}

@@ -1,7 +1,7 @@
 -- Who made calls on an instance that was closed.
 use Rattle.std.specs.Prelude.{◌≡◌, List, [], ◌∷◌, ◌++◌}
 use Rattle.{rx_ring.specs.declared.ends.RxCtx.RxCtx, napi_word.specs.declared.table.Pass.Pass}
-use Rattle.napi_calls.specs.{declared.types.{Caller.Caller, Napi.Napi}, Closed.{IsClosed, seats_of}}
+use Rattle.napi_calls.specs.{declared.types.Caller.Caller, Closed.{IsClosed, seats_of}}
 use Rattle.poll_interrupts.specs.declared.{station.Closed.Closed, worker.OwnSeats.OwnSeats}
 
 -- its callers: of its worker, of its poller and of its own thread

@@ -10,7 +10,7 @@ use Rattle.poll_interrupts.specs.{Runs.{Ledger, Whose, WorksBy, blank, controlle
 use Rattle.poll_interrupts.specs.declared.{station.Finished.Finished, worker.OwnSeats.OwnSeats, opening.{Loose.Loose, Placed.Placed}}
 use Rattle.poll_interrupts.specs.{declared.{job.{Worked.Worked, Job.Job}, acts.Act.Act}, Works.{IsWorkOf, ledger_of, whose}}
 use Rattle.poll_interrupts.specs.{Seats.AreSeatsOf, Opens.{IsInputOf, IsKeptLoose, IsKeptSideOf, IsLoose}}
-use Rattle.poll_list.specs.{SharedList.{IsInOf, pushed_by}, declared.{list_in.ListIn.ListIn, shared.SharedList.SharedList}}
+use Rattle.poll_list.specs.declared.{list_in.ListIn.ListIn, shared.SharedList.SharedList}
 use Rattle.poll_tasks.proofs.ListFacts.{at_mapped, at_place, each_index, each_zip, filter_fewer, zip_and}
 use Rattle.poll_tasks.proofs.ListFacts.{zip_both, zip_each, zip_empty, zip_filtered, zip_flip, zip_right, zip_same}
 use Rattle.poll_tasks.specs.{Paces.IsLawful, Stops.IsStop, Tasks.{EachAt, IsAt}, declared.signals.{Bell.Bell, Stop.Stop}}

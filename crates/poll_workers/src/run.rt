@@ -272,8 +272,8 @@ fn tell<T: Drop>(came: Result<Result<T, Stop>, AllocError>, refused: bool) -> Re
 /// Runs the devices of the stations side by side, each in a thread of its own, which makes its acts in order as interrupts of
 /// an instance of its own. Station `number` is polled by poller `(number - 1) mod pollers`, in runs over that one's list
 /// (`net_rx_action`), and by its own thread while THREADED is set, where it has one (`napi_threaded_poll`). At the end each
-/// device is disabled, its instance closed, and its ring read off. The answer has the devices in the order of the stations;
-/// of no stations it is empty.
+/// device is disabled, its instance closed, and its ring read off. The answer has the devices in the order of the stations, each
+/// with what is counted of its ring and with its instance as it was closed; of no stations it is empty.
 ///
 /// `pollers` is 1 to 8. A run stops behind `budget` packets, 1 to 65535 (`netdev_budget`), or `window` polls, 1 to 65535; a
 /// thread's turn is at most `window` polls too. One poll gives at most `weight` packets, 1 to 64. Each station has a number
@@ -306,11 +306,12 @@ where
     ensures finished { IfOk result
         (λ all. AllZip (IsFinished D.acts D.answer D.after (G.answers gate.now))
         (vec_items stations) (vec_items all)) }
-    // Each station was polled by its poller, in runs by these numbers, and by its thread exactly if it has one.
+    // Each instance's one history has the polls of its poller, in runs by these numbers, and of its thread exactly if it has one;
+    // its worker pushed to the list of that poller. Who polled was let by the gate.
     ensures polled { IfOk result
         (λ all. ArePolled (Bor R) (IsAsked G.answers gate.now) (pace_of budget weight window)
         D.acts D.answer D.after pollers (vec_items stations) (vec_items all)) }
-    // Memory before all else.
+    // Only where memory was refused.
     ensures memory { IsErrOf result OutOfMemory → IsWantOfMemory }
     // So never with a gate that is always open.
     ensures gate { IsErrOf result GateShut → G.may_shut }

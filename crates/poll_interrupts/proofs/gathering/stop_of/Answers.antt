@@ -1,4 +1,4 @@
-use Rattle.std.proofs.{Common.{◌≡◌, ◌∙◌, ℕ, None, ap, sym, get_or, below_more, rules}, lemmas.List.get_or_default}
+use Rattle.std.proofs.{Common.{◌≡◌, ◌∙◌, None, ap, sym, get_or, below_more, rules}, lemmas.List.get_or_default}
 use Rattle.poll_interrupts.specs.declared.job.Worked.{Worked}
 use Rattle.poll_interrupts.proofs.gathering.stop_of.Goals as goal
 

@@ -1,9 +1,9 @@
-use Rattle.std.proofs.{lemmas.Grind.common_steps, Common.{◌≡◌, ◌∙◌, ◌⊎◌, Bool, true, false, arith, inl, inr, refl, sym}}
+use Rattle.std.proofs.{lemmas.Grind.common_steps, Common.{◌≡◌, ◌∙◌, Bool, true, false, arith, refl, sym}}
 use Rattle.std.specs.{Borrow.Bor, Global.Vec, List.AllZip}
 use Rattle.{std.specs.Prelude.{Result, Ok, Err, IfErr, IfOk, IsErrOf, vec_items}, poll_interrupts.specs.declared.station.Finished.Finished}
 use Rattle.poll_tasks.specs.{Asks.IsAsked, Refusals.IsRefused, Stops.IsStop, declared.signals.Stop.Stop}
 use Rattle.poll_workers.{proofs.NumberFacts.few_stations, specs.{Courses.{ArePolled, pace_of}, Finishes.IsFinished}}
-use Rattle.poll_workers.specs.{Faults.{IsWantOfMemory, told, wanted_by}, declared.fault.WorkFault.WorkFault}
+use Rattle.poll_workers.specs.Faults.{IsWantOfMemory, told, wanted_by}
 use Rattle.poll_workers.specs.declared.fault.WorkFault.TheVariants.{GateShut, OutOfMemory, SpawnFailed}
 use Rattle.std.specs.declared.alloc.AllocError.{AllocError}
 use Rattle.poll_tasks.specs.declared.signals.Stop.TheVariants as stop
