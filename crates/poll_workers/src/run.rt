@@ -306,8 +306,8 @@ where
     ensures finished { IfOk result
         (λ all. AllZip (IsFinished D.acts D.answer D.after (G.answers gate.now))
         (vec_items stations) (vec_items all)) }
-    // Each instance's one history has the polls of its poller, in runs by these numbers, and of its thread exactly if it has one;
-    // its worker pushed to the list of that poller. Who polled was let by the gate.
+    // The one history of each instance has the polls of its poller, in runs by these numbers, and of its thread exactly if it has
+    // one; its worker pushed to the list of that poller. The gate let each of them start.
     ensures polled { IfOk result
         (λ all. ArePolled (Bor R) (IsAsked G.answers gate.now) (pace_of budget weight window)
         D.acts D.answer D.after pollers (vec_items stations) (vec_items all)) }
