@@ -13,6 +13,7 @@ import hashlib
 import io
 import itertools
 import os
+import shlex
 import shutil
 import subprocess
 import sys
@@ -195,12 +196,19 @@ class Combinations:
         if lines and not lines[-1].endswith("\n"):
             lines.pop()
         if not lines or lines[0] != self.head:
-            raise Refusal(f"{shown(path)}: this is no file of {self.tool}'s")
+            raise Refusal(f"{shown(path)}: this is no file of {self.tool}'s" + self.repaired_head(path, lines))
         rows = list(csv.DictReader(lines[1:], self.columns))
         for place, row in enumerate(rows, 2):
             if None in row or None in row.values():
-                raise Refusal(f"{shown(path)}: row {place} is none of {self.tool}'s")
+                raise Refusal(f"{shown(path)}: row {place} is none of {self.tool}'s: `sed -i {place}d {shlex.quote(shown(path))}` takes it out, and "
+                              "--resume makes what is missing")
         return {self.key_of(row): row for row in rows}
+
+    def repaired_head(self, path, lines):
+        """By which line a damaged first line is put right, if the second one is a row."""
+        rows = list(csv.reader(lines[1:2]))
+        is_row = bool(rows) and len(rows[0]) == len(self.columns)
+        return f"; if only its first line is damaged: `sed -i '1c {self.head.strip()}' {shlex.quote(shown(path))}` puts it right" if is_row else ""
 
     def append(self, path, row):
         """Puts a row behind the others. What a killed call left of one goes."""

@@ -278,6 +278,13 @@ def write_all(texts):
         raise
 
 
+def told_notes(name, notes):
+    """How many notes a file has, the first of them, and where all are."""
+    first = "".join(f"\n  {shown(note)}" for note in notes[:3])
+    count = f"{len(notes)} note{'s' * (len(notes) != 1)}"
+    return f"{count} in {shown(name)}" + (", which begins" if len(notes) > 3 else "") + f"{':' * bool(notes)}{first}"
+
+
 def write_out(path, text):
     """Writes a text, or its lines, whole to a file, or to standard output where none is named."""
     if path:
