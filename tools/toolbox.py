@@ -101,8 +101,9 @@ class Progress:
                 parts.append(f"{took * (1 - share) / share:.0f} s left")
             Progress.is_shown = True
             line = f"{called(os.path.basename(sys.argv[0]))}: {', '.join(filter(None, parts))}"
+            columns = os.get_terminal_size(2).columns or 80  # a terminal that doesn't know has 0
             if not self.over.is_set():
-                print(f"{self.CLEAR}{line[:os.get_terminal_size(2).columns - 1 or 79]}", end="", file=sys.stderr, flush=True)
+                print(f"{self.CLEAR}{line[:columns - 1]}", end="", file=sys.stderr, flush=True)
 
 
 def share_of(file):
