@@ -4,8 +4,12 @@
 
    ENDLESS 1: the schedulers ask for polls for ever, each poll may give its whole weight, and each disable has to end.
    ENDLESS 0: each scheduler asks ASKS times, REPOLLS polls give their whole weight, and all have to end.
+   A request is `asking` until it is decided: it is refused because a disable is pending, or the word has it. What the word has is
+   `asked` until a poll begins or a disable takes the instance, and SCHED or MISSED is set all that time. Of an instance that is off it
+   is `kept` only: it is polled after the next request that follows the enable (MISSED).
    Left out, so that the states are few: THREADED, busy polling, and which packets a poll gives; memory is sequentially consistent.
-   FAULT plants one: 1 a schedule that ignores DISABLE, 2 a repoll that does, 3 a completion by a load and a store. */
+   FAULT plants one: 1 a schedule that ignores DISABLE, 2 a repoll that does, 3 a completion by a load and a store, 4 a completion
+   that drops MISSED, 5 a schedule that gives up after a lost exchange, 6 an enable by a load and a store. */
 #ifndef ENDLESS
 #define ENDLESS 0
 #endif
@@ -21,6 +25,9 @@
 #ifndef FAULT
 #define FAULT 0
 #endif
+#ifndef TRACKED
+#define TRACKED 0               /* 1: follows requests, for the property `requests` */
+#endif
 #define SCHED 1
 #define MISSED 2
 #define DISABLE 4
@@ -29,27 +36,36 @@
 
 byte word = 9;                  /* napi_calls/instance new */
 bool is_polled, is_controlled = true;
+bool asking[2], asked, kept;
 byte schedulers_ended; bool told, poller_ended, controller_ended;
 
 /* Moves the word from `seen` to `wanted`, and then `owner` is so; `won` tells whether nobody was faster. */
 #define exchange(wanted, owner) atomic { won = (word == seen); if :: won -> word = wanted; owner :: else fi }    /* kit atomic_table/steps compare_exchange */
 
-proctype Scheduler() {
+inline decide(me) {
+    asking[me] = false;
+    if :: TRACKED && is_controlled -> kept = true :: TRACKED && !is_controlled -> asked = true :: !TRACKED fi
+}
+inline begin_poll() { is_polled = true; asked = false; kept = false }
+
+proctype Scheduler(bit me) {
     byte asks, seen; bool won;
     do
     :: ENDLESS || asks < ASKS ->
+       asking[me] = TRACKED;
        do
        :: seen = word;                                                          /* napi_calls/caller try_schedule_between */
           if
-          :: (seen & DISABLE) && FAULT != 1 -> break                            /* napi_calls/caller try_schedule_between */
+          :: (seen & DISABLE) && FAULT != 1 -> asking[me] = false; break        /* napi_calls/caller try_schedule_between */
           :: else ->
-             exchange(seen | SCHED | ((seen & SCHED) -> MISSED : 0), skip);     /* napi_calls/caller try_schedule_between */
+             exchange(seen | SCHED | ((seen & SCHED) -> MISSED : 0), decide(me));       /* napi_calls/caller try_schedule_between */
              if
              :: won && !(seen & SCHED) ->
                 atomic { assert(!is_polled && !is_controlled); word = word | QUEUED };  /* napi_calls/granted hand */
                 break                                                           /* napi_calls/caller schedule */
              :: won && (seen & SCHED) -> break                                  /* napi_calls/caller schedule */
-             :: !won                                                            /* napi_calls/caller schedule */
+             :: !won && FAULT != 5                                              /* napi_calls/caller schedule */
+             :: !won && FAULT == 5 -> break
              fi
           fi
        od;
@@ -64,7 +80,7 @@ proctype Poller() {
     do
     :: is_last = told;                                                          /* poll_seats/serving serve */
        atomic { has_taken = (word & QUEUED) != 0; word = word & ~QUEUED;        /* napi_calls/caller take */
-                if :: has_taken -> assert(!is_polled && !is_controlled); is_polled = true :: else fi };
+                if :: has_taken -> assert(!is_polled && !is_controlled); begin_poll() :: else fi };
        if
        :: !has_taken && is_last -> break                                        /* poll_seats/serving serve */
        :: !has_taken && !is_last                                                /* poll_seats/serving serve */
@@ -77,7 +93,8 @@ proctype Poller() {
              :: seen = word;                                                    /* napi_calls/polling try_complete_between */
                 if
                 :: FAULT == 3 -> atomic { word = ((seen & MISSED) -> (seen & ~MISSED) : (seen & ~SCHED)); is_polled = false; won = true }
-                :: FAULT != 3 -> exchange(((seen & MISSED) -> (seen & ~MISSED) : (seen & ~SCHED)), is_polled = false)  /* napi_calls/polling try_complete_between */
+                :: FAULT == 4 -> exchange(seen & ~(SCHED | MISSED), is_polled = false); seen = 0
+                :: FAULT != 3 && FAULT != 4 -> exchange(((seen & MISSED) -> (seen & ~MISSED) : (seen & ~SCHED)), is_polled = false)    /* napi_calls/polling try_complete_between */
                 fi;
                 if
                 :: won && (seen & MISSED) -> word = word | QUEUED; break        /* napi_calls/granted hand */
@@ -97,7 +114,10 @@ proctype Controller() {
     :: ENDLESS || disables <= DISABLES ->
        do
        :: seen = word;                                                          /* napi_calls/control try_enable_between */
-          exchange(seen & ~(SCHED | NPSVC), is_controlled = false);             /* napi_calls/control try_enable_between */
+          if
+          :: FAULT == 6 -> atomic { word = seen & ~(SCHED | NPSVC); is_controlled = false; won = true }
+          :: FAULT != 6 -> exchange(seen & ~(SCHED | NPSVC), is_controlled = false)     /* napi_calls/control try_enable_between */
+          fi;
           if :: won -> break :: !won fi                                         /* napi_calls/control enable */
        od;
        atomic { word = word | DISABLE };                                        /* napi_calls/control mark */
@@ -107,11 +127,11 @@ marked:
           if
           :: seen & (SCHED | NPSVC)                                             /* napi_calls/control disable_pausing */
           :: else ->
-             exchange(seen | SCHED | NPSVC, skip);                              /* napi_calls/control try_take_between */
+             exchange(seen | SCHED | NPSVC, is_controlled = true; asked = false; kept = false);  /* napi_calls/control try_take_between */
              if :: won -> break :: !won fi                                      /* napi_calls/control disable_pausing */
           fi
        od;
-       atomic { assert(!is_polled && !(word & QUEUED) && (word & DISABLE)); is_controlled = true }; /* napi_calls/control try_take_between */
+       assert(!is_polled && !(word & QUEUED) && (word & DISABLE));              /* napi_calls/control try_take_between */
        atomic { word = word & ~DISABLE };                                       /* napi_calls/control try_take_between */
        disables = (ENDLESS -> 0 : disables + 1)
     :: !ENDLESS && disables > DISABLES -> break
@@ -120,12 +140,14 @@ marked:
 }
 
 init {
-    atomic { run Scheduler(); run Scheduler(); run Poller(); run Controller() };
+    atomic { run Scheduler(0); run Scheduler(1); run Poller(); run Controller() };
     schedulers_ended == 2 && controller_ended;
     told = true;                                                                /* poll_tasks/signals tell */
     poller_ended;
     assert(word == (SCHED | NPSVC) || word == (SCHED | NPSVC | MISSED))
 }
 
+#define REMEMBERED ((word & (SCHED | MISSED)) != 0)
+ltl requests { [] (asking[0] -> <> !asking[0]) && [] (asking[1] -> <> !asking[1]) && [] (asked -> <> !asked) && [] ((asked || kept) -> REMEMBERED) }
 ltl ends { <> (poller_ended && controller_ended) }
 ltl taken { [] (((word & DISABLE) != 0) -> <> ((word & DISABLE) == 0)) }

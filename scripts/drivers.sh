@@ -25,6 +25,40 @@ way() {
     shift
     [ "$over" = 0 ] || return 0
     BUILT=$scratch/$name timeout -k 20 300 "$top/examples/$driver/run.sh" "$@" > "$scratch/run" 2>&1 || status=$?
+    count_run "$status" "$name with '$*'"
+}
+
+# as_printed COMMAND: runs a command of a page, in a fresh clone with an empty home folder, and with no variable that the page doesn't set.
+as_printed() {
+    local fetched=.cache/fintaqush/linux-image
+    if [ ! -d "$scratch/fresh" ]; then
+        "$top/scripts/fresh_clone.sh" "$scratch/fresh" || return
+        # What `scripts/test-packages.sh --fetch` has fetched isn't fetched again.
+        mkdir -p "$scratch/fresh/home/${fetched%/*}"
+        [ ! -d ~/"$fetched" ] || ln -s ~/"$fetched" "$scratch/fresh/home/$fetched"
+    fi
+    (cd "$scratch/fresh/fintaqush" && env -i PATH="$PATH" TERM="${TERM:-dumb}" HOME="$scratch/fresh/home" timeout -k 20 600 bash -c "$1") > "$scratch/run" 2>&1
+}
+
+# printed COMMAND: a run of the driver as a page has it; each line `ok` or `WRONG` of it is a test.
+printed() {
+    local status=0
+    [ "$over" = 0 ] || return 0
+    as_printed "$1" || status=$?
+    count_run "$status" "'$1' as printed"
+}
+
+# printed_table COMMAND COUNT PATTERN: it ends well, and so many lines that it prints are as the pattern: no row is of a load that failed.
+printed_table() {
+    local status=0
+    [ "$over" = 0 ] || return 0
+    as_printed "$1" || status=$?
+    check "$1 as printed: $(cat "$scratch/run")" [ "$status $(grep -c -x -E -e "$3" "$scratch/run")" = "0 $2" ]
+}
+
+# count_run STATUS NAME: counts the lines `ok` and `WRONG` of the run; one of status 69 skips all others.
+count_run() {
+    local status=$1 name=$2
     if [ "$status" = 69 ]; then
         cat "$scratch/run"
         skip 'the driver on a device' "$(sed -n 's/^[a-z]*: this needs \([^ ,]*\).*/\1/p' "$scratch/run" | tail -n 1)"
@@ -35,7 +69,7 @@ way() {
     failed=$((failed + $(grep -c '^WRONG: ' "$scratch/run")))
     if [ "$status" != 0 ]; then
         grep -q '^WRONG: ' "$scratch/run" || failed=$((failed + 1))
-        echo "$driver: $name with '$*', status $status"
+        echo "$driver: $name, status $status"
         sed 's/^/    /' "$scratch/run"
     fi
 }

@@ -19,13 +19,25 @@ packages() { awk '!/^#/ && NF && $2 != "-" && $1 !~ /^linux-/ { for (i = 2; i <=
 
 fetch() {
     "$top/tests/kernel.sh" --fetch || stop 70 'the sources of Linux could not be fetched'
-    local image=~/.cache/fintaqush/linux-image room name
-    [ ! -d "$image/boot" ] || return 0
+    fetch_image
+}
+
+# depends PACKAGE: the packages of Debian's kernel that it depends on.
+depends() { apt-cache depends "$1" 2> /dev/null | grep -o 'linux-\(base\|binary\|image\|modules\)-[0-9][^ ]*cloud-amd64$'; }
+
+# fetch_image: unpacks Debian's newest kernel for machines in a cloud: the package linux-image-VERSION and, since some version, those with
+# the image and the modules, on which it depends.
+fetch_image() {
+    local image=~/.cache/fintaqush/linux-image room name names
+    [ ! -d "$image" ] || return 0
     room=$(mktemp -d)
     trap "rm -rf '$room'" EXIT
-    name=$(apt-cache depends linux-image-cloud-amd64 | grep -o 'linux-image-[0-9].*') || stop 70 'there is no package linux-image-cloud-amd64'
-    mkdir -p "$image"
-    (cd "$room" && apt-get download "$name") && dpkg-deb -x "$room"/linux-image-*.deb "$image" || stop 70 "$name could not be fetched"
+    name=$(depends linux-image-cloud-amd64 | grep '^linux-image-') || stop 70 'there is no package linux-image-cloud-amd64'
+    mapfile -t names < <({ echo "$name"; depends "$name"; } | sort -u)
+    (cd "$room" && apt-get download "${names[@]}") || stop 70 "${names[*]} could not be fetched"
+    mkdir -p "$room/image" "${image%/*}"
+    for name in "$room"/*.deb; do dpkg-deb -x "$name" "$room/image" || stop 70 "$name could not be unpacked"; done
+    mv "$room/image" "$image"
 }
 
 case ${1-all} in

@@ -17,7 +17,8 @@ elif build plain; then
     for words in '' 'many' 'napi --two' 'napi --budget 0' 'napi --budget 65536' 'one --budget 16 --min x' 'busy power'; do
         refuses "--no-huge -m 64 --no-shconf --no-pci --no-telemetry --log-level 4 -- $words"
     done
-    way plain
+    printed 'examples/dpdk/run.sh'
+    printed_table 'examples/dpdk/table.sh' 4 '(busy|power|one|napi) +[0-9]+( +[0-9]+ [0-9]+/[0-9]+){4}'
     way plain one
     way plain napi --budget 16
     mistakes

@@ -1,7 +1,8 @@
 #!/usr/bin/env bash
-# tests/models.sh: that everything ends, by the models in Promela of models/. First that each function which a line of theirs names is
-# as it was when the model was last read beside it (models/stands_for.txt has the checksums). Then, where spin is installed, each
-# model: no deadlock and no failed assertion, and what is to hold under weak fairness; and each planted fault is refused. They
+# tests/models.sh: that everything ends, by the models in Promela of models/. First that each function which a line of theirs names, and
+# each that these call, down to the toolchain's parker, queue and atomics, has the code that it had when the model was last read beside
+# it (models/stands_for.txt has the checksums); changes that are planted below are found. Then, if spin is installed, each model: no
+# deadlock and no failed assertion, and what is to hold under weak fairness; and each planted fault is refused by what it breaks. They
 # are skipped without spin. The last line is `N passed, M failed, K skipped`. Needs python3; spin needs a C compiler.
 #
 # usage: tests/models.sh            all of it
@@ -13,36 +14,16 @@ top=$(dirname "$(dirname "$(readlink -f "$0")")")
 models=$top/models
 scratch=$(mktemp -d)
 trap 'rm -rf "$scratch"' EXIT
+kit=$(dirname "$(rt doc 2> /dev/null)") # the folder of the toolchain
 # shellcheck source=scripts/checks.sh
 . "$top/scripts/checks.sh"
 
-# function_text FILE NAME: the functions of that name, each from its line to the brace that ends it.
-function_text() {
-    awk -v name="$2" '
-        !is_in && match($0, "(^| )fn " name "[<(]") { is_in = 1; match($0, /^ */); ending = substr($0, 1, RLENGTH) "}" }
-        is_in { print }
-        is_in && ($0 == ending || $0 ~ /;$/ && $0 ~ "(^| )fn ") { is_in = 0 }' "$1"
-}
+# checksums [TOP [KIT]]: a line for each function that the models name, and for each that these call (model_texts.py).
+checksums() { python3 -B "$top/tests/model_texts.py" "${1:-$top}" "${2:-$kit}"; }
 
-# named: what the models name, as CRATE/FILE FUNCTION.
-named() { sed -n 's/.*\/\* \([a-z_]*\/[a-z_]* [a-z_]*\) \*\/.*/\1/p' "$models"/*.pml | sort -u; }
-
-# checksums: a line for each function that the models name.
-checksums() {
-    local place name file
-    named | while read -r place name; do
-        file=$top/crates/${place%/*}/src/${place#*/}.rt
-        if [ -f "$file" ] && [ -n "$(function_text "$file" "$name")" ]; then
-            echo "$(function_text "$file" "$name" | sha256sum | cut -c 1-12) $place $name"
-        else
-            echo "nothing $place $name"
-        fi
-    done
-}
-
-# look: the functions whose text isn't what it was, or that aren't there.
+# look [TOP [KIT]]: the functions whose code isn't what it was, or that aren't there.
 look() {
-    checksums > "$scratch/now"
+    checksums "$@" > "$scratch/now" || return
     if cmp -s "$models/stands_for.txt" "$scratch/now"; then return 0; fi
     diff "$models/stands_for.txt" "$scratch/now" | sed -n 's/^[<>] [^ ]* \(.*\)/\1 has changed: read the models beside it, then tests\/models.sh --write/p' | sort -u
     return 1
@@ -50,12 +31,34 @@ look() {
 
 case ${1:-} in
     --look) look; exit ;;
-    --write) checksums > "$models/stands_for.txt"; exit ;;
+    --write) checksums > "$scratch/now" && cp "$scratch/now" "$models/stands_for.txt"; exit ;;
     '') ;;
     *) sed -n 's/^# usage/usage/p' "$0"; exit 64 ;;
 esac
-check 'what the models stand for is as it was' look
-check 'each function that they name is there' eval '! grep "^nothing" "$models/stands_for.txt"'
+# finds PLACE NAME FILE OLD NEW: of the copy of what the models stand for, `look` tells a change of FILE, in which OLD stands.
+finds() {
+    local file=$scratch/copy/$3 status=0
+    cp "$file" "$scratch/kept"
+    sed -i "s/$4/$5/" "$file"
+    ! cmp -s "$file" "$scratch/kept" || return 1
+    look "$scratch/copy" "$scratch/copy" > "$scratch/told" && status=1
+    cp "$scratch/kept" "$file"
+    [ "$status" = 0 ] && grep -qx "$1 $2 has changed: .*" "$scratch/told"
+}
+
+if [ ! -d "$kit/rattle" ]; then
+    skip 'what the models stand for' rt
+else
+    check 'what the models stand for is as it was' look
+    check 'each function that they name is there' eval '! grep "^nothing" "$models/stands_for.txt"'
+    mkdir -p "$scratch/copy/rattle" && cp -r "$top"/{crates,models} "$scratch/copy" && cp -r "$kit"/rattle/{crossbeam_utils,crossbeam_queue,atomic_table} "$scratch/copy/rattle"
+    check 'a change in napi_word is found' finds napi_word/steps schedule_load crates/napi_word/src/steps.rt 'if seen.flags.disable' 'if seen.flags.sched'
+    check 'a change in poll_runs is found' finds poll_runs/polling let_go crates/poll_runs/src/polling.rt 'if next == Next::Repoll' 'if next != Next::Repoll'
+    check 'a change of the parker is found' finds 'kit crossbeam_utils/sync/parker/ruled' unpark_as rattle/crossbeam_utils/src/sync/parker/ruled.rt '== PARKED' '!= PARKED'
+    check 'a change of the queue is found' finds 'kit crossbeam_queue/array_queue/steps' push_from rattle/crossbeam_queue/src/array_queue/steps.rt 'tail == stamp' 'tail != stamp'
+    check 'a change of the atomics is found' finds 'kit atomic_table/steps' compare_exchange rattle/atomic_table/src/steps.rt 'old, new) }' 'new, old) }'
+    check 'a change of a comment or a contract is none' eval "sed -i 's/^    ensures .*/    ensures { true }/; s|^ */// .*|// |' '$scratch/copy/crates/napi_word/src/steps.rt' && look '$scratch/copy' '$scratch/copy'"
+fi
 
 if ! has spin 'the search of each model' || ! has cc 'the search of each model'; then
     sum_up
@@ -65,16 +68,18 @@ fi
 # build NAME MODEL -DWORD=N ..: the model's search as two programs. Deadlocks are seen only by the one without the claims: with a claim
 # `search` looks for cycles that break it, and an end that nobody expected is no error.
 build() {
-    local folder=$scratch/$1 flags=(-O1 -w -DCOLLAPSE -DVECTORSZ=1024)
+    local folder=$scratch/$1 flags=(-O2 -w -DCOLLAPSE -DVECTORSZ=1024)
     mkdir -p "$folder" && cd "$folder" && spin -a "${@:3}" "$models/$2" || return
     cc "${flags[@]}" -DNFAIR=3 -o search pan.c && cc "${flags[@]}" -DNOCLAIM -DSAFETY -o search_safe pan.c
 }
 
 # search NAME PROPERTY: prints `holds`, `broken`, or `unknown` if the search didn't end or failed in another way. `safe` is that there is
-# no deadlock and no failed assertion; any other property is broken only by a cycle that breaks it.
+# no deadlock and no failed assertion, and `safe=TEXT` is broken only by one with this text (`end` for a deadlock); any other property is
+# broken only by a cycle that breaks it, or by a state that does, which spin writes as an assertion of the property.
 search() {
-    local words=(./search -a -f -N "$2") log=$scratch/$1/$2.log breaks='acceptance cycle'
-    [ "$2" != safe ] || words=(./search_safe) breaks='invalid end state|assertion violated'
+    local property=${2%=*} words log=$scratch/$1/$2.log breaks='acceptance cycle|assertion violated  !\( !\('
+    words=(./search -a -f -N "$property")
+    [ "$property" != safe ] || words=(./search_safe) breaks="(invalid end state|assertion violated).*$([ "$property" = "$2" ] || echo "${2#*=}")"
     (cd "$scratch/$1" && timeout 600 "${words[@]}" -m1000000 > "$log" 2>&1)
     if grep -qE 'max search depth too small|out of memory' "$log"; then
         echo unknown
@@ -90,19 +95,28 @@ search() {
 # Each line: a name, a model, its words, and then what is to hold, or `refused` and a property that has to fail.
 plan() {
     cat << 'PLAN'
-one-worker wake.pml -DWORKERS=1,-DACTS=3 safe ends polled
-two-workers wake.pml -DWORKERS=2,-DACTS=2,-DWITH_THREAD=0 safe ends polled
+four-acts wake.pml -DACTS=4 safe ends
+three-acts wake.pml -DACTS=3 polled asked_is_polled
+weight-two wake.pml -DACTS=3,-DWEIGHT=2 safe ends
+two-workers wake.pml -DWORKERS=2,-DTHREADS=0,-DACTS=2,-DOTHER_ACTS=1 safe ends polled asked_is_polled
+two-pollers wake.pml -DWORKERS=2,-DPOLLERS=2,-DTHREADS=0,-DACTS=2,-DOTHER_ACTS=1 safe
 finite waiting.pml -DENDLESS=0,-DDISABLES=1,-DREPOLLS=1 safe ends taken
+finite-requests waiting.pml -DENDLESS=0,-DDISABLES=1,-DREPOLLS=1,-DTRACKED=1 safe requests
 endless waiting.pml -DENDLESS=1 safe taken
 a-thread-that-isnt-woken wake.pml -DACTS=2,-DFAULT=1 refused polled
 a-wake-before-its-push wake.pml -DACTS=2,-DFAULT=2 refused polled
 a-thread-that-is-never-told wake.pml -DACTS=2,-DFAULT=3 refused ends
 a-hand-on-without-a-wake wake.pml -DACTS=3,-DFAULT=4 refused polled
 a-refused-start-not-passed-on wake.pml -DACTS=2,-DFAULT=5 refused ends
-a-refused-poller-that-is-waited-for wake.pml -DACTS=2,-DFAULT=6 refused safe
+a-refused-poller-that-is-waited-for wake.pml -DACTS=2,-DFAULT=6 refused safe=end
+a-completion-that-drops-missed wake.pml -DACTS=3,-DFAULT=7 refused safe=asked
+an-enable-without-threaded wake.pml -DACTS=4,-DFAULT=8 refused safe=setting
 a-schedule-that-ignores-disable waiting.pml -DENDLESS=1,-DFAULT=1 refused taken
 a-repoll-that-ignores-disable waiting.pml -DENDLESS=1,-DFAULT=2 refused taken
-a-completion-by-load-and-store waiting.pml -DENDLESS=0,-DFAULT=3 refused safe
+a-completion-by-load-and-store waiting.pml -DENDLESS=0,-DFAULT=3 refused safe=word
+missed-dropped-at-completion waiting.pml -DENDLESS=0,-DDISABLES=1,-DREPOLLS=1,-DTRACKED=1,-DFAULT=4 refused requests
+a-schedule-that-gives-up waiting.pml -DENDLESS=0,-DDISABLES=1,-DREPOLLS=1,-DTRACKED=1,-DFAULT=5 refused requests
+an-enable-by-load-and-store waiting.pml -DENDLESS=0,-DDISABLES=1,-DREPOLLS=1,-DTRACKED=1,-DFAULT=6 refused requests
 PLAN
 }
 

@@ -28,6 +28,7 @@ SETTINGS = re.compile(r"^([A-Z_]+=\S+ )+")
 SYNOPSIS = re.compile(r"\[[A-Z-]| \.\.(?: |$)|\.\.\]| \| -|[A-Z]\|[A-Z]")
 BY_HAND = re.compile(r"(rt|apt|perf|git grep|head) |bench/|scripts/surface")
 KEYS = {"run", "first", "into", "needs", "prints", "in", "by", "not"}
+OF_THE_MACHINE = {"PATH", "LANG", "LC_ALL", "TERM", "TMPDIR", "USER", "LOGNAME", "SHELL", "RUSTUP_HOME", "CARGO_HOME"}
 # Begins the block that first_program runs.
 FIRST = "git init ."
 
@@ -190,25 +191,25 @@ def by_hand(command):
 
 
 class Copy:
-    """A copy of the repository, with the programs that the checkout has built, in which commands run and leave what they write."""
+    """A fresh clone (scripts/fresh_clone.sh) with an empty home folder, in which commands run and leave what they write. They have the
+    variables of the machine, and none by which a script of this repository is told something."""
 
     def __init__(self):
         self.room = pathlib.Path(tempfile.mkdtemp())
         self.top = self.room / "fintaqush"
+        subprocess.run([TOP / "scripts/fresh_clone.sh", self.room], check=True)
         (self.room / "bin").mkdir()
-        built = [f"crates/{name}/out/{name}" for name in ("napi_machine", "napi_replay", "napi_series", "napi_serial")]
-        for name in [*listed(), *built]:
-            if (TOP / name).exists():
-                (self.top / name).parent.mkdir(parents=True, exist_ok=True)
-                # What is built comes last, and so is the newest.
-                (shutil.copy if name in built else shutil.copy2)(TOP / name, self.top / name)
-        for name in [*built, "fintaqush"]:
-            (self.room / "bin" / pathlib.Path(name).name).symlink_to(self.top / name)
+        for name in ("napi_machine", "napi_replay", "napi_series", "napi_serial"):
+            (self.room / "bin" / name).symlink_to(self.top / f"crates/{name}/out/{name}")
+        (self.room / "bin/fintaqush").symlink_to(self.top / "fintaqush")
 
     def run(self, command, folder=""):
         """Runs a command at the top of the copy, or in a folder of it."""
-        known = {key: value for key, value in os.environ.items() if key not in ("PROGRAM", "SERIES", "CDPATH")}
-        known["PATH"] = f"{self.room}/bin:{known['PATH']}"
+        known = {key: value for key, value in os.environ.items() if key in OF_THE_MACHINE}
+        known |= {"HOME": f"{self.room}/home", "PATH": f"{self.room}/bin:{known['PATH']}"}
+        for key, folder_of in (("RUSTUP_HOME", ".rustup"), ("CARGO_HOME", ".cargo")):  # where this machine has its toolchain
+            if (pathlib.Path.home() / folder_of).is_dir():
+                known.setdefault(key, str(pathlib.Path.home() / folder_of))
         return subprocess.run(["bash", "-c", command], cwd=self.top / folder, env=known, capture_output=True, text=True,
                               stdin=subprocess.DEVNULL, timeout=LONGEST, errors="replace")
 

@@ -79,6 +79,66 @@ without_root() {
 }
 ! command -v apt-get > /dev/null || check 'and asks for root in a line' without_root
 
+# `scripts/test-packages.sh --fetch`, and where the driver in a guest finds the kernel: Debian's packages as they were, and as they are
+# since the image has a package of its own. What stands for apt-get and apt-cache packs folders.
+# deb NAME FILE ..: a package of empty files.
+deb() {
+    local file
+    rm -rf "$scratch/deb"
+    mkdir -p "$scratch/deb/DEBIAN"
+    printf '%s\n' "Package: $1" 'Version: 1' 'Architecture: all' 'Maintainer: none <none@none>' 'Description: none' > "$scratch/deb/DEBIAN/control"
+    for file in "${@:2}"; do
+        mkdir -p "$scratch/deb/${file%/*}"
+        : > "$scratch/deb/$file"
+    done
+    dpkg-deb -b "$scratch/deb" "$scratch/debs/$1.deb" > "$scratch/out"
+}
+# fetches IMAGE MODULES: into a fresh home; a second time nothing is fetched.
+fetches() {
+    local home=$scratch/fetched/home wanted=.cache/fintaqush/linux-image
+    rm -rf "$scratch/fetched"
+    mkdir -p "$home" "$scratch/fetched"/{scripts,tests} "$scratch/debs"
+    cp "$top"/scripts/{test-packages,arguments}.sh "$scratch/fetched/scripts"
+    printf '#!/bin/sh\n' > "$scratch/fetched/tests/kernel.sh"
+    chmod +x "$scratch/fetched/tests/kernel.sh"
+    PATH=$scratch/apt:$PATH HOME=$home "$scratch/fetched/scripts/test-packages.sh" --fetch &&
+        PATH=/none:/bin:/usr/bin HOME=$home "$scratch/fetched/scripts/test-packages.sh" --fetch &&
+        [ "$(HOME=$home bash -c '. "$1/examples/virtio/vm.sh"; find_kernel; echo "$image $modules $version"' '' "$top")" = \
+            "$home/$wanted/$1 $home/$wanted/$2 ${2##*/}" ]
+}
+if has dpkg-deb 'the fetched kernel'; then
+    mkdir -p "$scratch/apt" "$scratch/debs"
+    printf '#!/bin/sh\nfor it in "$@"; do [ "$it" = download ] || cp "%s/$it.deb" .; done\n' "$scratch/debs" > "$scratch/apt/apt-get"
+    printf '#!/bin/sh\ncat "%s/$2"\n' "$scratch/debs" > "$scratch/apt/apt-cache"
+    chmod +x "$scratch/apt"/*
+    deb linux-image-6.1.0-53-cloud-amd64 boot/vmlinuz-6.1.0-53-cloud-amd64 lib/modules/6.1.0-53-cloud-amd64/kernel/drivers/vfio/vfio.ko
+    echo '  Depends: linux-image-6.1.0-53-cloud-amd64' > "$scratch/debs/linux-image-cloud-amd64"
+    printf '%s\n' linux-image-6.1.0-53-cloud-amd64 '  Depends: kmod' > "$scratch/debs/linux-image-6.1.0-53-cloud-amd64"
+    check 'the kernel is fetched, and found' fetches boot/vmlinuz-6.1.0-53-cloud-amd64 lib/modules/6.1.0-53-cloud-amd64
+    new=7.3.4+deb13-cloud-amd64
+    deb "linux-image-$new" usr/share/doc/none
+    deb "linux-base-$new" "usr/lib/modules/$new/modules.order"
+    deb "linux-binary-$new" "usr/lib/modules/$new/vmlinuz"
+    deb "linux-modules-$new" "usr/lib/modules/$new/kernel/drivers/vfio/vfio.ko.xz"
+    printf '  Depends: %s\n' linux-base-cloud-amd64 "linux-image-$new" linux-modules-cloud-amd64 > "$scratch/debs/linux-image-cloud-amd64"
+    printf '  Depends: %s\n' linux-base "linux-base-$new" "linux-binary-$new" "linux-modules-$new" > "$scratch/debs/linux-image-$new"
+    check 'and one whose image has a package of its own' fetches "usr/lib/modules/$new/vmlinuz" "usr/lib/modules/$new"
+fi
+
+# A tool that has to build first says so at once: what stands for the toolchain never ends.
+mkdir -p "$scratch/kit/bin" "$scratch/kit/rattle"
+printf '#!/bin/sh\necho "%s/kit/rattle"\n' "$scratch" > "$scratch/kit/bin/rt"
+printf '#!/bin/sh\nsleep 60\n' > "$scratch/kit/bin/rattle"
+: > "$scratch/kit/KIT-ID"
+chmod +x "$scratch/kit/bin"/*
+says_that_it_builds() {
+    "$top/scripts/fresh_clone.sh" "$scratch/clone" && rm -f "$scratch"/clone/fintaqush/crates/*/out/*
+    (cd "$scratch/clone/fintaqush" && cp tests/tools/soft-tcp.csv mine.csv && cp tests/tools/soft-tcp.work mine.work &&
+        env -i PATH="$scratch/kit/bin:$PATH" HOME="$scratch/clone/home" timeout 10 tools/compare-recording mine --budget 300) > "$scratch/out" 2>&1
+    grep -q 'proving and building napi_serial' "$scratch/out"
+}
+check 'compare-recording without a built program says that it builds' says_that_it_builds
+
 # A gate of one crate, whose prover is a shell under the prover's name.
 mkdir -p "$scratch/rt-edit-x"
 cat > "$scratch/gate" << 'END'

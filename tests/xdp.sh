@@ -14,7 +14,7 @@ driver=xdp
 
 if build plain; then
     for words in '' 'fq1 --two' 'fq1 --budget' 'fq1 --budget 0' 'fq1 --budget 65536' 'fq1 --one --budget x'; do refuses "$words"; done
-    way plain
+    printed 'examples/xdp/run.sh'
     way plain --one
     way plain --budget 16
     mistakes

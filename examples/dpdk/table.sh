@@ -8,7 +8,7 @@ here=$(dirname "$(readlink -f "${BASH_SOURCE[0]}")")
 . "$here/../driver/driver.sh"
 . "$here/port.sh"
 make_spaces dpdk "fqdpdk-$$"
-[ -c /dev/net/tun ] || over 'there is no /dev/net/tun'
+[ -c /dev/net/tun ] || over /dev/net/tun
 built=${BUILT:-$scratch}
 [ -n "${BUILT:-}" ] || "$here/build.sh" "$built" || exit
 
@@ -19,20 +19,24 @@ spent() { cat "/proc/$driver/task/"*/schedstat | awk '{ sum += $1 } END { printf
 under() {
     local time clock
     time=$(spent) clock=$(date +%s%N)
-    "$@" > "$scratch/load.out"
+    "$@" > "$scratch/load.out" || {
+        echo "dpdk: the load failed: $*" >&2
+        return 1
+    }
     time=$(($(spent) - time)) clock=$(($(date +%s%N) - clock))
     awk -v time="$time" -v clock="$clock" '{ for (i = 1; i < NF; i++) { if ($i == "p50_us") half = " " $(i + 1); if ($i == "p99_us") most = "/" $(i + 1) } }
         END { printf "%.0f%s%s\n", time * 1000 / clock, half, most }' "$scratch/load.out"
 }
 
 row() {
-    local mode=$1 each
+    local mode=$1 each times
     start_port "$mode"
-    load ping 100 64 4 > "$scratch/first"
+    load ping 100 64 4 > "$scratch/first" || exit 1
     printf '%-6s' "$mode"
     for each in 'sleep 2' 'load rate 100 200 64' 'load rate 2000 4000 64' 'load rate 20000 40000 64' 'load ping 40000 64 32'; do
         # shellcheck disable=SC2086
-        printf ' %21s' "$(under $each)"
+        times=$(under $each) || exit 1
+        printf ' %21s' "$times"
     done
     echo
     kill -INT "$driver"

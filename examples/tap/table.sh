@@ -14,6 +14,10 @@ built=${BUILT:-$scratch}
 [ -n "${BUILT:-}" ] || "$here/build.sh" "$built" || exit
 
 load() { inside timeout 60 "$built/load" "$@"; }
+failed() {
+    echo "tap: the load failed: $*" >&2
+    exit 1
+}
 
 # The processor time of the driver's threads, in ns.
 spent() { cat "/proc/$driver/task/"*/schedstat | awk '{ sum += $1 } END { printf "%.0f\n", sum }'; }
@@ -22,12 +26,15 @@ spent() { cat "/proc/$driver/task/"*/schedstat | awk '{ sum += $1 } END { printf
 flood() {
     local packets time
     packets=$(counter tx_packets) time=$(spent)
-    load udp 9 1 "$1" > "$scratch/flood"
+    load udp 9 1 "$1" > "$scratch/flood" || failed "udp 9 1 $1"
     packets=$(($(counter tx_packets) - packets)) time=$(($(spent) - time))
     echo "$packets $((time / (packets + 1)))"
 }
 
-pinged() { load "$@" | awk '{ for (i = 1; i < NF; i++) { if ($i == "p50_us") half = $(i + 1); if ($i == "p99_us") most = $(i + 1) } print half "/" most }'; }
+pinged() {
+    load "$@" > "$scratch/pinged" || failed "$*"
+    awk '{ for (i = 1; i < NF; i++) { if ($i == "p50_us") half = $(i + 1); if ($i == "p99_us") most = $(i + 1) } print half "/" most }' "$scratch/pinged"
+}
 
 row() {
     local name=$1
@@ -36,10 +43,12 @@ row() {
     driver=$!
     wait_for said on 1 || exit 1
     ip -n "$space" link set fq0 up
-    load ping 100 64 4 > "$scratch/first"
-    # shellcheck disable=SC2046
-    printf '%-12s %8s %6s %8s %6s %15s %15s %15s %15s\n' "$name" $(flood 64) $(flood 1400) "$(pinged rate 100 100 64)" "$(pinged rate 2000 2000 64)" \
-        "$(pinged rate 20000 20000 64)" "$(pinged ping 20000 64 32)"
+    load ping 100 64 4 > "$scratch/first" || failed 'ping 100 64 4'
+    local floods times
+    floods="$(flood 64) $(flood 1400)" && times="$(pinged rate 100 100 64) $(pinged rate 2000 2000 64)" &&
+        times+=" $(pinged rate 20000 20000 64) $(pinged ping 20000 64 32)" || exit 1
+    # shellcheck disable=SC2086
+    printf '%-12s %8s %6s %8s %6s %15s %15s %15s %15s\n' "$name" $floods $times
     kill -INT "$driver"
     wait "$driver"
 }

@@ -21,7 +21,10 @@ row() {
     shift 2
     # shellcheck disable=SC2207
     before=($(numbers "$what")) rx=$(counter tx_packets) tx=$(counter rx_packets)
-    load "$@" > "$scratch/load.out"
+    load "$@" > "$scratch/load.out" || {
+        echo "virtio: the load failed: $*" >&2
+        exit 1
+    }
     rx=$(($(counter tx_packets) - rx)) tx=$(($(counter rx_packets) - tx))
     # shellcheck disable=SC2207
     after=($(numbers "$what"))

@@ -1,6 +1,7 @@
 # examples/virtio/vm.sh, sourced: a virtual machine with a virtio card, whose other end is a TAP device in a namespace. Settings: BUILT, a
-# folder in which build.sh has built; CPUS, the number of processors (2); KERNEL, a folder that a Debian kernel package was unpacked
-# into (~/.cache/fintaqush/linux-image, or what is installed in /boot and /lib/modules).
+# folder in which build.sh has built; CPUS, the number of processors (2); KERNEL, a folder that Debian's kernel packages were unpacked
+# into (~/.cache/fintaqush/linux-image, or what is installed). The image is boot/vmlinuz-VERSION or, in Debian's newest packages,
+# usr/lib/modules/VERSION/vmlinuz.
 export PATH=$PATH:/sbin:/usr/sbin
 here=$(dirname "$(readlink -f "${BASH_SOURCE[0]}")")
 . "$here/../driver/driver.sh"
@@ -12,10 +13,11 @@ find_kernel() {
     local kernel kernels=(~/.cache/fintaqush/linux-image '')
     [ -z "${KERNEL:-}" ] || kernels=("$KERNEL")
     for kernel in "${kernels[@]}"; do
-        image=$(find "$kernel/boot" -name 'vmlinuz-*-amd64' 2> /dev/null | sort -V | tail -n 1)
-        version=${image##*/vmlinuz-}
-        for modules in "$kernel"{,/usr}/lib/modules/"$version"; do
-            [ -z "$image" ] || [ ! -d "$modules/kernel/drivers/vfio" ] || return 0
+        for modules in $(find "$kernel"{,/usr}/lib/modules -mindepth 1 -maxdepth 1 -name '*-amd64' 2> /dev/null | sort -V -r); do
+            version=${modules##*/}
+            for image in "$kernel/boot/vmlinuz-$version" "$modules/vmlinuz"; do
+                [ ! -f "$image" ] || [ ! -d "$modules/kernel/drivers/vfio" ] || return 0
+            done
         done
     done
     over linux-image "a Debian kernel with vfio (scripts/test-packages.sh --fetch)"
