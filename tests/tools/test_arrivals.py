@@ -179,7 +179,7 @@ class FromFtrace(Arrivals):
         """They arrive when the poll that took them began, or the interrupt before it."""
         wanted = ["0,1,60", "0,1,60", "8000,1,100", "99000,1,100"]
         rows, notes, said = self.made("from-ftrace", self.of_a_card())
-        self.assertEqual((rows, said), (wanted, "made.csv: 1 devices, 4 rows; 2 notes\n"))
+        self.assertEqual((rows, said.splitlines()[0]), (wanted, "made.csv: 1 devices, 4 rows; 2 notes in made.notes:"))
         self.assertEqual(notes[0], "device 1 is eth0, 4 packets")
         self.assertIn("is when the poll that took it began, or the interrupt that asked for this poll (napi_gro_receive_entry)", notes[1])
         rows, notes, _ = self.made("from-ftrace", self.of_a_card("napi_gro_receive_entry"))
