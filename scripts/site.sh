@@ -38,13 +38,20 @@ place_of() {
 # way_up PLACE: what leads from a page's folder to the top of the site.
 way_up() { printf '%s' "${1//[^\/]/}" | sed 's|/|../|g'; }
 
-# head_of PLACE: the style, and a line of links to all pages.
+# Each page's place and name, found once, since each page has links to all.
+declare -A places names
+for page in "${pages[@]}"; do
+    places[$page]=$(place_of "$page")
+    names[$page]=$(basename "${page%.md}" | sed "s|^README$|$(basename "$(dirname "$page")" | sed 's|^\.$|Fintaqush|')|")
+done
+
+# head_of PLACE: a line of links to all pages.
 head_of() {
     local up page
     up=$(way_up "$1")
     echo '<nav>'
     for page in "${pages[@]}"; do
-        echo "<a href=\"$up$(place_of "$page")\">$(basename "${page%.md}" | sed "s|^README$|$(basename "$(dirname "$page")" | sed 's|^\.$|Fintaqush|')|")</a>"
+        echo "<a href=\"$up${places[$page]}\">${names[$page]}</a>"
     done
     echo '</nav>'
 }
