@@ -282,8 +282,10 @@ def first_program(copy, path):
 
 
 def first_trace(copy, path):
-    """What is wrong with the trace and the report at the head of docs/FORMATS.md: they are an example's."""
-    trace, report = ["\n".join(block).strip() + "\n" for block in blocks(path.read_text())][:2]
+    """What is wrong with the first trace of docs/NAPI.md and its report: they are an example's."""
+    shown = ["\n".join(block).strip() + "\n" for block in blocks(path.read_text())]
+    place = next(at for at, block in enumerate(shown) if block.startswith("moment,"))
+    trace, report = shown[place : place + 2]
     if trace != (TOP / "examples/two-packets.csv").read_text() or copy.run("./replay examples/two-packets.csv").stdout != report:
         yield "its first trace and report aren't those of examples/two-packets.csv"
 

@@ -22,7 +22,10 @@ MADE = re.compile(r"(^|/)out(/|$)|include/linux/|crates/first|NAME|FOLDER|FILE|P
 # Crates that use the library's doors, beside those named for tests.
 USERS = ("bench_", "example_", "uses_")
 # Words in code that are others': the kernel's, a file format's, an instruction's, and what stands for a file.
-OUTSIDE = {"__do_softirq", "time_after", "softnet_stat", "virtio_net", "sysexits", "btr", "mb", "MACHINES"}
+OUTSIDE = {"__do_softirq", "time_after", "softnet_stat", "virtio_net", "sysexits", "btr", "mb", "MACHINES", "enqueue_to_backlog",
+           "rps_trigger_softirq", "nstat", "UdpRcvbufErrors", "no_std", "num_queued", "num_completed"}
+# The crates that may have unsafe code: those that export C functions.
+EXPORTING = {"c_handles", "napi_c", "replay_c"}
 
 
 def pages():
@@ -171,6 +174,27 @@ def crate_picture(picture):
         yield "it has no arrow"
 
 
+def assurance(page):
+    """What docs/ASSURANCE.md says of the sources: the lines of the definitions to read, within a tenth; that there is no axiom, unsafe code
+    only in what exports C functions, and no atomic operation but sequentially consistent ones."""
+    rows = re.findall(r"^\| (`crates/[^|]*\.antt`) \| (\d+) \|", page.read_text(), re.M)
+    for names_told, lines in rows:
+        files = [TOP / name for name in re.findall(r"`([^`]+)`", names_told)]
+        count = sum(len(path.read_text().splitlines()) for path in files if path.exists())
+        if abs(count - int(lines)) * 10 > int(lines):
+            yield f"{names_told} has {count} lines, and not {lines}"
+    if len(rows) < 10:
+        yield f"it lists {len(rows)} definitions with their lines"
+    for name in listed("crates/*.antt", "crates/*.rt"):
+        text = (TOP / name).read_text()
+        if name.endswith(".antt") and re.search(r"^\s*axiom\b|\bPrim\.Axiom\b|\bpostulate\b", text, re.M):
+            yield f"{name} has an axiom"
+        if name.endswith(".rt") and name.split("/")[1] not in EXPORTING and re.search(r"^(?!\s*//).*\bunsafe\b", text, re.M):
+            yield f"{name} has unsafe code"
+        if name.endswith(".rt") and re.search(r"\bOrdering::(Relaxed|Acquire|Release|AcqRel)\b", text):
+            yield f"{name} has an atomic operation that isn't sequentially consistent"
+
+
 def scripts_told(_page):
     """Each script says at its head what it does."""
     for name in listed("bench/*.sh", "examples/*.sh", "scripts/*.sh", "tests/*.sh"):
@@ -200,7 +224,7 @@ def commands(all_pages):
         for page in all_pages:
             yield page, page_commands.judge_page(copy, entries, page)
         yield page_commands.LIST, page_commands.judge_list(entries, wrong)
-        for check, name in ((page_commands.first_program, "crates/napi_model/README.md"), (page_commands.first_trace, "docs/FORMATS.md"),
+        for check, name in ((page_commands.first_program, "crates/napi_model/README.md"), (page_commands.first_trace, "docs/NAPI.md"),
                             (page_commands.first_edit, "docs/WORKING.md")):
             yield TOP / name, check(copy, TOP / name)
     finally:
@@ -215,7 +239,7 @@ def checks():
     for door in DOORS:
         yield TOP / "crates" / door / "README.md", door_page(TOP / "crates" / door / "README.md")
     yield TOP / "docs/C.md", claims.judge(TOP / "docs/C.md", ["napi_c", "c_handles", "replay_c"])
-    for check, name in ((lengths, "README.md"), (places, "docs/WORKING.md"), (scripts_told, "docs/WORKING.md"), (door_rules, "crates.txt"),
+    for check, name in ((lengths, "README.md"), (places, "docs/WORKING.md"), (scripts_told, "docs/WORKING.md"), (assurance, "docs/ASSURANCE.md"), (door_rules, "crates.txt"),
                         (crate_picture, "docs/pictures/crates.dot")):
         yield TOP / name, check(TOP / name)
     yield from site_pages.checks(pages())

@@ -45,6 +45,8 @@ of_no_call() {
 
 no_library_at_all() { echo text > libfintaqush.so.1 && FINTAQUSH_LIB=$scratch said_in_a_line 'file too short'; }
 
+limits() { python3 "$package/examples/limit.py" | diff - "$top/examples/c/limit.stdout"; }
+
 simulates() { [ "$(python3 "$package/examples/simulation.py" | awk '{ print $1 }' | xargs)" = '8 16 24 32' ]; }
 
 check 'installs' "$top/scripts/install.sh" --library --python "$prefix"
@@ -53,6 +55,7 @@ PYTHONPATH=$(dirname "$(find "$prefix" -name fintaqush -path '*-packages*')")
 export PYTHONPATH
 check 'its tests, as it is installed' tested
 check 'its example' simulates
+check 'the example limit, as in C' limits
 FINTAQUSH_LIB=$scratch/none check 'a library that is missing' said_in_a_line "$scratch/none/libfintaqush.so.1: cannot open"
 check 'one that has no call' of_no_call
 check 'one of another version' of_another_version

@@ -58,8 +58,8 @@ of() {
     (cd "$crate" && timeout 600 cargo "$command" --offline --locked --quiet "$@")
 }
 
-# compared COMMAND ..: it ends well, and prints what the same example in C prints.
-compared() { timeout 300 "$@" > "$scratch/printed" && diff "$scratch/printed" "$top/examples/c/threads.stdout"; }
+# compared COMMAND ..: it ends well, and prints what the example of the same name in C prints.
+compared() { timeout 300 "$@" > "$scratch/printed" && diff "$scratch/printed" "$top/examples/c/$(basename "$1").stdout"; }
 
 nothing_is_left() { files | diff "$scratch/before" -; }
 
@@ -70,6 +70,7 @@ asks_for_the_library() {
         { cat "$scratch/refusal"; false; }
 }
 
+check 'its docs without the library' env DOCS_RS=1 FINTAQUSH_LIB=none CARGO_TARGET_DIR="$scratch/docs" cargo doc --offline --locked --quiet --no-deps --manifest-path "$crate/Cargo.toml"
 check 'it builds' of build --all-targets
 check 'without the library it says what is missing' asks_for_the_library "$scratch/elsewhere"
 check 'the path of the library has to be whole' asks_for_the_library elsewhere
@@ -77,6 +78,7 @@ check 'its tests' of test --tests
 check 'its doc tests' of test --doc
 check 'its docs have no warnings' env RUSTDOCFLAGS=-Dwarnings cargo doc --offline --locked --quiet --no-deps --manifest-path "$crate/Cargo.toml"
 check 'the example threads' compared "$scratch/target/debug/examples/threads"
+check 'the example limit' compared "$scratch/target/debug/examples/limit"
 check 'it builds as a release' of build --release --example threads
 check 'the example threads as a release' compared "$scratch/target/release/examples/threads"
 

@@ -32,6 +32,8 @@ refuses scripts/test-packages.sh --list more
 refuses scripts/site.sh
 refuses scripts/site.sh a b
 refuses scripts/site.sh ''
+refuses scripts/release.sh
+refuses scripts/release.sh a b
 check 'a refused script makes nothing' [ ! -e "$scratch/traces" ]
 
 # ./test on a repository of five scripts: three skip something, and two of these say so in a way that doesn't count.

@@ -33,7 +33,8 @@ def site(script, pages):
         if ended.returncode != 0:
             yield f"status {ended.returncode}: {ended.stderr}"
             return
-        texts = {path: path.read_text() for path in made.rglob("*.html")}
+        # Those of docs/steps are no pages of the site's making.
+        texts = {path: path.read_text() for path in made.rglob("*.html") if path.parent.name != "steps"}
         if len(texts) != len(pages) + len(MANUALS):
             yield f"{len(texts)} pages, of {len(pages) + len(MANUALS)}"
         for page in pages:

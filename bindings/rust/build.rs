@@ -1,5 +1,5 @@
 //! Links `libfintaqush.a`: from the folder that FINTAQUSH_LIB names, or from where this repository
-//! builds it.
+//! builds it. With DOCS_RS set, as by docs.rs, nothing is linked, so `cargo doc` needs no library.
 use std::env;
 use std::path::{Path, PathBuf};
 use std::process;
@@ -8,6 +8,10 @@ const NAME: &str = "libfintaqush.a";
 
 fn main() {
     println!("cargo:rerun-if-env-changed=FINTAQUSH_LIB");
+    println!("cargo:rerun-if-env-changed=DOCS_RS");
+    if env::var_os("DOCS_RS").is_some() {
+        return;
+    }
     match archive() {
         Ok(archive) => link(&archive),
         Err(why) => {

@@ -5,12 +5,12 @@
 /* Whoever calls an instance bears a number; the controller's is named when it is made. */
 enum { INTERRUPT, POLLER, CONTROLLER };
 
-/* The card interrupts. The answer is whether the instance was handed to the poll list now. */
+/* The card interrupts. Returns whether the instance was handed to the poll list now. */
 static bool interrupt(struct fq_napi *napi) {
     return fq_napi_schedule(napi, INTERRUPT) == FQ_GRANTED && fq_napi_hand(napi, INTERRUPT, FQ_LIST) == FQ_OK;
 }
 
-/* The poller takes the instance from the list, polls the device, and completes. Where a request was missed meanwhile, it is granted
+/* The poller takes the instance from the list, polls the device, and completes. If a request was missed meanwhile, it is granted
  * the instance again and hands it to the list once more. */
 static uint32_t poll_once(struct fq_napi *napi) {
     uint32_t done = fq_napi_take(napi, POLLER, FQ_LIST);

@@ -1,0 +1,53 @@
+#!/usr/bin/env bash
+# scripts/release.sh FOLDER: makes what a release has: the Debian package; a tarball with libraries, headers, programs, tools, manual
+# pages and, if pandoc is installed, the HTML pages; the changelog's part; checksums of all of them. What isn't built yet is proved
+# and built first. The folder isn't there yet, or is empty. It is made beside itself and renamed at the end.
+# Exit status: 0 done; 64 no folder, or more arguments; 69 a program is missing; 70 a part couldn't be built; 73 it can't be written.
+set -euo pipefail
+unset CDPATH
+top=$(dirname "$(dirname "$(readlink -f "${BASH_SOURCE[0]}")")")
+
+stop() {
+    local status=$1
+    shift
+    echo "release.sh: $*" >&2
+    exit "$status"
+}
+
+[ "$#" = 1 ] && [ -n "$1" ] || stop 64 'usage: scripts/release.sh FOLDER'
+command -v dpkg-deb > /dev/null || stop 69 "there is no dpkg-deb, which makes the package"
+folder=$(realpath -m -- "$1")
+[ ! -e "$folder" ] || [ -d "$folder" ] || stop 73 "$folder is no folder"
+[ ! -d "$folder" ] || [ -z "$(ls -A -- "$folder")" ] || stop 73 "$folder isn't empty"
+mkdir -p -- "$(dirname -- "$folder")" 2> /dev/null || stop 73 "$(dirname -- "$folder") can't be made"
+new=$(mktemp -d -- "$folder.XXXXXX" 2> /dev/null) || stop 73 "nothing can be written beside $folder"
+scratch=$(mktemp -d)
+trap 'rm -rf -- "$new" "$scratch"' EXIT
+trap 'exit 130' INT
+trap 'exit 143' TERM
+
+version=$(sed -n 's/^#define FQ_VERSION "\([0-9.]*\)"$/\1/p' "$top/include/fintaqush.h")
+name=fintaqush-$version-$(uname -m)
+
+"$top/scripts/package.sh" "$new" || stop 70 "the package couldn't be made"
+echo 'release.sh: the package is made' >&2
+
+# The tarball: the same files below one folder, for /usr/local. Programs and tools find each other wherever it lies.
+DESTDIR=$scratch/stage "$top/scripts/install.sh" --python /usr/local > /dev/null || stop 70 "the files of the tarball couldn't be made"
+mv "$scratch/stage/usr/local" "$scratch/$name"
+if command -v pandoc > /dev/null; then
+    "$top/scripts/site.sh" "$scratch/$name/share/doc/fintaqush" || stop 70 "the HTML pages couldn't be made"
+else
+    echo 'release.sh: there is no pandoc, so the tarball has no HTML pages' >&2
+fi
+install -D -m 644 "$top/CHANGELOG.md" "$scratch/$name/CHANGELOG.md"
+chmod -R u=rwX,go=rX "$scratch/$name"
+tar -C "$scratch" --owner=0 --group=0 --sort=name -czf "$new/$name.tar.gz" "$name" || stop 73 "$name.tar.gz can't be written"
+echo 'release.sh: the tarball is made' >&2
+
+awk -v version="$version" '/^## / { on = index($2, version) == 1 } on' "$top/CHANGELOG.md" > "$new/CHANGES"
+[ -s "$new/CHANGES" ] || stop 70 "CHANGELOG.md has no part for $version"
+(cd "$new" && sha256sum -- * > "$scratch/sums" && mv "$scratch/sums" SHA256SUMS)
+chmod 755 "$new"
+[ ! -d "$folder" ] || rmdir -- "$folder"
+mv -- "$new" "$folder" || stop 73 "$folder can't be written"

@@ -1,0 +1,17 @@
+"""step_pages.py KEPT MADE: whether a page of docs/steps that is kept shows the rows and states of one that tools/steps made now. Its
+sentences may be in other words."""
+import json
+import re
+import sys
+
+
+def states(path):
+    with open(path, encoding="utf-8") as page:
+        steps = json.loads(re.search(r"^const steps = (.*);$", page.read(), re.M)[1])
+    return [{key: value for key, value in step.items() if key != "said"} for step in steps]
+
+
+if __name__ == "__main__":
+    kept, made = sys.argv[1:]
+    if states(kept) != states(made) or len(states(kept)) < 2:
+        sys.exit(f"step_pages.py: {made} shows other states than the page that is kept: make it again by its command in docs/NAPI.md")
