@@ -42,7 +42,7 @@ fetch_image() {
 
 # gives: each package, and what it gives to tests.
 gives() {
-    awk -F ' # ' '!/^#/ && NF == 2 { n = split($1, it, " "); for (i = 2; i <= n; i++) what[it[i]] = (it[i] in what ? what[it[i]] "; " : "") $2 }
+    awk -F ' # ' '!/^#/ && NF == 2 { n = split($1, it, " "); for (i = 2; i <= n; i++) { more = (it[i] in what) ? what[it[i]] "; " : ""; what[it[i]] = more $2 } }
         END { for (name in what) print name ": " what[name] }' "$top/tests/needs.txt" | sort
 }
 
