@@ -10,7 +10,7 @@ from dataclasses import dataclass
 
 import observed
 from machine_report import OPTIONS
-from receiving import BACKLOG
+from timeline import BACKLOG
 
 VETH_RING = 256  # of veth's driver, which ethtool doesn't report
 SOCKET = 65536  # packets: a socket's buffer isn't recorded in packets, so it holds all

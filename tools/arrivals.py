@@ -7,6 +7,7 @@ from itertools import islice
 from operator import le
 
 HEADER = "moment,device,bytes\n"
+HEADER_WITH_FLOWS = "moment,device,bytes,flow\n"
 SECOND = 10**9  # nanoseconds, which the time stamps here are
 MOST_DEVICES = 64 * 64  # 64 of each of 64 processors
 
@@ -47,13 +48,13 @@ def seconds(whole, fraction):
     return int(whole) * SECOND + int(fraction.ljust(9, "0"))
 
 
-def arrivals_text(rows, span=None):
-    """The lines of rows (time, device, size), of some of them where a span is given; the first one's moment is 0."""
-    yield HEADER
+def arrivals_text(rows, span=None, with_flows=False):
+    """The lines of rows (time, device, size), or (time, device, size, flow), of some of them if a span is given; the first one's moment is 0."""
+    yield HEADER_WITH_FLOWS if with_flows else HEADER
     start = None
-    for time, device, size in islice(rows, span[0] - 1, span[1]) if span else rows:
+    for time, *others in islice(rows, span[0] - 1, span[1]) if span else rows:
         start = time if start is None else start
-        yield f"{time - start},{device},{size}\n"
+        yield f"{time - start},{','.join(map(str, others))}\n"
 
 
 def number_of(rows, span):

@@ -8,6 +8,7 @@ from statistics import median
 
 FAR = 3  # standard deviations, as the median of the distances tells them
 WIDE = 1.96  # standard errors to each side
+NOTHING, LITTLE = 0.005, 0.05  # of how times differ: what a line explains that is useless, and useless if its slope may be 0
 FEWEST = 8  # of what is estimated
 
 
@@ -28,7 +29,7 @@ class Cost:
 
     def as_object(self):
         return {"value": round(self.value), "low": round(self.low), "high": round(self.high), "count": self.count,
-                "explained": self.explained, "half": [round(each) for each in self.middle] or None, "from": self.source}
+                "explained": self.explained, "half": [round(each) for each in self.middle] or None, "source": self.source}
 
 
 def cost_of(times, source, less=0):
@@ -74,7 +75,8 @@ class Line:
 
 
 def cost_line(points, known, source):
-    """The line over polls (packets, ns). It is a refusal if the mean of the times is as near to them as the line."""
+    """The line over polls (packets, ns). It is a refusal if the line explains nothing of how the times differ, or hardly anything with a slope whose
+    interval has 0 in it."""
     start, slope, kept = fitted(points, known)
     count, mean_x = len(kept), sum(x for x, _ in kept) / len(kept)
     mean_y = sum(y for _, y in kept) / count
@@ -83,9 +85,10 @@ def cost_line(points, known, source):
     explained = 1 - left / whole if whole else 1.0
     error = sqrt(left / max(1, count - 2))
     by_slope, by_start = WIDE * error / sqrt(spread), WIDE * error * sqrt(1 / count + mean_x * mean_x / spread)
-    if explained <= 0:
+    if explained < NOTHING or explained < LITTLE and slope <= by_slope:
         raise Refusal(f"what a packet costs isn't known: over {count} polls of {min(kept)[0]} to {max(kept)[0]} packets the time doesn't "
-                      "grow with them, so the line is worse than useless: record more varied traffic, on a processor that does nothing else")
+                      f"grow with them (the line explains {100 * max(0, explained):.0f} % of how the times differ): record more varied traffic, on a processor "
+                      "that does nothing else")
     off = median(abs(y - start - slope * x) / max(1, start + slope * x) for x, y in kept)
     poll = Cost(start, max(0, start - by_start), start + by_start, count, source, round(explained, 4))
     packet = Cost(slope, max(0, slope - by_slope), slope + by_slope, count, source, round(explained, 4))

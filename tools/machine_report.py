@@ -40,7 +40,17 @@ SHARES = ("interrupt", "poll", "use", "idle")
 PERCENTILES = {"p50": "wait50", "p99": "wait99", "p999": "wait999"}
 WAITS = [f"{end}_{name}" for end in ("delivered", "used") for name in PERCENTILES]
 TOTALS, COUNTS = ("arrived", "dropped", "refused", "used"), ("interrupts", "timers", "runs", "polls", "squeezed", "late")
-VALUES = [*TOTALS, *WAITS, *(f"{name}%" for name in SHARES), *COUNTS, "wakes", "queues_of_a_processor"]
+VALUES = [*TOTALS, *WAITS, *(f"{name}_percent" for name in SHARES), *COUNTS, "wakes", "queues_of_a_processor", "used_per_second"]
+# What each value is, for --help and pages.
+ARE = {"arrived": "packets that arrived", "dropped": "packets that found a ring full", "refused": "packets that found a socket full", "used": "packets that the application used",
+       **{f"{end}_{name}": f"the {per_cent}th percentile of waits from arrival to {what}, in ns, of the {of} where it is the greatest"
+          for end, what, of in (("delivered", "delivery by a poll", "device"), ("used", "the end of use", "processor"))
+          for name, per_cent in (("p50", "50"), ("p99", "99"), ("p999", "99.9"))},
+       **{f"{name}_percent": f"the share of all processors' time that {what}, in %" for name, what in
+          (("interrupt", "interrupts and timers take"), ("poll", "polls take"), ("use", "the application takes; of its own processors with --apart 1"), ("idle", "is idle"))},
+       "interrupts": "interrupts", "timers": "expired NAPI timers", "runs": "runs of the softirq", "polls": "polls", "squeezed": "runs that budget, window or time limit ended",
+       "late": "those of them that the time limit ended", "wakes": "how often the application was woken on its own processor",
+       "queues_of_a_processor": "the most queues with packets that one processor has", "used_per_second": "packets used in a second, up to the end of the last work"}
 
 
 def lines_of(report):
@@ -60,18 +70,25 @@ def lines_of(report):
 
 def values_of(report):
     """The values of a report that a row has. Waits are those of the device or processor where they are the greatest; shares are of all
-    processors' time, and `use%` is of the applications' time if these have processors of their own."""
+    processors' time, and `use_percent` is of the applications' time if these have processors of their own."""
     lines = lines_of(report)
     values = {name: lines["total"][0][name] for name in TOTALS}
     for end, kind in (("delivered", "device"), ("used", "processor")):
         values.update({f"{end}_{name}": max((line[wait] for line in lines[kind]), default=0) for name, wait in PERCENTILES.items()})
-    values.update({f"{name}%": share(lines["time"], name) for name in SHARES})
+    values.update({f"{name}_percent": share(lines["time"], name) for name in SHARES})
     if lines["application"]:
-        values["use%"] = share(lines["application"], "use")
+        values["use_percent"] = share(lines["application"], "use")
     values.update({name: sum(line[name] for line in lines["processor"]) for name in COUNTS})
     values["wakes"] = sum(line["wakes"] for line in lines["application"])
     processors = [(line["number"] - 1) % len(lines["processor"]) for line in lines["device"]]
-    return {**values, "queues_of_a_processor": max(map(processors.count, set(processors)), default=0)}
+    end = max(line["end"] for line in [*lines["time"], *lines["application"]])
+    return {**values, "queues_of_a_processor": max(map(processors.count, set(processors)), default=0),
+            "used_per_second": values["used"] * 10**9 // end if end else 0}
+
+
+def identifier(name):
+    """The name of an option or a value in JSON."""
+    return name.replace("-", "_")
 
 
 def share(lines, name):

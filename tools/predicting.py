@@ -23,7 +23,7 @@ def percentile(values, per_mille):
 def arrivals_at(seen, numbers=None, visible=False):
     """The arrivals of a recording, with those that were dropped: each packet at the device that its sender has among `numbers`. If `visible`, a
     packet that was sent on the processor that polls arrives when the next softirq begins there, because that softirq waits for the sender."""
-    numbers = numbers or {sender: 1 for sender in seen.senders}
+    numbers = numbers or {sender: 1 for sender in set(seen.sent_by)}
     times = visible_times(seen) if visible else seen.sent
     rows = sorted((time, place, numbers[sender]) for place, (time, sender) in enumerate(zip(times, seen.sent_by)))
     return "".join(arrivals_text((time, device, SIZE) for time, _, device in rows))

@@ -9,9 +9,9 @@ import re
 from array import array
 from collections import Counter, defaultdict
 
+from arriving import BY_PAIR, BY_POLL, BY_STACK, KINDS, PollBegins, packet_of
 from recording import NET_RX, POLLED, SENT, SOFTIRQ, is_by_thread
 
-BACKLOG = "(no_device)"  # as napi_poll names the instance of a processor's backlog
 TIMER = re.compile(r"hrtimer=\S+ function=(\w+)")
 SWITCH = re.compile(r"prev_comm=(.*) prev_pid=(\d{1,9}) prev_prio=(\d{1,3}) .*==> next_comm=(.*) next_pid=(\d{1,9}) ")
 KERNEL_TASKS = re.compile(r"swapper|ksoftirqd/|napi/|migration/|rcu|cpuhp/|idle_inject/")  # tasks that poll, or that take no time to speak of
@@ -27,10 +27,12 @@ def agree(pairs):
 
 
 class Receiving:
-    """What is seen of the instances that poll `polled`, with packets of the devices `senders`. Times are in ns."""
+    """What is seen of the instances that poll `polled`, with packets of the devices `senders`, or, if none is known, packets that `receivers` receive.
+    Times are in ns."""
 
-    def __init__(self, polled, senders):
+    def __init__(self, polled, senders, receivers=()):
         self.polled, self.senders, self.span = polled, senders, None
+        self.receivers, self.begins, self.received = set(receivers), PollBegins(), {BY_POLL: [], BY_STACK: []}
         self.sent, self.has_come = array("Q"), bytearray()  # when each packet was sent, and 1 unless it was dropped at a full ring
         self.sent_on, self.sent_by, self.sending = array("H"), [], set()  # the processor, the device and the tasks that sent it
         self.ended, self.begun, self.work, self.on, self.is_thread = array("Q"), array("Q"), array("L"), array("H"), bytearray()  # of each poll
@@ -42,8 +44,12 @@ class Receiving:
     def add(self, event):
         """Takes the next event of the recording."""
         self.span = (self.span[0] if self.span else event.time, event.time)
-        if event.name == "net_dev_xmit":
+        if self.receivers:
+            self.begins.look(event)
+        if event.name == BY_PAIR:
             self.add_packet(event)
+        elif event.name in KINDS:
+            self.add_received(event)
         elif event.name == "napi_poll":
             self.add_poll(event)
         elif event.name in ("softirq_entry", "softirq_exit") and int(event.parts(SOFTIRQ)[0]) == NET_RX:
@@ -68,6 +74,23 @@ class Receiving:
             self.sent_on.append(event.cpu)
             self.sent_by.append(sender)
             self.sending.add(event.task)
+
+    def add_received(self, event):
+        name, _, _ = packet_of(event)
+        if name in self.receivers:
+            self.received[KINDS[event.name]].append((self.begins.of(event), event.cpu, name))
+
+    def settle(self):
+        """Takes the packets that were received as arrivals, if none of another end is known. Returns by which events, or nothing."""
+        kind = next((kind for kind, packets in self.received.items() if packets), "")
+        if self.senders or not kind:
+            return ""
+        for time, cpu, name in sorted(self.received[kind]):
+            self.sent.append(time)
+            self.has_come.append(1)
+            self.sent_on.append(cpu)
+            self.sent_by.append(name)
+        return kind
 
     def add_poll(self, event):
         device, work, _ = event.parts(POLLED)
@@ -131,7 +154,7 @@ class Receiving:
         for ended, begun, work in zip(self.ended, self.begun, self.work):
             given += work
             if begun and work < FULL:
-                more = given - bisect.bisect_left(came, begun)
+                more = given - bisect.bisect_right(came, begun)
                 least = more if least is None else min(least, more)
         return max(0, least or 0)
 
@@ -162,13 +185,13 @@ class Receiving:
                 return [(time, max(time, read[1])) for read, (time, _) in zip(known, pairs)]
         return []
 
-    def other_tasks(self, known):
-        """The shares of the polling processor's time that tasks had which neither poll, nor send, nor are in `known`, process numbers: those
-        that can disturb. Beside tasks of real time only other ones of real time can."""
+    def other_tasks(self, known, processor=None):
+        """The shares of a processor's time, that of most polls if none is named, that tasks had which neither poll, nor send, nor are in `known`,
+        process numbers: those that can disturb. Beside tasks of real time only other ones of real time can."""
         if not self.span or self.span[1] == self.span[0]:
             return {}
         own, others = [], Counter()
-        for (name, process, priority), time in self.tasks.get(self.processor, {}).items():
+        for (name, process, priority), time in self.tasks.get(self.processor if processor is None else processor, {}).items():
             if process in known or re.match("ksoftirqd/|napi/", name):
                 own.append(priority)
             elif process and name not in self.sending and not KERNEL_TASKS.match(name):

@@ -14,6 +14,7 @@ EXPIRES = re.compile(r"hrtimer=(\S+) .*\bexpires=(\d{1,20})")
 EXPIRED = re.compile(r"hrtimer=(\S+) .*\bnow=(\d{1,20})")
 RETURNED = re.compile(r"0x([0-9a-f]{1,16})$")
 WATCHDOG = "napi_watchdog"
+BACKLOG = "(no_device)"  # as napi_poll names the instance of a processor's backlog
 TIMER = f"the timer of {WATCHDOG}"
 # Interrupts between processors, after which a softirq or a thread may begin; and all whose events have an entry and an exit.
 BETWEEN = {"call_function_single", "call_function", "reschedule", "ipi"}
@@ -127,15 +128,28 @@ class Reads:
             self.wakes.append(event.time - known[0][0])
 
 
+class Polls:
+    """The polls of a device."""
+
+    def __init__(self):
+        self.polls, self.by_threads, self.where = [], 0, Counter()  # packets and ns of each poll
+        self.handlers, self.without = defaultdict(list), 0  # the handlers that runs followed; how many runs followed none
+
+    def add(self, work, took, by_thread, cpu):
+        self.polls.append((work, took))
+        self.by_threads += by_thread
+        self.where[cpu] += 1
+
+
 class Timeline:
     """Adds up the times of a recording."""
 
-    def __init__(self, pairs=(), polled=(), irq=None):
-        self.irq, self.polled, self.senders = irq, set(polled), {sender for sender, _ in pairs}
+    def __init__(self, pairs=(), polled=(), irq=None, interrupts=()):
+        """`polled` are the devices whose polls count, `interrupts` the names of theirs, if these are known: no other card's asks for their polls."""
+        self.irq, self.polled, self.senders, self.interrupts = irq, set(polled), {sender for sender, _ in pairs}, set(interrupts)
         self.on = defaultdict(Processor)
         self.is_coarse, self.has_tasks, self.has_handlers = True, False, False
-        self.polls, self.strays, self.by_threads, self.where = [], 0, 0, Counter()  # packets and ns of each poll
-        self.handlers, self.without = defaultdict(list), 0  # the handlers that runs followed; how many runs followed none
+        self.of, self.strays = defaultdict(Polls), 0  # by device
         # By packets and by timers, of a processor that slept; and of one that had another task.
         self.wakes, self.busy_wakes = defaultdict(list), defaultdict(list)
         self.due = {}  # of each timer
@@ -181,8 +195,9 @@ class Timeline:
             processor.by_handlers.end(event.time)
             processor.above_tasks.end(event.time)
             if kind == "irq_handler" and name == self.irq:
-                self.handlers[name].append(event.time - began)
-            if kind == "irq_handler" or has_expired or name in BETWEEN:
+                self.of[""].handlers[name].append(event.time - began)
+            is_own = kind == "irq_handler" and (not self.interrupts or name in self.interrupts)
+            if is_own or has_expired or name in BETWEEN:
                 processor.ended = (TIMER if has_expired else name, event.time - began, event.time)
 
     def timer(self, processor, event):
@@ -260,21 +275,19 @@ class Timeline:
         if not self.polled or device in self.polled:
             self.strays += not began
             if began:
-                self.polls.append((work, mark[0] - began[0] - (mark[1] - began[1])))
-                self.by_threads += by_thread
-                self.where[event.cpu] += 1
+                self.of[device].add(work, mark[0] - began[0] - (mark[1] - began[1]), by_thread, event.cpu)
                 if processor.is_first:
-                    self.run_begins(processor, began[0], work, event.cpu)
+                    self.run_begins(processor, began[0], work, event.cpu, self.of[device])
             self.deliver(event.time, work, work < int(budget), began[0] if began else self.poll_end)
             self.poll_end, self.was_full = event.time, work >= int(budget)
         processor.is_first, processor.by, processor.due, processor.ended = False, None, None, None
 
-    def run_begins(self, processor, began, work, cpu):
+    def run_begins(self, processor, began, work, cpu, polls):
         """The first poll of a softirq or a thread: which handler asked for it, and how long it took from its cause to its beginning."""
         name, took, _ = processor.by or (None, 0, 0)
         if name is not None and not self.irq:
-            self.handlers[name].append(took)
-        self.without += name is None and not self.was_full
+            polls.handlers[name].append(took)
+        polls.without += name is None and not self.was_full
         if processor.due is not None:
             self.add_wake("timers", processor, processor.due, began - processor.due - took)
         elif work and self.waiting and self.poll_end <= self.waiting[0][0] <= began:
@@ -306,6 +319,21 @@ class Timeline:
             self.waiting.popleft()
             self.unmatched += 1
         self.reads.deliver(began, time, work)
+
+    def settle(self):
+        """Chooses the devices that count: those that were named, else all of them; a processor's backlog only if nothing else polls."""
+        names = sorted(name for name, polls in self.of.items() if polls.polls)
+        self.left_out = {BACKLOG: len(self.of[BACKLOG].polls)} if not self.polled and BACKLOG in names and len(names) > 1 else {}
+        self.devices = [name for name in names if name not in self.left_out]
+        chosen = [self.of[name] for name in ("", *self.devices) if name in self.of]
+        self.polls = [poll for each in chosen for poll in each.polls]
+        self.handlers = defaultdict(list)
+        for each in chosen:
+            for name, took in each.handlers.items():
+                self.handlers[name] += took
+        self.without, self.by_threads = sum(each.without for each in chosen), sum(each.by_threads for each in chosen)
+        self.where = sum((each.where for each in chosen), Counter())
+        return self
 
     def processor(self):
         """The processor that polls most, if any does."""

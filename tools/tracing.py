@@ -16,6 +16,7 @@ NET_RX = 3
 POLLS = ("napi/napi_poll", "irq/softirq_entry", "irq/softirq_exit")  # nothing is known without them
 FILTERS = {"irq/softirq_entry": f"vec == {NET_RX}", "irq/softirq_exit": f"vec == {NET_RX}",
            "timer/hrtimer_start": "function.function == napi_watchdog", "timer/hrtimer_expire_entry": "function.function == napi_watchdog"}
+RECEIVED = ("net/napi_gro_receive_entry", "net/napi_gro_frags_entry", "net/netif_receive_skb")
 READS = ("recvfrom", "recvmsg", "recvmmsg", "read", "readv")
 MARK = "fintaqush mark"
 MARKS = 16  # at the beginning, and at the end
@@ -124,8 +125,9 @@ class Instance:
             except OSError:
                 raise Refusal("--processors has one that this machine doesn't have") from None
 
-    def wanted(self, program):
-        """The events to record, of each its filter if there is one: those of all recordings, then a program's reads."""
+    def wanted(self, program, receivers=()):
+        """The events to record, of each its filter if there is one: those of all recordings, what devices without a known sender receive, then a
+        program's reads."""
         vectors = f"{self.path}/events/irq_vectors"
         names = os.listdir(vectors) if os.path.isdir(vectors) else []
         interrupts = [f"irq_vectors/{name}" for name in sorted(names) if name.endswith(("_entry", "_exit"))]
@@ -133,15 +135,16 @@ class Instance:
         events = [*POLLS, "net/net_dev_xmit", "irq/irq_handler_entry", "irq/irq_handler_exit", *interrupts, "sched/sched_switch",
                   "timer/hrtimer_start", "timer/hrtimer_expire_entry"]
         chosen = {name: FILTERS.get(name) for name in events}
+        chosen |= {name: " || ".join(f'name == "{each}"' for each in receivers) for name in RECEIVED if receivers}
         if program:
             for call in READS:
                 chosen[f"syscalls/sys_enter_{call}"], chosen[f"syscalls/sys_exit_{call}"] = program, f"({program}) && ret > 0"
         return chosen
 
-    def enable(self, program):
+    def enable(self, program, receivers=()):
         """Enables the events. Returns those that are recorded, and those that the kernel doesn't have."""
         recorded, missing = [], []
-        for name, only in self.wanted(program).items():
+        for name, only in self.wanted(program, receivers).items():
             if not self.has(f"events/{name}"):
                 missing.append(name)
                 continue

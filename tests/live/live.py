@@ -28,8 +28,9 @@ sys.path[:0] = [str(TOP / "tools"), str(HERE)]
 import toolbox  # noqa: E402
 import predicting  # noqa: E402
 import rig  # noqa: E402
-from receiving import BACKLOG, Receiving  # noqa: E402
+from receiving import Receiving  # noqa: E402
 from recording import check_lost, events_in  # noqa: E402
+from timeline import BACKLOG  # noqa: E402
 from rig import Setting, Traffic  # noqa: E402
 
 TIMES = 3  # that each setting is recorded
@@ -109,7 +110,7 @@ def costs_of(path):
     done = subprocess.run([sys.executable, "-BES", TOP / "tools" / "costs", path, "--json"], capture_output=True, text=True, check=False)
     if done.returncode:
         raise rig.Failed(done.stderr.strip() or "tools/costs failed")
-    return {name: cost["value"] for name, cost in json.loads(done.stdout)["costs"].items()}
+    return {name.replace("_", "-"): cost["value"] for name, cost in json.loads(done.stdout)["costs"].items()}
 
 
 class Recordings:

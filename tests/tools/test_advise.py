@@ -102,24 +102,43 @@ class Advise(InFolder):
     def test_less_processor_time(self):
         """With a timer of 500 us bursts 400 us apart share some polls, and no interrupt is left but the first."""
         told = self.object(file_of(quiet()), "--goal", "cpu")
-        self.assertEqual({name: told["advised"]["options"][name] for name in ("threaded", "defer-hard-irqs", "gro-flush-timeout")},
-                         {"threaded": 0, "defer-hard-irqs": 2, "gro-flush-timeout": 500000})
+        self.assertEqual({name: told["advised"]["options"][name] for name in ("threaded", "defer_hard_irqs", "gro_flush_timeout")},
+                         {"threaded": 0, "defer_hard_irqs": 2, "gro_flush_timeout": 500000})
         self.assertEqual(told["set"], ["ip netns exec receiver sh -c 'echo 2 > /sys/class/net/vb1/napi_defer_hard_irqs'",
                                        "ip netns exec receiver sh -c 'echo 500000 > /sys/class/net/vb1/gro_flush_timeout'"])
         self.assertEqual(told["advised"]["values"]["interrupts"], 1)
-        self.assertLess(told["advised"]["values"]["kernel%"], told["now"]["kernel%"])
-        cheap, dear = told["advised"]["costs_80"]["kernel%"], told["advised"]["costs_120"]["kernel%"]
-        self.assertLess(cheap, told["advised"]["values"]["kernel%"])
-        self.assertGreater(dear, told["advised"]["values"]["kernel%"])
+        self.assertLess(told["advised"]["values"]["kernel_percent"], told["now"]["kernel_percent"])
+        cheap, dear = told["advised"]["costs_80"]["kernel_percent"], told["advised"]["costs_120"]["kernel_percent"]
+        self.assertLess(cheap, told["advised"]["values"]["kernel_percent"])
+        self.assertGreater(dear, told["advised"]["values"]["kernel_percent"])
         limited = self.object(file_of(quiet()), "--goal", "cpu", "--p99-below", "200")
         self.assertLess(limited["advised"]["costs_120"]["used_p99"], 200_000)
-        self.assertEqual(limited["advised"]["options"]["gro-flush-timeout"] in (0, 100000, 50000, 20000), True)
+        self.assertEqual(limited["advised"]["options"]["gro_flush_timeout"] in (0, 100000, 50000, 20000), True)
 
     def test_a_program_on_the_processor_that_polls(self):
         """It is advised to go elsewhere; the waits are those to the end of use."""
         done = self.advised(file_of(quiet(reader=timing.POLLER)), "--goal", "p50")
         self.assertIn("wait to the end of use, p50, us", done.stdout)
         self.assertIn("  for task in $(pgrep -x 'server'); do taskset -apc 0 $task; done\n", done.stdout)
+
+    def test_a_card(self):
+        """Without a sender the packets that polls take arrive when the interrupt came: the waits of test_the_recorded_setting without waking, 3300 ns."""
+        lines = []
+        for line in quiet().text().splitlines(True):
+            found = re.search(r" (\d+)\.(\d{9}): napi_poll: .* work (\d+) ", line)
+            for place in range(int(found[3]) if found else 0):
+                time = int(found[1]) * 10**9 + int(found[2]) - (int(found[3]) - place) * 410
+                lines.append(f"{'<idle>-0'.rjust(20)} [003] ..s1. {time // 10**9}.{time % 10**9:09}: napi_gro_receive_entry: dev=vb1 napi_id=0x1 queue_mapping=1 skbaddr=0 "
+                             "vlan_tagged=0 vlan_proto=0x0000 vlan_tci=0x0000 protocol=0x0800 ip_summed=0 hash=0x00000000 l4_hash=0 len=46 data_len=0 truesize=832 "
+                             "mac_header_valid=1 mac_header=-14 nr_frags=0 gso_size=0 gso_type=0x0\n")
+            lines += [] if "net_dev_xmit" in line else [line]
+        told = self.object(file_of("".join(lines), sender="", pair=""))
+        values = {row["name"]: (row["measured"], row["predicted"]) for row in told["check"]}
+        self.assertEqual((values["polls"], values["runs"], told["packets"]), ((80, 80), (80, 80), 800))
+        self.assertEqual((values["delivered_p99"], values["delivered_p50"]), ((10450, 10448), (6350, 6344)))
+        self.assertTrue(any(note.startswith("arrivals are when polls took the packets (napi_gro_receive_entry)") for note in told["notes"]), told["notes"])
+        nothing = self.advised(file_of("".join(line for line in lines if "gro" not in line), sender="", pair=""), status=1)
+        self.assertIn("no arrival is in it", nothing.stderr)
 
     def test_drops(self):
         """Of 100 and 60 packets at once a backlog of 50 drops 50 and 10, of 99 one and none, and one of 197 none. The kernel takes one more packet
@@ -153,6 +172,15 @@ class Advise(InFolder):
         self.assertEqual((list(told["other_tasks"]), 0.2 < told["other_tasks"]["cc1"] < 0.3), (["cc1"], True))
         self.assertIn("other tasks used processor 3 too (cc1 24 %): the prediction needs a processor of its own", self.advised(file_of(made)).stdout)
         self.assertEqual(self.object(file_of(quiet()))["other_tasks"], {})
+
+    def test_other_tasks_beside_the_program(self):
+        """Which reads on a processor of its own: 10 of 42 ms there."""
+        made = quiet()
+        made.switch(made.time, made.reader, "swapper/9-0", "cc1-77")
+        made.switch(made.time + 10**7, made.reader, "cc1-77", "swapper/9-0")
+        told = self.object(file_of(made))
+        self.assertEqual((told["other_tasks"], list(told["other_tasks_of_program"]), 0.2 < told["other_tasks_of_program"]["cc1"] < 0.3), ({}, ["cc1"], True))
+        self.assertIn("other tasks used processor 5, on which the program reads, too (cc1 24 %): the prediction needs", self.advised(file_of(made)).stdout)
 
     def test_what_is_set_and_not_modelled(self):
         told = self.object(file_of(quiet(), **{"sysctl.net.core.busy_read": 50, "device.vb1.ethtool.coalesce.adaptive-rx": "on", "udp.RcvbufErrors": "3 10",

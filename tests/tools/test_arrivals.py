@@ -80,6 +80,29 @@ class FromPcap(Arrivals):
                                cwd=self.folder, capture_output=True, text=True, check=False)
         self.assertEqual((piped.stderr, (self.folder / "piped.csv").read_text()), ("", (self.folder / "made.csv").read_text()))
 
+    def test_flows(self):
+        """Packets of the same addresses and ports have the same number, others another one; what has neither, as ARP, has 0."""
+        ends = ("10.0.0.1.5000 > 10.0.0.2.9: UDP, length 18", "10.0.0.1.5001 > 10.0.0.2.9: UDP, length 18", "10.0.0.1.5000 > 10.0.0.2.9: UDP, length 19",
+                "Request who-has 10.0.0.2 tell 10.0.0.1, length 46", "vlan 5, p 0, ethertype IPv4 (0x0800), 10.0.0.1.5001 > 10.0.0.2.9: UDP, length 18",
+                "fe80::1.7 > fe80::2.9: UDP, length 3")
+        text = "".join(f"100.00000{place} eth0  In  ifindex 2 02:00:00:00:00:01 ethertype IPv4 (0x0800), length 60: {each}\n" for place, each in enumerate(ends))
+        self.write("recorded", text)
+        done = run("from-pcap", "recorded", "made", "--arrivals", "--flows", folder=self.folder)
+        self.assertEqual((done.stderr, done.returncode), ("", 0))
+        first, *rows = (self.folder / "made.csv").read_text().splitlines()
+        flows = [row.split(",")[3] for row in rows]
+        self.assertEqual((first, flows[0], flows[1], flows[3]), ("moment,device,bytes,flow", flows[2], flows[4], "0"))
+        self.assertEqual(len({flows[0], flows[1], flows[3], flows[5]}), 4)
+        # Of the definition of CRC-32 (IEEE 802.3), by its polynomial.
+        crc = 0xFFFFFFFF
+        for byte in b"10.0.0.1.5000 > 10.0.0.2.9":
+            crc ^= byte
+            for _ in range(8):
+                crc = crc >> 1 ^ (0xEDB88320 if crc & 1 else 0)
+        self.assertEqual(flows[0], str(crc ^ 0xFFFFFFFF))
+        self.taken((self.folder / "made.csv").read_text(), "--queues", "2")
+        self.assertEqual(run("from-pcap", "recorded", "none", "--flows", folder=self.folder).returncode, 2)
+
     def test_more_packets_than_a_trace_has(self):
         line = "{}.{:06} eth0  In  ifindex 2 02:00:00:00:00:01 ethertype IPv4 (0x0800), length 60: UDP\n"
         rows, _, said = self.made("from-pcap", "".join(line.format(100 + place // 10**6, place % 10**6) for place in range(120000)))
@@ -125,6 +148,81 @@ class FromFtrace(Arrivals):
         self.assertEqual(sum(int(after) - int(before) for before, after in map(str.split, softnet.values())), 3)
         rows, _, _ = self.made("from-ftrace", gzip.compress(text.encode()))
         self.assertEqual(len(rows), 121)
+
+    # A card's polls on Linux 6.18, by the kernel's formats of these events: an interrupt at 1 us, a run with two polls of two packets and of one; without
+    # an interrupt a run with one packet, 10 us later. A packet is received without the 14 bytes of its link header.
+    POLLS = (("d.h1.", 1000, "irq_handler_entry: irq=38 name=virtio2-input.0"), ("d.h1.", 3000, "irq_handler_exit: irq=38 ret=handled"),
+             ("..s1.", 4000, "softirq_entry: vec=3 [action=NET_RX]"), ("..s1.", 5000, (46, 10)), ("..s1.", 6000, (46, 7)),
+             ("..s1.", 9000, "napi_poll: napi poll on napi struct 0 for device eth0 work 2 budget 2"), ("..s1.", 10_000, (86, 10)),
+             ("..s1.", 11_000, "napi_poll: napi poll on napi struct 0 for device eth0 work 1 budget 2"), ("..s1.", 12_000, "softirq_exit: vec=3 [action=NET_RX]"),
+             ("..s1.", 100_000, "softirq_entry: vec=3 [action=NET_RX]"), ("..s1.", 101_000, (86, 0)),
+             ("..s1.", 102_000, "napi_poll: napi poll on napi struct 0 for device eth0 work 1 budget 2"), ("..s1.", 103_000, "softirq_exit: vec=3 [action=NET_RX]"))
+
+    @staticmethod
+    def received(size, flow):
+        """The two events of a packet that a poll takes."""
+        return (f"napi_gro_receive_entry: dev=eth0 napi_id=0x103 queue_mapping=1 skbaddr=0 vlan_tagged=0 vlan_proto=0x0000 vlan_tci=0x0000 protocol=0x0800 "
+                f"ip_summed=0 hash=0x{flow:08x} l4_hash=0 len={size} data_len=0 truesize=832 mac_header_valid=1 mac_header=-14 nr_frags=0 gso_size=0 gso_type=0x0",
+                f"netif_receive_skb: dev=eth0 skbaddr=0 len={size}")
+
+    def of_a_card(self, *without):
+        """What was recorded of a card, without some events."""
+        lines = []
+        for flags, time, said in self.POLLS:
+            for place, each in enumerate(self.received(*said) if isinstance(said, tuple) else [said]):
+                if each.split(":")[0] not in without:
+                    lines.append(f"          <idle>-0       [001] {flags}     5.{time + place:09}: {each}\n")
+        return "".join(lines)
+
+    def test_packets_that_a_card_received(self):
+        """They arrive when the poll that took them began, or the interrupt before it."""
+        wanted = ["0,1,60", "0,1,60", "8000,1,100", "99000,1,100"]
+        rows, notes, said = self.made("from-ftrace", self.of_a_card())
+        self.assertEqual((rows, said), (wanted, "made.csv: 1 devices, 4 rows; 2 notes\n"))
+        self.assertEqual(notes[0], "device 1 is eth0, 4 packets")
+        self.assertIn("is when the poll that took it began, or the interrupt that asked for this poll (napi_gro_receive_entry)", notes[1])
+        rows, notes, _ = self.made("from-ftrace", self.of_a_card("napi_gro_receive_entry"))
+        self.assertEqual(rows, wanted)
+        self.assertIn("(netif_receive_skb): GRO may have merged", notes[1])
+        self.assertEqual(self.made("from-ftrace", self.of_a_card(), "--device", "eth0")[0], wanted)
+        # Without the softirqs and the interrupts a packet's own time is all that is known.
+        alone = self.of_a_card("softirq_entry", "softirq_exit", "irq_handler_entry", "irq_handler_exit", "napi_poll", "netif_receive_skb")
+        self.assertEqual(self.made("from-ftrace", alone)[0], ["0,1,60", "1000,1,60", "5000,1,100", "96000,1,100"])
+
+    def test_flows_of_a_card(self):
+        """A flow is the hash, by which the machine chooses of two queues: of 10, 7, 10 and 0 the second one has one packet."""
+        for end in ("csv", "notes"):
+            (self.folder / f"made.{end}").unlink(missing_ok=True)
+        self.write("recorded", self.of_a_card())
+        done = run("from-ftrace", "recorded", "made", "--arrivals", "--flows", folder=self.folder)
+        self.assertEqual((done.stderr, done.returncode), ("", 0))
+        text = (self.folder / "made.csv").read_text()
+        self.assertEqual(text, "moment,device,bytes,flow\n0,1,60,10\n0,1,60,7\n8000,1,100,10\n99000,1,100,0\n")
+        self.assertIn("packets without a hash, which are of flow 0: 1\n", (self.folder / "made.notes").read_text())
+        report = self.taken(text, "--queues", "2")
+        self.assertEqual(re.findall(r"^device (\d) arrived (\d)", report, re.M), [("1", "3"), ("2", "1")])
+        without = run("from-ftrace", "-", self.folder / "none", "--arrivals", "--flows", text=self.of_a_card("napi_gro_receive_entry"))
+        self.assertEqual((without.returncode, without.stderr), (1, "from-ftrace: -: --flows: only the event napi_gro_receive_entry has the hash of a packet's "
+                                                                "flow; of a capture fintaqush from-pcap computes it\n"))
+        self.assertEqual(run("from-ftrace", "-", self.folder / "none", "--flows", text="").returncode, 2)
+
+    def test_a_trace_of_a_card(self):
+        """Each poll has the packets that it took: three in the first run, one in the second."""
+        self.write("recorded", self.of_a_card())
+        done = run("from-ftrace", "recorded", "made", "--unit", "us", folder=self.folder)
+        self.assertEqual((done.stderr, done.returncode), ("", 0))
+        self.assertEqual((self.folder / "made.csv").read_text().splitlines()[1:], ["0,1,open,256", "4,1,rx,60", "5,1,rx,60", "9,1,rx,100", "10,0,softirq,0",
+                                                                                   "100,1,rx,100", "101,0,softirq,0"])
+        self.assertEqual((self.folder / "made.work").read_text(), "polls 2 work 3\npolls 1 work 1\n")
+        for without, why in ((("napi_gro_receive_entry", "netif_receive_skb"), "there is no packet in it: record the event net/net_dev_xmit"),
+                             (("softirq_entry", "napi_poll"), "nothing polls in it")):
+            done = run("from-ftrace", "-", self.folder / "none", text=self.of_a_card(*without))
+            self.assertEqual((done.returncode, done.stdout, done.stderr.count("\n"), self.names()), (1, "", 1, ["made.csv", "made.notes", "made.work", "recorded"]))
+            self.assertIn(why, done.stderr)
+        done = run("from-ftrace", "-", self.folder / "none", "--pair", "peer:eth0", text=self.of_a_card("napi_gro_receive_entry", "netif_receive_skb"))
+        self.assertEqual((done.returncode, done.stderr.count("\n")), (1, 1))
+        done = run("from-ftrace", "-", self.folder / "none", "--device", "eth7", text=self.of_a_card())
+        self.assertEqual(done.stderr, "from-ftrace: -: no packet of eth7 is received in it; those that receive are: eth0\n")
 
     def test_recordings_that_it_refuses(self):
         """By one line each, and nothing is written."""
@@ -199,6 +297,18 @@ class Traffic(Arrivals):
         self.assertEqual({device for _, device, _ in rows}, set(range(1, 4097)))
         self.assertEqual({size for _, _, size in rows}, {60, 61})
         self.assertEqual(rows[0][0], 0)
+
+    def test_flows(self):
+        """The other columns are what they were; of 8 flows each queue of 4 has about a fourth of 4000 packets, within six deviations of 27."""
+        words = ["--kind", "poisson", "--rate", "4000"]
+        plain = self.rows(*words)
+        done = run("traffic", "--arrivals", *words, "--flows", "8")
+        first, *rows = done.stdout.splitlines()
+        rows = [tuple(map(int, row.split(","))) for row in rows]
+        self.assertEqual((first, [row[:3] for row in rows], {row[3] for row in rows}), ("moment,device,bytes,flow", plain, set(range(8))))
+        counts = [int(each) for each in re.findall(r"^device \d arrived (\d+)", self.taken(done.stdout, "--queues", "4"), re.M)]
+        self.assertTrue(len(counts) == 4 and all(abs(each - len(rows) / 4) < 165 for each in counts), counts)
+        self.assertEqual(run("traffic", "--flows", "8").returncode, 2)
 
     def test_the_seed_decides(self):
         words = ["--kind", "poisson", "--devices", "3", "--seed"]

@@ -6,6 +6,7 @@ import runpy
 import select
 import shutil
 import signal
+import socket
 import subprocess
 import sys
 import time
@@ -222,6 +223,28 @@ class Recorded(InFolder):
         now = time.monotonic_ns()
         self.assertTrue(all(now - 120 * 10**9 < at < now for _, at in times))
         self.assertTrue(2.5e9 < max(times, key=lambda each: each[1])[1] - min(times, key=lambda each: each[1])[1] < 30e9)
+
+    def test_a_device_without_a_pair(self):
+        """Of the loopback device, as of a card, it records the packets that are received: at least those that are sent here. They are arrivals."""
+        process = subprocess.Popen([sys.executable, "-BES", TOP / "tools/record", "2", "--device", "lo", "--out", "made"], stdout=subprocess.PIPE,
+                                   stderr=subprocess.PIPE, text=True, cwd=self.folder)
+        self.addCleanup(process.communicate)
+        self.addCleanup(process.kill)
+        self.assertEqual(process.stderr.readline(), "record: recording for 2 s\n")
+        with socket.socket(socket.AF_INET, socket.SOCK_DGRAM) as end, socket.socket(socket.AF_INET, socket.SOCK_DGRAM) as out:
+            end.bind(("127.0.0.1", 0))
+            for _ in range(60):
+                out.sendto(b"x" * 777, end.getsockname())
+        told, said = process.communicate(timeout=120)
+        self.assertEqual((process.returncode, said), (0, "record: its arrivals are when polls took the packets, because no device that sends to it is known, as of a "
+                                                         "veth pair: waits in a card's ring before the interrupt aren't in it\n"))
+        head, body = self.head()
+        self.assertEqual(int(head["received.lo"]), len(re.findall(r" netif_receive_skb: dev=lo ", body)))
+        self.assertIn(f"; {head['received.lo']} packets that lo received\n", told)
+        done = run("from-ftrace", "made", "arrivals", "--arrivals", folder=self.folder)
+        self.assertEqual((done.stderr, done.returncode), ("", 0))
+        # 777 bytes of data, 8 of UDP, 20 of IPv4 and 14 of Ethernet.
+        self.assertEqual((self.folder / "arrivals.csv").read_text().count(",1,819\n"), 60)
 
     def test_an_end_by_a_signal(self):
         for number in (signal.SIGINT, signal.SIGTERM, signal.SIGHUP):

@@ -124,6 +124,7 @@ CPU:1 [7 EVENTS DROPPED]
 
     def test_a_change_between_thread_and_softirq_is_refused(self):
         self.assertIn("vb1: polled by a thread and in softirqs", self.refused("""
+   python3-7     [000] b....  5.000900: net_dev_xmit: dev=va1 skbaddr=0 len=60 rc=0
    napi/vb1-8-9  [001] b....  5.001000: napi_poll: napi poll on napi struct 0 for device vb1 work 1 budget 64
    napi/vb1-8-9  [001] ..s1.  5.000005: softirq_entry: vec=3 [action=NET_RX]
    napi/vb1-8-9  [001] ..s1.  5.002000: napi_poll: napi poll on napi struct 0 for device vb1 work 3 budget 64
@@ -196,7 +197,10 @@ CPU:1 [7 EVENTS DROPPED]
         self.assertEqual(done.returncode, 0)
         self.assertIn("row 67: work 48, the kernel 42: noted\nrow 68: work 0, the kernel 6: carries on the difference of row 67",
                       done.stdout)
-        self.assertTrue(done.stdout.endswith("6 other rows are accounted for by notes: as the kernel\n"))
+        rows = len((self.folder / "made.work").read_text().splitlines())
+        self.assertTrue(done.stdout.endswith(f"; {rows - 6} rows agree, 0 differ, 6 others are accounted for by notes: as the kernel\n"), done.stdout)
+        few = run("compare-recording", self.folder / "made", "--lines", "2").stdout.splitlines()
+        self.assertEqual((len(few), few[2]), (4, "and 4 more rows accounted for by notes: --lines 6 prints them"))
         notes = (self.folder / "made.notes").read_text()
         self.assertIn("rows behind it carry the difference on", notes)
         self.write("made.notes", "".join(line for line in notes.splitlines(True) if not line.startswith("row 138:")))
@@ -206,8 +210,22 @@ CPU:1 [7 EVENTS DROPPED]
         self.write("made.work", "polls 1\n")
         self.assertIn(".work: line 1 isn't as", run("compare-recording", self.folder / "made").stderr)
         done = run("compare-recording", TOP / "examples/linux-veth-small-budget", "--budget", "64")
-        self.assertEqual((done.returncode, done.stdout), (0, "544 rows, 15647 packets; the kernel 15647; 0 other rows are accounted "
-                                                          "for by notes: as the kernel\n"))
+        self.assertEqual((done.returncode, done.stdout), (0, "544 rows, 15647 packets; the kernel 15647; 544 rows agree, 0 differ, "
+                                                          "0 others are accounted for by notes: as the kernel\n"))
+
+    def test_a_replay_that_is_other_than_the_kernel(self):
+        """One packet comes before each of 30 runs, and the kernel polled two, 30 times; of those lines ten are printed, and a line counts them."""
+        self.write("made.csv", HEADER + "0,1,open,256\n" + "".join(f"{place},1,rx,60\n{place},0,softirq,0\n" for place in range(30)))
+        self.write("made.work", "polls 1 work 2\n" * 30)
+        done = run("compare-recording", self.folder / "made")
+        lines = done.stdout.splitlines()
+        self.assertEqual((done.returncode, len(lines), lines[0], lines[10]), (1, 12, "row 3: work 1, the kernel 2: OTHER THAN THE KERNEL",
+                                                                            "and 20 more rows without a reason: --lines 30 prints them"))
+        self.assertEqual(lines[11], "30 rows, 30 packets; the kernel 60; 0 rows agree, 30 differ, 0 others are accounted for by notes: other than the kernel")
+        self.write("made.csv", HEADER + "0,1,open,256\n" + "0,0,softirq,0\n" * 30)
+        done = run("compare-recording", self.folder / "made")
+        self.assertEqual((done.returncode, done.stdout, done.stderr.count("\n")), (1, "", 1))
+        self.assertIn("made.csv: no packet arrives in it, so there is nothing to compare", done.stderr)
 
 
 class FromPcap(InFolder):

@@ -4,8 +4,11 @@ import csv
 import io
 import json
 import os
+import re
+import subprocess
 import sys
 import unittest
+from fractions import Fraction
 
 from tooltest import HAS_MACHINE, MACHINE, TOP, InFolder, run, skip_without
 
@@ -36,12 +39,13 @@ class WhatIf(InFolder):
         told = {name: of["total"][0][name] for name in ("arrived", "dropped", "refused", "used")}
         for end, kind in (("delivered", "device"), ("used", "processor")):
             told.update({f"{end}_{name}": max(line[wait] for line in of[kind]) for name, wait in (("p50", "wait50"), ("p99", "wait99"), ("p999", "wait999"))})
-        told.update({f"{name}%": f"{100 * sum(line[name] for line in of['time']) / sum(line['end'] for line in of['time']):.2f}"
+        told.update({f"{name}_percent": f"{100 * sum(line[name] for line in of['time']) / sum(line['end'] for line in of['time']):.2f}"
                      for name in ("interrupt", "poll", "use", "idle")})
         if of["application"]:
-            told["use%"] = f"{100 * sum(line['use'] for line in of['application']) / sum(line['end'] for line in of['application']):.2f}"
+            told["use_percent"] = f"{100 * sum(line['use'] for line in of['application']) / sum(line['end'] for line in of['application']):.2f}"
         told.update({name: sum(line[name] for line in of["processor"]) for name in ("interrupts", "timers", "runs", "polls", "squeezed", "late")})
         queues = [(line["device"] - 1) % len(of["processor"]) for line in of["device"]]
+        told["used_per_second"] = told["used"] * 10**9 // max(line["end"] for line in of["time"] + of["application"])
         return {**{name: str(value) for name, value in told.items()}, "wakes": str(sum(line["wakes"] for line in of["application"])),
                 "queues_of_a_processor": str(max(map(queues.count, queues)))}
 
@@ -57,8 +61,8 @@ class WhatIf(InFolder):
         """One packet: its interrupt takes 10 ns, its poll 5 and 3, its use 2; of these 20 ns half are the interrupt's."""
         self.arrivals.write_text(HEADER + "0,1,60\n")
         row, = self.rows("--interrupt", "10", "--poll", "5", "--packet", "3", "--use", "2")
-        self.assertEqual([row[name] for name in ("arrived", "used", "delivered_p50", "used_p999", "interrupt%", "poll%", "use%", "idle%", "runs")],
-                         ["1", "1", "18", "20", "50.00", "40.00", "10.00", "0.00", "1"])
+        self.assertEqual([row[name] for name in ("arrived", "used", "delivered_p50", "used_p999", "interrupt_percent", "poll_percent", "use_percent", "idle_percent", "runs",
+                                                    "used_per_second")], ["1", "1", "18", "20", "50.00", "40.00", "10.00", "0.00", "1", "50000000"])
 
     def test_each_option(self):
         """Every option of the machine is a dimension; the rows are those of the plain model."""
@@ -133,7 +137,127 @@ class WhatIf(InFolder):
         told = list(map(json.loads, done.stdout.splitlines()))
         self.assertEqual([(row["budget"], row["load"], row["weight"], row["fault"], row["arrivals"]) for row in told],
                          [(1, 0.5, 64, None, str(self.arrivals)), (2, 0.5, 64, None, str(self.arrivals))])
-        self.assertEqual((told[0]["arrived"], isinstance(told[0]["use%"], float)), (300, True))
+        self.assertEqual((told[0]["arrived"], isinstance(told[0]["use_percent"], float)), (300, True))
+
+    def test_json_keys_are_identifiers(self):
+        """Also those of made traffic and of a load that is searched; each object has the version of its form."""
+        for words in ([self.arrivals], [self.arrivals, "--until", "drops", "--ring", "8"], ["--traffic", "--rate 1000", "--seeds", "2"]):
+            done = run("what-if", "--without-parallel", "--json", *words)
+            self.assertEqual(done.returncode, 0, done.stderr)
+            told = json.loads(done.stdout)
+            self.assertEqual((told["version"], [name for name in told if not name.isidentifier()]), (1, []))
+            self.assertEqual((told["gro_flush_timeout"], told["app_wake"]), (0, 0))
+
+    def test_columns_are_explained(self):
+        """By --help, each of those that a row has."""
+        text = run("what-if", "--help").stdout
+        row, = self.rows()
+        for name in row:
+            self.assertIn(f"\n    {name}: ", text)
+
+    def table(self, *words):
+        return run("what-if", self.arrivals, "--without-parallel", "--table", *words).stdout.splitlines()
+
+    def test_the_table(self):
+        """One packet, whose interrupt takes 10 or 20 us, its poll 5 and 3, its use 2: it is delivered after 18 or 28 us and used after 20 or 30, of which the
+        interrupt has 50 or 66.7 %; 50,000 or 33,333 packets a second. What is the same isn't in the table."""
+        self.arrivals.write_text(HEADER + "0,1,60\n")
+        words = ["--interrupt", "10000,20000", "--poll", "5000", "--packet", "3000", "--use", "2000"]
+        lines = [re.split(r"  +", line.strip()) for line in self.table(*words)]
+        self.assertEqual(lines[0], ["row", "interrupt µs", "delivered p50 µs", "delivered p99 µs", "used p50 µs", "used p99 µs", "interrupt %", "poll %", "use %", "used k/s"])
+        self.assertEqual(lines[1:3], [["1", "10.0", "18.0", "18.0", "20.0", "20.0", "50.0", "40.0", "10.0", "50.0"],
+                                      ["2", "20.0", "28.0", "28.0", "30.0", "30.0", "66.7", "26.7", "6.7", "33.3"]])
+        self.assertEqual([line[0] for line in lines[3:]], [
+            "the same in all rows: arrived 1, dropped 0, refused 0, used 1, idle % 0.0, interrupts 1, runs 1, polls 1, squeezed 0",
+            "row 1: the lowest 99th percentile of waits to the end of use, 20.0 µs; the highest is 30.0 µs, of row 2", "no packet is lost in any row",
+            "the budget never binds: no run is squeezed"])
+
+    def test_the_table_is_for_terminals(self):
+        """And CSV for the rest; --csv and --json are for both."""
+        for words, begins in (([], b"row  "), (["--csv"], b"budget,"), (["--json"], b'{"version": 1')):
+            master, slave = os.openpty()
+            with open(master, "rb", buffering=0) as end:
+                subprocess.run([sys.executable, "-BES", TOP / "tools/what-if", self.arrivals, "--without-parallel", "--budget", "1,300", *words], stdout=slave,
+                               stderr=subprocess.DEVNULL, check=True, env={**os.environ, "MACHINE": MACHINE})
+                os.close(slave)
+                self.assertTrue(end.read(100).startswith(begins))
+        self.assertTrue(run("what-if", self.arrivals, "--without-parallel", "--budget", "1,300").stdout.startswith("budget,"))
+        self.assertEqual(run("what-if", self.arrivals, "--csv", "--table").returncode, 2)
+
+    def test_what_follows(self):
+        """Rings of 1 and 256 of bursts of five packets; an order that depends on the costs (test_the_band_of_costs); budgets."""
+        told = self.table("--ring", "1,256", "--band", "0")
+        dropped = [int(row["dropped"]) for row in self.rows("--ring", "1,256", "--band", "0")]
+        self.assertTrue(dropped[0] > 0 and dropped[1] == 0)
+        self.assertIn(f"row 1: packets are lost, up to {100 * dropped[0] / 300:.1f} %", told)
+        self.arrivals.write_text(HEADER + "0,1,60\n9900,1,60\n9900,1,60\n")
+        told = self.table("--use", "0", "--defer-hard-irqs", "1", "--gro-flush-timeout", "0,5000")
+        self.assertIn("1 and 2 are equal within the costs' doubt of 20 %: their order by the median wait to the end of use changes", told)
+        self.arrivals.write_text(HEADER + "".join(f"{1000 * place},1,60\n" for place in range(400)))
+        told = self.table("--budget", "16,300", "--band", "0")
+        self.assertIn("with one queue on each processor net.core.netdev_budget changes no latency and no drops, only how many runs are squeezed", told)
+        self.assertIn("no setting here changes the 99th percentile of waits to the end of use", told)
+
+    def lost_at(self, load, *words):
+        """What the plain model loses of these arrivals at a load, and its 99th percentile of waits."""
+        rows = (line.split(",") for line in self.arrivals.read_text().split()[1:])
+        scaled = HEADER + "".join(f"{int(int(moment) // Fraction(load))},{device},{size}\n" for moment, device, size in rows)
+        told = self.modelled(scaled, *words)
+        return int(told["dropped"]) + int(told["refused"]), int(told["used_p99"])
+
+    def test_the_load_at_which_it_breaks(self):
+        """A packet each 10 us, and a ring of one: by the plain model it holds at the one load and breaks at the other, which are at most 1 % apart."""
+        self.arrivals.write_text(HEADER + "".join(f"{10_000 * place},1,60\n" for place in range(300)))
+        words = ["--ring", "1", "--interrupt", "1000", "--poll", "1000", "--packet", "1000", "--use", "0"]
+        row, = self.rows(*words, "--until", "drops")
+        self.assertTrue(1 < Fraction(row["breaks_at"]) / Fraction(row["holds_at"]) <= Fraction(101, 100))
+        self.assertEqual((self.lost_at(row["holds_at"], *words)[0], self.lost_at(row["breaks_at"], *words)[0] > 0), (0, True))
+        self.assertEqual(int(row["packets_per_second"]), round(100_000 * float(row["breaks_at"])))
+        self.assertTrue(float(row["breaks_at_costs_120"]) < float(row["breaks_at"]) < float(row["breaks_at_costs_80"]))
+        others = ["--interrupt", "1000", "--poll", "1000", "--use", "0", "--packet"]
+        fast, slow = self.rows(*others, "1000,3000", "--until", "p99=8", "--band", "0")
+        for each, cost in ((fast, "1000"), (slow, "3000")):
+            self.assertEqual(each["packet"], cost)
+            self.assertLessEqual(self.lost_at(each["holds_at"], *others, cost)[1], 8000)
+            self.assertGreater(self.lost_at(each["breaks_at"], *others, cost)[1], 8000)
+        told, = self.table(*words, "--until", "drops", "--band", "0")
+        self.assertRegex(told, rf"^it breaks at {float(row['breaks_at']):.3g} times this load \({float(row['packets_per_second']) / 1000:.3g} k packets/s\): packets are lost$")
+
+    def test_loads_that_never_and_always_break(self):
+        self.arrivals.write_text(HEADER + "".join(f"{10_000 * place},1,60\n" for place in range(20)))
+        self.assertEqual(self.table("--until", "drops", "--band", "0"), ["it holds up to 1.02e+03 times this load, the highest that is tried"])
+        row, = self.rows("--until", "drops", "--band", "0")
+        self.assertEqual((row["holds_at"], row["breaks_at"], row["packets_per_second"]), ("1024", "", ""))
+        row, = self.rows("--until", "p99=1", "--band", "0")  # an interrupt takes 4 us
+        self.assertEqual((row["holds_at"], row["breaks_at"]), ("", "0.000977"))
+        self.assertEqual(sorted(name for name in self.names() if name != "arrivals.csv"), [])
+
+    def test_made_traffic_over_seeds(self):
+        """The median, the least and the greatest of what the plain model makes of each seed's arrivals; a setting by each."""
+        words = ["--kind", "poisson", "--rate", "100000", "--seconds", "0.01"]
+        of = [run("traffic", "--arrivals", *words, "--seed", seed).stdout for seed in (1, 2, 3)]
+        told = self.repeated(" ".join(words), "--seeds", "3", "--threaded", "0,1")
+        self.assertEqual([row["threaded"] for row in told], ["0", "1"])
+        for row in told:
+            values = sorted(int(self.modelled(text, "--threaded", row["threaded"])["used_p99"]) for text in of)
+            self.assertEqual([int(row[name]) for name in ("used_p99_least", "used_p99", "used_p99_most")], values)
+            shares = sorted(float(self.modelled(text, "--threaded", row["threaded"])["poll_percent"]) for text in of)
+            self.assertEqual([float(row[name]) for name in ("poll_percent_least", "poll_percent", "poll_percent_most")], shares)
+        self.assertEqual({name for name in os.listdir("/tmp") if name.startswith("what-if")}, set())
+
+    def repeated(self, traffic, *words):
+        done = run("what-if", "--without-parallel", "--traffic", traffic, *words)
+        self.assertEqual(done.returncode, 0, done.stderr)
+        return list(csv.DictReader(io.StringIO(done.stdout)))
+
+    def test_made_traffic_in_a_table(self):
+        done = run("what-if", "--without-parallel", "--table", "--traffic", "--kind poisson --rate 100000 --seconds 0.01", "--seeds", "3", "--interrupt", "4000,4050")
+        self.assertRegex(done.stdout, r"\d+ \(\d+ to \d+\)")
+        self.assertIn("overlap in their 99th percentiles over the seeds: which one is lower may be chance", done.stdout)
+        for words, why in ((["--traffic", "--rate none"], "isn't a number over 0"), (["--traffic", "--seed 5"], "--seed isn't for this"), (["--traffic", "'"], "--traffic: ")):
+            done = run("what-if", *words)
+            self.assertEqual((done.returncode, done.stdout, done.stderr.count("\n")), (1, "", 1), done.stderr)
+            self.assertIn(why, done.stderr)
 
     def test_a_file_of_rows_is_gone_on_with(self):
         """By parts, and by other budgets behind each other; what is there isn't made again."""
@@ -185,7 +309,9 @@ class WhatIf(InFolder):
             self.assertIn(why, done.stderr)
 
     def test_what_is_refused(self):
-        for words in (["--budget", "65536"], ["--load", "0"], ["--load", "1e3"], ["--weight", "0"], ["--slice", "1"], ["--longest", "1"], ["--threaded", "2"], ["--band", "91"], ["--band", "20", "--part", "1/2"], ["--budget", "1,,2"], ["--plot", "x.pdf"], ["--resume"]):
+        for words in (["--budget", "65536"], ["--load", "0"], ["--load", "1e3"], ["--weight", "0"], ["--slice", "1"], ["--longest", "1"], ["--threaded", "2"], ["--band", "91"], ["--band", "20", "--part", "1/2"], ["--budget", "1,,2"], ["--plot", "x.pdf"], ["--resume"],
+                      ["--until", "drop"], ["--until", "p99=x"], ["--until", "drops", "--load", "1,2"], ["--until", "drops", "--out", "x"], ["--seeds", "2"], ["--traffic", "--rate 1"],
+                      ["--until", "drops", "--plot", "x.png"]):
             self.assertEqual(run("what-if", self.arrivals, *words).returncode, 2, words)
         self.assertEqual(run("what-if").returncode, 2)
         self.assertIn("there is no such file", run("what-if", self.folder / "none").stderr)

@@ -12,8 +12,8 @@ ghost use Rattle.napi_word.specs.Ends.{IsEnded};
 ghost use Rattle.napi_word.specs.Runs.{HasOwnLists};
 
 use napi_model::{Prep, Seen, decode, encode};
-use napi_word::{Ended, Pass, StateTable, TableBack};
-use rx_ring::{Batch, Packet, RxCtx, ring};
+use napi_word::{Ended, Pass, StateTable};
+use rx_ring::{RxCtx, ring};
 use std::alloc::Global;
 use std::test::Fail;
 use std::thread::join;
@@ -157,28 +157,7 @@ fn lost_exchange(alloc: Global, ctx: RxCtx) -> Option<Lost>
     })
 }
 
-// With each allocation refused in turn (`rt try --test --fail-alloc N`) the context comes back, with what its ring holds.
-#[test]
-fn memory_is_there_or_refused(rt: HostRuntime) -> Result<(), Fail> {
-    let Ok((mut input, ctx)) = ring(rt.alloc(), 1) else {
-        return Ok(());
-    };
-    let packet = Packet {
-        number: 1,
-        bytes: 60,
-    };
-    assert_eq!(rt; input.put(packet), Ok(()));
-    match StateTable::new(rt.alloc(), ctx, 9) {
-        Ok((_table, passes)) => assert_eq!(rt; passes.len(), 9),
-        Err(TableBack { mut ctx }) => {
-            let mut batch = Batch::new();
-            assert_eq!(rt; ctx.poll(64, &mut batch), 1);
-            assert_eq!(rt; batch.as_slice(), [packet].as_slice());
-        }
-    }
-    Ok(())
-}
-
+// Out of memory isn't taken here: the program `memory_tests` tries each call with its allocations refused.
 #[test]
 fn there_is_memory_for_every_number_of_passes(rt: HostRuntime) -> Result<(), Fail> {
     for seats in 1..=9u32 {

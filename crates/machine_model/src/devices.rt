@@ -22,7 +22,7 @@ pub struct Timer {
     pub device: u32,
 }
 
-/// What a processor asks of its devices at each step. It is kept as they change, since a search goes through all of them.
+/// What a processor asks for at each step. It is kept as its devices change, because a search goes through all of them.
 #[derive(Clone, Copy)]
 pub(crate) struct Pending {
     /// The lowest device that asks for an interrupt.
@@ -92,7 +92,7 @@ fn soonest_in(places: &[Option<Device>]) -> Option<Timer>
     best
 }
 
-// The soonest timer of the devices, by time and then by number, of these two.
+// The sooner of two timers, and of two at one time that of the lower device.
 fn earlier(first: Option<Timer>, second: Option<Timer>) -> Option<Timer>
     ensures { result ≡ earlier first second }
 {
@@ -182,7 +182,7 @@ fn soonest_after(soonest: Option<Timer>, number: usize, places: &[Option<Device>
     earlier(soonest, own)
 }
 
-// What is asked of the devices, after this one changed.
+// What is kept of the devices, after this one changed.
 fn pending_after(pending: Pending, number: usize, places: &[Option<Device>]) -> Pending
     requires number { number < length places.now }
     requires few { length places.now ≤ 64 }

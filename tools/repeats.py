@@ -1,0 +1,46 @@
+"""Repeats of made traffic over seeds: arrivals by fintaqush traffic for each seed, and the spread of what the machine makes of them."""
+
+from toolbox import Refusal, ran, shown, unfinished
+
+import os
+import shlex
+import sys
+import tempfile
+from pathlib import Path
+
+TRAFFIC = Path(__file__).resolve().parent / "traffic"
+TAKEN = ("--arrivals", "--out", "--seed", "--help", "-h", "--version", "--manual")
+
+
+def made(words, seeds):
+    """The names of files with the arrivals of these words of tools/traffic, one for each seed from 1 on. They go when the tool ends."""
+    try:
+        options = shlex.split(words)
+    except ValueError as error:
+        raise Refusal(f"--traffic: {error}") from None
+    if own := [word for word in options if word.partition("=")[0] in TAKEN]:
+        raise Refusal(f"--traffic: {shown(own[0])} isn't for this: --arrivals, --seed and --out are set here")
+    names = []
+    for seed in range(1, seeds + 1):
+        handle, name = tempfile.mkstemp(suffix=".csv")
+        os.close(handle)
+        unfinished.add(name)
+        status, _, said = ran([sys.executable, "-BES", str(TRAFFIC), *options, "--arrivals", "--seed", str(seed), "--out", name], b"")
+        if status:
+            raise Refusal(f"--traffic: {shown((said.decode('utf-8', 'replace').strip().splitlines() or ['it failed'])[-1])}")
+        names.append(name)
+    return names
+
+
+def number(text):
+    return float(text) if "." in str(text) else int(text)
+
+
+def spread(rows, settings, values):
+    """One row of these, which have the same settings: of each value the median (of an even number the lower one), the least and the greatest."""
+    row = {name: rows[0][name] for name in settings}
+    row.update(status=max(int(each["status"]) for each in rows), fault=next((each["fault"] for each in rows if each["fault"]), ""))
+    for name in values:
+        of = sorted((each[name] for each in rows), key=number)
+        row.update({name: of[(len(of) - 1) // 2], f"{name}_least": of[0], f"{name}_most": of[-1]})
+    return row
