@@ -111,8 +111,8 @@ proctype Worker(byte number) {
     turn_on(number);                                                            /* poll_interrupts/worker work */
     do
     :: act < (number == 0 -> ACTS : OTHER_ACTS) ->                              /* poll_interrupts/worker make_acts */
-       if :: refused || stopped -> break :: else fi;                            /* poll_tasks/signals go_on */
-       if :: true :: stopped = true; break fi;                                  /* poll_interrupts/worker may_act */
+       if :: refused || stopped -> break :: else fi;                            /* poll_tasks/signals stop */
+       if :: true :: stopped = true; break fi;                                  /* poll_interrupts/worker stop_before */
        if
        :: ring[number] = ring[number] + 1;                                      /* poll_interrupts/worker make_act */
           schedule(number);                                                     /* poll_interrupts/worker interrupt */

@@ -58,7 +58,13 @@ code { background: #f4f4f4; overflow-wrap: break-word; }
 pre code { white-space: pre; }
 table { border-collapse: collapse; display: block; overflow-x: auto; }
 td, th { border: 1px solid #ccc; padding: 0.3rem 0.6rem; text-align: left; vertical-align: top; }
-img { max-width: 100%; height: auto; }
+img { max-width: 100%; height: auto; background: #fff; }
+@media (prefers-color-scheme: dark) {
+    body { color: #ddd; background: #181818; }
+    a { color: #8ab4f8; }
+    pre, code { background: #2a2a2a; }
+    td, th { border-color: #555; }
+}
 </style>
 END
 

@@ -30,6 +30,7 @@ check 'its faults' of_model faults "$program"
 check 'its texts' of_model texts "$program"
 check 'its options' of_model options "$program"
 check 'its ends' of_model ends "$program"
+check 'the simulator of docs/GUIDE.md counts the same' python3 -B "$top/tests/simulator.py" "$program"
 check 'the mean of M/D/1' of_model queue "$program"
 check 'livelock by interrupts, and what coalescing leaves to the application' of_model livelock "$program"
 of_model recorded "$program" > "$scratch/recorded" 2>&1

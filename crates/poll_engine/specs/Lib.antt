@@ -26,10 +26,14 @@ pub use Rattle.poll_shared.specs.Tries
 pub use Rattle.poll_tasks.specs.Asks
 pub use Rattle.poll_tasks.specs.Refusals
 pub use Rattle.poll_interrupts.specs.Acts
+pub use Rattle.poll_interrupts.specs.Calls
+pub use Rattle.poll_interrupts.specs.Closings
+pub use Rattle.poll_interrupts.specs.Deals
 pub use Rattle.poll_interrupts.specs.Opens
 pub use Rattle.poll_interrupts.specs.Runs
 pub use Rattle.poll_interrupts.specs.declared.act_list.ActList
 pub use Rattle.poll_interrupts.specs.declared.acts.Act
+pub use Rattle.poll_interrupts.specs.declared.station.Closed
 pub use Rattle.poll_interrupts.specs.declared.station.Finished
 pub use Rattle.poll_interrupts.specs.declared.station.Station
 pub use Rattle.poll_workers.specs.Courses

@@ -6,7 +6,7 @@
 //! `poll_tasks`, `poll_interrupts` and `poll_seats`. What contracts cite is passed on by `specs/Lib.antt`.
 #![tactic(auto)]
 
-pub use poll_interrupts::{Act, ActList, Device, Finished, Station};
+pub use poll_interrupts::{Act, ActList, Closed, Device, Finished, Station};
 pub use poll_list::{ListBack, ListFault, ListIn, SharedList, end_list, shared_list};
 pub use poll_runs::{
     Bench, BusyInstance, BusyReport, Instance, Next, Once, PlainList, PollList, RunReport,

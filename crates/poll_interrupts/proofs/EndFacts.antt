@@ -1,46 +1,36 @@
 -- How a closed instance tells of what was done with it.
-use Rattle.napi_word.specs.{View.{deliverers, packets_of}, Slot.givers}
-use Rattle.poll_interrupts.specs.Ends.{AreCallersAt, IsCallerAt, IsEndedBy, Outcome, TakesNext}
-use Rattle.napi_calls.specs.{declared.{types.{Caller.Caller, Napi.Napi}, kept.Kept.Kept}, Closed.{IsClosed, IsHistoryOf, seats_of}}
+use Rattle.napi_word.specs.{View.{deliverers, own_deliveries, packets_of}, Slot.givers}
+use Rattle.poll_interrupts.specs.{Closings.{IsClosedAs, seats_in}, Ends.{AreCallersAt, IsCallerAt, Outcome, TakesNext}, Runs.IsEnded}
+use Rattle.napi_calls.specs.{declared.{types.Caller.Caller, kept.Kept.Kept}, Closed.IsHistoryOf}
 use Rattle.std.proofs.Common.{◌≡◌, ◌≢◌, ℕ, suc, ◌-◌, ◌%◌, ◌<◌, ◌≤◌, Bool, true, false, cond, List, []}
 use Rattle.std.proofs.Common.{length, map, vec_items, sym, append-nil, append_assoc, arith}
 use Rattle.std.proofs.{Common.get_or, lemmas.{Grind.common_steps, Bool.{eqb-true, ne_eqb}, List.{get_or_default, length-set, map-append}}}
 use Rattle.std.specs.{Global.Vec, List.{AllByRecursion, AllZip, remove}}
 use Rattle.{std.specs.Prelude.filter, poll_tasks.{specs.Tasks.EachAt, proofs.{ListFacts.{each_set, filter_more, zip_nil}, Zips.zip_long}}}
 use Rattle.poll_interrupts.specs.{Deals.is_own, declared.opening.Placed.Placed}
-use Rattle.napi_calls.specs.{Instance.{callers_of, first_of_instance}, Seats.{number_of, own_list}}
-use Rattle.std.proofs.Common.{◌∷◌, ◌++◌, refl, ap, ◌∙◌, subst}
-use Rattle.napi_model.specs.{History.own, Step.opening}
+use Rattle.napi_calls.specs.Instance.{callers_of, first_of_instance}
+use Rattle.std.proofs.Common.{◌∷◌, ◌++◌, ap, ◌∙◌, subst}
+use Rattle.napi_model.specs.Step.{opening}
 use Rattle.{poll_tasks.specs.declared.tasks.Turned.Turned, rx_ring.specs.declared.{ends.{RxIn.RxIn, RxCtx.RxCtx}, packet.Packet.Packet}}
 use Rattle.rx_ring.specs.{declared.packet.Totals.Totals, Ends.{put_list, received_list, ring_of}, ReceiveRing.{IsInOrder, totals_of}}
-use Rattle.poll_interrupts.specs.{declared.{worker.OwnSeats.OwnSeats}, Runs.controller_number}
+use Rattle.poll_interrupts.specs.{declared.station.Closed.Closed, Runs.controller_number}
 use mathlib.Core.List.{IsPrefix}
 
-pub ended_of : (napi : Napi) (seats : OwnSeats) (poller thread : Caller) (rx : RxIn) (ctx : RxCtx) (totals : Totals)
-    → callers_of napi ≡ controller_number → received_list (first_of_instance napi) ≡ [] → number_of seats.control.pass ≡ controller_number
-    → IsClosed napi (seats.caller ∷ poller ∷ thread ∷ []) seats.control.pass ctx → totals ≡ totals_of (ring_of rx ctx)
+pub ended_of : (closed : Closed) (rx : RxIn) (ctx : RxCtx) (totals : Totals) → callers_of closed.napi.value ≡ controller_number
+    → received_list (first_of_instance closed.napi.value) ≡ [] → IsClosedAs closed ctx → totals ≡ totals_of (ring_of rx ctx)
     → IsInOrder (ring_of rx ctx)
-    → IsEndedBy seats poller thread (put_list rx) totals
-ended_of napi seats poller thread rx ctx totals three nothing controller closed are in_order =
-    let all = seats_of (seats.caller ∷ poller ∷ thread ∷ []) ++ seats.control.pass ∷ [] in
-    let is : IsHistoryOf controller_number all closed.history = subst (λ k. IsHistoryOf k all closed.history) three closed.is in
-    let received : received_list ctx ≡ packets_of closed.deliveries =
-    closed.received ∙ ap (λ l. l ++ packets_of closed.deliveries) nothing in
+    → IsEnded closed (put_list rx) totals
+ended_of closed rx ctx totals three nothing was are in_order =
+    let received : received_list ctx ≡ packets_of was.deliveries = was.received ∙ ap (λ l. l ++ packets_of was.deliveries) nothing in
     record {
-      ended = record {
-        history = closed.history;
-        legal = is.legal;
-        calls_are = is.exact 0 seats.caller.pass refl;
-        controls_are = subst (λ n. own n closed.history ≡ own_list seats.control.pass) controller (is.exact 3 seats.control.pass refl);
-        ends = is.ends;
-        served = is.served;
-        deliveries = closed.deliveries;
-        deliverers_are = subst (λ k. deliverers closed.deliveries ≡ givers (opening k) closed.history) three closed.order;
-        in_order = subst (λ (l : List Packet). IsPrefix l (put_list rx)) received in_order;
-        totals_are = are ∙ ap (λ (l : List Packet). totals_of (record { put = put_list rx; received = l })) received;
-      };
-      by_poller = is.exact 1 poller.pass refl;
-      by_thread = is.exact 2 thread.pass refl;
+      history = was.history;
+      is = subst (λ k. IsHistoryOf k (seats_in closed) was.history) three was.is;
+      deliveries = was.deliveries;
+      deliverers_are = subst (λ k. deliverers was.deliveries ≡ givers (opening k) was.history) three was.order;
+      in_order = subst (λ (l : List Packet). IsPrefix l (put_list rx)) received in_order;
+      own_exact = was.own_exact;
+      own_only = subst (λ k. (c : ℕ) → k < c → own_deliveries c was.deliveries ≡ []) three was.own_only;
+      totals_are = are ∙ ap (λ (l : List Packet). totals_of (record { put = put_list rx; received = l })) received;
     }
 
 pub each_push : {A : Type 0} (P : A → Type 0) (xs : List A) (x : A) → AllByRecursion P xs → P x → AllByRecursion P (xs ++ x ∷ [])

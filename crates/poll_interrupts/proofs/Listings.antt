@@ -27,4 +27,4 @@ module _ {R : Type 0} {number : ℕ} where
 
   -- nothing was done
   pub lists_same : (p : Pass) (a : ListIn R) → Lists number p p a a
-  lists_same p a = record { did = []; grown = sym (append-nil (own_list p)); pushed = sym (append-nil (pushed_by a)) }
+  lists_same p a = record { same = (refl, refl); did = []; grown = sym (append-nil (own_list p)); pushed = sym (append-nil (pushed_by a)) }

@@ -9,6 +9,7 @@ use Rattle.poll_interrupts.specs.{declared.worker.Power.{Power, TheVariants.{On,
 use Rattle.napi_model.specs.declared.state.Kind.TheVariants as kind
 use Rattle.napi_model.specs.declared.event.Operation.TheVariants as operation
 use Rattle.napi_calls.specs.declared.answers.Sched.TheVariants as sched
+use Rattle.poll_list.specs.SharedList as list
 
 -- Granted, the instance is handed over: where it has a thread of its own to whom a look says, else to the list.
 abbrev pub HandsOver : Bool → Pass → Pass → Type 0
@@ -38,6 +39,7 @@ listings number (e ∷ es) = (if is_listing e.operation then number ∷ [] else 
 
 -- Between p and q the seat handed its instance to the list so many times as its number was pushed there, and nothing else was.
 pub record Lists {R : Type 0} (number : ℕ) (p q : Pass) (before after : ListIn R) : Type 0 where
+  pub same : list.SameIn before after
   pub did : List Event
   pub grown : own_list q ≡ own_list p ++ did
   pub pushed : pushed_by after ≡ pushed_by before ++ listings number did

@@ -2,9 +2,12 @@
 use Rattle.std.specs.Prelude.{ℕ, ◌-◌, ◌%◌, ◌==◌, Bool}
 use Rattle.poll_interrupts.specs.declared.station.Station.{Station}
 
--- a poller has the station with this number: numbered from 0, it leaves the poller's number when divided by the count of pollers
+-- the poller of the station with this number: numbered from 0, it leaves the poller's number when divided by the count of pollers
+abbrev pub poller_by : ℕ → ℕ → ℕ
+poller_by pollers number = (number - 1) % pollers
+
 abbrev pub is_own : ℕ → ℕ → ℕ → Bool
-is_own poller pollers number = (number - 1) % pollers == poller
+is_own poller pollers number = poller_by pollers number == poller
 
 abbrev pub is_dealt : {D : Type 0} → ℕ → ℕ → Station D → Bool
 is_dealt number pollers station = is_own number pollers station.number

@@ -1,22 +1,11 @@
 -- How a station ends.
 use Rattle.std.specs.Prelude.{◌≡◌, ℕ, ◌+◌, ◌<◌, ◌^◌, List, ◌∷◌, filter, length, map, slice_index_or, slice_set, vec_items}
 use Rattle.{std.specs.{Global.Vec, List.{AllByRecursion, AllZip}}, poll_tasks.specs.Tasks.EachAt, poll_interrupts.specs.Deals.is_own}
-use Rattle.rx_ring.specs.declared.packet.{Packet.Packet, Totals.Totals}
-use Rattle.{rx_ring.specs.{Ends.put_list, ReceiveRing.{bytes_of, capped}}, napi_model.specs.{declared.event.Event.Event, History.own}}
-use Rattle.napi_calls.specs.{Seats.{number_of, own_list}, declared.{kept.Kept.Kept, types.Caller.Caller}, Instance.IsSeatOf}
+use Rattle.rx_ring.specs.{Ends.put_list, ReceiveRing.{bytes_of, capped}}
+use Rattle.napi_calls.specs.{Seats.number_of, declared.{kept.Kept.Kept, types.Caller.Caller}, Instance.IsSeatOf}
 use Rattle.{poll_tasks.specs.declared.tasks.Turned.Turned, poll_interrupts.specs.declared.{opening.Placed.Placed, job.Worked.Worked}}
-use Rattle.poll_interrupts.specs.{declared.{station.Finished.Finished, worker.OwnSeats.OwnSeats}, Opens.{IsHome, IsInputOf}, Runs.IsEnded}
+use Rattle.poll_interrupts.specs.{declared.station.Finished.Finished, Closings.IsCallersOf, Opens.{IsHome, IsInputOf}, Runs.IsEnded}
 use Rattle.poll_interrupts.specs.{Runs.controller_number, Seats.AreSeatsOf}
-
--- the caller's events in the history are all that it made
-abbrev pub HasAllOf : List Event → Caller → Type 0
-HasAllOf history caller = own (number_of caller.pass) history ≡ own_list caller.pass
-
--- the instance was closed, and its one history has all that its worker, its poller and its thread made
-pub record IsEndedBy (seats : OwnSeats) (poller thread : Caller) (put : List Packet) (totals : Totals) : Type 0 where
-  pub ended : IsEnded (number_of seats.caller.pass) (own_list seats.caller.pass) (own_list seats.control.pass) put totals
-  pub by_poller : HasAllOf ended.history poller
-  pub by_thread : HasAllOf ended.history thread
 
 -- what the threads of a station gave back, and its end
 pub record Outcome (R D : Type 0) : Type 0 where
@@ -63,7 +52,8 @@ module _ {R : Type 0} where
       pub put : end.totals.put ≡ capped (length (put_list worked.done.rx))
       pub bytes : end.totals.bytes ≡ capped (bytes_of (put_list worked.done.rx))
       pub sum : length (put_list worked.done.rx) < 2 ^ 64 → end.totals.put ≡ end.totals.polled + end.totals.left
-      pub is : IsEndedBy worked.done.seats.value poller.value thread.value (put_list worked.done.rx) end.totals
+      pub of : IsCallersOf worked.done.seats.value poller.value thread.value end.closed
+      pub ended : IsEnded end.closed (put_list worked.done.rx) end.totals
 
     -- so for all stations, in order, each with the next one of the callers that its poller gave back
     pub record AreFinishesOf (worked : List (Worked R D)) (polled : List (Turned (Vec (Kept R Caller))))

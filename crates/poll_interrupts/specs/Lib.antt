@@ -5,4 +5,5 @@ pub mod Opens
 pub mod Deals
 pub mod Ends
 pub mod Calls
+pub mod Closings
 pub mod Runs

@@ -1,7 +1,8 @@
 -- The instances of stations.
 use Rattle.poll_interrupts.specs.{Runs.{controller_number, poller_number, thread_number}, declared.station.Station.Station}
 use Rattle.poll_interrupts.specs.{declared.opening.{Placed.Placed, Loose.Loose}, Seats.{AreSeatsOf, AreUnused, IsUnused}}
-use Rattle.std.specs.Prelude.{◌≡◌, ◌≤◌, [], is_some, vec_len, vec_capacity}
+use Rattle.std.specs.Prelude.{◌≡◌, ◌≤◌, [], Option, Some, is_some, vec_len, vec_capacity}
+use Rattle.poll_tasks.specs.{Wakers.Wakes, declared.signals.{Bell.Bell, Pause.Pause}}
 use Rattle.napi_calls.specs.declared.{types.Napi.Napi, kept.Kept.Kept}
 use Rattle.napi_calls.specs.{Seats.number_of, Instance.{IsSeatOf, callers_of, first_of_instance, ring_of_instance}}
 use Rattle.rx_ring.specs.{Ends.{IsOneRing, capacity_of, put_list, received_list, ring_name}, declared.ends.{RxCtx.RxCtx, RxIn.RxIn}}
@@ -22,6 +23,11 @@ pub record IsHome (placed : Placed) : Type 0 where
   pub empty : vec_len placed.room ≡ 0
   pub room : 3 ≤ vec_capacity placed.room
 
+-- what wakes the instance's own thread, where it has one, wakes who waits by this
+abbrev pub WakesOwn : Option Bell → Option Pause → Type 0
+WakesOwn (Some bell) (Some pause) = Wakes bell pause
+WakesOwn _ _ = Unit {0}
+
 module _ {D : Type 0} where
   -- what goes to the threads of a station
   pub record IsLoose (station : Station D) (loose : Loose D) : Type 0 where
@@ -41,6 +47,7 @@ module _ {D : Type 0} where
     pub seats : AreSeatsOf placed.napi loose.seats
     pub controller : number_of loose.seats.control.pass ≡ controller_number
     pub bell : is_some placed.bell ≡ is_some loose.pause
+    pub wakes : WakesOwn placed.bell loose.pause
     pub poller : IsSeatOf placed.napi loose.poller.pass
     pub thread : IsSeatOf placed.napi loose.thread.pass
     pub ring : IsInputOf loose.rx placed.napi

@@ -1,14 +1,15 @@
 -- What a worker's run leaves behind: what each act adds to the events of its own, and the one history in which these stand.
-use Rattle.std.specs.Prelude.{◌≡◌, ◌⊎◌, ◌≤◌, ℕ, zero, suc, Bool, true, false, List, [], ◌∷◌, ◌++◌, length, flat_map, if◌then◌else◌, Option}
+use Rattle.std.specs.Prelude.{◌≡◌, ◌⊎◌, ◌≤◌, ℕ, ◌<◌, zero, suc, Bool, true, false, List, [], ◌∷◌, ◌++◌, length, flat_map}
+use Rattle.std.specs.Prelude.{if◌then◌else◌, Option}
 use Rattle.rx_ring.specs.{declared.packet.{Packet.Packet, Totals.Totals}, ReceiveRing.totals_of}
 use Rattle.napi_model.specs.declared.{state.Seen.Seen, event.{Prep.Prep, Event.Event, Operation.{Operation, TheVariants.{Look, Schedule}}}}
 use Rattle.napi_model.specs.declared.event.Operation.TheVariants.{Hand, MarkDisable, TakeDisable, Unmark, Enable, SetThreaded}
-use Rattle.napi_model.specs.{Step.opening, History.{LegalHistory, state_after, own, IsAcceptedSchedule}}
-use Rattle.{napi_word.specs.{declared.view.Delivery.Delivery, View.{deliverers, packets_of}, Slot.givers}, napi_calls.specs.Made.Lost}
-use Rattle.{napi_calls.specs.{Made.{events, looks, waits}, Served.IsServed}, poll_interrupts.specs.{declared.acts.Act.Act, Acts.after_acts}}
+use Rattle.{napi_model.specs.Step.opening, napi_calls.specs.{Made.Lost, Packets.own_delivered, Seats.{number_of, own_list}}}
+use Rattle.napi_word.specs.{declared.view.Delivery.Delivery, View.{deliverers, own_deliveries, packets_of}, Slot.givers}
+use Rattle.{napi_calls.specs.{Closed.{Each, IsHistoryOf}, Made.{events, looks, waits}}, poll_interrupts.specs.Closings.seats_in}
+use Rattle.poll_interrupts.specs.{declared.{acts.Act.Act, station.Closed.Closed}, Acts.after_acts}
 use mathlib.Core.List.{IsPrefix}
 use Rattle.napi_model.specs.declared.state.Kind.TheVariants as kind
-use Rattle.napi_model.specs.declared.state.Place.TheVariants as place
 use Rattle.napi_model.specs.declared.event.Prep.TheVariants as prep
 use Rattle.napi_model.specs.declared.event.Call.TheVariants as call
 use Rattle.poll_interrupts.specs.declared.acts.Act.TheVariants as act
@@ -116,30 +117,30 @@ thread_number = 2
 abbrev pub controller_number : ℕ
 controller_number = 3
 
--- The instance was closed, and has one history, which is legal. In it the events of this caller and of the controller are these.
-pub record IsEnded (caller : ℕ) (calls : List Event) (controls : List Event) (put : List Packet) (totals : Totals) : Type 0 where
+-- The instance was closed: what its seats did is its one history.
+pub record IsEnded (closed : Closed) (put : List Packet) (totals : Totals) : Type 0 where
   pub history : List Event
-  pub legal : LegalHistory controller_number (opening controller_number) history
-  pub calls_are : own caller history ≡ calls
-  pub controls_are : own controller_number history ≡ controls
-  -- it ends in the controller's hands
-  pub ends : (state_after (opening controller_number) history).place ≡ place.Control controller_number
-  -- every accepted schedule is followed by a Released, with a poll start between it and the next one
-  pub served : (front : List Event) (e : Event) (rest : List Event) → history ≡ front ++ e ∷ rest
-      → IsAcceptedSchedule (state_after (opening controller_number) front) e → IsServed false rest
+  -- It is legal, each seat's own events in it are all that it made, and nobody else has one; it ends in the controller's hands, and
+  -- every accepted schedule is followed by a Released, with a poll start between it and the next one.
+  pub is : IsHistoryOf controller_number (seats_in closed) history
   -- each owner who gave the context back delivered what it had polled: the first packets put, each once and in order
   pub deliveries : List Delivery
   pub deliverers_are : deliverers deliveries ≡ givers (opening controller_number) history
   pub in_order : IsPrefix (packets_of deliveries) put
+  -- each seat's own are those that it made, and nobody else has one
+  pub own_exact : Each (seats_in closed) (λ p. own_deliveries (number_of p) deliveries ≡ own_delivered p)
+  pub own_only : (c : ℕ) → controller_number < c → own_deliveries c deliveries ≡ []
   -- the totals are those of what was put and of what was delivered
   pub totals_are : totals ≡ totals_of (record { put = put; received = packets_of deliveries })
 
--- a station with so many places, with a thread or without, whose device made n acts
+-- a station with so many places, with a thread or without, whose device made n acts, and whose instance was closed
 pub record HasRun {D : Type 0} (answer : D → ℕ → Act) (after : D → ℕ → D) (places : ℕ) (thread : Bool) (d : D) (n : ℕ)
-    (totals : Totals) : Type 0 where
-  -- the number of its worker's caller, and what its acts left
-  pub caller : ℕ
+    (closed : Closed) (totals : Totals) : Type 0 where
+  -- what its acts left is what its worker's caller and its controller did
   pub left : Ledger
   pub works : WorksBy
-      (record { caller = caller; controller = controller_number; places = places; thread = thread }) answer after d n blank left
-  pub ended : IsEnded caller left.calls left.controls left.put totals
+      (record { caller = worker_number; controller = controller_number; places = places; thread = thread }) answer after d n blank left
+  pub numbers : (number_of closed.worker.value.pass ≡ worker_number) × (number_of closed.control.value.pass ≡ controller_number)
+  pub calls_are : own_list closed.worker.value.pass ≡ left.calls
+  pub controls_are : own_list closed.control.value.pass ≡ left.controls
+  pub ended : IsEnded closed left.put totals

@@ -1,6 +1,6 @@
 -- What a worker promises of its own station.
-use Rattle.std.specs.Prelude.{◌≡◌, ℕ, ◌+◌, ◌≤◌, ◌++◌, Bool, true, false, length}
-use Rattle.{poll_tasks.specs.Asks.WasLet, rx_ring.specs.{declared.ends.RxIn.RxIn, Ends.SameIn}}
+use Rattle.std.specs.Prelude.{◌≡◌, ℕ, ◌+◌, ◌≤◌, ◌++◌, Bool, false, None, IfSome, length}
+use Rattle.{poll_tasks.specs.{Asks.WasLet, Stops.IsStop}, rx_ring.specs.{declared.ends.RxIn.RxIn, Ends.SameIn}}
 use Rattle.{rx_ring.specs.Ends.{capacity_of, put_list}, napi_calls.specs.{declared.types.Napi.Napi, Seats.{number_of, own_list}}}
 use Rattle.poll_interrupts.specs.declared.{acts.Act.Act, worker.{OwnSeats.OwnSeats, Work.Work, Done.Done}, job.Worked.Worked}
 use Rattle.poll_interrupts.specs.Acts.{after_acts}
@@ -39,15 +39,17 @@ module _ {R D : Type 0} (acts : D → ℕ) (answer : D → ℕ → Act) (after :
     pub same : AreSameSeats work.seats.value done.seats.value
     -- it pushed the station's number for each hand-over to the list, once, and nothing else
     pub lists : Lists number work.seats.value.caller.pass done.seats.value.caller.pass work.list done.list
-    pub let_go : done.whole ≡ true → WasLet answers number (acts work.device)
-    pub run : done.whole ≡ true → HasWorked thread work done
-    pub made : done.whole ≡ true → done.device ≡ after_acts after work.device (acts work.device)
+    pub let_go : done.stop ≡ None → WasLet answers number (acts work.device)
+    pub run : done.stop ≡ None → HasWorked thread work done
+    pub made : done.stop ≡ None → done.device ≡ after_acts after work.device (acts work.device)
     pub ring : SameIn work.rx done.rx
     pub few : length (put_list done.rx) ≤ length (put_list work.rx) + 4294967295
-    pub put : done.whole ≡ true
+    pub put : done.stop ≡ None
         → length (put_list work.rx) + length (arrivals answer after work.device (acts work.device)) ≤ capacity_of work.rx
         → put_list done.rx ≡ put_list work.rx ++ arrivals answer after work.device (acts work.device)
 
-  pub record IsWorkOf (napi : Napi) (thread : Bool) (number : ℕ) (work : Work R D) (worked : Worked R D) : Type 0 where
+  -- `may_shut` is true of a gate that may answer false
+  pub record IsWorkOf (may_shut : Type 0) (napi : Napi) (thread : Bool) (number : ℕ) (work : Work R D) (worked : Worked R D) : Type 0 where
     pub same_number : worked.number ≡ number
+    pub why : IfSome worked.done.stop (IsStop may_shut)
     pub done : IsDoneBy napi thread number work worked.done

@@ -1,7 +1,8 @@
 //! What the threads of a run gave back comes to an end.
 
-ghost use Rattle.std.specs.Prelude.{◌≡◌, ◌≤◌, ◌<◌, true, length, slice_index_or, vec_items, vec_len, vec_capacity};
+ghost use Rattle.std.specs.Prelude.{◌≡◌, ◌≤◌, ◌<◌, None, IfSome, length, slice_index_or, vec_items, vec_len, vec_capacity};
 ghost use Rattle.std.specs.List.{All, AllZip};
+ghost use Rattle.poll_tasks.specs.Stops.{IsStop};
 ghost use Rattle.poll_tasks.specs.Tasks.{EachAt};
 ghost use Rattle.poll_tasks.specs.declared.tasks.Turned.{Turned};
 ghost use Rattle.poll_interrupts.specs.Ends.{AreCallersAt, AreFinishesOf, IsCallerAt, IsDoneAt, IsFinishOf, IsTurnedAt, TakesNext};
@@ -12,7 +13,7 @@ use crate::opening::Placed;
 use crate::station::Finished;
 use crate::worker::Done;
 use napi_calls::{Caller, Kept};
-use poll_tasks::Turned;
+use poll_tasks::{Gate, Stop, Turned};
 use rx_ring::finish;
 use std::sync::Wait;
 
@@ -34,15 +35,16 @@ fn end_one<R: Wait + Drop, D: Drop>(
         device,
         rx,
         seats,
-        whole: _,
+        stop: _,
     } = done;
-    let ctx = placed
+    let (closed, ctx) = placed
         .open()
         .close(seats.open(), poller.open(), thread.open());
     Finished {
         number,
         device,
         totals: finish(rx, ctx),
+        closed,
     }
 }
 
@@ -97,16 +99,16 @@ pub fn gather<R: Wait + Drop, D: Drop>(
     finished
 }
 
-/// Whether all workers made all their acts.
-pub fn are_whole<R: Wait + Drop, D>(worked: &[Worked<R, D>]) -> bool
-    ensures { result ≡ true → All (λ w. w.done.whole ≡ true) worked.now }
+/// Why the first of the workers that didn't make all their acts didn't.
+pub fn stop_of<G: Gate, R: Wait + Drop, D>(all: &[Worked<R, D>]) -> Option<Stop>
+    requires { All (λ w. IfSome w.done.stop (IsStop G.may_shut)) all.now }
+    ensures none { result ≡ None → All (λ w. w.done.stop ≡ None) all.now }
+    ensures some { IfSome result (IsStop G.may_shut) }
 {
-    worked.iter().all(|one| one.done.whole)
-}
-
-/// Whether the threads of all instances that have one took their turns.
-pub fn have_turned<T>(threads: &[Turned<T>]) -> bool
-    ensures { result ≡ true → All (λ t. t.polled ≡ true) threads.now }
-{
-    threads.iter().all(|one| one.polled)
+    for one in all {
+        if let Some(stop) = one.done.stop {
+            return Some(stop);
+        }
+    }
+    None
 }

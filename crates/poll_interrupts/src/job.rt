@@ -2,16 +2,16 @@
 
 use crate::acts::Device;
 use crate::worker::{Done, InterruptHandler, Work};
-use poll_tasks::{Gate, Task};
+use poll_tasks::{Gate, Setting, Task};
 use std::sync::Wait;
 
 /// What a worker does: it makes its device's acts, and disables the instance at the end, also where the run was stopped.
 #[derive(Drop)]
-pub struct Job<'t, 'p, 'n, R: Wait + Drop, D, G> {
-    /// What is asked before each act.
-    pub gate: &'t G,
+pub struct Job<'t, 'p, 'n, R: Wait + Drop, D, G: Gate> {
+    /// What all threads of the run have.
+    pub setting: &'t Setting<'t, R, G>,
     /// Where the worker's interrupts go.
-    pub handler: InterruptHandler<'t, 'p, 'n, R>,
+    pub handler: InterruptHandler<'p, 'n, R>,
     /// What the worker begins with.
     pub work: Work<R, D>,
 }
@@ -33,7 +33,7 @@ impl<'t, 'p, 'n, R: Wait + Copy + Drop, D: Device + Drop, G: Gate> Task<Worked<R
 
     ghost can_run = { λ job. AreSeatsOf job.handler.napi.now job.work.seats.value };
 
-    ghost gives = { λ job worked. IsWorkOf D.acts D.answer D.after (G.answers job.gate.now) job.handler.napi.now (is_some job.handler.thread) job.handler.number job.work worked };
+    ghost gives = { λ job worked. IsWorkOf D.acts D.answer D.after (G.answers job.setting.now.gate.now) G.may_shut job.handler.napi.now (is_some job.handler.thread) job.handler.number job.work worked };
 
     fn is_idle(&self) -> bool {
         false
@@ -41,11 +41,11 @@ impl<'t, 'p, 'n, R: Wait + Copy + Drop, D: Device + Drop, G: Gate> Task<Worked<R
 
     fn run(self) -> Worked<R, D> {
         let Job {
-            gate,
+            setting,
             handler,
             work,
         } = self;
-        let done = handler.work(gate, work);
+        let done = handler.work(setting, work);
         if let Some(bell) = handler.thread {
             bell.tell();
         }

@@ -2,18 +2,19 @@
 
 ghost use Rattle.std.specs.Prelude.{◌≡◌, ◌≤◌, ◌+◌, ℕ, [], ◌∷◌, IfOk, is_some, length, slice_get, Some, vec_items, vec_len, vec_capacity};
 ghost use Rattle.std.specs.List.{All, AllZip};
-ghost use Rattle.napi_calls.specs.Closed.{IsClosed};
 ghost use Rattle.napi_calls.specs.Instance.{IsNewSeat, IsSeatOf, callers_of};
 ghost use Rattle.napi_calls.specs.declared.types.Caller.{Caller};
-ghost use Rattle.poll_interrupts.specs.Opens.{IsHome, IsKeptLoose, IsKeptSideOf, IsLoose, IsSideOf, IsStation};
+ghost use Rattle.poll_interrupts.specs.Opens.{IsHome, IsKeptLoose, IsKeptSideOf, IsLoose, IsSideOf, IsStation, WakesOwn};
+ghost use Rattle.poll_interrupts.specs.Closings.{IsCallersOf, IsClosedAs};
 ghost use Rattle.poll_interrupts.specs.Seats.{AreSeatsOf};
 
-use crate::station::Station;
+use crate::station::{Closed, Station};
 use crate::worker::OwnSeats;
 use napi_calls::{Caller, Kept, Napi, NewBack};
 use poll_tasks::{Bell, Pause};
 use rx_ring::{RxCtx, RxIn, ring};
 use std::alloc::{AllocError, Global};
+use std::snapshot::Snapshot;
 use std::sync::Wait;
 
 /// What stays where it is of an instance while its threads run: the instance, the bell of its own thread, where it has one,
@@ -49,12 +50,13 @@ pub struct Loose<D> {
 
 impl Placed {
     /// Closes the instance, with its three callers (`netif_napi_del`).
-    pub(crate) fn close(self, seats: OwnSeats, poller: Caller, thread: Caller) -> RxCtx
+    pub(crate) fn close(self, seats: OwnSeats, poller: Caller, thread: Caller) -> (Closed, RxCtx)
         requires home { IsHome self }
         requires seats { AreSeatsOf self.napi seats }
         requires callers { IsSeatOf self.napi poller.pass × IsSeatOf self.napi thread.pass }
-        ensures { IsClosed self.napi (seats.caller ∷ poller ∷ thread ∷ []) seats.control.pass
-            result }
+        ensures napi { result.0.napi.value ≡ self.napi }
+        ensures of { IsCallersOf seats poller thread result.0 }
+        ensures closed { IsClosedAs result.0 result.1 }
     {
         let Placed {
             number: _,
@@ -63,13 +65,20 @@ impl Placed {
             room,
         } = self;
         let OwnSeats { caller, control } = seats;
+        let as_closed = Closed {
+            napi: Snapshot::of(&napi),
+            worker: Snapshot::of(&caller),
+            poller: Snapshot::of(&poller),
+            thread: Snapshot::of(&thread),
+            control: Snapshot::of(&control),
+        };
         let mut callers = room;
         callers.push_reserved(caller);
         callers.push_reserved(poller);
         callers.push_reserved(thread);
         let closed = napi_calls::close(napi, callers, control);
         let Ok(ctx) = closed else { unreachable!() };
-        ctx
+        (as_closed, ctx)
     }
 }
 
@@ -91,13 +100,14 @@ fn next(napi: &Napi, callers: &mut Vec<Caller>) -> Caller
 
 // The bell of an instance's own thread, and what that sleeps on, where it is to have one.
 fn thread_bell(alloc: Global, thread: bool) -> Result<(Option<Bell>, Option<Pause>), AllocError>
-    ensures { IfOk result (λ r. (is_some r.0 ≡ thread) × (is_some r.1 ≡ thread)) }
+    ensures some { IfOk result (λ r. (is_some r.0 ≡ thread) × (is_some r.1 ≡ thread)) }
+    ensures wakes { IfOk result (λ r. WakesOwn r.0 r.1) }
 {
     if !thread {
         return Ok((None, None));
     }
-    let (bell, parker) = Bell::new(alloc)?;
-    Ok((Some(bell), Some(Pause::new(parker))))
+    let (bell, pause) = Bell::new(alloc)?;
+    Ok((Some(bell), Some(pause)))
 }
 
 // The instance of a station.
@@ -154,7 +164,7 @@ fn shut<D: Drop>(placed: Placed, loose: Loose<D>)
         thread,
         pause: _,
     } = loose;
-    let _ctx = placed.close(seats, poller, thread);
+    let (_closed, _ctx) = placed.close(seats, poller, thread);
 }
 
 /// Closes instances that no thread has used.

@@ -1,6 +1,8 @@
 //! What a run is given, and what it gives back.
 
+use napi_calls::{Caller, Control, Napi, Off};
 use rx_ring::Totals;
+use std::snapshot::Snapshot;
 
 /// A device that is to be run.
 #[derive(Drop)]
@@ -25,4 +27,17 @@ pub struct Finished<D> {
     pub device: D,
     /// What is counted of its receive ring.
     pub totals: Totals,
+    /// Its instance and all who made calls on it, as they were when it was closed.
+    pub closed: Closed,
+}
+
+/// An instance that was closed, its three callers and its controller, as clauses see them: so these are about the one history that
+/// was read off it. It has no bytes, and only the end of a run makes one.
+#[derive(Drop)]
+pub struct Closed {
+    pub(crate) napi: Snapshot<Napi>,
+    pub(crate) worker: Snapshot<Caller>,
+    pub(crate) poller: Snapshot<Caller>,
+    pub(crate) thread: Snapshot<Caller>,
+    pub(crate) control: Snapshot<Control<Off>>,
 }

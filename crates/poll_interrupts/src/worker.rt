@@ -1,6 +1,6 @@
 //! An interrupt worker: it makes its device's acts, and hands the instance to its poller.
 
-ghost use Rattle.std.specs.Prelude.{◌≡◌, ℕ, ◌+◌, ◌≤◌, ◌<◌, ◌++◌, true, false, is_some, length};
+ghost use Rattle.std.specs.Prelude.{◌≡◌, ℕ, ◌+◌, ◌≤◌, ◌<◌, ◌++◌, true, false, None, IfSome, is_some, length};
 ghost use Rattle.rx_ring.specs.Ends.{SameIn, capacity_of, put_list};
 ghost use Rattle.napi_calls.specs.Instance.{IsSeatOf};
 ghost use Rattle.poll_interrupts.specs.Acts.{after_acts, arrivals, brings};
@@ -8,12 +8,13 @@ ghost use Rattle.poll_interrupts.specs.Calls.{Acts, AllActs, HandsOver, Interrup
 ghost use Rattle.poll_interrupts.specs.Seats.{AreSeatsOf, IsAccessOf, IsPowerOf};
 ghost use Rattle.poll_interrupts.specs.Works.{IsDoneBy};
 ghost use Rattle.poll_tasks.specs.Asks.{WasLet};
+ghost use Rattle.poll_tasks.specs.Stops.{IsStop};
 
 use crate::acts::{Act, Device};
 use napi_calls::{Between, Caller, Control, Granted, Kept, Napi, Off, On, Sched};
 use napi_model::Kind;
 use poll_list::ListIn;
-use poll_tasks::{Bell, Gate, Signals};
+use poll_tasks::{Bell, Gate, Setting, Stop};
 use rx_ring::{Packet, RxIn};
 use std::sync::Wait;
 use std::thread;
@@ -74,13 +75,13 @@ pub struct Done<R: Wait + Drop, D> {
     pub rx: RxIn,
     /// The worker's seats at the instance, which is off again.
     pub seats: Kept<R, OwnSeats>,
-    /// Whether all acts were made.
-    pub whole: bool,
+    /// Why not all acts were made, if so.
+    pub stop: Option<Stop>,
 }
 
 /// Where a worker's interrupts go.
 #[derive(Drop)]
-pub struct InterruptHandler<'s, 'p, 'n, R> {
+pub struct InterruptHandler<'p, 'n, R> {
     /// What waits.
     pub rt: R,
     /// The device's number.
@@ -91,11 +92,9 @@ pub struct InterruptHandler<'s, 'p, 'n, R> {
     pub thread: Option<&'n Bell>,
     /// The bell of the poller of its list.
     pub poller: &'p Bell,
-    /// Why no further acts are made.
-    pub signals: &'s Signals,
 }
 
-impl<'s, 'p, 'n, R: Wait> InterruptHandler<'s, 'p, 'n, R> {
+impl<'p, 'n, R: Wait> InterruptHandler<'p, 'n, R> {
     // Hands the instance to the list, and wakes who polls it.
     fn hand_to_list(&self, list: &mut ListIn<R>, granted: Granted) -> Caller
         requires { IsSeatOf self.now.napi.now granted.pass }
@@ -218,21 +217,18 @@ impl<'s, 'p, 'n, R: Wait> InterruptHandler<'s, 'p, 'n, R> {
         }
     }
 
-    // Whether the worker may make its next act. Where the gate says no, the run is shut.
-    fn may_act<G: Gate>(&self, gate: &G, k: u32) -> bool
-        ensures { result ≡ true → G.answers gate.now self.now.number k true }
+    // Why the worker may not make its next act, if so. If the gate says no, the run is shut.
+    fn stop_before<G: Gate>(&self, setting: &Setting<R, G>, k: u32) -> Option<Stop>
+        ensures open { result ≡ None → G.answers setting.now.gate.now self.now.number k true }
+        ensures why { IfSome result (IsStop G.may_shut) }
     {
-        if !self.signals.go_on() {
-            return false;
+        match setting.flags.stop() {
+            Some(stop) => Some(stop),
+            None => setting.ask(self.number, k),
         }
-        let open = gate.pass(self.number, k);
-        if !open {
-            self.signals.stop();
-        }
-        open
     }
 
-    // The device's acts in order, and whether all were made.
+    // The device's acts in order, and why not all were made, if so.
     #[tactic(auto, using(crate::proofs::ActSteps::steps))]
     fn make_acts<D: Device, G: Gate>(
         &self,
@@ -240,23 +236,24 @@ impl<'s, 'p, 'n, R: Wait> InterruptHandler<'s, 'p, 'n, R> {
         device: &mut D,
         access: Access,
         rx: &mut RxIn,
-        gate: &G,
-    ) -> (Access, bool)
+        setting: &Setting<R, G>,
+    ) -> (Access, Option<Stop>)
         requires { IsAccessOf self.now.napi.now access }
         ensures of { IsAccessOf self.now.napi.now result.0 }
         ensures same { IsSameAccess access result.0 }
         ensures lists { Lists self.now.number access.caller.pass result.0.caller.pass
             list.old list.new }
-        ensures made { result.1 ≡ true
+        ensures why { IfSome result.1 (IsStop G.may_shut) }
+        ensures made { result.1 ≡ None
             → AllActs (is_some self.now.thread) D.answer D.after device.old
             (D.acts device.old) access result.0 rx.old rx.new }
-        ensures let_go { result.1 ≡ true
-            → WasLet (G.answers gate.now) self.now.number (D.acts device.old) }
-        ensures device { result.1 ≡ true
+        ensures let_go { result.1 ≡ None
+            → WasLet (G.answers setting.now.gate.now) self.now.number (D.acts device.old) }
+        ensures device { result.1 ≡ None
             → device.new ≡ after_acts D.after device.old (D.acts device.old) }
         ensures ring { SameIn rx.old rx.new }
         ensures few { length (put_list rx.new) ≤ length (put_list rx.old) + 4294967295 }
-        ensures put { result.1 ≡ true
+        ensures put { result.1 ≡ None
             → length (put_list rx.old)
             + length (arrivals D.answer D.after device.old (D.acts device.old)) ≤ capacity_of rx.old
             → put_list rx.new ≡ put_list rx.old
@@ -264,21 +261,26 @@ impl<'s, 'p, 'n, R: Wait> InterruptHandler<'s, 'p, 'n, R> {
     {
         let mut access = access;
         for k in 0..device.acts() {
-            if !self.may_act(gate, k) {
-                return (access, false);
+            if let Some(stop) = self.stop_before(setting, k) {
+                return (access, Some(stop));
             }
             access = self.make_act(list, device, k, access, rx);
         }
-        (access, true)
+        (access, None)
     }
 }
 
-impl<'s, 'p, 'n, R: Wait + Drop + Copy> InterruptHandler<'s, 'p, 'n, R> {
+impl<'p, 'n, R: Wait + Drop + Copy> InterruptHandler<'p, 'n, R> {
     /// Makes the device's acts over an instance that is enabled before, and disabled after.
-    pub(crate) fn work<D: Device, G: Gate>(&self, gate: &G, work: Work<R, D>) -> Done<R, D>
+    pub(crate) fn work<D: Device, G: Gate>(
+        &self,
+        setting: &Setting<R, G>,
+        work: Work<R, D>,
+    ) -> Done<R, D>
         requires { AreSeatsOf self.now.napi.now work.seats.value }
-        ensures { IsDoneBy D.acts D.answer D.after (G.answers gate.now) self.now.napi.now
-            (is_some self.now.thread) self.now.number work result }
+        ensures done { IsDoneBy D.acts D.answer D.after (G.answers setting.now.gate.now)
+            self.now.napi.now (is_some self.now.thread) self.now.number work result }
+        ensures why { IfSome result.stop (IsStop G.may_shut) }
     {
         let Work {
             mut list,
@@ -292,7 +294,7 @@ impl<'s, 'p, 'n, R: Wait + Drop + Copy> InterruptHandler<'s, 'p, 'n, R> {
             power: self.turn_on(Power::Off(control), false),
             threaded: false,
         };
-        let (access, whole) = self.make_acts(&mut list, &mut device, access, &mut rx, gate);
+        let (access, stop) = self.make_acts(&mut list, &mut device, access, &mut rx, setting);
         let Access {
             caller,
             power,
@@ -304,7 +306,7 @@ impl<'s, 'p, 'n, R: Wait + Drop + Copy> InterruptHandler<'s, 'p, 'n, R> {
             device,
             rx,
             seats: Kept::new(self.rt, OwnSeats { caller, control }),
-            whole,
+            stop,
         }
     }
 }

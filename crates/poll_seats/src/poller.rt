@@ -1,7 +1,8 @@
 //! A poller: its seats are a bench, over which it runs while there is something on its list.
 
-ghost use Rattle.std.specs.Prelude.{◌≡◌, ◌==◌, true, position, vec_items, vec_len};
+ghost use Rattle.std.specs.Prelude.{◌≡◌, ◌==◌, None, IfSome, position, vec_items, vec_len};
 ghost use Rattle.poll_tasks.specs.Paces.{IsLawful};
+ghost use Rattle.poll_tasks.specs.Stops.{IsStop};
 
 use crate::seat::Seat;
 use crate::serving::{Serves, serve};
@@ -9,7 +10,7 @@ use crate::unseating::unseat;
 use napi_calls::{Caller, Kept};
 use poll_list::SharedList;
 use poll_runs::{Bench, BusyReport, Next, Once, RunReport, ThreadReport, run_softirq};
-use poll_tasks::{Bell, Gate, Pace, Pause, Setting, Task, Turned};
+use poll_tasks::{Bell, Gate, Pace, Pause, Setting, Stop, Task, Turned};
 use rx_ring::Batch;
 use std::sync::Wait;
 
@@ -109,7 +110,7 @@ impl<'n, R: Wait> Serves for Poller<'n, R> {
 
 /// A poller's thread. A poller without seats needs none, and takes no turns.
 #[derive(Drop)]
-pub struct PollTask<'t, 'p, 'n, R: Wait + Drop, G> {
+pub struct PollTask<'t, 'p, 'n, R: Wait + Drop, G: Gate> {
     /// What all threads of the run have.
     pub setting: &'t Setting<'t, R, G>,
     /// The poller's bell.
@@ -130,21 +131,22 @@ impl<'t, 'p, 'n, R: Wait + Drop + Copy, G: Gate> PollTask<'t, 'p, 'n, R, G> {
     ghost use Rattle.poll_seats.specs.Gives.{CanPoll, GivesCallers};
 
     // Gives the callers back as they are.
-    fn stay(self, polled: bool) -> Turned<Vec<Kept<R, Caller>>>
+    fn stay(self, stop: Option<Stop>) -> Turned<Vec<Kept<R, Caller>>>
         requires can { CanPoll self }
-        requires none { polled ≡ true → vec_len self.seats.value ≡ 0 }
-        ensures { GivesCallers G.answers self.entry result }
+        requires none { stop ≡ None → vec_len self.seats.value ≡ 0 }
+        requires why { IfSome stop (IsStop G.may_shut) }
+        ensures { GivesCallers G.may_shut G.answers self.entry result }
     {
         Turned {
             back: unseat(self.setting.rt, self.seats.open(), self.room),
-            polled,
+            stop,
         }
     }
 
     // Polls until told.
     fn poll(self) -> Turned<Vec<Kept<R, Caller>>>
         requires { CanPoll self }
-        ensures { GivesCallers G.answers self.entry result }
+        ensures { GivesCallers G.may_shut G.answers self.entry result }
     {
         let PollTask {
             setting,
@@ -156,9 +158,7 @@ impl<'t, 'p, 'n, R: Wait + Drop + Copy, G: Gate> PollTask<'t, 'p, 'n, R, G> {
             room,
         } = self;
         let rt = setting.rt;
-        if !setting.gate.pass(FIRST_POLLER + number, 0) {
-            setting.signals.stop();
-        }
+        let stop = setting.ask(FIRST_POLLER + number, 0);
         let seat_bench = SeatBench {
             rt,
             seats: seats.open(),
@@ -172,7 +172,7 @@ impl<'t, 'p, 'n, R: Wait + Drop + Copy, G: Gate> PollTask<'t, 'p, 'n, R, G> {
         serve(&rt, bell, &pause, &mut poller);
         Turned {
             back: unseat(rt, poller.leave(), room),
-            polled: true,
+            stop,
         }
     }
 }
@@ -183,16 +183,18 @@ impl<'t, 'p, 'n, R: Wait + Drop + Copy, G: Gate> Task<Turned<Vec<Kept<R, Caller>
 
     ghost can_run = { CanPoll };
 
-    ghost gives = { GivesCallers G.answers };
+    ghost gives = { GivesCallers G.may_shut G.answers };
 
     fn is_idle(&self) -> bool {
         self.seats.value.is_empty()
     }
 
     fn run(self) -> Turned<Vec<Kept<R, Caller>>> {
-        let is_idle = self.seats.value.is_empty();
-        if is_idle || self.setting.signals.unpolled.is_told() {
-            return self.stay(is_idle);
+        if self.seats.value.is_empty() {
+            return self.stay(None);
+        }
+        if self.setting.flags.unpolled.is_told() {
+            return self.stay(Some(Stop::Refused));
         }
         self.poll()
     }

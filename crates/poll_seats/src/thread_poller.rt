@@ -12,7 +12,7 @@ use napi_calls::{Caller, Kept, Napi};
 use napi_model::Kind;
 use poll_list::ListIn;
 use poll_runs::Next;
-use poll_tasks::{Bell, Gate, Pace, Pause, Setting, Task, Turned};
+use poll_tasks::{Bell, Gate, Pace, Pause, Setting, Stop, Task, Turned};
 use rx_ring::Batch;
 use std::sync::Wait;
 
@@ -90,7 +90,7 @@ pub struct Own<'n, R> {
 
 /// The thread's side of one instance. Where it has no thread, its caller is given back at once.
 #[derive(Drop)]
-pub struct ThreadSide<'t, 'p, 'n, R: Wait + Drop, G> {
+pub struct ThreadSide<'t, 'p, 'n, R: Wait + Drop, G: Gate> {
     /// What all threads of the run have.
     pub setting: &'t Setting<'t, R, G>,
     /// The bell of the poller of its list.
@@ -106,14 +106,12 @@ pub struct ThreadSide<'t, 'p, 'n, R: Wait + Drop, G> {
 }
 
 impl<'t, 'p, 'n, R: Wait + Drop + Copy, G: Gate> ThreadSide<'t, 'p, 'n, R, G> {
-    ghost use Rattle.poll_seats.specs.Gives.{GivesCaller};
+    ghost use Rattle.poll_seats.specs.Gives.{CanPollAlone, GivesCaller};
 
     // Polls until told.
     fn poll(self) -> Turned<Kept<R, Caller>>
-        requires seat { IsSeatOf self.napi.now self.caller.value.pass }
-        requires name { self.number ≤ 16 }
-        requires pace { IsLawful self.setting.now.pace }
-        ensures { GivesCaller G.answers self.entry result }
+        requires { CanPollAlone self }
+        ensures { GivesCaller G.may_shut G.answers self.entry result }
     {
         let ThreadSide {
             setting,
@@ -127,12 +125,10 @@ impl<'t, 'p, 'n, R: Wait + Drop + Copy, G: Gate> ThreadSide<'t, 'p, 'n, R, G> {
         let Some(Own { bell, pause, list }) = own else {
             return Turned {
                 back: caller,
-                polled: true,
+                stop: None,
             };
         };
-        if !setting.gate.pass(FIRST_THREAD + number, 0) {
-            setting.signals.stop();
-        }
+        let stop = setting.ask(FIRST_THREAD + number, 0);
         let mut alone = Alone {
             rt,
             seat: Seat {
@@ -149,31 +145,28 @@ impl<'t, 'p, 'n, R: Wait + Drop + Copy, G: Gate> ThreadSide<'t, 'p, 'n, R, G> {
         serve(&rt, bell, &pause, &mut alone);
         Turned {
             back: Kept::new(rt, alone.leave()),
-            polled: true,
+            stop,
         }
     }
 }
 
 impl<'t, 'p, 'n, R: Wait + Drop + Copy, G: Gate> Task<Turned<Kept<R, Caller>>>
     for ThreadSide<'t, 'p, 'n, R, G> {
-    ghost use Rattle.std.specs.Prelude.{◌≤◌};
-    ghost use Rattle.napi_calls.specs.Instance.{IsSeatOf};
-    ghost use Rattle.poll_tasks.specs.Paces.{IsLawful};
-    ghost use Rattle.poll_seats.specs.Gives.{GivesCaller};
+    ghost use Rattle.poll_seats.specs.Gives.{CanPollAlone, GivesCaller};
 
-    ghost can_run = { λ side. IsSeatOf side.napi.now side.caller.value.pass × (side.number ≤ 16) × IsLawful side.setting.now.pace };
+    ghost can_run = { CanPollAlone };
 
-    ghost gives = { GivesCaller G.answers };
+    ghost gives = { GivesCaller G.may_shut G.answers };
 
     fn is_idle(&self) -> bool {
         self.own.is_none()
     }
 
     fn run(self) -> Turned<Kept<R, Caller>> {
-        if self.setting.signals.unpolled.is_told() {
+        if self.setting.flags.unpolled.is_told() {
             return Turned {
                 back: self.caller,
-                polled: false,
+                stop: Some(Stop::Refused),
             };
         }
         self.poll()

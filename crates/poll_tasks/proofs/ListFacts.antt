@@ -1,9 +1,9 @@
 -- Lists side by side.
 use Rattle.std.proofs.Common.{◌≡◌, ◌≢◌, ◌<◌, ◌≤◌, ℕ, zero, suc, Bool, true, false, cond}
 use Rattle.std.proofs.Common.{List, [], ◌∷◌, ◌++◌, length, sym, refl, ap, ◌∙◌, subst}
-use Rattle.std.{proofs.Common.{append-nil, arith, All, eqb, get_or, get_or-set_other, get_or-set_same, set}, specs.Prelude.filter}
+use Rattle.std.{proofs.Common.{append-nil, arith, All, eqb, get_or, get_or-set_other, get_or-set_same, set}, specs.Prelude.{filter, map}}
 use Rattle.std.{proofs.lemmas.Bool.{eqb-true, eqb-false}, specs.List.{AllByRecursion, AllZip}}
-use Rattle.poll_tasks.specs.Tasks.{EachAt}
+use Rattle.poll_tasks.specs.Tasks.{EachAt, IsAt}
 
 pub none_left : {A : Type 0} (all xs rest : List A) → xs ++ rest ≡ all → rest ≡ [] → xs ≡ all
 none_left all xs rest e n = sym (append-nil xs) ∙ ap (λ l. xs ++ l) (sym n) ∙ e
@@ -21,6 +21,12 @@ module _ {A B : Type 0} where
   zip_flip R [] [] h = tt
   zip_flip R (x ∷ xs) (y ∷ ys) h = (h.0, zip_flip R xs ys h.1)
   zip_flip R xs ys h = absurd h
+
+  pub zip_right : (R : A → B → Type 0) (P : B → Type 0) (xs : List A) (ys : List B) → AllZip R xs ys → AllByRecursion P ys
+      → AllZip (λ x y. R x y × P y) xs ys
+  zip_right R P [] [] h p = tt
+  zip_right R P (x ∷ xs) (y ∷ ys) h p = ((h.0, p.0), zip_right R P xs ys h.1 p.1)
+  zip_right R P xs ys h p = absurd h
 
   pub zip_and : (R S : A → B → Type 0) (xs : List A) (ys : List B) → AllZip R xs ys → AllZip S xs ys → AllZip (λ x y. R x y × S x y) xs ys
   zip_and R S [] [] h k = tt
@@ -115,6 +121,13 @@ at_place P [] each k low = absurd (omega (arith, low))
 at_place P (x ∷ xs) each zero low = (x, each 0 x (omega arith))
 at_place P (x ∷ xs) each (suc k) low =
     at_place (λ n a. P (suc n) a) xs (λ n a b. each (suc n) a (omega (arith, b))) k (omega (arith, low))
+
+-- what was mapped is at its place too
+pub at_mapped : {A B : Type 0} (f : A → B) (xs : List A) (k : ℕ) (x : A) → IsAt xs k x → IsAt (map f xs) k (f x)
+at_mapped f [] k x at = absurd (let low = at.0 in omega (arith, low))
+at_mapped f (y ∷ xs) zero x at = (omega arith, ap f at.1)
+at_mapped f (y ∷ xs) (suc k) x at =
+    let h = at_mapped f xs k x (let low = at.0 in omega (arith, low), at.1) in (let low = h.0 in omega (arith, low), h.1)
 
 pub each_more : {A : Type 0} (P : ℕ → A → Type 0) (xs : List A) (x : A) → EachAt P xs → P (length xs) x → EachAt P (xs ++ x ∷ [])
 each_more P [] x each here zero d low = here

@@ -20,6 +20,10 @@ pub record IsReady {J O : Type 0} (can_run : J → Type 0) (tasks : Vec J) (begu
   pub given_empty : vec_len given ≡ 0
   pub given_room : vec_len tasks ≤ vec_capacity given
 
+-- the list has this item at this place
+abbrev pub IsAt : {A : Type 0} → List A → ℕ → A → Type 0
+IsAt xs k x = (k < length xs) × (slice_index_or xs k x ≡ x)
+
 -- of each item so much is known, by its place
 abbrev pub EachAt : {A : Type 0} → (ℕ → A → Type 0) → List A → Type 0
 EachAt {A} P xs = (k : ℕ) (d : A) → k < length xs → P k (slice_index_or xs k d)

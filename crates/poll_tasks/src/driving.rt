@@ -4,7 +4,7 @@ ghost use Rattle.std.specs.Prelude.{IfOk};
 ghost use Rattle.std.specs.List.{AllZip};
 ghost use Rattle.poll_tasks.specs.Tasks.{HasRoom, IsReady};
 
-use crate::signals::{Bell, Signals};
+use crate::signals::{Bell, Refusal};
 use crate::tasks::{Begun, Task, begin_all, end_all};
 use std::alloc::{AllocError, Global};
 use std::sync::Wait;
@@ -63,13 +63,15 @@ pub struct Driven<A, B, C> {
 }
 
 /// Runs the threads of a run. Whoever polls is started before the workers: where one can't be started no worker makes an act,
-/// so that nobody waits for it. The pollers, whose bells these are, are told when all workers have ended.
+/// so that nobody waits for it. The pollers, whose bells these are, are told when all workers have ended. `unpolled` is told
+/// where one who polls couldn't be started, and `refused` where any couldn't.
 pub fn drive<R, P, A, W, B, S, C>(
     rt: &R,
     tasks: Tasks<P, W, S>,
     rooms: Rooms<P, A, W, B, S, C>,
     bells: &[Bell],
-    signals: &Signals,
+    unpolled: &Refusal,
+    refused: &Refusal,
 ) -> Driven<A, B, C>
 where
     R: Threads + Wait + Sync,
@@ -107,12 +109,12 @@ where
             ensures worked { AllZip W.gives workers.items result.worked.items }
             ensures threads { AllZip S.gives threads.items result.threads.items }
         {
-            let siding = begin_all(scope, threads, &signals.unpolled, side_room.begun);
-            let polling = begin_all(scope, pollers, &signals.unpolled, poll_room.begun);
-            if signals.unpolled.is_told() {
-                signals.refused.tell();
+            let siding = begin_all(scope, threads, unpolled, side_room.begun);
+            let polling = begin_all(scope, pollers, unpolled, poll_room.begun);
+            if unpolled.is_told() {
+                refused.tell();
             }
-            let working = begin_all(scope, workers, &signals.refused, work_room.begun);
+            let working = begin_all(scope, workers, refused, work_room.begun);
             let worked = end_all(rt, working, work_room.given);
             for bell in bells {
                 bell.tell();

@@ -8,7 +8,7 @@ mod signals;
 mod tasks;
 
 pub use driving::{Driven, Room, Rooms, Tasks, drive, task_room};
-pub use gate::{Gate, OpenGate, Watch};
+pub use gate::{Gate, OpenGate};
 pub use pace::{Pace, Setting};
-pub use signals::{Bell, Pause, Refusal, Signals};
-pub use tasks::{Begun, Gives, Task, Turned, begin, begin_all, end, end_all};
+pub use signals::{Bell, Pause, Refusal, Stop, StopFlags};
+pub use tasks::{Begun, Gives, Task, Turned, begin, begin_all, end, end_all, first_stop};

@@ -1,6 +1,10 @@
 //! What all threads of a run have.
 
-use crate::signals::Signals;
+ghost use Rattle.std.specs.Prelude.{◌≡◌, true, None, IfSome};
+ghost use Rattle.poll_tasks.specs.Stops.{IsStop};
+
+use crate::gate::Gate;
+use crate::signals::{Stop, StopFlags};
 
 /// How pollers poll.
 #[derive(Clone, Copy, Debug, PartialEq, Eq)]
@@ -15,13 +19,27 @@ pub struct Pace {
 
 /// What all threads of a run have.
 #[derive(Drop)]
-pub struct Setting<'t, R, G> {
+pub struct Setting<'t, R, G: Gate> {
     /// What waits and starts threads.
     pub rt: R,
     /// What is asked before each act.
     pub gate: &'t G,
     /// Why no further acts are made.
-    pub signals: &'t Signals,
+    pub flags: &'t StopFlags<G>,
     /// How pollers poll.
     pub pace: Pace,
+}
+
+impl<'t, R, G: Gate> Setting<'t, R, G> {
+    /// Asks the gate before an act, or as a poller starts. If it answers false, the run is shut.
+    pub fn ask(&self, by: u32, act: u32) -> Option<Stop>
+        ensures open { result ≡ None → G.answers self.now.gate.now by act true }
+        ensures shut { IfSome result (IsStop G.may_shut) }
+    {
+        if self.gate.pass(by, act) {
+            return None;
+        }
+        self.flags.shut();
+        Some(Stop::Shut)
+    }
 }

@@ -1,12 +1,16 @@
-//! What the threads of a run tell each other. Proofs rest on one thing alone: who tells of a thread that could not be started
-//! knows of one.
+//! What the threads of a run tell each other. Proofs rest on three things: a stop has its reason, and a waker wakes the thread that
+//! it was made for.
 
-ghost use Rattle.std.specs.Prelude.{◌≡◌, true};
+ghost use Rattle.std.specs.Prelude.{◌≡◌, true, IfOk, IfSome};
 ghost use Rattle.poll_tasks.specs.Refusals.{IsRefused};
+ghost use Rattle.poll_tasks.specs.Stops.{IsStop};
+ghost use Rattle.poll_tasks.specs.Wakers.{Wakes};
 
+use crate::gate::Gate;
 use crossbeam_utils::Backoff;
 use crossbeam_utils::sync::{Parker, Unparker};
 use std::alloc::{AllocError, Global};
+use std::marker::PhantomData;
 use std::sync::Wait;
 use std::sync::atomic::{AtomicBool, AtomicIn, Ordering, Rule};
 
@@ -49,40 +53,63 @@ impl Refusal {
     }
 }
 
+/// Why a thread's work was cut short.
+#[derive(Clone, Copy, Debug, PartialEq, Eq)]
+pub enum Stop {
+    /// A thread could not be started.
+    Refused,
+    /// The gate answered false.
+    Shut,
+}
+
+// A word that isn't 0 only where the gate may answer false.
+struct Shut<G>(PhantomData<G>);
+
+impl<G: Gate> Rule for Shut<G> {
+    ghost use Rattle.std.specs.Prelude.{◌≡◌, ◌⊎◌};
+
+    ghost invariant = { λ n. (n ≡ 0) ⊎ G.may_shut };
+}
+
 /// Why no further acts are made.
 #[derive(Drop)]
-pub struct Signals {
+pub struct StopFlags<G: Gate> {
     /// The thread of one who polls could not be started: this is told before any worker begins.
     pub unpolled: Refusal,
     /// A thread could not be started.
     pub refused: Refusal,
-    // Memory was refused, or the gate answered false.
-    stopped: AtomicBool,
+    // 1 once the gate has answered false.
+    shut: AtomicIn<Shut<G>>,
 }
 
-impl Signals {
-    /// Signals of a run that goes on.
-    pub fn new() -> Signals {
-        Signals {
+impl<G: Gate> StopFlags<G> {
+    /// Flags of a run that goes on.
+    pub fn new() -> StopFlags<G> {
+        StopFlags {
             unpolled: Refusal::new(),
             refused: Refusal::new(),
-            stopped: AtomicBool::new(false),
+            shut: AtomicIn::new(0),
         }
     }
 
-    /// Memory was refused, or the gate answered false: no further acts are made.
-    pub fn stop(&self) {
-        self.stopped.store(true, Ordering::SeqCst);
+    /// The gate answered false: no further acts are made.
+    pub fn shut(&self)
+        requires { G.may_shut }
+    {
+        self.shut.store(1, Ordering::SeqCst);
     }
 
-    /// Whether memory was refused, or the gate answered false.
-    pub fn is_stopped(&self) -> bool {
-        self.stopped.load(Ordering::SeqCst)
-    }
-
-    /// Whether acts may go on.
-    pub fn go_on(&self) -> bool {
-        !self.refused.is_told() && !self.is_stopped()
+    /// Why no further acts are made, if so.
+    pub fn stop(&self) -> Option<Stop>
+        ensures { IfSome result (IsStop G.may_shut) }
+    {
+        if self.refused.is_told() {
+            return Some(Stop::Refused);
+        }
+        if self.shut.load(Ordering::SeqCst) != 0 {
+            return Some(Stop::Shut);
+        }
+        None
     }
 }
 
@@ -94,12 +121,18 @@ pub struct Bell {
 }
 
 impl Bell {
-    /// A bell, and what its poller sleeps on.
-    pub fn new(alloc: Global) -> Result<(Bell, Parker), AllocError> {
+    /// A bell, and how its poller waits.
+    pub fn new(alloc: Global) -> Result<(Bell, Pause), AllocError>
+        ensures { IfOk result (λ r. Wakes r.0 r.1) }
+    {
         let parker = Parker::new(alloc)?;
         let unparker = parker.unparker().clone()?;
         let told = AtomicBool::new(false);
-        Ok((Bell { unparker, told }, parker))
+        let pause = Pause {
+            parker,
+            backoff: Backoff::new(),
+        };
+        Ok((Bell { unparker, told }, pause))
     }
 
     /// Wakes the poller, or keeps it awake where it is about to sleep. Whoever hands something over does that first.
@@ -128,14 +161,6 @@ pub struct Pause {
 }
 
 impl Pause {
-    /// A pause of a poller that sleeps on this parker.
-    pub fn new(parker: Parker) -> Pause {
-        Pause {
-            parker,
-            backoff: Backoff::new(),
-        }
-    }
-
     /// Something was polled.
     pub fn is_over(&self) {
         self.backoff.reset();

@@ -1,10 +1,12 @@
 //! Tasks, each in a thread of its own.
 
-ghost use Rattle.std.specs.Prelude.{◌≡◌, ◌≤◌, List, vec_len, vec_capacity};
+ghost use Rattle.std.specs.Prelude.{◌≡◌, ◌≤◌, List, None, IfSome, vec_len, vec_capacity};
 ghost use Rattle.std.specs.List.{All, AllZip};
+ghost use Rattle.poll_tasks.specs.Stops.{IsStop};
 ghost use Rattle.poll_tasks.specs.Tasks.{IsBegun};
 
-use crate::signals::Refusal;
+use crate::gate::Gate;
+use crate::signals::{Refusal, Stop};
 use std::snapshot::Snapshot;
 use std::thread::{Promise, PromisedHandle, Scope, Threads};
 
@@ -28,8 +30,22 @@ pub trait Task<O> {
 pub struct Turned<T> {
     /// What it polled with.
     pub back: T,
-    /// Whether it took its turns: not where a thread beside it couldn't be started.
-    pub polled: bool,
+    /// Why its run is cut short: a thread couldn't be started, and it took no turn; or its gate answered false.
+    pub stop: Option<Stop>,
+}
+
+/// Why the first of these that says so has its run cut short.
+pub fn first_stop<G: Gate, T>(all: &[Turned<T>]) -> Option<Stop>
+    requires { All (λ t. IfSome t.stop (IsStop G.may_shut)) all.now }
+    ensures none { result ≡ None → All (λ t. t.stop ≡ None) all.now }
+    ensures some { IfSome result (IsStop G.may_shut) }
+{
+    for one in all {
+        if let Some(stop) = one.stop {
+            return Some(stop);
+        }
+    }
+    None
 }
 
 /// The promise that a thread gives what its task does.

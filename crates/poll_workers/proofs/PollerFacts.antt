@@ -5,7 +5,13 @@ use Rattle.std.{proofs.{Common.{cond, vec_items}, lemmas.List.length-set}, specs
 use Rattle.poll_tasks.proofs.ListFacts.{each_set, filter_fewer, filter_more}
 use Rattle.poll_interrupts.{specs.Deals.is_own, proofs.EndFacts.not_other}
 use Rattle.{napi_calls.specs.declared.kept.Kept.Kept, poll_seats.specs.declared.seat.Seat.Seat}
-use Rattle.poll_workers.specs.Spreads.{HaveOwn, TakesSeat}
+use Rattle.poll_workers.specs.Spreads.{AreEndsOf, HaveOwn, IsEndOf, TakesSeat}
+use Rattle.std.proofs.Common.{All, set, zero, suc}
+use Rattle.poll_list.specs.declared.{list_in.ListIn.ListIn, shared.SharedList.SharedList}
+use Rattle.poll_tasks.specs.{Tasks.IsAt, declared.signals.Bell.Bell}
+use Rattle.poll_seats.specs.declared.thread_poller.Own.{Own as ThreadOwn}
+use Rattle.poll_interrupts.specs.Deals.{poller_by}
+use Rattle.std.{specs.Prelude.{IfSome, Option, Some, None}, proofs.lemmas.Bool.eqb-true}
 
 module _ {R : Type 0} (count pollers : ℕ) (sat : List Seat) (seats : List (Kept R (Vec Seat))) (k : ℕ)
     (have : HaveOwn count pollers sat seats) (within : k < length seats) where
@@ -48,6 +54,49 @@ module _ {R : Type 0} (count pollers : ℕ) (sat : List Seat) (seats : List (Kep
             ∙ append-nil (filter (by n) sat)),
         q.1,
       )
+
+-- ---- ends that are taken
+
+all_cons : {A : Type 0} (P : A → Type 0) (x : A) (xs : List A) → P x → All P xs → All P (x ∷ xs)
+all_cons P x xs p h zero d low = p
+all_cons P x xs p h (suc k) d low = h k d (omega (arith, low))
+
+all_cut : {A : Type 0} (P : A → Type 0) (xs : List A) (y : A) → All P (xs ++ y ∷ []) → All P xs × P y
+all_cut P [] y h = (λ k d low. absurd (omega (arith, low)), h 0 y (omega arith))
+all_cut P (x ∷ xs) y h =
+    let rest = all_cut P xs y (λ k d low. h (suc k) d (omega (arith, low))) in
+    (all_cons P x xs (h 0 x (omega arith)) rest.0, rest.1)
+
+-- two ends of a poller's list are ends of it, and so are those that are left
+pub ends_cut : {R : Type 0} (lists : List (SharedList R)) (ends : List (Vec (ListIn R))) (k : ℕ) (was now : Vec (ListIn R))
+    (mid : List (ListIn R)) (one other : ListIn R)
+    → k < length ends → get_or ends k was ≡ was → vec_items was ≡ mid ++ one ∷ [] → mid ≡ vec_items now ++ other ∷ []
+    → AreEndsOf lists ends
+    → IsEndOf lists k one × IsEndOf lists k other × AreEndsOf lists (set ends k now)
+ends_cut {R} lists ends k was now mid one other within there whole rest each =
+    let P : ℕ → Vec (ListIn R) → Type 0 = λ n own. All (IsEndOf lists n) (vec_items own) in
+    let all = subst (λ v. P k v) there (each k was within) in
+    let first = all_cut (IsEndOf lists k) mid one (subst (λ l. All (IsEndOf lists k) l) whole all) in
+    let second = all_cut (IsEndOf lists k) (vec_items now) other (subst (λ l. All (IsEndOf lists k) l) rest first.0) in
+    (first.1, second.1, each_set P P ends k now within each second.0 (λ n x ne h. h) (length-set ends k now))
+
+-- ---- the list and the bell of a station's poller
+
+pub by_station : (pollers number k n : ℕ) → is_own k pollers number ≡ true → n ≡ number → poller_by pollers n ≡ k
+by_station pollers number k n own e = ap (λ m. poller_by pollers m) e ∙ eqb-true (poller_by pollers number) k own
+
+pub wired_end : {R : Type 0} (lists : List (SharedList R)) (k n : ℕ) (given end : ListIn R) → IsEndOf lists k given → end ≡ given → n ≡ k
+    → IsEndOf lists n end
+wired_end lists k n given end is same e =
+    subst (λ m. IsEndOf lists m end) (sym e) (subst (λ x. IsEndOf lists k x) (sym same) is)
+
+pub wired_own : {R : Type 0} (lists : List (SharedList R)) (k n : ℕ) (given : ListIn R) (own : Option (ThreadOwn R)) → IsEndOf lists k given
+    → IfSome own (λ o. o.list ≡ given) → n ≡ k → IfSome own (λ o. IsEndOf lists n o.list)
+wired_own lists k n given None is same e = tt
+wired_own lists k n given (Some o) is same e = wired_end lists k n given o.list is same e
+
+pub wired_bell : (bells : List Bell) (k n : ℕ) (here bell : Bell) → IsAt bells k here → bell ≡ here → n ≡ k → IsAt bells n bell
+wired_bell bells k n here bell is same e = subst (λ m. IsAt bells m bell) (sym e) (subst (λ b. IsAt bells k b) (sym same) is)
 
 -- ---- what is counted while one more is given out
 

@@ -1,18 +1,20 @@
 -- What goes to the threads of stations.
-use Rattle.std.specs.Prelude.{◌≡◌, ℕ, ◌++◌, ◌≤◌, List, [], ◌∷◌, IsSome, Some, filter, is_some}
+use Rattle.std.specs.Prelude.{◌≡◌, ℕ, ◌++◌, ◌≤◌, List, [], ◌∷◌, IfSome, IsSome, Some, filter, is_some, length}
 use Rattle.std.specs.Prelude.{option_copied, option_map, slice_index_or, slice_set}
 use Rattle.std.specs.{Prelude.{vec_items, vec_capacity}, Global.Vec}
-use Rattle.{poll_list.specs.SharedList.IsNewList, poll_interrupts.specs.Deals.is_own, poll_seats.specs.declared.poller.PollTask.PollTask}
-use Rattle.{poll_tasks.specs.Tasks.{EachAt, HasRoom}, poll_workers.specs.declared.pollers.Begin.Begin}
+use Rattle.poll_list.specs.{SharedList.{IsInOf, IsNewList, pushed_by}, declared.{list_in.ListIn.ListIn, shared.SharedList.SharedList}}
+use Rattle.{std.specs.List.All, poll_tasks.specs.{Wakers.Wakes, declared.signals.Bell.Bell}, poll_interrupts.specs.Deals.poller_by}
+use Rattle.{poll_interrupts.specs.Deals.is_own, poll_seats.specs.declared.poller.PollTask.PollTask}
+use Rattle.{poll_tasks.specs.Tasks.{EachAt, HasRoom, IsAt}, poll_workers.specs.declared.pollers.Begin.Begin}
 use Rattle.napi_calls.specs.declared.kept.Kept.{Kept}
 use Rattle.{napi_calls.specs.Instance.IsSeatOf, poll_interrupts.specs.declared.{opening.{Placed.Placed, Loose.Loose}, job.Job.Job}}
 use Rattle.{poll_interrupts.specs.Seats.AreSeatsOf, poll_seats.specs.declared.{seat.Seat.Seat, thread_poller.ThreadSide.ThreadSide}}
 use Rattle.poll_tasks.specs.{declared.pace.Setting.Setting, Paces.IsLawful}
 
 module _ {R D G : Type 0} where
-  -- the job asks the run's gate, has the device, its number, its end of the ring and its seats, knows of its thread, and may be done
+  -- the job has what all threads have, the device, its number, its end of the ring and its seats, knows of its thread, and may be done
   pub record IsJobOf (setting : Setting R G) (loose : Loose D) (job : Job R D G) : Type 0 where
-    pub gate : job.gate.now ≡ setting.gate.now
+    pub has : job.setting.now ≡ setting
     pub same_number : job.handler.number ≡ loose.number
     pub same_device : job.work.device ≡ loose.device
     pub same_rx : job.work.rx ≡ loose.rx
@@ -60,6 +62,31 @@ module _ {R : Type 0} where
     pub seat : IsSeatOf side.napi.now side.caller.value.pass
     pub name : side.number ≤ 16
     pub lawful : IsLawful side.setting.now.pace
+    pub wakes : IfSome side.own (λ own. Wakes own.bell.now own.pause)
+
+module _ {R : Type 0} where
+  -- an end of this list, at which nothing was pushed
+  abbrev pub IsNewEnd : SharedList R → ListIn R → Type 0
+  IsNewEnd list end = IsInOf list end × (pushed_by end ≡ [])
+
+  -- one of the list of the poller with this number
+  abbrev pub IsEndOf : List (SharedList R) → ℕ → ListIn R → Type 0
+  IsEndOf lists poller end = (list : SharedList R) × IsAt lists poller list × IsNewEnd list end
+
+  -- these are ends of each poller's list
+  abbrev pub AreEndsOf : List (SharedList R) → List (Vec (ListIn R)) → Type 0
+  AreEndsOf lists ends = EachAt (λ k own. All (IsEndOf lists k) (vec_items own)) ends
+
+  module _ {G : Type 0} (lists : List (SharedList R)) (bells : List Bell) where
+    -- a worker pushes into the list of the poller of its station, and wakes that one
+    pub record IsWiredJob {D : Type 0} (job : Job R D G) : Type 0 where
+      pub list : IsEndOf lists (poller_by (length bells) job.handler.number) job.work.list
+      pub bell : IsAt bells (poller_by (length bells) job.handler.number) job.handler.poller.now
+
+    -- so does the thread of an instance, where it has one
+    pub record IsWiredSide (side : ThreadSide R G) : Type 0 where
+      pub list : IfSome side.own (λ own. IsEndOf lists (poller_by (length bells) side.number) own.list)
+      pub bell : IsAt bells (poller_by (length bells) side.number) side.poller.now
 
 -- a poller begins with a new list, and with room for the callers of so many seats
 pub record IsBegin {R : Type 0} (count : ℕ) (begin : Begin R) : Type 0 where
@@ -83,9 +110,13 @@ module _ {R : Type 0} where
     pub rest : after ≡ slice_set before poller now
 
 module _ {R G : Type 0} where
-  -- the poller with this number has what all threads have, a new list, these seats, and room for the callers of so many
-  pub record IsPoller (setting : Setting R G) (count : ℕ) (seats : List Seat) (number : ℕ) (task : PollTask R G) : Type 0 where
+  -- The poller with this number has what all threads have, the bell of this number, which wakes it, a new list, these seats, and
+  -- room for the callers of so many.
+  pub record IsPoller (setting : Setting R G) (bells : List Bell) (count : ℕ) (seats : List Seat) (number : ℕ) (task : PollTask R G)
+      : Type 0 where
     pub has : task.setting.now ≡ setting
+    pub bell : IsAt bells number task.bell.now
+    pub wakes : Wakes task.bell.now task.pause
     pub same_number : task.number ≡ number
     pub ends : ℕ
     pub new : IsNewList ends task.list
@@ -93,6 +124,6 @@ module _ {R G : Type 0} where
     pub room : HasRoom count task.room
 
   -- so for all of so many pollers, each with those seats that are its own
-  abbrev pub ArePollers : Setting R G → ℕ → ℕ → List Seat → List (PollTask R G) → Type 0
-  ArePollers setting count pollers seats =
-      EachAt (λ k task. IsPoller setting count (filter (λ (s : Seat). is_own k pollers s.number) seats) k task)
+  abbrev pub ArePollers : Setting R G → List Bell → ℕ → ℕ → List Seat → List (PollTask R G) → Type 0
+  ArePollers setting bells count pollers seats =
+      EachAt (λ k task. IsPoller setting bells count (filter (λ (s : Seat). is_own k pollers s.number) seats) k task)

@@ -9,6 +9,6 @@ mod spreading;
 
 pub use fault::WorkFault;
 pub use numbers::have_distinct_numbers;
-pub use poll_interrupts::{Act, ActList, Device, Finished, Station};
+pub use poll_interrupts::{Act, ActList, Closed, Device, Finished, Station};
 pub use poll_tasks::{Gate, OpenGate};
 pub use run::run_workers;

@@ -1,16 +1,18 @@
 //! The pollers of a run, each with its bell, its list and its seats.
 
-ghost use Rattle.std.specs.Prelude.{◌≡◌, ◌≤◌, ◌<◌, ◌+◌, ℕ, [], List, IfOk, length, slice_index_or, vec_items, vec_len, vec_capacity};
-ghost use Rattle.std.specs.List.{All, AllByRecursion};
+ghost use Rattle.std.specs.Prelude.{◌≡◌, ◌≤◌, ◌<◌, ◌+◌, ℕ, [], List, IfOk, length, map, slice_index_or, vec_items, vec_len, vec_capacity};
+ghost use Rattle.std.specs.List.{All, AllByRecursion, AllZip};
 ghost use Rattle.napi_calls.specs.declared.kept.Kept.{Kept};
 ghost use Rattle.poll_seats.specs.declared.seat.Seat.{Seat};
 ghost use Rattle.poll_tasks.specs.Tasks.{HasRoom};
-ghost use Rattle.poll_workers.specs.Spreads.{HaveOwn, IsBegin, ArePollers, TakesSeat};
+ghost use Rattle.poll_list.specs.declared.shared.SharedList.{SharedList};
+ghost use Rattle.poll_tasks.specs.Wakers.{Wakes};
+ghost use Rattle.poll_workers.specs.Spreads.{AreEndsOf, ArePollers, HaveOwn, IsBegin, IsEndOf, IsNewEnd, TakesSeat};
 
 use napi_calls::{Caller, Kept};
 use poll_list::{ListIn, SharedList, shared_list};
 use poll_seats::{PollTask, Seat};
-use poll_tasks::{Bell, Pause, Setting};
+use poll_tasks::{Bell, Gate, Pause, Setting};
 use std::alloc::{AllocError, Global};
 use std::sync::Wait;
 
@@ -39,6 +41,8 @@ fn begin_of<R: Wait + Drop + Copy>(
     requires { count ≤ 16 }
     ensures begin { IfOk result (λ r. IsBegin count r.0) }
     ensures ends { IfOk result (λ r. count + count ≤ vec_len r.1) }
+    ensures own { IfOk result (λ r. All (IsNewEnd r.0.list) (vec_items r.1)) }
+    ensures pause { IfOk result (λ r. r.0.pause ≡ pause) }
 {
     let Ok((list, ends)) = shared_list(rt, alloc, 2 * count as u32) else {
         return Err(AllocError);
@@ -61,13 +65,17 @@ pub(crate) fn begins_of<R: Wait + Drop + Copy>(
     ensures begins { IfOk result
         (λ r. AllByRecursion (IsBegin count) (vec_items r.1.pollers)) }
     ensures ends { IfOk result (λ r. All (λ e. count + count ≤ vec_len e) (vec_items r.1.ends)) }
+    ensures wakes { IfOk result (λ r. AllZip (λ bell begin. Wakes bell begin.pause) (vec_items r.0)
+        (vec_items r.1.pollers)) }
+    ensures own { IfOk result (λ r. AllZip (λ begin e. All (IsNewEnd begin.list) (vec_items e))
+        (vec_items r.1.pollers) (vec_items r.1.ends)) }
 {
     let mut bells = Vec::with_capacity(alloc, pollers)?;
     let mut begins = Vec::with_capacity(alloc, pollers)?;
     let mut ends = Vec::with_capacity(alloc, pollers)?;
     for _ in 0..pollers {
-        let (bell, parker) = Bell::new(alloc)?;
-        let (begin, own_ends) = begin_of(rt, alloc, count, Pause::new(parker))?;
+        let (bell, pause) = Bell::new(alloc)?;
+        let (begin, own_ends) = begin_of(rt, alloc, count, pause)?;
         bells.push_reserved(bell);
         begins.push_reserved(begin);
         ends.push_reserved(own_ends);
@@ -134,6 +142,9 @@ pub(crate) fn two_ends<R: Wait + Drop>(
     requires some { All (λ e. 2 ≤ vec_len e) (vec_items ends.old) }
     ensures left { (n : ℕ) → All (λ e. n + 2 ≤ vec_len e) (vec_items ends.old)
         → All (λ e. n ≤ vec_len e) (vec_items ends.new) }
+    ensures own { (lists : List (SharedList _)) → AreEndsOf lists (vec_items ends.old)
+        → IsEndOf lists poller result.0 × IsEndOf lists poller result.1
+        × AreEndsOf lists (vec_items ends.new) }
     ensures len { length (vec_items ends.new) ≡ length (vec_items ends.old) }
 {
     let own = &mut ends[poller];
@@ -145,7 +156,7 @@ pub(crate) fn two_ends<R: Wait + Drop>(
 }
 
 /// The pollers with these bells, what they begin with, and their seats. There is room for them.
-pub(crate) fn pollers_of<'t, 'p, 'n, R: Wait + Drop, G>(
+pub(crate) fn pollers_of<'t, 'p, 'n, R: Wait + Drop, G: Gate>(
     setting: &'t Setting<'t, R, G>,
     bells: &'p [Bell],
     begins: Vec<Begin<R>>,
@@ -158,23 +169,30 @@ pub(crate) fn pollers_of<'t, 'p, 'n, R: Wait + Drop, G>(
     requires room { HasRoom (length bells.now) room }
     ensures pollers { (count n : ℕ) (sat : List Seat)
         → AllByRecursion (IsBegin count) (vec_items begins)
+        → AllZip (λ bell begin. Wakes bell begin.pause) bells.now (vec_items begins)
         → HaveOwn count n sat (vec_items seats.entry)
-        → ArePollers setting.now count n sat (vec_items result) }
+        → ArePollers setting.now bells.now count n sat (vec_items result) }
+    ensures lists { map (λ t. t.list) (vec_items result) ≡ map (λ b. b.list) (vec_items begins) }
     ensures len { length (vec_items result) ≡ length bells.now }
 {
     let mut pollers = room;
+    let mut rest = bells;
     let mut begins = begins.into_iter();
     let mut seats = seats.into_iter();
     while let Some(begin) = begins.next() {
         let Some(own) = seats.next() else {
             unreachable!()
         };
+        let Some((bell, more)) = rest.split_first() else {
+            unreachable!()
+        };
+        rest = more;
         let Begin { list, pause, room } = begin;
-        let number = pollers.len();
+        let number = pollers.len() as u32;
         pollers.push_reserved(PollTask {
             setting,
-            bell: &bells[number],
-            number: number as u32,
+            bell,
+            number,
             list,
             pause,
             seats: own,

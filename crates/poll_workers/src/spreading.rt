@@ -1,19 +1,21 @@
 //! What goes to the threads of a run.
 
-ghost use Rattle.std.specs.Prelude.{◌≡◌, ◌+◌, ◌≤◌, [], List, is_some, length, option_copied, option_map, vec_items, vec_len};
-ghost use Rattle.std.specs.List.{All, AllZip};
+ghost use Rattle.std.specs.Prelude.{◌≡◌, ◌+◌, ◌≤◌, [], List, IfSome, is_some, length, option_copied, option_map, vec_items, vec_len};
+ghost use Rattle.std.specs.List.{All, AllByRecursion, AllZip};
+ghost use Rattle.poll_list.specs.declared.shared.SharedList.{SharedList};
 ghost use Rattle.poll_seats.specs.declared.seat.Seat.{Seat};
-ghost use Rattle.poll_interrupts.specs.Opens.{IsKeptSideOf, IsSideOf};
+ghost use Rattle.poll_interrupts.specs.Opens.{IsKeptSideOf, IsSideOf, WakesOwn};
 ghost use Rattle.poll_tasks.specs.Paces.{IsLawful};
-ghost use Rattle.poll_workers.specs.Spreads.{HaveOwn, IsJobAt, IsJobOf, IsKeptJobOf, IsKeptSeatFor, IsKeptThreadFor, IsSeatAt, IsSeatFor, IsThreadAt, IsThreadFor};
+ghost use Rattle.poll_workers.specs.Spreads.{AreEndsOf, HaveOwn, IsJobAt, IsJobOf, IsKeptJobOf, IsKeptSeatFor, IsKeptThreadFor, IsSeatAt, IsSeatFor, IsThreadAt, IsThreadFor, IsWiredJob, IsWiredSide};
 ghost use Rattle.poll_tasks.specs.Tasks.{HasRoom};
+ghost use Rattle.poll_tasks.specs.Wakers.{Wakes};
 
 use crate::pollers::{seat_at, two_ends};
 use napi_calls::Kept;
 use poll_interrupts::{InterruptHandler, Job, Loose, Placed, Work, poller_of};
 use poll_list::ListIn;
 use poll_seats::{Own, Seat, ThreadSide};
-use poll_tasks::{Bell, Pause, Setting};
+use poll_tasks::{Bell, Gate, Pause, Setting};
 use std::sync::Wait;
 
 /// What goes to the threads of a run, the seats for its pollers. It must be spent.
@@ -32,15 +34,16 @@ pub(crate) type RunParts<'t, 'p, 'n, R, D, G> = Parts<
 >;
 
 // Where the interrupts of an instance's worker go.
-fn handler_at<'t, 'p, 'n, R: Copy, G>(
+fn handler_at<'t, 'p, 'n, R: Copy, G: Gate>(
     setting: &Setting<'t, R, G>,
     bell: &'p Bell,
     placed: &'n Placed,
     number: u32,
-) -> InterruptHandler<'t, 'p, 'n, R>
+) -> InterruptHandler<'p, 'n, R>
     ensures number { result.number ≡ number }
     ensures napi { result.napi.now ≡ placed.now.napi }
     ensures thread { is_some result.thread ≡ is_some placed.now.bell }
+    ensures poller { result.poller.now ≡ bell.now }
 {
     InterruptHandler {
         rt: setting.rt,
@@ -48,7 +51,6 @@ fn handler_at<'t, 'p, 'n, R: Copy, G>(
         napi: &placed.napi,
         thread: placed.bell.as_ref(),
         poller: bell,
-        signals: setting.signals,
     }
 }
 
@@ -58,10 +60,13 @@ fn own_of<'n, R: Wait + Drop>(
     pause: Option<Pause>,
     list: ListIn<R>,
 ) -> Option<Own<'n, R>>
-    requires { is_some bell ≡ is_some pause }
+    requires some { is_some bell ≡ is_some pause }
+    requires wakes { WakesOwn (option_copied bell) pause }
     ensures bell { option_map (λ own. own.bell.now) result
         ≡ option_copied bell.entry }
     ensures some { is_some result ≡ is_some pause }
+    ensures wakes { IfSome result (λ own. Wakes own.bell.now own.pause) }
+    ensures list { IfSome result (λ own. own.list ≡ list) }
 {
     Some(Own {
         bell: bell?,
@@ -71,7 +76,7 @@ fn own_of<'n, R: Wait + Drop>(
 }
 
 // The parts of one instance.
-fn split<'t, 'p, 'n, R: Wait + Drop + Copy, D: Drop, G>(
+fn split<'t, 'p, 'n, R: Wait + Drop + Copy, D: Drop, G: Gate>(
     setting: &'t Setting<'t, R, G>,
     bell: &'p Bell,
     placed: &'n Kept<R, Placed>,
@@ -87,6 +92,9 @@ fn split<'t, 'p, 'n, R: Wait + Drop + Copy, D: Drop, G>(
     ensures job { IsJobOf setting.now loose result.0 × IsJobAt placed.now result.0 }
     ensures seat { IsSeatAt placed.now result.1 × IsSeatFor loose result.1 }
     ensures thread { IsThreadAt placed.now result.2 × IsThreadFor setting.now loose result.2 }
+    ensures lists { (result.0.work.list ≡ ends.0)
+        × IfSome result.2.own (λ own. own.list ≡ ends.1) }
+    ensures bells { (result.0.handler.poller.now ≡ bell.now) × (result.2.poller.now ≡ bell.now) }
 {
     let Loose {
         number,
@@ -101,7 +109,7 @@ fn split<'t, 'p, 'n, R: Wait + Drop + Copy, D: Drop, G>(
     let napi = &placed.value.napi;
     let own_bell = placed.value.bell.as_ref();
     let job = Job {
-        gate: setting.gate,
+        setting,
         handler: handler_at(setting, bell, &placed.value, number),
         work: Work {
             list,
@@ -129,7 +137,7 @@ fn split<'t, 'p, 'n, R: Wait + Drop + Copy, D: Drop, G>(
 
 /// Gives each worker its job, each poller its seats, and each instance's thread its side. There is room for them, and there
 /// are two ends of its poller's list for each instance.
-pub(crate) fn spread<'t, 'p, 'n, R: Wait + Drop + Copy, D: Drop, G>(
+pub(crate) fn spread<'t, 'p, 'n, R: Wait + Drop + Copy, D: Drop, G: Gate>(
     setting: &'t Setting<'t, R, G>,
     bells: &'p [Bell],
     placed: &'n [Kept<R, Placed>],
@@ -150,6 +158,11 @@ pub(crate) fn spread<'t, 'p, 'n, R: Wait + Drop + Copy, D: Drop, G>(
     ensures thread_places { AllZip IsThreadAt placed.now (vec_items result.threads) }
     ensures threads { AllZip (IsKeptThreadFor setting.now) (vec_items loose)
         (vec_items result.threads) }
+    // Each worker and each thread pushes into the list of its own poller, and wakes that one.
+    ensures wired_jobs { (lists : List (SharedList _)) → AreEndsOf lists (vec_items ends)
+        → AllByRecursion (IsWiredJob lists bells.now) (vec_items result.workers) }
+    ensures wired_threads { (lists : List (SharedList _)) → AreEndsOf lists (vec_items ends)
+        → AllByRecursion (IsWiredSide lists bells.now) (vec_items result.threads) }
     ensures seats { (sat : List Seat) × AllZip IsSeatAt placed.now sat
         × AllZip IsKeptSeatFor (vec_items loose) sat
         × HaveOwn (vec_len loose) (length bells.now) sat (vec_items result.seats) }

@@ -1,8 +1,9 @@
 -- From the rows of a trace to its stations, and from what a run made of these to the report.
-use Rattle.std.proofs.{lemmas.{Grind.common_steps, List.{Elements.All-filter, Sums.sum_by-le}}, Common.{◌≡◌, ◌∙◌, ℕ, ◌+◌, ◌-◌, ◌<◌, ◌≤◌}}
+use Rattle.std.proofs.lemmas.{Grind.common_steps, List.{take_all, Elements.All-filter, Sums.sum_by-le}}
+use Rattle.std.proofs.Common.{◌≡◌, ◌∙◌, ℕ, ◌+◌, ◌-◌, ◌<◌, ◌≤◌, ap, sym, subst}
 use Rattle.std.proofs.Common.{Bool, true, false, Some, None, List, [], ◌∷◌, ◌++◌, length, slice_index_or, take, get_or, refl}
 use Rattle.std.{proofs.{Common.{arith, flat_map}, Math.Nat.min-eq_left}, specs.{List.{All, AllZip, find, range_with_len}, Prelude.◌==◌}}
-use Rattle.std.specs.{Prelude.{Result, IfOk, OnOk, vec_items, filter, map, option_map}, Global.Vec}
+use Rattle.std.specs.{Prelude.{Result, IfOk, OnOk, vec_items, filter, map, nat_lt, option_map, sum_by}, Global.Vec}
 use Rattle.poll_interrupts.specs.{Runs.HasRun, declared.station.{Station.Station, Finished.Finished}}
 use Rattle.device_rows.{proofs.Accepted.accepted-at, specs.{Row.value_fits, Trace.AcceptedAfter, declared.{row.Row.Row, event.Event.Event}}}
 use Rattle.{poll_tasks.{proofs.Zips.zip_push, specs.Refusals.IsRefused}, rx_ring.specs.ReceiveRing.capped}
@@ -97,17 +98,52 @@ capped-small n h = min-eq_left (omega (arith, h))
 -- its run, told of the device as it is afterwards
 run-of : {rows : List Row} {device : ℕ} (station : Station Script) (end : Finished Script) → IsStationOf rows device station
     → end.device ≡ record station.device { made = length station.device.rows }
-    → HasRun answer after station.capacity station.thread station.device (acts station.device) end.totals
+    → HasRun answer after station.capacity station.thread station.device (acts station.device) end.closed end.totals
     → HasRun answer after end.device.opening.value (has_thread end.device.rows) (record end.device { made = 0 })
-    (length end.device.rows) end.totals
-run-of station end of ended run = grind (arith, common_steps)
+    (length end.device.rows) end.closed end.totals
+run-of station end of ended run =
+    let H : ℕ → Bool → Script → ℕ → Type 0 = λ places thread script n. HasRun answer after places thread script n end.closed end.totals in
+    let opening : end.device.opening ≡ station.device.opening = ap (λ (s : Script). s.opening) ended in
+    let acted : end.device.rows ≡ station.device.rows = ap (λ (s : Script). s.rows) ended in
+    let fresh : station.device ≡ record end.device { made = 0 } =
+    λ i. record { opening = sym opening i; rows = sym acted i; made = of.its_made i } in
+    let thread : station.thread ≡ has_thread end.device.rows =
+    of.its_thread ∙ ap (λ l. has_thread l) (sym of.its_rows ∙ sym acted) in
+    let places : station.capacity ≡ end.device.opening.value = of.its_capacity ∙ ap (λ (r : Row). r.value) (sym opening) in
+    let by_places = subst (λ p. H p station.thread station.device (acts station.device)) places run in
+    let by_thread = subst (λ t. H end.device.opening.value t station.device (acts station.device)) thread by_places in
+    let by_script = subst (λ s. H end.device.opening.value (has_thread end.device.rows) s (acts station.device)) fresh by_thread in
+    subst (λ n. H end.device.opening.value (has_thread end.device.rows) (record end.device { made = 0 }) n)
+    (ap (λ l. length l) (sym acted)) by_script
+
+not-small : (places packets : ℕ) → nat_lt places packets ≡ false → packets ≤ places
+not-small places packets h = grind (arith, common_steps)
 
 end-of : (answers : ℕ → ℕ → Bool → Type 0) (rows : List Row) (device : ℕ) (station : Station Script) (end : Finished Script)
     → AcceptedAfter [] rows → length rows ≤ 100000
     → IsStationOf rows device station → is_small station ≡ false
     → IsFinished acts answer after answers station end → IsEndOf rows device end
 end-of answers rows device station end accepted few of enough finished =
-    grind (arith, common_steps, acts-made, arrivals-are, bytes-small, capped-small, run-of)
+    let made : end.device ≡ record station.device { made = length station.device.rows } =
+    finished.made ∙ acts-made station.device (acts station.device) of.its_made in
+    let are = arrivals-are station.device (length station.device.rows) of.its_made (omega arith) in
+    let whole : take (length station.device.rows) station.device.rows ≡ script_of device rows =
+    take_all (length station.device.rows) station.device.rows (omega arith) ∙ of.its_rows in
+    let long = are.0 ∙ ap (λ l. length (rx_of l)) whole in
+    let script = ap (λ l. length (rx_of l)) of.its_rows in
+    let fits = not-small station.capacity (length (rx_of station.device.rows)) enough in
+    let put = finished.put (omega (arith, long, script, fits)) in
+    record {
+      its_number = finished.same_number ∙ of.its_number;
+      its_opening = of.its_opening ∙ ap (λ (s : Script). Some s.opening) (sym made);
+      its_rows = ap (λ (s : Script). s.rows) made ∙ of.its_rows;
+      its_made = ap (λ (s : Script). s.made) made ∙ ap (λ (s : Script). length s.rows) (sym made);
+      its_put = put.0 ∙ long;
+      its_bytes = put.1 ∙ ap (λ n. capped n) (are.1 ∙ ap (λ l. sum_by (λ (row : Row). row.value) (rx_of l)) whole)
+          ∙ capped-small _ (bytes-small rows device accepted few);
+      sum = sym finished.sum;
+      its_run = run-of station end of made finished.run;
+    }
 
 pub ends-of : (answers : ℕ → ℕ → Bool → Type 0) (rows : List Row) (devices : List ℕ) (stations : List (Station Script))
     (ends : List (Finished Script))
@@ -190,6 +226,7 @@ all-polled rows (d ∷ ds) (e ∷ es) h = (
     sum = h.0.sum ∙ h.0.its_put;
     script = record e.device { made = 0 };
     is = record { opening = h.0.its_opening; acts = h.0.its_rows; made = refl };
+    closed = e.closed;
     totals = e.totals;
     run = h.0.its_run;
     counts = (refl, refl);

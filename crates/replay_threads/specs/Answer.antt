@@ -1,6 +1,7 @@
 -- What a run of a text with threads answers: the threads report of its rows, or its first fault.
 use Rattle.std.specs.{Prelude.{◌≡◌, ℕ, ◌+◌, List, Bool, Option, Some, None, Result, Ok, Err, length, map, nat_lt, option_map}, List.find}
-use Rattle.{replay_words.specs.declared.settings.Settings.Settings, poll_interrupts.specs.{declared.station.Finished.Finished, Runs.HasRun}}
+use Rattle.poll_interrupts.specs.{declared.station.{Closed.Closed, Finished.Finished}, Runs.HasRun}
+use Rattle.replay_words.specs.declared.settings.Settings.{Settings}
 use Rattle.device_rows.specs.{Trace.{records_of, trace_of}, declared.{TraceFault.TraceFault, row.Row.Row}}
 use Rattle.{poll_tasks.specs.Refusals.IsRefused, replay_threads.specs.{ThreadsReport.{arrived, opened, threads_report}, Stations.AreRunBy}}
 use Rattle.{replay_threads.specs.{Stations.polled_of, declared.polled.Polled.Polled}, poll_workers.specs.declared.fault.WorkFault.WorkFault}
@@ -57,8 +58,9 @@ pub record IsPolled (rows : List Row) (device : ℕ) (polled : Polled) : Type 0 
   pub sum : polled.polled + polled.left ≡ arrived device rows
   pub script : Script
   pub is : IsDeviceOf rows device script
+  pub closed : Closed
   pub totals : Totals
-  pub run : HasRun answer after script.opening.value (has_thread script.rows) script (length script.rows) totals
+  pub run : HasRun answer after script.opening.value (has_thread script.rows) script (length script.rows) closed totals
   pub counts : (polled.polled ≡ totals.polled) × (polled.left ≡ totals.left)
 
 -- what is told of a run is what the pollers made of it, as many as the settings say and by their numbers

@@ -25,7 +25,7 @@ pub record IsEndOf (rows : List Row) (device : ℕ) (end : Finished Script) : Ty
   pub its_bytes : end.totals.bytes ≡ bytes device rows
   pub sum : end.totals.polled + end.totals.left ≡ end.totals.put
   pub its_run : HasRun answer after end.device.opening.value (has_thread end.device.rows) (record end.device { made = 0 })
-      (length end.device.rows) end.totals
+      (length end.device.rows) end.closed end.totals
 
 -- The devices that the rows open ran and were polled, by as many pollers as the settings say, and by their numbers.
 pub record AreRunBy (R : Type 0) (asked : ℕ → Type 0) (settings : Settings) (rows : List Row) (ends : List (Finished Script)) : Type 0 where

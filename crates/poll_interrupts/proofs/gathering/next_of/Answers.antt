@@ -9,7 +9,7 @@ returns g c =
     let long : 1 ≤ length (vec_items was.back) = grind (arith, common_steps, some) in
     record {
       was = was;
-      now = record { back = c.remove.new.self; polled = was.polled };
+      now = record { back = c.remove.new.self; stop = was.stop };
       there = sym c.index_mut.ensures.value;
       first = first_of (vec_items was.back) (vec_items c.remove.new.self) c.remove.result long c.remove.ensures.value
           c.remove.ensures.items;

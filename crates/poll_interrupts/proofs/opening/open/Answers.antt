@@ -10,6 +10,7 @@ returns-clause-side g c =
       seats = (c.next-caller.ensures.caller.instance, new.control.instance);
       controller = new.control.number_is;
       bell = search rules;
+      wakes = c.in_ok-bell.ensures.wakes;
       poller = c.next-poller.ensures.caller.instance;
       thread = c.next-thread.ensures.caller.instance;
       ring = (c.in-Ok.ctx, search rules, c.in-Ok.ensures.one);

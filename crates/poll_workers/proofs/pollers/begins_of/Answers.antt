@@ -1,4 +1,5 @@
-use Rattle.std.proofs.Common.{◌+◌, ◌≤◌, ◌∷◌, [], ◌∙◌, ap, length, length-append, vec_len, vec_items}
+use Rattle.std.proofs.Common.{◌+◌, ◌≤◌, ◌∷◌, [], ◌∙◌, ap, subst, sym, length, length-append, vec_len, vec_items}
+use Rattle.poll_tasks.{proofs.Zips.zip_push, specs.Wakers.Wakes}
 use Rattle.{poll_tasks.proofs.ListFacts.each_more, poll_interrupts.proofs.EndFacts.each_push, poll_workers.proofs.PollerFacts.same_next}
 use Rattle.poll_workers.specs.Spreads.{IsBegin}
 use Rattle.poll_workers.proofs.pollers.begins_of.Goals as goal
@@ -21,4 +22,8 @@ loop-preserved g c =
       own = rw c.push_reserved-in-loop-2.ensures.items
           (each_more (λ k e. c.args.count + c.args.count ≤ vec_len e) (vec_items c.loop.ends) c.in_ok-begin.own_ends now.own
           c.in_ok-begin.ensures.ends);
+      wakes = rw (c.push_reserved.ensures.items, c.push_reserved-in-loop.ensures.items) (zip_push _ _ _ _ _ now.wakes
+          (subst (λ p. Wakes c.in_ok-bell.bell p) (sym c.in_ok-begin.ensures.pause) c.in_ok-bell.ensures));
+      joined = rw (c.push_reserved-in-loop.ensures.items, c.push_reserved-in-loop-2.ensures.items)
+          (zip_push _ _ _ _ _ now.joined c.in_ok-begin.ensures.own);
     }

@@ -1,6 +1,8 @@
 use Rattle.std.proofs.Common.{◌≡◌, ◌+◌, ◌∷◌, ◌++◌, ◌∙◌, [], ap, subst, sym, refl, length, length-append, vec_items, arith}
-use Rattle.std.proofs.lemmas.Grind.{common_steps}
-use Rattle.{std.specs.{Vec.Iter.{into_iter_len}, Prelude.filter}, poll_tasks.proofs.{Zips.before_more, ListFacts.each_more}}
+use Rattle.std.proofs.{Common.{append_assoc, map, rules}, lemmas.{Grind.common_steps, List.{map-append, nil_from_length}}}
+use Rattle.poll_tasks.specs.Tasks.{IsAt}
+use Rattle.std.specs.{Vec.Iter.{into_iter_items, into_iter_len}, Prelude.filter}
+use Rattle.poll_tasks.proofs.{Zips.before_more, ListFacts.{each_more, none_left}}
 use Rattle.{poll_interrupts.specs.Deals.is_own, poll_seats.specs.declared.{seat.Seat.Seat}, poll_workers.specs.Spreads.IsPoller}
 use Rattle.poll_workers.proofs.PollerFacts.{count_of}
 use Rattle.poll_workers.proofs.pollers.pollers_of.Goals as goal
@@ -9,15 +11,22 @@ pub loop-begin-init : goal.loop-begin-init
 loop-begin-init g c =
     let none : length (vec_items c.args.room) ≡ 0 = grind (arith, common_steps) in (
       [],
+      [],
       record {
+        bells = refl;
+        bell_count = sym none;
+        rest_count = grind (arith, common_steps);
+        lists = rw (nil_from_length _ none, c.into_iter-begins.ensures.rest) refl;
+        wakes = λ h. rw c.into_iter-begins.ensures.rest h;
         whole = c.into_iter-seats.ensures.rest;
         count = sym none;
         left = grind (arith, common_steps);
         as_many = grind (arith, common_steps);
+        long = grind (arith, common_steps);
         few = c.requires.few;
         room = c.requires.room.1;
         begins = λ count h. rw c.into_iter-begins.ensures.rest h;
-        pollers = λ count n sat h have k d low. absurd (omega (arith, low, none));
+        pollers = λ count n sat h wakes have k d low. absurd (omega (arith, low, none));
       },
     )
 
@@ -28,26 +37,45 @@ loop-begin-preserved g c =
     let less : into_iter_len c.next-in-Some.new.self + 1 ≡ into_iter_len c.loop-begin.seats =
     grind (arith, common_steps, c.in-Some-next.ensures.len) in
     let here : c.len-number.result ≡ length (vec_items c.loop-begin.pollers) = grind (arith, common_steps) in
-    let now = c.loop-begin.invariant.1 in
+    let now = c.loop-begin.invariant.2 in
     let more = before_more _ _ _ _ _ now.whole c.in-Some-next.ensures.items in
+    let cut : c.loop-begin.rest.now ≡ c.in-Some-split_first.bell.now ∷ c.in-Some-split_first.more.now = search rules in
+    let rung = before_more _ _ _ _ _ now.bells cut in
     let longer = ap (λ l. length l) c.push_reserved.ensures.items ∙ length-append (vec_items c.loop-begin.pollers) _ in (
       c.loop-begin.invariant.0 ++ c.in-Some-next.own ∷ [],
+      c.loop-begin.invariant.1 ++ c.in-Some-split_first.bell.now ∷ [],
       record {
+        bells = rung.2;
+        bell_count = length-append c.loop-begin.invariant.1 (c.in-Some-split_first.bell.now ∷ []) ∙ ap (λ n. n + 1) now.bell_count
+            ∙ sym longer;
+        rest_count = (let a = now.rest_count in let b = ap (λ l. length l) cut in omega (arith, a, b, fewer));
+        lists = ap (λ l. map (λ t. t.list) l ++ map (λ b. b.list) (into_iter_items c.next.new.self)) c.push_reserved.ensures.items
+            ∙ ap (λ l. l ++ map (λ b. b.list) (into_iter_items c.next.new.self))
+            (map-append (λ t. t.list) (vec_items c.loop-begin.pollers) _)
+            ∙ append_assoc (map (λ t. t.list) (vec_items c.loop-begin.pollers)) _ _
+            ∙ ap (λ l. map (λ t. t.list) (vec_items c.loop-begin.pollers) ++ map (λ b. b.list) l) (sym c.in-Some.ensures.items)
+            ∙ now.lists;
+        wakes = λ h. (rw (cut, c.in-Some.ensures.items) at (now.wakes h)).1;
         whole = more.2;
         count = length-append c.loop-begin.invariant.0 (c.in-Some-next.own ∷ []) ∙ ap (λ n. n + 1) now.count ∙ sym longer;
         left = count_of _ _ _ _ _ now.left fewer longer;
+        long = (let a = now.long in let b = c.in-Some.ensures.items in let d = c.in-Some.ensures.len in
+            grind (arith, common_steps, a, b, d));
         as_many = (let same = now.as_many in omega (arith, fewer, less, same));
         few = now.few;
         room = grind (arith, now.room, c.push_reserved.ensures.capacity);
         begins = λ count h. (rw c.in-Some.ensures.items at (now.begins count h)).1;
-        pollers = λ count n sat h have.
+        pollers = λ count n sat h wakes have.
             let begin = (rw c.in-Some.ensures.items at (now.begins count h)).0 in
             let own = subst (λ o. vec_items o.value ≡ filter (λ (s : Seat). is_own (length c.loop-begin.invariant.0) n s.number) sat) more.1
             (have (length c.loop-begin.invariant.0) c.in-Some-next.own more.0).0 in
             rw c.push_reserved.ensures.items
-            (each_more (λ k task. IsPoller c.args.setting.now count (filter (λ (s : Seat). is_own k n s.number) sat) k task)
-            (vec_items c.loop-begin.pollers) _ (now.pollers count n sat h have) (record {
+            (each_more
+            (λ k task. IsPoller c.args.setting.now c.args.bells.now count (filter (λ (s : Seat). is_own k n s.number) sat) k task)
+            (vec_items c.loop-begin.pollers) _ (now.pollers count n sat h wakes have) (record {
               has = refl;
+              bell = subst (λ k. IsAt c.args.bells.now k c.in-Some-split_first.bell.now) now.bell_count (rung.0, rung.1);
+              wakes = (rw (cut, c.in-Some.ensures.items) at (now.wakes wakes)).0;
               same_number = here;
               ends = begin.ends;
               new = begin.new;
@@ -56,3 +84,10 @@ loop-begin-preserved g c =
             }));
       },
     )
+
+pub returns-clause-lists : goal.returns-clause-lists
+returns-clause-lists g c =
+    let now = c.loop-begin.invariant.2 in
+    let empty : into_iter_items c.loop-begin.begins ≡ [] =
+    nil_from_length _ (grind (arith, common_steps, now.long, c.in_default.ensures.len)) in
+    none_left _ _ _ now.lists (ap (λ l. map (λ b. b.list) l) empty)

@@ -3,7 +3,9 @@ use Rattle.std.proofs.lemmas.{Grind.common_steps, List.nil_from_length}
 use Rattle.std.{specs.Vec.Iter.{into_iter_items, into_iter_len}, proofs.lemmas.List.length-set}
 use Rattle.poll_tasks.proofs.{Zips.{zip_push, before_more}, ListFacts.{none_left, zip_empty}}
 use Rattle.poll_interrupts.specs.Deals.{is_own}
-use Rattle.poll_workers.proofs.PollerFacts.{count_of, ends_of, has_room, one_more, same_count, within_of}
+use Rattle.{poll_tasks.specs.Tasks.IsAt, poll_interrupts.proofs.EndFacts.each_push}
+use Rattle.poll_workers.proofs.PollerFacts.{by_station, count_of, ends_of, has_room, one_more, same_count, wired_bell, wired_end, wired_own}
+use Rattle.poll_workers.proofs.PollerFacts.{within_of}
 use Rattle.poll_workers.proofs.spreading.spread.Goals as goal
 
 pub loop-rest-init : goal.loop-rest-init
@@ -19,6 +21,9 @@ loop-rest-init g c =
         sides = rw c.into_iter-rests.ensures.rest c.requires.sides;
         made = rw no_jobs tt;
         job_places = rw no_jobs tt;
+        wired_jobs = λ lists are. rw no_jobs tt;
+        wired_threads = λ lists are. rw no_sides tt;
+        are_ends = λ lists are. are;
         seat_places = tt;
         sitting = tt;
         thread_places = rw no_sides tt;
@@ -61,7 +66,11 @@ loop-rest-preserved g c =
     let side = rw (c.in-Some.ensures.items, cut) at now.sides in
     let made = rw c.open.ensures at c.split-job.ensures.job.0 in
     let seat = rw c.open.ensures at c.split-job.ensures.seat.1 in
-    let thread = rw c.open.ensures at c.split-job.ensures.thread.1 in (
+    let thread = rw c.open.ensures at c.split-job.ensures.thread.1 in
+    let by_job = by_station _ _ _ _ c.poller_of-poller.ensures.own (made.same_number ∙ sym side.0.number) in
+    let by_side = by_station _ _ _ _ c.poller_of-poller.ensures.own (thread.number ∙ sym side.0.number) in
+    let bell : IsAt c.args.bells.now c.poller_of-poller.result c.index-bells-poller.result =
+    (c.poller_of-poller.ensures.within, sym c.index-bells-poller.is) in (
       i.0 ++ c.in-Some.rest ∷ [],
       i.1 ++ c.in-Some-split_first.place.now ∷ [],
       i.2 ++ c.split-job.result.1 ∷ [],
@@ -71,6 +80,17 @@ loop-rest-preserved g c =
         sides = side.1;
         made = rw c.push_reserved.ensures.items (zip_push _ _ _ _ _ now.made made);
         job_places = rw c.push_reserved.ensures.items (zip_push _ _ _ _ _ now.job_places c.split-job.ensures.job.1);
+        wired_jobs = λ lists are. rw c.push_reserved.ensures.items
+            (each_push _ _ _ (now.wired_jobs lists are) (record {
+              list = wired_end _ _ _ _ _ (c.two_ends-both.ensures.own lists (now.are_ends lists are)).0 c.split-job.ensures.lists.0 by_job;
+              bell = wired_bell _ _ _ _ _ bell c.split-job.ensures.bells.0 by_job;
+            }));
+        wired_threads = λ lists are. rw c.push_reserved-in-Some.ensures.items
+            (each_push _ _ _ (now.wired_threads lists are) (record {
+              list = wired_own _ _ _ _ _ (c.two_ends-both.ensures.own lists (now.are_ends lists are)).1 c.split-job.ensures.lists.1 by_side;
+              bell = wired_bell _ _ _ _ _ bell c.split-job.ensures.bells.1 by_side;
+            }));
+        are_ends = λ lists are. (c.two_ends-both.ensures.own lists (now.are_ends lists are)).2;
         seat_places = zip_push _ _ _ _ _ now.seat_places c.split-job.ensures.seat.0;
         sitting = zip_push _ _ _ _ _ now.sitting seat;
         thread_places = rw c.push_reserved-in-Some.ensures.items (zip_push _ _ _ _ _ now.thread_places c.split-job.ensures.thread.0);
@@ -106,6 +126,8 @@ returns g c =
       job_places = rw (← places) now.job_places;
       thread_places = rw (← places) now.thread_places;
       threads = rw (← whole) now.threads;
+      wired_jobs = now.wired_jobs;
+      wired_threads = now.wired_threads;
       seats = (c.loop-rest.invariant.2, rw (← places) now.seat_places, rw (← whole) now.sitting, now.own);
       len = now.poller_count;
     }

@@ -1,7 +1,8 @@
 use Rattle.std.proofs.Common.{◌≡◌, ◌+◌, ◌≤◌, ◌++◌, vec_len, vec_capacity, vec_items, length, List, All}
-use Rattle.{std.specs.{Vec.Iter.{into_iter_items, into_iter_len}, List.AllZip}, napi_calls.specs.declared.kept.Kept.Kept}
+use Rattle.{std.specs.{Vec.Iter.{into_iter_items, into_iter_len}, List.{AllByRecursion, AllZip}}, napi_calls.specs.declared.kept.Kept.Kept}
 use Rattle.poll_interrupts.specs.{declared.opening.{Loose.Loose, Placed.Placed}, Opens.IsKeptSideOf}
-use Rattle.poll_workers.specs.Spreads.{HaveOwn, IsJobAt, IsKeptJobOf, IsKeptSeatFor, IsKeptThreadFor, IsSeatAt, IsThreadAt}
+use Rattle.poll_workers.specs.Spreads.{AreEndsOf, HaveOwn, IsJobAt, IsKeptJobOf, IsKeptSeatFor, IsKeptThreadFor, IsSeatAt, IsThreadAt}
+use Rattle.{poll_workers.specs.Spreads.{IsWiredJob, IsWiredSide}, poll_list.specs.declared.shared.SharedList.SharedList}
 use Rattle.poll_seats.specs.declared.seat.Seat.{Seat}
 use Rattle.poll_workers.proofs.spreading.spread.Given as goal
 
@@ -13,6 +14,11 @@ invariant-loop-rest g l = (did : List (Kept g.row.R.Denot (Loose g.row.D.Denot))
       sides : AllZip IsKeptSideOf (into_iter_items l.rests) l.places;
       made : AllZip (IsKeptJobOf l.setting) did (vec_items l.workers);
       job_places : AllZip IsJobAt here (vec_items l.workers);
+      wired_jobs : (lists : List (SharedList g.row.R.Denot)) → AreEndsOf lists (vec_items l.fn.ends)
+          → AllByRecursion (IsWiredJob lists l.fn.bells) (vec_items l.workers);
+      wired_threads : (lists : List (SharedList g.row.R.Denot)) → AreEndsOf lists (vec_items l.fn.ends)
+          → AllByRecursion (IsWiredSide lists l.fn.bells) (vec_items l.threads);
+      are_ends : (lists : List (SharedList g.row.R.Denot)) → AreEndsOf lists (vec_items l.fn.ends) → AreEndsOf lists (vec_items l.lists);
       seat_places : AllZip IsSeatAt here sat;
       sitting : AllZip IsKeptSeatFor did sat;
       thread_places : AllZip IsThreadAt here (vec_items l.threads);

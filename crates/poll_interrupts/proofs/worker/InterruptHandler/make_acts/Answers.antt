@@ -15,7 +15,7 @@ loop-k-preserved g c =
     → put_list c.make_act-access.new.rx ≡ put_list c.loop-k.rx ++ brought = rw (← i.made, ← places) e.put in record {
       of = e.of;
       lists = lists_more i.lists e.lists;
-      let_go = below_more _ _ i.let_go (c.may_act.ensures (search rules));
+      let_go = below_more _ _ i.let_go (c.stop_before.ensures.open (search rules));
       acted =
           acts-more (is_some c.args.self.now.thread) g.D.Device.answer after d c.loop-k.k c.args.access c.loop-k.access
           c.make_act-access.result
@@ -40,8 +40,8 @@ loop-k-init g c = record {
   put = search rules;
 }
 
-pub returns-then-not-may_act-clause-same : goal.returns-then-not-may_act-clause-same
-returns-then-not-may_act-clause-same g c =
+pub returns-in-Some-clause-same : goal.returns-in-Some-clause-same
+returns-in-Some-clause-same g c =
     all_same (is_some c.args.self.now.thread) g.D.Device.answer g.D.Device.after c.args.device.now c.loop-k.k c.args.access c.loop-k.access
     c.args.rx.now c.loop-k.rx c.loop-k.invariant.acted
 

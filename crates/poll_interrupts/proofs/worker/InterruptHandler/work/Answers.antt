@@ -2,8 +2,8 @@ use Rattle.std.proofs.Common.{is_some, refl}
 use Rattle.poll_interrupts.{specs.declared.worker.OwnSeats.OwnSeats, proofs.LedgerSteps.{same_seats, works}}
 use Rattle.poll_interrupts.proofs.worker.InterruptHandler.work.Goals as goal
 
-pub returns : goal.returns
-returns g c =
+pub returns-clause-done : goal.returns-clause-done
+returns-clause-done g c =
     let on = c.turn_on in
     let acted = c.make_acts-access in
     let d = c.args.work.device in

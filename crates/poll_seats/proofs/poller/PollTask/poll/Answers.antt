@@ -23,10 +23,11 @@ returns g c =
       seats = _;
       same = subst (λ l. AreSameSeats l (vec_items c.leave.result)) from
           (subst (λ l. AreSameSeats (vec_items c.open.result) l) (sym c.leave.ensures) kept);
+      why = c.ask-stop.ensures.shut;
       turns = λ polled some. record {
         first = _;
         last = c.serve.new.served;
-        started = (c.pass.result, c.pass.ensures.answers);
+        started = c.ask-stop.ensures.open polled;
         paced = refl;
         over = refl;
         from = from;

@@ -6,6 +6,7 @@ pub returns : goal.returns
 returns g c = record {
   seats = _;
   same = seats_stay _;
+  why = c.requires.why;
   turns = λ polled some.
       let none = c.requires.none polled in
       let empty : vec_items c.args.self.seats.value ≡ [] = nil_from_length _ (grind (arith, common_steps, none)) in

@@ -12,13 +12,15 @@ returns g c =
     let of : IsSeatOf c.args.self.napi.now c.leave.result.pass =
     subst (λ (n : Napi). IsSeatOf n c.leave.result.pass) (ap (λ b. b.now) same.napi) c.leave.ensures.of in record {
       of = rw c.new-2.ensures of;
+      why = c.ask-stop.ensures.shut;
       turns = λ polled. rw c.in-Some.is (record {
         first = before_turns c.serve.ensures;
         last = c.serve.new.served;
-        started = (c.pass.result, c.pass.ensures.answers);
+        started = c.ask-stop.ensures.open polled;
         paced = refl;
         at = refl;
         bell = refl;
+        over = refl;
         from = ap (λ k. Some k) c.open.ensures;
         turns = c.serve.ensures;
         to = c.leave.ensures.caller ∙ ap (λ k. Some k) (sym c.new-2.ensures);

@@ -1,0 +1,6 @@
+-- What wakes whom.
+use Rattle.{std.specs.{Prelude.{◌≡◌}, Arc.arc_value}, poll_tasks.specs.declared.signals.{Bell.Bell, Pause.Pause}}
+
+-- the bell unparks whoever waits by this
+abbrev pub Wakes : Bell → Pause → Type 0
+Wakes bell pause = arc_value bell.unparker.state ≡ arc_value pause.parker.unparker.state
