@@ -25,7 +25,7 @@ skip() {
     shift
     line="skipped: $(basename "$0" .sh): $what needs"
     for need in "$@"; do
-        if ! packages=$(awk -v need="$need" '$1 == need { $1 = ""; print substr($0, 2); found = 1 } END { exit !found }' "$top/tests/needs.txt"); then
+        if ! packages=$(awk -v need="$need" '$1 == need { sub(/ *#.*/, ""); $1 = ""; print substr($0, 2); found = 1 } END { exit !found }' "$top/tests/needs.txt"); then
             failed=$((failed + 1))
             echo "$(basename "$0" .sh): tests/needs.txt lacks $need, which $what needs"
             return

@@ -1,7 +1,8 @@
 #!/usr/bin/env bash
 # scripts/linux_source.sh VERSION FOLDER FILE ..: puts these files of Linux's sources into FOLDER: out of the folder LINUX, if
-# that is set, else out of Debian's package linux-source-VERSION by apt-get. What was taken from a package is kept in out/, where
-# git doesn't look, so that it is fetched once; nothing of it belongs to the repository.
+# that is set, else out of Debian's package linux-source-VERSION by apt-get: of the release that apt is set up for, or of its newest
+# backports, with settings of apt of its own. What was taken from a package is kept in out/, where git doesn't look, so that it is
+# fetched once; nothing of it belongs to the repository.
 # Exit status: 0; 64 LINUX has no such file; 69 there is no package, and LINUX isn't set.
 set -euo pipefail
 unset CDPATH
@@ -13,12 +14,24 @@ folder=$2
 shift 2
 kept=$top/out/linux-$version
 
+# download: the package, from where apt has it, or from the backports.
+download() {
+    local key=/usr/share/keyrings/debian-archive-keyring.gpg quick=(-o Acquire::http::Timeout=20) own
+    timeout 900 apt-get "${quick[@]}" download "linux-source-$version" > fetch.log 2>&1 && return
+    [ -f "$key" ] || return
+    mkdir -p apt/{lists,cache/archives}/partial
+    echo "deb [signed-by=$key] http://deb.debian.org/debian $backports main" > apt/sources
+    own=(-o Dir::Etc::sourcelist="$PWD/apt/sources" -o Dir::Etc::sourceparts=/dev/null -o Dir::State::lists="$PWD/apt/lists" -o Dir::Cache="$PWD/apt/cache")
+    timeout 300 apt-get "${quick[@]}" "${own[@]}" update >> fetch.log 2>&1 && timeout 900 apt-get "${quick[@]}" "${own[@]}" download "linux-source-$version" >> fetch.log 2>&1
+}
+backports=trixie-backports
+
 # fetch FILE ..: these files of Debian's package.
 fetch() {
     command -v apt-get > /dev/null && command -v dpkg-deb > /dev/null || return 1
     work=$(mktemp -d)
     trap 'rm -rf "$work"' EXIT
-    (cd "$work" && timeout 900 apt-get -o Acquire::http::Timeout=20 download "linux-source-$version" > fetch.log 2>&1) || return 1
+    (cd "$work" && download) || return 1
     dpkg-deb --fsys-tarfile "$work"/linux-source-*.deb | tar -x -C "$work" "./usr/src/linux-source-$version.tar.xz"
     mkdir -p "$work/files"
     # Where nothing can be kept, they go to FOLDER alone.

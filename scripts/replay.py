@@ -1,4 +1,10 @@
 """The launcher, which ./replay begins: its words, the trace, the runs, and what is said of them."""
+import sys
+
+# Until `end_by` takes signals and errors: they end in a line.
+sys.excepthook = lambda kind, error, _: sys.stderr.write(
+    f"replay: {'interrupted' if kind is KeyboardInterrupt else 'out of memory' if kind is MemoryError else error or kind.__name__}\n")
+
 import csv
 import errno
 import os

@@ -1,7 +1,7 @@
 #!/usr/bin/env bash
-# scripts/test-packages.sh [--list | --fetch]: installs on Debian all packages that a test of this repository needs (tests/needs.txt),
+# scripts/test-packages.sh [--list | --gives | --fetch]: installs on Debian all packages that a test of this repository needs (tests/needs.txt),
 # and fetches the kernel sources and the kernel image that tests read, into out/ and ~/.cache/fintaqush. Then ./test skips only what
-# needs no package. --list only prints the packages to install, --fetch only fetches, which needs no root.
+# needs no package. --list only prints the packages to install, --gives each with what it gives to tests, --fetch only fetches, which needs no root.
 # Exit status: 0; 64 other arguments; 69 no root, or no apt-get; 70 a package couldn't be installed or fetched.
 set -euo pipefail
 unset CDPATH
@@ -15,7 +15,7 @@ stop() {
 }
 
 # What is only fetched begins with linux-.
-packages() { awk '!/^#/ && NF && $2 != "-" && $1 !~ /^linux-/ { for (i = 2; i <= NF; i++) print $i }' "$top/tests/needs.txt" | sort -u; }
+packages() { awk '{ sub(/#.*/, "") } NF && $2 != "-" && $1 !~ /^linux-/ { for (i = 2; i <= NF; i++) print $i }' "$top/tests/needs.txt" | sort -u; }
 
 fetch() {
     "$top/tests/kernel.sh" --fetch || stop 70 'the sources of Linux could not be fetched'
@@ -40,8 +40,15 @@ fetch_image() {
     mv "$room/image" "$image"
 }
 
+# gives: each package, and what it gives to tests.
+gives() {
+    awk -F ' # ' '!/^#/ && NF == 2 { n = split($1, it, " "); for (i = 2; i <= n; i++) { more = (it[i] in what) ? what[it[i]] "; " : ""; what[it[i]] = more $2 } }
+        END { for (name in what) print name ": " what[name] }' "$top/tests/needs.txt" | sort
+}
+
 case ${1-all} in
 --list) packages ;;
+--gives) gives ;;
 --fetch) fetch ;;
 all)
     command -v apt-get > /dev/null || stop 69 'there is no apt-get: this installs packages of Debian'

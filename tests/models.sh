@@ -65,27 +65,29 @@ if ! has spin 'the search of each model' || ! has cc 'the search of each model';
     exit
 fi
 
-# build NAME MODEL -DWORD=N ..: the model's search as two programs. Deadlocks are seen only by the one without the claims: with a claim
+# build NAME MODEL PROPERTIES -DWORD=N ..: the model's search, as up to two programs. Deadlocks are seen only by the one without the claims: with a claim
 # `search` looks for cycles that break it, and an end that nobody expected is no error.
 build() {
-    local folder=$scratch/$1 flags=(-O2 -w -DCOLLAPSE -DVECTORSZ=1024)
-    mkdir -p "$folder" && cd "$folder" && spin -a "${@:3}" "$models/$2" || return
-    cc "${flags[@]}" -DNFAIR=3 -o search pan.c && cc "${flags[@]}" -DNOCLAIM -DSAFETY -o search_safe pan.c
+    local folder=$scratch/$1 flags=("${speed:--O1}" -w -DCOLLAPSE -DVECTORSZ=1024)
+    mkdir -p "$folder" && cd "$folder" && spin -a "${@:4}" "$models/$2" || return
+    [[ $3 = safe* && $3 != *' '* ]] || cc "${flags[@]}" -DNFAIR=3 -o search pan.c || return
+    [[ $3 != *safe* ]] || cc "${flags[@]}" -DNOCLAIM -DSAFETY -o search_safe pan.c
 }
 
 # search NAME PROPERTY: prints `holds`, `broken`, or `unknown` if the search didn't end or failed in another way. `safe` is that there is
-# no deadlock and no failed assertion, and `safe=TEXT` is broken only by one with this text (`end` for a deadlock); any other property is
+# no deadlock and no failed assertion, and `safe=TEXT` is broken only by one with this text (`end.state` for a deadlock); any other property is
 # broken only by a cycle that breaks it, or by a state that does, which spin writes as an assertion of the property.
 search() {
-    local property=${2%=*} words log=$scratch/$1/$2.log breaks='acceptance cycle|assertion violated  !\( !\('
+    local property=${2%=*} text= words log=$scratch/$1/$2.log breaks='acceptance cycle|assertion violated  !\( !\('
     words=(./search -a -f -N "$property")
-    [ "$property" != safe ] || words=(./search_safe) breaks="(invalid end state|assertion violated).*$([ "$property" = "$2" ] || echo "${2#*=}")"
+    [ "$property" = "$2" ] || text=${2#*=}
+    [ "$property" != safe ] || words=(./search_safe) breaks='invalid end state|assertion violated'
     (cd "$scratch/$1" && timeout 600 "${words[@]}" -m1000000 > "$log" 2>&1)
     if grep -qE 'max search depth too small|out of memory' "$log"; then
         echo unknown
     elif grep -q 'errors: 0$' "$log" && ! grep -q 'Search not completed' "$log"; then
         echo holds
-    elif grep -qE "errors: [1-9]" "$log" && grep -qE "^pan:[0-9]+: ($breaks)" "$log"; then
+    elif grep -qE "errors: [1-9]" "$log" && grep -E "^pan:[0-9]+: ($breaks)" "$log" | grep -qe "$text"; then
         echo broken
     else
         echo unknown
@@ -98,7 +100,7 @@ plan() {
 four-acts wake.pml -DACTS=4 safe ends
 three-acts wake.pml -DACTS=3 polled asked_is_polled
 weight-two wake.pml -DACTS=3,-DWEIGHT=2 safe ends
-two-workers wake.pml -DWORKERS=2,-DTHREADS=0,-DACTS=2,-DOTHER_ACTS=1 safe ends polled asked_is_polled
+two-workers wake.pml -DWORKERS=2,-DTHREADS=0,-DACTS=2,-DOTHER_ACTS=1 safe ends asked_is_polled
 two-pollers wake.pml -DWORKERS=2,-DPOLLERS=2,-DTHREADS=0,-DACTS=2,-DOTHER_ACTS=1 safe
 finite waiting.pml -DENDLESS=0,-DDISABLES=1,-DREPOLLS=1 safe ends taken
 finite-requests waiting.pml -DENDLESS=0,-DDISABLES=1,-DREPOLLS=1,-DTRACKED=1 safe requests
@@ -108,7 +110,7 @@ a-wake-before-its-push wake.pml -DACTS=2,-DFAULT=2 refused polled
 a-thread-that-is-never-told wake.pml -DACTS=2,-DFAULT=3 refused ends
 a-hand-on-without-a-wake wake.pml -DACTS=3,-DFAULT=4 refused polled
 a-refused-start-not-passed-on wake.pml -DACTS=2,-DFAULT=5 refused ends
-a-refused-poller-that-is-waited-for wake.pml -DACTS=2,-DFAULT=6 refused safe=end
+a-refused-poller-that-is-waited-for wake.pml -DACTS=2,-DFAULT=6 refused safe=end.state
 a-completion-that-drops-missed wake.pml -DACTS=3,-DFAULT=7 refused safe=asked
 an-enable-without-threaded wake.pml -DACTS=4,-DFAULT=8 refused safe=setting
 a-schedule-that-ignores-disable waiting.pml -DENDLESS=1,-DFAULT=1 refused taken
@@ -122,14 +124,14 @@ PLAN
 
 # try NAME MODEL WORDS [refused] PROPERTY ..: `+ CLAIM` or `- CLAIM` for each.
 try() {
-    local name=$1 model=$2 words property wanted=holds found
+    local name=$1 model=$2 words property wanted=holds found speed=
     IFS=, read -r -a words <<< "$3"
     shift 3
     if [ "$1" = refused ]; then
-        wanted=broken
+        wanted=broken speed=-O0 # a search that soon ends
         shift
     fi
-    build "$name" "$model" "${words[@]}" > "$scratch/$name.log" 2>&1 || { echo "- $name is built"; return; }
+    build "$name" "$model" "$*" "${words[@]}" > "$scratch/$name.log" 2>&1 || { echo "- $name is built"; return; }
     for property in "$@"; do
         found=$(search "$name" "$property")
         if [ "$found" = "$wanted" ]; then echo "+ $name $property"; else

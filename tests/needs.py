@@ -20,8 +20,8 @@ MADE_UP = ("needs.py", "scripts.sh")  # their needs are none of a test
 
 
 def rows():
-    lines = [line.split() for line in (TOP / "tests/needs.txt").read_text().splitlines()]
-    return [row for row in lines if row and row[0] != "#"]
+    lines = [line.partition("#")[0].split() for line in (TOP / "tests/needs.txt").read_text().splitlines()]
+    return [row for row in lines if row]
 
 
 def packages():
@@ -52,6 +52,8 @@ def wrong():
     yield from (f"tests/needs.txt has {need}, which nothing names" for need in have if need not in names and need != "*")
     of_all = {name for row in rows() if not row[0].startswith("linux-") for name in row[1:] if name != "-"}
     installed = subprocess.run([TOP / "scripts/test-packages.sh", "--list"], capture_output=True, text=True, check=True).stdout.split()
+    yield from (f"tests/needs.txt doesn't say what {line.split()[0]} gives" for line in (TOP / "tests/needs.txt").read_text().splitlines()
+                if line and line[0] != "#" and " # " not in line and not line.endswith(" -"))
     if sorted(of_all) != installed:
         yield f"scripts/test-packages.sh installs other packages than tests/needs.txt has: {sorted(of_all ^ set(installed))}"
 

@@ -68,6 +68,8 @@ sums 1 '2 passed, 1 failed, 0 skipped' uncounted
 sums 1 '4 passed, 1 failed, 2 skipped' part broken
 check 'tests/needs.txt has what tests need, and nothing else' python3 -B "$top/tests/needs.py"
 check 'scripts/test-packages.sh lists the packages' grep -qx gnuplot-nox <("$top/scripts/test-packages.sh" --list)
+check 'and what each gives' grep -qx 'spin: the search of the models' <("$top/scripts/test-packages.sh" --gives)
+check 'for all that it lists, and those that are only fetched' eval '[ "$("$top/scripts/test-packages.sh" --gives | grep -vc "^linux-")" = "$("$top/scripts/test-packages.sh" --list | wc -l)" ]'
 # without_root: in a copy that everybody may read.
 without_root() {
     local status=0 as=()
@@ -138,6 +140,23 @@ says_that_it_builds() {
     grep -q 'proving and building napi_serial' "$scratch/out"
 }
 check 'compare-recording without a built program says that it builds' says_that_it_builds
+
+# The launcher with too few descriptors doesn't say that python3 isn't there; interrupted, or out of memory, while it begins it ends in a
+# line: csv.py is imported then.
+tells_no_untruth() {
+    local most
+    for most in 10 11 12 13 14; do
+        ! (ulimit -n "$most"; "$top/replay" --version) 2>&1 | grep 'no python3' || return 1
+    done
+}
+ends_in_a_line() {
+    mkdir -p "$scratch/begins" && cp -r "$top/replay" "$top/scripts" "$scratch/begins"
+    echo "raise $1" > "$scratch/begins/scripts/csv.py"
+    ! "$scratch/begins/replay" --version 2> "$scratch/out" && [ "$(cat "$scratch/out")" = "replay: $2" ]
+}
+check 'too few descriptors are no missing python3' tells_no_untruth
+check 'the launcher is interrupted as it begins' ends_in_a_line KeyboardInterrupt interrupted
+check 'it is out of memory as it begins' ends_in_a_line MemoryError 'out of memory'
 
 # A gate of one crate, whose prover is a shell under the prover's name.
 mkdir -p "$scratch/rt-edit-x"

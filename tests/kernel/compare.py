@@ -15,6 +15,7 @@ import multiprocessing
 import pathlib
 import random
 import re
+import signal
 import subprocess
 import sys
 
@@ -23,9 +24,11 @@ sys.path[:0] = [str(TOP / "bench"), str(TOP / "tests")]
 import random_trace
 import runs
 
+LOOPS = "the kernel's side loops: no report after 5 s of processor time\n"
 HEADER = "moment,device,event,value"
 MAPPINGS = ["set threaded: the profile writes THREADED in any state", "repoll behind busy polling: the profile's goes to the list",
-            "window: a poll takes one jiffy", "moments: whole numbers, not jiffies that wrap"]
+            "window: a poll takes one jiffy", "moments: whole numbers, not jiffies that wrap",
+            "threaded off: the profile clears THREADED at once, a kernel that stops threads waits for the instance"]
 SMALL = ["1,rx,1", "1,rx,2", "1,tx,5", "1,done,1", "0,softirq,0", "1,kthread,0", "1,disable,0", "1,enable,0", "1,threaded,1",
          "1,threaded,0", "1,busy,1", "2,rx,1", "2,disable,0"]
 SETTINGS = [(300, 64, 1024), (1, 64, 1024), (64, 1, 1024), (7, 63, 2), (2, 2, 1), (65, 8, 5)]
@@ -164,6 +167,8 @@ class Sides:
                 return "".join(lines), [int(word) for word in line.split()[1:]]
             lines.append(line)
         status, self.server = self.server.wait(), None
+        if status == -signal.SIGVTALRM:
+            return LOOPS, [0] * len(MAPPINGS)
         return "".join(lines) + "the kernel's side ended with status %d\n" % status, [0] * len(MAPPINGS)
 
     def compare(self, trace):
@@ -201,6 +206,8 @@ class Sides:
 
 
 def shown(trace, sides):
+    if sides.compare(trace)[2] == LOOPS:
+        return "%s: %s" % (trace.name, LOOPS)
     trace, ours, kernels, _ = sides.compare(sides.smallest(trace))
     return "%s differs; its smallest trace, with %s:\n%s-- napi_serial:\n%s-- the kernel:\n%s" % (
         trace.name, " ".join(trace.words()), trace.text(), ours, kernels)

@@ -2,7 +2,9 @@
 // that napi_serial writes. Devices, rings, rows and text are here; every rule of an instance, a poll, a run and a limit is the
 // kernel's. Standard input has traces one after the other: a line of version, budget, weight, window and how many rows, then
 // each row as its moment, device, event and value. Behind each report stands a line `end` with how often each mapping of
-// profile and kernel made a difference: set threaded, repoll behind busy polling, window, moments.
+// profile and kernel made a difference: set threaded, repoll behind busy polling, window, moments, threaded off. With STOPS_THREADS the
+// functions are those of a kernel that stops the thread of an instance (napi_stop_kthread).
+#include <sys/time.h>
 #include <ucontext.h>
 #include <unistd.h>
 #include "stubs.h"
@@ -17,7 +19,7 @@ struct task_struct thread_of_all;
 bool is_asleep;
 unsigned long jiffies;              // of the queue limit: the row's moment
 static unsigned long polls_as_time; // of a run: a poll takes one jiffy
-static struct { count threaded, repoll, window, moments; } mapped;
+static struct { count threaded, repoll, window, moments, off; } mapped;
 
 static void count_completion(struct napi_struct *napi, bool is_released);
 
@@ -207,6 +209,18 @@ static void disable(struct device *device, count value) {
 
 static void enable(struct device *device, count value) { napi_enable(&device->napi); }
 
+#ifdef STOPS_THREADS
+// The profile clears THREADED at once; these kernels wait until the instance is neither scheduled nor off.
+static void set_threaded(struct device *device, count value) {
+    if (!value && device->napi.thread && test_bit(NAPI_STATE_SCHED, &device->napi.state)) {
+        mapped.off++;
+        device->net.threaded = false;
+        clear_bit(NAPI_STATE_THREADED, &device->napi.state);
+        return;
+    }
+    netif_set_threaded(&device->net, value);
+}
+#else
 // The profile writes THREADED in any state; the kernel only where the device hasn't the setting yet.
 static void set_threaded(struct device *device, count value) {
     if (device->net.threaded == value && test_bit(NAPI_STATE_THREADED, &device->napi.state) != value) {
@@ -215,6 +229,7 @@ static void set_threaded(struct device *device, count value) {
     }
     dev_set_threaded(&device->net, value);
 }
+#endif
 
 static const struct { const char *word; void (*play)(struct device *, count); } events[] = {
     {"open", open_device}, {"rx", receive},        {"tx", transmit}, {"done", finish},     {"softirq", run_softirq},
@@ -298,14 +313,15 @@ static bool play_trace(void) {
     fclose(report);
     if (early) printf("trace fault 12 Pending row %u\n", early);
     else fputs(text, stdout);
-    printf("end %llu %llu %llu %llu\n", mapped.threaded, mapped.repoll, mapped.window, mapped.moments);
+    printf("end %llu %llu %llu %llu %llu\n", mapped.threaded, mapped.repoll, mapped.window, mapped.moments, mapped.off);
     fflush(stdout);
     free(text);
     return true;
 }
 
 int main(void) {
-    do alarm(120);
+    const struct itimerval most = {.it_value.tv_sec = 5}; // of processor time for a trace: then SIGVTALRM ends it
+    do setitimer(ITIMER_VIRTUAL, &most, NULL);
     while (play_trace());
     return 0;
 }

@@ -11,7 +11,7 @@ import re
 import sys
 
 FORMS = [
-    r"^[a-z](?:[^\n;=]|,\n)*?\b{}\([^;{{}}]*\)\n\{{\n.*?^\}}\n",  # a function
+    r"^[a-z](?:[^\n;=]|,\n)*?\n?\b{}\([^;{{}}]*\)\n\{{\n.*?^\}}\n",  # a function
     r"^#define {}\b(?:[^\n]*\\\n)*[^\n]*\n",
     r"^enum (?:\w+ )?\{{\n\s*{}\b.*?^\}};\n",
 ]

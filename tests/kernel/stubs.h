@@ -50,7 +50,17 @@ struct list_head { struct list_head *next, *prev; };
 struct task_struct { int is_awake; };
 struct hrtimer { void *function; };
 struct bpf_net_context { int unused; };
-struct net_device { const char *name; struct list_head napi_list; bool threaded; unsigned long gro_flush_timeout; u32 napi_defer_hard_irqs; };
+struct gro_node { unsigned long bitmask; };
+struct napi_config { unsigned char threaded; };
+struct net_device {
+    const char *name;
+    struct list_head napi_list;
+    bool threaded;
+    unsigned long gro_flush_timeout;
+    u32 napi_defer_hard_irqs;
+    int num_napi_configs;
+    struct napi_config *napi_config;
+};
 struct napi_struct {
     struct list_head poll_list, rx_list, dev_list;
     unsigned long state, gro_bitmask;
@@ -59,6 +69,8 @@ struct napi_struct {
     int (*poll)(struct napi_struct *, int);
     struct net_device *dev;
     void *skb, *napi_hash_node;
+    struct gro_node gro;
+    struct napi_config *config; // of a device whose driver keeps one; none here does
     unsigned int napi_id;
     struct hrtimer timer;
     struct task_struct *thread;
@@ -99,10 +111,9 @@ extern struct { int netdev_budget; unsigned int netdev_budget_usecs; } net_hotda
 #define __raise_softirq_irqoff(number) ((void)0)
 #define sd_has_rps_ipi_waiting(data) false
 #define net_rps_action_and_irq_enable(data) ((void)0)
-#define skb_defer_free_flush(data) ((void)0)
+#define skb_defer_free_flush(...) ((void)0)
 #define bpf_net_ctx_set(context) (context)
 #define bpf_net_ctx_clear(context) ((void)0)
-#define gro_normal_list(napi) ((void)0)
 #define napi_gro_flush(napi, is_old) ((void)0)
 #define netpoll_poll_lock(napi) NULL
 #define netpoll_poll_unlock(lock) ((void)0)
@@ -121,6 +132,29 @@ extern struct { int netdev_budget; unsigned int netdev_budget_usecs; } net_hotda
 #define rcu_read_unlock() ((void)0)
 #define rcu_read_lock_held() true
 #define rcu_softirq_qs_periodic(moment) ((void)(moment))
+
+// of kernels after 6.12
+#define gro_init(gro) ((void)0)
+#define gro_normal_list(gro) ((void)0)
+#define gro_flush_normal(gro, is_old) ((void)0)
+#define napi_get_gro_flush_timeout(napi) 0
+#define napi_get_defer_hard_irqs(napi) 0
+#define napi_set_gro_flush_timeout(napi, time) ((void)0)
+#define napi_set_defer_hard_irqs(napi, count) ((void)0)
+#define napi_get_threaded_config(dev, napi) ((dev)->threaded)
+#define napi_restore_config(napi) abort()
+#define napi_save_config(napi) abort()
+#define napi_hash_del(napi) ((void)0)
+#define netif_napi_set_irq_locked(napi, number) ((void)0)
+#define netif_napi_dev_list_add(dev, napi) list_add_tail(&(napi)->dev_list, &(dev)->napi_list)
+#define netdev_assert_locked(dev) ((void)0)
+#define netdev_assert_locked_or_invisible(dev) ((void)0)
+#define netdev_lock(dev) ((void)0)
+#define netdev_unlock(dev) ((void)0)
+#define hrtimer_setup(timer, handler, clock, mode) ((void)0)
+#define kthread_stop(thread) ((void)0)
+#define DEBUG_NET_WARN_ON_ONCE(x) ((void)(x))
+#define smp_mb__after_atomic() barrier()
 #define need_resched() false
 #define cond_resched() ((void)0)
 #define cpu_relax() ((void)0)
@@ -142,6 +176,7 @@ extern struct { int netdev_budget; unsigned int netdev_budget_usecs; } net_hotda
 #define kthread_should_stop() is_asleep
 #define schedule() (is_asleep = true)
 #define usleep_range(least, most) sleep_in_disable()
+#define msleep(time) abort() // of a thread that is stopped: devices.c stops none that works
 extern struct task_struct thread_of_all;
 extern bool is_asleep;
 void sleep_in_disable(void);
