@@ -176,6 +176,15 @@ def to_build(asked):
     return sorted(every, key=chain.get, reverse=True)
 
 
+def time_left(every, left, seconds):
+    """The time that is left, by the sizes of the crates that were built, of those at work as if each were half done. Nothing before the first."""
+    sizes = {it: sum(each.st_size for each in it.texts()) or 1 for it in every}
+    at_work = sum(sizes[it] for it in AT_WORK)
+    built = sum(sizes.values()) - sum(sizes[it] for it in left) - at_work
+    rest = seconds * (sum(sizes.values()) - built - at_work / 2) / (built + at_work / 2) if built else 0
+    return "" if not built else f", about {rest:.0f} s left" if rest < 100 else f", about {rest / 60:.0f} min left"
+
+
 def prove(asked):
     """Proves and builds these crates, and what they stand on as far as that isn't done."""
     names, since, left = " and ".join(it.name for it in asked), time.time_ns(), to_build(asked)
@@ -199,9 +208,9 @@ def prove(asked):
             AT_WORK[crate] = crate.begin(jobs, every.index(crate))
         left = [it for it in left if it not in AT_WORK]
         seconds = (time.time_ns() - since) // 10**9
-        line = f"crate {len(every) - len(left)} of {len(every)} ({' '.join(it.name for it in AT_WORK)}), {seconds} s"
+        line = f"crate {len(every) - len(left)} of {len(every)}, {seconds} s{time_left(every, left, seconds)}: {' '.join(it.name for it in AT_WORK)}"
         if os.isatty(2):
-            write(f"{CLEAR}replay: {line}"[:82].encode() if AT_WORK else CLEAR.encode(), 2)
+            write(f"{CLEAR}{NAME}: {line}"[:82].encode() if AT_WORK else CLEAR.encode(), 2)
         elif ready:
             say(line)
         time.sleep(0.1)

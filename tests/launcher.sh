@@ -179,7 +179,7 @@ small_checkout
 tries << END
 a first call by a symlink, from another folder, builds and replays; it says what it takes and where it is % \
 cd deep; PROVES='sleep 0.6' CDPATH=.. ./link-of-a-link ../trace.csv --budget 7; cd .. % 0 replay: proving and building napi_serial and \
-what they stand on, 4 crates: on 4 cores some 2 minutes|*|replay: crate 4 of 4 (napi_serial), * s|\
+what they stand on, 4 crates: on 4 cores some 2 minutes|*|replay: crate 4 of 4, * s, about * s left: napi_serial|\
 replay: napi_serial: proved and built, in *|napi_serial --budget 7|$header
 libraries that need nothing begin side by side, one that needs another behind it, and the program last % head -n 2 rt.log | sort; \
 grep -e 'end low' -e 'begin high' rt.log; tail -n 1 rt.log % 0 begin low|begin side|end low|begin high|end napi_serial
@@ -274,7 +274,7 @@ on a terminal without input: a usage text % on_terminal $launcher --budget 3 % 6
 where no terminal is, only proved bytes % change; replay trace.csv 2> made; ! grep -i unproved made % 0 $answer
 on a terminal an unproved answer comes first, once, and the proof of it then; the build writes one line over and over \
 % change; PROVES='sleep 0.6' on_terminal $launcher trace.csv --weight 4 % 0 $first|napi_serial --weight 4|$header|rt: a hint|$unproved|*\
-crate 1 of 3 (low), 0 s*crate 3 of 3*proved and built, in * s|replay: the proved program gives the same bytes
+crate 1 of 3, 0 s: low*crate 3 of 3*proved and built, in * s|replay: the proved program gives the same bytes
 the next call replays % on_terminal $launcher trace.csv % 0 $answer
 so it does for a trace through a pipe % change; on_terminal bash -c '$launcher <(cat trace.csv)' % 0 *|$answer|*gives the same bytes
 one too long to be kept is replayed once % change; DOES='wc -c; exit' on_terminal bash -c 'head -c 70000000 /dev/zero | $launcher' % \

@@ -13,6 +13,7 @@ import hashlib
 import io
 import itertools
 import os
+import shlex
 import shutil
 import subprocess
 import sys
@@ -54,6 +55,8 @@ def check_words(words):
     """Refuses files that there can't be. Where none is named for the rows they stand in one that goes when the tool ends."""
     if words.sshloginfile and not os.path.isfile(words.sshloginfile):
         raise Refusal(f"{shown(words.sshloginfile)}: there is no such file")
+    if words.sshloginfile and not shutil.which("parallel"):
+        raise Refusal("--sshloginfile needs GNU parallel, which isn't on PATH")
     words.is_passing = words.out is None
     if words.is_passing:
         words.out = f"{tempfile.gettempdir()}/{os.path.basename(sys.argv[0])}-{os.getpid()}-{os.urandom(6).hex()}.csv"
@@ -101,7 +104,8 @@ class Combinations:
     """The rows of a tool. A key's first value is a file, the second one what that is known by, and the others are settings; `row_of`
     makes the row of a program and a key, or refuses."""
 
-    def __init__(self, script, key, told, row_of):
+    def __init__(self, script, key, told, row_of, by_threads=False):
+        self.by_threads = by_threads  # rather than by GNU parallel, since a row takes little work but the program's
         self.script, self.tool = Path(script).resolve(), os.path.basename(script)
         self.key, self.columns, self.row_of = key, [*key, *told], row_of
         self.head = ",".join(self.columns) + "\n"
@@ -178,11 +182,9 @@ class Combinations:
 
     def rows_of(self, made, keys, words):
         """The rows of these keys, in the order in which they end."""
-        if shutil.which("parallel") and not words.without_parallel:
+        if shutil.which("parallel") and not words.without_parallel and (words.sshloginfile or not self.by_threads):
             return self.rows_by_parallel(made, keys, words)
-        if words.sshloginfile:
-            raise Refusal("--sshloginfile needs GNU parallel, which isn't on PATH")
-        if not words.without_parallel:
+        if not words.without_parallel and not self.by_threads:
             say(self.tool, "GNU parallel isn't on PATH: on this machine's processors without it")
         return self.rows_here(made, keys, words)
 
@@ -195,12 +197,19 @@ class Combinations:
         if lines and not lines[-1].endswith("\n"):
             lines.pop()
         if not lines or lines[0] != self.head:
-            raise Refusal(f"{shown(path)}: this is no file of {self.tool}'s")
+            raise Refusal(f"{shown(path)}: this is no file of {self.tool}'s" + self.repaired_head(path, lines))
         rows = list(csv.DictReader(lines[1:], self.columns))
         for place, row in enumerate(rows, 2):
             if None in row or None in row.values():
-                raise Refusal(f"{shown(path)}: row {place} is none of {self.tool}'s")
+                raise Refusal(f"{shown(path)}: row {place} is none of {self.tool}'s: `sed -i {place}d {shlex.quote(shown(path))}` takes it out, and "
+                              "--resume makes what is missing")
         return {self.key_of(row): row for row in rows}
+
+    def repaired_head(self, path, lines):
+        """By which line a damaged first line is put right, if the second one is a row."""
+        rows = list(csv.reader(lines[1:2]))
+        is_row = bool(rows) and len(rows[0]) == len(self.columns)
+        return f"; if only its first line is damaged: `sed -i '1c {self.head.strip()}' {shlex.quote(shown(path))}` puts it right" if is_row else ""
 
     def append(self, path, row):
         """Puts a row behind the others. What a killed call left of one goes."""
@@ -231,7 +240,7 @@ class Combinations:
         known = [{**told[key[1:]], self.key[0]: key[0]} for key in missing if key[1:] in told]
         unknown = [key for key in missing if key[1:] not in told]
         there = set()  # a process of parallel's that is tried again tells its first rows again
-        with Progress(f"making {len(missing)} rows", counted.how_far):
+        with Progress(f"making {len(missing)} row{'s' * (len(missing) > 1)}", counted.how_far):
             for row in itertools.chain(known, self.rows_of(made, unknown, words) if unknown else []):
                 if self.key_of(row) not in there:
                     there.add(self.key_of(row))

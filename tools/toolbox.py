@@ -101,8 +101,9 @@ class Progress:
                 parts.append(f"{took * (1 - share) / share:.0f} s left")
             Progress.is_shown = True
             line = f"{called(os.path.basename(sys.argv[0]))}: {', '.join(filter(None, parts))}"
+            columns = os.get_terminal_size(2).columns or 80  # a terminal that doesn't know has 0
             if not self.over.is_set():
-                print(f"{self.CLEAR}{line[:os.get_terminal_size(2).columns - 1 or 79]}", end="", file=sys.stderr, flush=True)
+                print(f"{self.CLEAR}{line[:columns - 1]}", end="", file=sys.stderr, flush=True)
 
 
 def share_of(file):
@@ -276,6 +277,13 @@ def write_all(texts):
         for path in made:
             unlink(path)
         raise
+
+
+def told_notes(name, notes):
+    """How many notes a file has, the first of them, and where all are."""
+    first = "".join(f"\n  {shown(note)}" for note in notes[:3])
+    count = f"{len(notes)} note{'s' * (len(notes) != 1)}"
+    return f"{count} in {shown(name)}" + (", which begins" if len(notes) > 3 else "") + f"{':' * bool(notes)}{first}"
 
 
 def write_out(path, text):

@@ -52,7 +52,8 @@ class FromPcap(Arrivals):
         self.assertEqual(rows, self.ROWS)
         self.assertEqual(notes, ["device 1 is eth0, 2 packets", "device 2 is eth1, 2 packets", "no row: multicasts, 1",
                                  "no row: packets that don't come in, 2"])
-        self.assertEqual(said, "made.csv: 2 devices, 4 rows, 4 notes\n")
+        self.assertEqual(said, "made.csv: 2 devices, 4 rows; 4 notes in made.notes, which begins:\n  device 1 is eth0, 2 packets\n"
+                               "  device 2 is eth1, 2 packets\n  no row: multicasts, 1\n")
 
     def test_one_device(self):
         rows, notes, _ = self.made("from-pcap", self.TEXT, "--one-device")
@@ -61,7 +62,7 @@ class FromPcap(Arrivals):
 
     def test_some_rows_and_who_receives(self):
         rows, notes, said = self.made("from-pcap", self.TEXT, "--rows", "2:3")
-        self.assertEqual((rows, said), (["0,1,63", "1000,2,62"], "made.csv: 2 devices, 2 rows, 5 notes\n"))
+        self.assertEqual((rows, said.splitlines()[0]), (["0,1,63", "1000,2,62"], "made.csv: 2 devices, 2 rows; 5 notes in made.notes, which begins:"))
         self.assertIn("rows 2 to 3 alone", notes)
         rows, notes, _ = self.made("from-pcap", self.TEXT, "--to", "eth1")
         self.assertEqual((rows, notes[:2]), (["0,1,62", "999998000,1,66"], ["device 1 is eth1, 2 packets", "no row: multicasts, 1"]))
@@ -106,7 +107,7 @@ class FromPcap(Arrivals):
     def test_more_packets_than_a_trace_has(self):
         line = "{}.{:06} eth0  In  ifindex 2 02:00:00:00:00:01 ethertype IPv4 (0x0800), length 60: UDP\n"
         rows, _, said = self.made("from-pcap", "".join(line.format(100 + place // 10**6, place % 10**6) for place in range(120000)))
-        self.assertEqual((len(rows), rows[-1], said), (120000, "119999000,1,60", "made.csv: 1 devices, 120000 rows, 1 notes\n"))
+        self.assertEqual((len(rows), rows[-1], said), (120000, "119999000,1,60", "made.csv: 1 devices, 120000 rows; 1 note in made.notes:\n  device 1 is eth0, 120000 packets\n"))
 
     def test_refusals(self):
         done = run("from-pcap", "-", self.folder / "made", "--arrivals", text=self.TEXT.splitlines(True)[2])
@@ -133,7 +134,7 @@ class FromFtrace(Arrivals):
         self.assertEqual(rows, ["0,1,61", "1001,2,62", "1002,2,66", "1000000000,1,65"])
         self.assertEqual(notes, ["device 1 is vb1, 2 packets", "device 2 is va1, 2 packets", "a row: packets that a full ring or backlog dropped: vb1, 1",
                                  "no row: packets that weren't sent: va1, rc=16, 1", "no row: packets of a device that is in no pair: eth0, 1"])
-        self.assertEqual(said, "made.csv: 2 devices, 4 rows; 5 notes\n")
+        self.assertEqual(said.splitlines()[0], "made.csv: 2 devices, 4 rows; 5 notes in made.notes, which begins:")
 
     def test_a_recording_made_in_trouble(self):
         """Of 121 packets a backlog of 6 dropped three, which arrived too. The file names the pair; the rows are what its lines say."""
@@ -143,7 +144,7 @@ class FromFtrace(Arrivals):
         rows, notes, said = self.made("from-ftrace", text)
         self.assertEqual(rows, [f"{time - times[0]},1,{size}" for time, (_, _, size) in zip(times, sent)])
         self.assertEqual(notes, ["device 1 is vb7, 121 packets", "device 2 is va7, 0 packets", "a row: packets that a full ring or backlog dropped: va7, 3"])
-        self.assertEqual(said, "made.csv: 2 devices, 121 rows; 3 notes\n")
+        self.assertEqual(said, "made.csv: 2 devices, 121 rows; 3 notes in made.notes:\n" + "".join(f"  {note}\n" for note in notes))
         softnet = dict(re.findall(r"^(softnet\.\d\.dropped) (\d+ \d+)$", text, re.M))
         self.assertEqual(sum(int(after) - int(before) for before, after in map(str.split, softnet.values())), 3)
         rows, _, _ = self.made("from-ftrace", gzip.compress(text.encode()))
@@ -178,7 +179,7 @@ class FromFtrace(Arrivals):
         """They arrive when the poll that took them began, or the interrupt before it."""
         wanted = ["0,1,60", "0,1,60", "8000,1,100", "99000,1,100"]
         rows, notes, said = self.made("from-ftrace", self.of_a_card())
-        self.assertEqual((rows, said), (wanted, "made.csv: 1 devices, 4 rows; 2 notes\n"))
+        self.assertEqual((rows, said.splitlines()[0]), (wanted, "made.csv: 1 devices, 4 rows; 2 notes in made.notes:"))
         self.assertEqual(notes[0], "device 1 is eth0, 4 packets")
         self.assertIn("is when the poll that took it began, or the interrupt that asked for this poll (napi_gro_receive_entry)", notes[1])
         rows, notes, _ = self.made("from-ftrace", self.of_a_card("napi_gro_receive_entry"))

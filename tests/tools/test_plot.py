@@ -118,6 +118,18 @@ class Plot(InFolder):
         self.assertRegex(run("plot", trace, "--script", "--weight", "59", "--beside", "").stdout, "heading = 'alike by both, at most 3 apart'")
 
     @skip_without("gnuplot")
+    def test_a_picture_that_is_there(self):
+        """It is replaced only by --force, and that is known before the replay, which here would fail."""
+        old = self.write("picture.svg", "old\n")
+        done = run("plot", TOP / "examples/bursts.csv", "--out", old, SERIES="/bin/false")
+        self.assertEqual((done.stderr, done.returncode, old.read_text()),
+                         (f"plot: {old} is there: --force replaces it, and --out names another file\n", 1, "old\n"))
+        self.assertIn("/bin/false ended with status 1", run("plot", TOP / "examples/bursts.csv", "--force", "--out", old, SERIES="/bin/false").stderr)
+
+    def test_gnuplot_is_missed_before_any_work(self):
+        self.assertIn("needs gnuplot", run("plot", TOP / "examples/bursts.csv", "--out", self.folder / "x.svg", SERIES="/bin/false", path="/none").stderr)
+
+    @skip_without("gnuplot")
     def test_no_legend_stands_on_a_line_or_a_title(self):
         """Title, headings and legends have a line each, at least nine pixels apart."""
         self.plot(self.ROWS)

@@ -3,6 +3,7 @@
 import csv
 import itertools
 import os
+import re
 import shutil
 import subprocess
 import sys
@@ -113,6 +114,28 @@ total devices 3 runs 2 polls 7 work 80 squeezed 2
         done = self.sweep("--without-parallel", "--resume")
         self.assertIn("8 rows, of which 3 are there", done.stderr)
         self.assertEqual(self.out.read_text().splitlines(keepends=True), [kept[0], kept[1], *lines[2:]])
+
+    def test_a_damaged_file_and_the_line_that_repairs_it(self):
+        """What the refusal tells is done by a shell; then --resume has all rows again."""
+        self.sweep("--without-parallel")
+        whole = self.out.read_text()
+        for damage in (lambda lines: [lines[0], lines[1], lines[2].replace(",", "", 3), *lines[3:]], lambda lines: ["trace;sum\n", *lines[1:]]):
+            self.out.write_text("".join(damage(whole.splitlines(True))))
+            done = self.sweep("--without-parallel", "--resume")
+            self.assertEqual(done.returncode, 1)
+            repair = re.search("`(sed .*)`", done.stderr)[1]
+            subprocess.run(["sh", "-c", repair], check=True)
+            self.assertEqual(self.sweep("--without-parallel", "--resume").returncode, 0)
+            self.assertEqual(self.out.read_text(), whole)
+
+    def test_limits(self):
+        """By --fail-if a result beyond one makes the status 3; by hand, a budget of 2 squeezes, and 300 doesn't."""
+        for condition, status in (("squeezed>0", 3), ("squeezed>1", 0), ("dropped >= 1", 3), ("left==6", 3), ("work<2", 0)):
+            done = self.sweep("--without-parallel", "--resume", "--fail-if", condition)
+            self.assertEqual((done.returncode, done.stderr.count("sweep: --fail-if")), (status, status // 3), condition)
+        self.assertIn("sweep: --fail-if 'squeezed>0': squeezed is 1 with trace ", self.sweep("--resume", "--fail-if", "squeezed>0").stderr)
+        for condition in ("squeezed", "squeezed>0us", "nothing>0", "squeezed>", "squeezed>1e3"):
+            self.assertEqual(self.sweep("--fail-if", condition).returncode, 2, condition)
 
     def test_two_calls_on_one_file_lose_no_row(self):
         """Each plays other windows, at the same time; the file has the rows of both, each once."""

@@ -4,7 +4,8 @@ use Rattle.std.proofs.Common.{length, replicate, slice_index_or, slice_set, refl
 use Rattle.std.specs.{Prelude.{◌==◌, nat_lt, position, if◌then◌else◌}, List.position_or_len, Option.option_map_or}
 use Rattle.std.proofs.lemmas.{Grind.common_steps, List.{length-set, Folds.position_or_len-set}}
 use Rattle.{device_places.{proofs.PlaceFacts.{at-index, below-some}, specs.Places.{at, changed, changed_from}}}
-use Rattle.machine_model.specs.Device.{DeviceView, opened, without_next}
+use Rattle.machine_words.specs.declared.settings.Settings.{Settings}
+use Rattle.machine_model.specs.Device.{DeviceView, after_packet, is_masked, opened, without_next}
 use Rattle.machine_model.specs.{Devices.{Devices, asks_at, soonest_from, sooner, timer_at}, Shown.{earlier, pending_of}}
 use Rattle.machine_model.{specs.declared.devices.{Pending.Pending, Timer.Timer}, proofs.WeightFacts.{named, soonest-is}}
 
@@ -314,6 +315,10 @@ phase-kept xs n x d e old below found some same kept =
 
 pub phase-next : (backlog : Bool) (d : DeviceView) → (without_next backlog d).phase ≡ d.phase
 phase-next backlog d = grind (arith, common_steps)
+
+pub phase-masked : (moment : ℕ) (s : Settings) (d : DeviceView) → is_masked d.phase ≡ true → (after_packet moment s d).phase ≡ d.phase
+unfolding after_packet
+phase-masked moment s d masked = grind (arith, common_steps)
 
 -- a new device asks for nothing
 pub opened-kept : (xs : Devices) (n capacity : ℕ) (e : DeviceView) (old : Pending)

@@ -157,6 +157,13 @@ impl Device {
         self.phase.asks()
     }
 
+    /// Whether its card doesn't notify of packets.
+    pub(crate) fn is_masked(&self) -> bool
+        ensures { result ≡ is_masked self.now.phase }
+    {
+        self.phase.is_masked()
+    }
+
     /// Whether its NAPI timer expired.
     pub(crate) fn is_fired(&self) -> bool
         ensures { result ≡ is_fired self.now.phase }

@@ -87,7 +87,9 @@ fn soonest_in(places: &[Option<Device>]) -> Option<Timer>
 {
     let mut best = None;
     for (number, place) in places.iter().enumerate() {
-        best = sooner(best, timer_in(place, number as u32));
+        if let Some(timer) = timer_in(place, number as u32) {
+            best = sooner(best, Some(timer));
+        }
     }
     best
 }
@@ -276,6 +278,9 @@ impl Devices {
     {
         if number < self.places.len() {
             if let Some(device) = &mut self.places[number] {
+                if device.is_masked() {
+                    return device.arrive(moment, settings);
+                }
                 let is_taken = device.arrive(moment, settings);
                 self.pending = pending_after(self.pending, number, &self.places);
                 return is_taken;

@@ -1,0 +1,89 @@
+"""Tests of what long work shows: how far it is and the time left, on standard error of a terminal, and nothing elsewhere or by --quiet."""
+
+import os
+import re
+import subprocess
+import sys
+import unittest
+
+from tooltest import HAS_MACHINE, HERE, MACHINE, REPLAY, SERIES, TOP, InFolder, run
+
+BURSTS = TOP / "examples/bursts.csv"
+# What is read before it waits is half of 40 kB and more than is read at once.
+HALF = "#!/bin/sh\nhead -c 20000 > /dev/null; sleep 2.5; exit 1\n"
+
+
+class Shown(InFolder):
+    def seen(self, tool, *words, **variables):
+        """What a tool writes on a terminal that is its standard error."""
+        ours, theirs = os.openpty()
+        with subprocess.Popen([sys.executable, "-BES", TOP / "tools" / tool, *map(str, words)], stdout=subprocess.DEVNULL, stderr=theirs,
+                              stdin=subprocess.DEVNULL, cwd=self.folder,
+                              env={**os.environ, "PROGRAM": REPLAY, "SERIES": SERIES, "MACHINE": MACHINE, **variables}):
+            os.close(theirs)
+            text = b""
+            try:
+                while part := os.read(ours, 65536):
+                    text += part
+            except OSError:  # the terminal's end
+                pass
+            os.close(ours)
+        return text.decode()
+
+    def program(self, name, text):
+        path = self.write(name, text)
+        path.chmod(0o755)
+        return str(path)
+
+    def check(self, pattern, tool, *words, **variables):
+        """It is shown, and its line is cleared; by --quiet it isn't."""
+        text = self.seen(tool, *words, **variables)
+        self.assertRegex(text, rf"\r\x1b\[K{tool}: {pattern}")
+        self.assertTrue(text.rpartition(f"{tool}: {re.findall(pattern, text)[-1]}")[2].partition("\r\x1b[K")[1], "it isn't cleared")
+        self.assertNotIn("\x1b[K", self.seen(tool, *words, "--quiet", **variables))
+
+    def test_rows_of_a_sweep(self):
+        slow = self.program("slow", f"#!/bin/sh\nsleep 0.7\nexec '{REPLAY}' \"$@\"\n")
+        words = [BURSTS, "--budget", "1,2,3,4", "--jobs", "1", "--without-parallel"]
+        self.assertRegex(self.seen("sweep", *words, "--out", "rows", PROGRAM=slow), r"\r\x1b\[Ksweep: making 4 rows, (25|50|75) %, \d+ s left")
+        self.assertNotIn("\x1b[K", self.seen("sweep", *words, "--out", "others", "--quiet", PROGRAM=slow))
+
+    def test_a_row_of_what_if(self):
+        """By how much of the arrivals the program has read."""
+        arrivals = self.write("arrivals", "moment,device,bytes\n" + "".join(f"{place:019},1,60\n" for place in range(1600)))
+        self.assertIn("making 1 row, 50 %, ", self.seen("what-if", arrivals, MACHINE=self.program("half", HALF)))
+
+    def test_a_capture(self):
+        """By how much of it tcpdump has read."""
+        capture = self.folder / "capture.pcap"
+        capture.write_bytes(b"\xd4\xc3\xb2\xa1" + b"\0" * 39996)
+        self.program("tcpdump", HALF)
+        self.check(r"reading, 50 %, \d s left", "from-pcap", capture, "made", PATH=f"{self.folder}:{os.environ['PATH']}")
+
+    def test_a_picture(self):
+        self.program("gnuplot", "#!/bin/sh\nsleep 2.5\n")
+        self.check(r"drawing by gnuplot, [123] s", "plot", BURSTS, "--out", "x.svg", PATH=f"{self.folder}:{os.environ['PATH']}")
+
+    def test_runs_that_are_raised(self):
+        slow = self.program("slow", f"#!/bin/sh\nsleep 0.5\nexec '{REPLAY}' \"$@\"\n")
+        self.check(r"raising runs, \d+ %", "raise", BURSTS, "--budget", "1", "--weight", "1", PROGRAM=slow)
+
+    @HAS_MACHINE
+    def test_settings_of_advise(self):
+        slow = self.program("slow", f"#!/bin/sh\nsleep 0.7\nexec '{MACHINE}' \"$@\"\n")
+        self.check(r"predicting \d+ settings, \d+ %", "advise", HERE / "recorded-apart.rec", MACHINE=slow)
+
+    def test_what_is_made_and_what_is_read(self):
+        self.assertRegex(self.seen("traffic", "--arrivals", "--rate", "100000", "--seconds", "4", "--out", "made.csv"), r"traffic: making arrivals, \d+ %, \d+ s left")
+        line = "   a-1  [000] b....  5.{:06}: net_dev_xmit: dev=va1 skbaddr=0 len=60 rc=0\n"
+        recording = self.write("recording", "".join(map(line.format, range(200000))))
+        self.assertRegex(self.seen("from-ftrace", recording, "trace", "--arrivals"), r"from-ftrace: reading, \d+ %, \d+ s left")
+
+    def test_elsewhere_nothing_is_shown(self):
+        self.program("gnuplot", "#!/bin/sh\nsleep 1.5\n")
+        done = run("plot", BURSTS, "--out", "x.svg", folder=self.folder, path=f"{self.folder}:{os.environ['PATH']}")
+        self.assertEqual((done.stderr, done.returncode), ("plot: gnuplot failed: 0\n", 1))
+
+
+if __name__ == "__main__":
+    unittest.main()
