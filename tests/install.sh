@@ -103,7 +103,7 @@ subcommands_work() {
         "$f" from-ftrace "$top/tests/tools/soft-tcp.txt" made $(printf -- '--pair va%d:vb%d ' 1 1 2 2 3 3 4 4 5 5 6 6) &&
         diff made.csv "$top/tests/tools/soft-tcp.csv" && "$f" traffic | "$1/napi_serial" > report &&
         echo '1.000000 02:00:00:00:00:02 > 02:00:00:00:00:01, ethertype IPv4 (0x0800), length 60: UDP' | "$f" from-pcap - captured &&
-        "$f" costs "$top/tests/tools/soft-tcp.txt" --words > words && "$f" costs "$top/tests/tools/recorded-apart.rec" --json > json && "$f" traffic --arrivals > arrivals &&
+        "$f" costs "$top/tests/tools/soft-gso-23.txt" --words > words && "$f" costs "$top/tests/tools/recorded-apart.rec" --json > json && "$f" traffic --arrivals > arrivals &&
         [ "$("$f" what-if arrivals --budget 16,64 | wc -l)" = 3 ] && { "$f" raise "$trace" --buget 3; [ "$?" = 2 ]; }
 }
 

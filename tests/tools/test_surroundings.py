@@ -20,7 +20,7 @@ REPORT = "list\ntotal devices 0 runs 0 polls 0 work 0 squeezed 0\n"
 WRITERS = {"raise": [TRACE], "report2json": ["-"], "traffic": [], "compare-runs": [TRACE, "--budget", "1", "--"],
            "plot": [TRACE, "--script"], "compare-recording": [TOP / "examples/linux-veth-small-budget", "--budget", "64"],
            "from-ftrace": [HERE / "soft-tcp.txt", "made", *(f"--pair=va{number}:vb{number}" for number in range(1, 7))],
-           "from-pcap": ["captured", "made"], "costs": [HERE / "soft-tcp.txt"], "what-if": ["arrivals", "--without-parallel"],
+           "from-pcap": ["captured", "made"], "costs": [HERE / "soft-gso-23.txt"], "what-if": ["arrivals", "--without-parallel"],
            "advise": [HERE / "recorded-apart.rec"], "completion": ["bash"]}
 if not os.path.exists(MACHINE):
     del WRITERS["what-if"], WRITERS["advise"]
