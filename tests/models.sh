@@ -21,17 +21,24 @@ kit=$(dirname "$(rt doc 2> /dev/null)") # the folder of the toolchain
 # checksums [TOP [KIT]]: a line for each function that the models name, and for each that these call (model_texts.py).
 checksums() { python3 -B "$top/tests/model_texts.py" "${1:-$top}" "${2:-$kit}"; }
 
-# look [TOP [KIT]]: the functions whose code isn't what it was, or that aren't there.
+# is_read_kit: whether the toolchain is the kit whose functions the models were read beside, which is the first line's.
+is_read_kit() { [ "$(head -n 1 "$models/stands_for.txt")" = "# $(rt version)" ]; }
+
+# look [TOP [KIT]]: the functions whose code isn't what it was, or that aren't there; of another kit only those of this repository.
 look() {
-    checksums "$@" > "$scratch/now" || return
-    if cmp -s "$models/stands_for.txt" "$scratch/now"; then return 0; fi
-    diff "$models/stands_for.txt" "$scratch/now" | sed -n 's/^[<>] [^ ]* \(.*\)/\1 has changed: read the models beside it, then tests\/models.sh --write/p' | sort -u
+    local functions=.
+    is_read_kit || functions='^[^ ]* [^ /]*/'
+    checksums "$@" > "$scratch/all" || return
+    grep -v '^#' "$models/stands_for.txt" | grep "$functions" > "$scratch/read"
+    grep "$functions" "$scratch/all" > "$scratch/now"
+    if cmp -s "$scratch/read" "$scratch/now"; then return 0; fi
+    diff "$scratch/read" "$scratch/now" | sed -n 's/^[<>] [^ ]* \(.*\)/\1 has changed: read the models beside it, then tests\/models.sh --write/p' | sort -u
     return 1
 }
 
 case ${1:-} in
     --look) look; exit ;;
-    --write) checksums > "$scratch/now" && cp "$scratch/now" "$models/stands_for.txt"; exit ;;
+    --write) { echo "# $(rt version)" && checksums; } > "$scratch/now" && cp "$scratch/now" "$models/stands_for.txt"; exit ;;
     '') ;;
     *) sed -n 's/^# usage/usage/p' "$0"; exit 64 ;;
 esac
@@ -54,9 +61,13 @@ else
     mkdir -p "$scratch/copy/rattle" && cp -r "$top"/{crates,models} "$scratch/copy" && cp -r "$kit"/rattle/{crossbeam_utils,crossbeam_queue,atomic_table} "$scratch/copy/rattle"
     check 'a change in napi_word is found' finds napi_word/steps schedule_load crates/napi_word/src/steps.rt 'if seen.flags.disable' 'if seen.flags.sched'
     check 'a change in poll_runs is found' finds poll_runs/polling let_go crates/poll_runs/src/polling.rt 'if next == Next::Repoll' 'if next != Next::Repoll'
-    check 'a change of the parker is found' finds 'kit crossbeam_utils/sync/parker/ruled' unpark_as rattle/crossbeam_utils/src/sync/parker/ruled.rt '== PARKED' '!= PARKED'
-    check 'a change of the queue is found' finds 'kit crossbeam_queue/array_queue/steps' push_from rattle/crossbeam_queue/src/array_queue/steps.rt 'tail == stamp' 'tail != stamp'
-    check 'a change of the atomics is found' finds 'kit atomic_table/steps' compare_exchange rattle/atomic_table/src/steps.rt 'old, new) }' 'new, old) }'
+    if is_read_kit; then
+        check 'a change of the parker is found' finds 'kit crossbeam_utils/sync/parker/ruled' unpark_as rattle/crossbeam_utils/src/sync/parker/ruled.rt '== PARKED' '!= PARKED'
+        check 'a change of the queue is found' finds 'kit crossbeam_queue/array_queue/steps' push_from rattle/crossbeam_queue/src/array_queue/steps.rt 'tail == stamp' 'tail != stamp'
+        check 'a change of the atomics is found' finds 'kit atomic_table/steps' compare_exchange rattle/atomic_table/src/steps.rt 'old, new) }' 'new, old) }'
+    else
+        skip "what the models stand for in the toolchain, which they were read beside as $(sed -n '1s/# //p' "$models/stands_for.txt") and which" rt
+    fi
     check 'a change of a comment or a contract is none' eval "sed -i 's/^    ensures .*/    ensures { true }/; s|^ */// .*|// |' '$scratch/copy/crates/napi_word/src/steps.rt' && look '$scratch/copy' '$scratch/copy'"
 fi
 
