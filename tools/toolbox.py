@@ -365,6 +365,8 @@ def parser_of(text, **others):
     if sys.argv[1:] in (["--manual"], ["--options"]) and text:
         import manual  # once it has all its options
         parser.parse_args = parser.parse_known_args = lambda *_: manual.describe(parser, sys.argv[1], version())
+    by_argparse = parser._print_message  # which drops the failure of a write, as that of a long --help to a full disk
+    parser._print_message = lambda text, file=None: file.write(text) if text and file is sys.stdout else by_argparse(text, file)
     return parser
 
 
