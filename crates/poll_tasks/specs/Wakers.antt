@@ -1,5 +1,7 @@
 -- What wakes whom.
-use Rattle.{std.specs.{Prelude.{◌≡◌}, Arc.arc_value}, poll_tasks.specs.declared.signals.{Bell.Bell, Pause.Pause}}
+use Rattle.std.specs.Prelude.{◌≡◌}
+use Rattle.std.specs.Arc.{arc_value}
+use Rattle.poll_tasks.specs.declared.signals.{Bell.Bell, Pause.Pause}
 
 -- the bell unparks whoever waits by this
 abbrev pub Wakes : Bell → Pause → Type 0
