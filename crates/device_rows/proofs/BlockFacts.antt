@@ -45,12 +45,15 @@ used-up {R} remaining old new text used rest left count is splits size behind sa
     let both : length text ≡ length used + length rest = ap (λ t. length t) splits ∙ length-append used rest in
     let long : length used ≡ count = omega (arith, size, both) in
     let left-over : drop count (unread old) ≡ rest =
-    ap (drop count) (sym is ∙ splits) ∙ drop_at used rest count long in
-    (holds.behind, holds.all ∙ ap (λ t. t ++ holds.behind) (sym is), record {
-      behind = holds.behind;
-      known = ap remaining same ∙ holds.known;
-      all = ap (λ t. t ++ holds.behind) (sym (behind ∙ left-over));
-    })
+    ap (drop count) (sym is ∙ splits) ∙ drop_at used rest count long in (
+      holds.behind,
+      holds.all ∙ ap (λ t. t ++ holds.behind) (sym is),
+      record {
+        behind = holds.behind;
+        known = ap remaining same ∙ holds.known;
+        all = ap (λ t. t ++ holds.behind) (sym (behind ∙ left-over));
+      },
+    )
 
 -- the titles were used: the records behind them are those of the bytes that are left
 pub titles-used : {R : Type 0} (remaining : R → Option (List ℕ)) (old new : Block R) (text rest bytes : List ℕ) (count version : ℕ)

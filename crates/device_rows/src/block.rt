@@ -132,7 +132,10 @@ impl<R: Read + Drop> Block<R> {
 
     /// A reader of the records behind those that were used. A byte-order mark is taken off only at the start of a text, so an
     /// empty line goes in front: it is no record.
-    pub fn records_left(self, alloc: Global) -> Result<Reader<Chain<Cursor<Vec<u8>>, R>>, AllocError>
+    pub fn records_left(
+        self,
+        alloc: Global,
+    ) -> Result<Reader<Chain<Cursor<Vec<u8>>, R>>, AllocError>
         ensures opened { IfOk result (λ reader. IsOpen reader) }
         ensures start { IfOk result (λ reader. (bytes : List ℕ) → Holds R.remaining self bytes
             → StandsAt (chain_remaining (cursor_remaining (λ held. Some held.items)) R.remaining)

@@ -14,8 +14,13 @@ loop-before-init c = record {
 
 pub push_reserved-requires : goal.push_reserved-requires
 push_reserved-requires c =
-    omega (arith, c.loop-before-test.true, c.loop-before.invariant.count, c.loop-before.invariant.so_far.filled,
-    c.loop-before.invariant.so_far.room)
+    omega (
+      arith,
+      c.loop-before-test.true,
+      c.loop-before.invariant.count,
+      c.loop-before.invariant.so_far.filled,
+      c.loop-before.invariant.so_far.room,
+    )
 
 pub loop-before-preserved : goal.loop-before-preserved
 loop-before-preserved c =

@@ -23,7 +23,7 @@ returns-then-fits-clause-accepted c met earlier tracks number =
     record {
       device = device;
       value = value;
-      in_turn = rw (sym number) (taken c.admit.result _ 
+      in_turn = rw (sym number) (taken c.admit.result _
           (λ fault. refusal c.args.number c.args.row.event (switch_of c.args.row.device earlier) ≡ Some fault)
           (c.admit.ensures.admits earlier tracks) ok);
     }
