@@ -48,15 +48,15 @@ loop-before-preserved g c =
       goes_on = λ bytes start.
           let (left, at, so_far) = c.loop-before.invariant.goes_on bytes start in
           let next = c.next_record.ensures.record found left at in
-          let (rest, stands, one) =
+          let (rs, stands, one) =
           goes-on _ g.R.Read.remaining c.loop-before.reader c.next_record.new.reader
           (fields_of c.next_record.new.fields) (vec_items c.loop-before.rows) _ left c.loop-before.invariant.so_far.few next so_far in
           let room : nat_lt (length (vec_items c.loop-before.rows)) 100000 ≡ true = lt-ltb _ _ (search rules) in (
-            rest,
+            rs,
             stands,
             one ∙ rows-good _ _ _ _ _ room c.in_ok-add_row.ensures.rows
                 ∙ ap (λ n. rows_after c.args.version (vec_items c.add_row.new.rows)
-                (records_from default_config (100001 - n) (reader_state c.next_record.new.reader) rest)) (sym c.in_ok-add_row.ensures.count),
+                (records_from default_config (100001 - n) (reader_state c.next_record.new.reader) rs)) (sym c.in_ok-add_row.ensures.count),
           );
     }
 
