@@ -18,7 +18,7 @@ elif build plain; then
         refuses "--no-huge -m 64 --no-shconf --no-pci --no-telemetry --log-level 4 -- $words"
     done
     printed 'examples/dpdk/run.sh'
-    printed_table 'examples/dpdk/table.sh' 4 '(busy|power|one|napi) +[0-9]+( +[0-9]+ [0-9]+/[0-9]+){4}'
+    printed_table 'examples/dpdk/table.sh' 4 '(busy|power|one|napi) +[0-9]+( +[0-9]+ [0-9.]+/[0-9.]+){4}'
     way plain one
     way plain napi --budget 16
     mistakes

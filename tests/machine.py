@@ -336,14 +336,15 @@ def livelock(program):
 
 # ---- what Linux did
 
-# Recordings as ftrace's text, with arrivals to a microsecond and costs that are fitted; and traces, with arrivals to a millisecond, which
-# take the costs of the second recording. Each with its budget. No card interrupted, and no application used what was received.
-RECORDED = (("tests/tools/soft-tcp", 300), ("tests/tools/soft-gso-23", 23), ("examples/linux-veth-bursts", 300),
+# A recording as ftrace's text, with arrivals to a microsecond and costs that are fitted. All others take its costs: a second recording,
+# whose own `costs` rejects because a line over its polls explains nothing, and traces, with arrivals to a millisecond. Each with its
+# budget. No card interrupted, and no application used what was received.
+RECORDED = (("tests/tools/soft-gso-23", 23), ("tests/tools/soft-tcp", 300), ("examples/linux-veth-bursts", 300),
             ("examples/linux-veth-small-budget", 64))
 
 
-def made_by(tool, *arguments):
-    return subprocess.run([sys.executable, "-BES", TOP / "tools" / tool, *arguments], capture_output=True, text=True, check=True).stdout
+def made_by(tool, *arguments, check=True):
+    return subprocess.run([sys.executable, "-BES", TOP / "tools" / tool, *arguments], capture_output=True, text=True, check=check).stdout
 
 
 def recorded_arrivals(name, folder):
@@ -354,7 +355,7 @@ def recorded_arrivals(name, folder):
         return text_of(rows), []
     made = f"{folder}/{text.stem}"
     made_by("from-ftrace", text, made, "--arrivals")
-    return pathlib.Path(f"{made}.csv").read_text(encoding="ascii"), made_by("costs", text, "--words").split()
+    return pathlib.Path(f"{made}.csv").read_text(encoding="ascii"), made_by("costs", text, "--words", check=False).split()
 
 
 def recorded(program):

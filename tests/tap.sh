@@ -23,7 +23,7 @@ if build plain; then
     way plain --mask --queues 2
     way plain --rate 100000000
     printed 'examples/tap/run.sh --mask --rate 50000000 --budget 16 --ring 64'
-    printed_table 'examples/tap/table.sh' 5 '(plain|one thread|two threads|masked|direct) +[1-9][0-9]* +[0-9]+ +[1-9][0-9]* +[0-9]+( +[0-9]+/[0-9]+){4}'
+    printed_table 'examples/tap/table.sh' 5 '(plain|one thread|two threads|masked|direct) +[1-9][0-9]* +[0-9]+ +[1-9][0-9]* +[0-9]+( +[0-9.]+/[0-9.]+){4}'
     way plain --trace "$scratch/trace.csv"
     way plain --trace "$scratch/slow.csv" --rate 20000000
 fi

@@ -83,9 +83,11 @@ impl<R: Read> Block<R> {
         Ok(count > 0)
     }
 
-    /// Whether a line feed is among the unread bytes, or more than [`LONGEST_LINE`] of them.
+    /// Whether an end of a line is among the unread bytes, or more than [`LONGEST_LINE`] of them. A carriage return is one too: the
+    /// line feed behind it may come much later.
     pub fn has_line(&self) -> bool {
-        self.text().len() > LONGEST_LINE || self.text().contains(&b'\n')
+        let text = self.text();
+        text.len() > LONGEST_LINE || text.contains(&b'\n') || text.contains(&b'\r')
     }
 
     /// Reads on to the end of a line, of the source, or to more than [`LONGEST_LINE`] bytes.

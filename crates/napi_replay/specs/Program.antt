@@ -1,5 +1,5 @@
 -- The whole program: what it writes and how it ends, of the words after its name and the bytes of its input.
-use Rattle.std.specs.Prelude.{◌≡◌, ℕ, Bool, List, Option, Some, None, Ok, Err}
+use Rattle.std.specs.Prelude.{◌≡◌, ℕ, List, Option, Some, None, Ok, Err}
 use Rattle.replay_threads.specs.Answer.{RanBy, threads_of}
 use Rattle.replay_threads.specs.Answer.{IsOutside as IsOutsideThreads}
 use Rattle.replay_threads.specs.SharedRun.{RanShared}
@@ -47,11 +47,11 @@ IsFault words input = IsFaultOf (asked_for words ≡ None) (AskFor words)
     (λ asked. IsFaultBy (IsOutsideIn asked.0) (IsFaultIn asked.0 asked.1) input)
 
 -- In shared mode the rows of the bytes read were played over instances that threads could share, and in threads mode polled as these
--- settings say, whatever a gate answered that is always open.
+-- settings say, with a gate that is always open.
 abbrev pub RanIn : Type 0 → Mode → Settings → Option (List ℕ) → Type 0
 RanIn R Serial s input = Unit
 RanIn R Shared s input = RanShared s input
-RanIn R Threads s input = (told : List Polled) × RanBy R (λ by. Bool × Unit {0}) s input told
+RanIn R Threads s input = (told : List Polled) × RanBy R (λ by. Unit {0}) s input told
 
 -- in the mode and by the settings that the words ask for
 abbrev pub Ran : Type 0 → List Text → Option (List ℕ) → Type 0
