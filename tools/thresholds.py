@@ -10,7 +10,7 @@ from typing import NamedTuple
 FAILED = 3  # the status
 SIGNS = {">=": operator.ge, "<=": operator.le, "==": operator.eq, "!=": operator.ne, ">": operator.gt, "<": operator.lt}
 UNITS = {"ns": 1, "us": 1000, "ms": 10**6, "s": 10**9}  # in the ns that results have
-CONDITION = re.compile(rf"([a-z]\w*%?) *({'|'.join(SIGNS)}) *(\d{{1,15}}(?:\.\d{{1,9}})?) *({'|'.join(UNITS)}|%)?")
+CONDITION = re.compile(rf"([a-z]\w*) *({'|'.join(SIGNS)}) *(\d{{1,15}}(?:\.\d{{1,9}})?) *({'|'.join(UNITS)}|%)?")
 
 
 class Condition(NamedTuple):
@@ -37,8 +37,8 @@ def add_fail_if(parser, names, times=()):
         name, sign, limit, unit = found.groups()
         if name not in names:
             raise wrong(text, f"of a result; these are: {' '.join(names)}")
-        if unit and (unit == "%") != name.endswith("%") or unit in UNITS and name not in times:
-            raise wrong(text, f"in the unit of {name}, which is {'%' if name.endswith('%') else 'ns, us, ms or s' if name in times else 'none'}")
+        if unit == "%" and not name.endswith("_percent") or unit in UNITS and name not in times:
+            raise wrong(text, f"in the unit of {name}, which is {'%' if name.endswith('_percent') else 'ns, us, ms or s' if name in times else 'none'}")
         return Condition(text.strip(), name, sign, Decimal(limit), unit or ("ns" if name in times else ""))
 
     parser.add_argument("--fail-if", action="append", default=[], type=read, metavar="CONDITION",

@@ -345,7 +345,7 @@ SHELL=/bin/bash exec bash -c "$*"  # as sshd does
         (self.folder / "traces").mkdir()
         for name in ("burst.csv", "faulty.csv"):
             os.rename(self.folder / name, self.folder / "traces" / name)
-        os.symlink(TOP / "tools", self.folder / "tools")
+        os.symlink(TOP / "fintaqush", self.folder / "fintaqush")
         environment = {**os.environ, "PROGRAM": REPLAY, "PATH": path or os.environ["PATH"]}
         done = subprocess.run(["sbatch", *words, self.write("job.sh", slurm_block())], cwd=self.folder, capture_output=True, text=True,
                               check=False, env=environment)

@@ -1,0 +1,33 @@
+"""Tests of the conditions of --fail-if: names, units and numbers."""
+
+import argparse
+import contextlib
+import io
+import sys
+import unittest
+
+from tooltest import TOP
+
+sys.path.insert(0, str(TOP / "tools"))
+import thresholds  # noqa: E402
+
+
+class Conditions(unittest.TestCase):
+    VALUES = {"dropped": 3, "p99": 250_000, "use_percent": 40.5}
+
+    def conditions(self, *texts):
+        parser = argparse.ArgumentParser()
+        thresholds.add_fail_if(parser, self.VALUES, ["p99"])
+        return parser.parse_args([word for text in texts for word in ("--fail-if", text)]).fail_if
+
+    def test_which_hold(self):
+        """A time without a unit is in ns, a share in percent with and without its sign."""
+        holds = ["dropped>2", "p99>200us", "p99 > 0.2ms", "p99>=250000", "p99>249999ns", "use_percent>40%", "use_percent>40", "use_percent<=40.5"]
+        fails = ["dropped>3", "p99>250us", "p99>1s", "use_percent>41%", "use_percent>41"]
+        self.assertEqual([it.holds(self.VALUES) for it in self.conditions(*holds, *fails)], [True] * len(holds) + [False] * len(fails))
+
+    def test_units_that_a_value_has_not(self):
+        for text in ("dropped>1%", "dropped>1us", "p99>1%", "use_percent>1us", "use%>1", "other>1", "p99>", "p99>-1"):
+            with contextlib.redirect_stderr(io.StringIO()), self.assertRaises(SystemExit, msg=text) as end:
+                self.conditions(text)
+            self.assertEqual(end.exception.code, 2)
