@@ -185,6 +185,12 @@ class Line:
         values = sorted(self.measured)
         return any(abs(predicting.error_of(self.name, high, low, self.sent)) <= max(self.limit, 5) for low, high in zip(values, values[1:]))
 
+    @property
+    def is_of_one_speed(self):
+        """Whether all recordings agree about a time, within 15 % or 5 us. If not, the machine was slower in some of them, and costs from one
+        don't predict another."""
+        return self.name != "used_p50" or max(self.measured) - min(self.measured) <= max(0.15 * self.median, 5000)
+
     def __str__(self):
         unit, by = predicting.MEASURED[self.name]
         low, middle, high, value = (f"{each / by:.4g}" if by > 1 else f"{each:.0f}" for each in
@@ -296,6 +302,9 @@ def check_here(program, folder, numbers, total):
         grade = grade_of(own)
         if grade == "poor":
             total.skip(f"{', '.join(case.setting.name for case in group.cases)}: needs a quiet machine: {group.base.name} itself isn't predicted well")
+            continue
+        if not all(line.is_of_one_speed for line in own):
+            total.skip(f"{', '.join(case.setting.name for case in group.cases)}: needs a quiet machine: recordings of {group.base.name} differ by over 15 %")
             continue
         bad = total.failed + total.skipped
         for line in lines:
