@@ -22,6 +22,16 @@ class Counts(NamedTuple):
     bytes: int
 
 
+class TxState(NamedTuple):
+    """What a transmit ring shows: all bytes sent and all that are complete, modulo 2^32, the limit, what may still be sent, and whether
+    the limit has stopped the queue."""
+    queued: int
+    completed: int
+    limit: int
+    avail: int
+    stopped: bool
+
+
 class RunReport(NamedTuple):
     """What a run did: its polls, their packets, and whether the budget or the window was spent."""
     polls: int
@@ -96,6 +106,14 @@ class Napi(_One):
         """Ends a poll (`napi_complete_done`): RELEASED; AGAIN, and it is to be handed over; HELD of a busy poller. NOT_ALLOWED."""
         return Status(c.napi_complete(self._state, who))
 
+    def end(self, full: bool, who: int = 0) -> Next | None:
+        """Ends a poll as the kernel does (`__napi_poll`), and answers what a run is told. After a full one, which gave its whole weight,
+        the instance is on the list again, or stays with its thread (None: poll on), unless a disable is pending. Any other is completed,
+        and handed over again where a request was missed; after AGAIN_THREAD its thread is to poll. None of a busy poller too.
+        NOT_ALLOWED."""
+        next = c.u32()
+        return None if c.napi_end(self._state, who, full, next) == Status.HELD else Next(next.value)
+
     def busy_take(self, who: int = 0) -> bool:
         """Takes an idle instance to busy poll it (`napi_busy_loop`); False: it isn't idle."""
         return bool(c.napi_busy_take(self._state, who) == Status.TAKEN)
@@ -109,7 +127,7 @@ class Napi(_One):
         c.napi_set_threaded(self._state, who, threaded)
 
     def enable(self, threaded: bool = False, who: int = 0) -> None:
-        """The controller's (`napi_enable`). NOT_ALLOWED."""
+        """The controller's (`napi_enable`). Ask once after it (`schedule`): what was asked before isn't polled. NOT_ALLOWED."""
         c.napi_enable(self._state, who, threaded)
 
     def mark_disable(self, who: int = 0) -> None:
@@ -164,6 +182,30 @@ class Ring(_Owned):
         counts = c.Counts()
         c.count(self._at, counts)
         return Counts(counts.polls, counts.packets, counts.bytes)
+
+
+class TxRing(_Owned):
+    """A transmit ring of 1 to 65536 packets under a byte queue limit between min and max: it keeps the sizes of the packets that were
+    sent and aren't complete. Moments are milliseconds of a clock of your own. BAD_BOUNDS, BAD_CAPACITY."""
+
+    def __init__(self, capacity: int, min: int = 0, max: int = 1879048192, hold_ms: int = 1000, now_ms: int = 0) -> None:
+        super().__init__(c.tx_new, capacity, min, max, hold_ms, now_ms)
+
+    def send(self, bytes: int) -> Status:
+        """A packet is given to the device (`netdev_tx_sent_queue`): OK; nothing is sent: STOPPED by the limit, or FULL. TOO_LARGE,
+        TOO_MUCH_IN_FLIGHT."""
+        return Status(c.tx_send(self._at, bytes))
+
+    def done(self, count: int, now_ms: int) -> bool:
+        """The device is done with the oldest packets (`netdev_tx_completed_queue`); False, and nothing is done: it holds fewer."""
+        return bool(c.tx_done(self._at, count, now_ms) == Status.OK)
+
+    @property
+    def state(self) -> TxState:
+        """What it shows."""
+        shown = c.TxShown()
+        c.tx_state(self._at, shown)
+        return TxState(shown.queued, shown.completed, shown.limit, shown.avail, shown.stopped)
 
 
 class List(_Owned):

@@ -7,7 +7,7 @@ use crate::handle::Handle;
 use crate::packets::Answers;
 use crate::polling::Polling;
 use crate::sys;
-use crate::words::{Kind, Prep};
+use crate::words::{Kind, Next, Prep};
 
 /// A caller that owns nothing: an interrupt, a poller or a thread poller at rest.
 ///
@@ -117,6 +117,40 @@ impl Caller {
             }
         }
         prep
+    }
+
+    /// A request for a poll (`napi_schedule`), of an interrupt, a timer, a driver's open, which hands
+    /// over to where the state word tells: of [`Prep::Granted`], [`Next::Again`] tells where, and the
+    /// number is to be listed, or the thread to be woken; else it is [`Next::Gone`].
+    pub fn request(&mut self) -> (Prep, Next) {
+        self.request_and(|| {})
+    }
+
+    /// The same, with [`mask`](Card::mask) between the grant and the hand-over.
+    ///
+    /// Where `mask` panics nobody polls the instance again.
+    pub fn request_masked(&mut self, card: &mut impl Card) -> (Prep, Next) {
+        self.request_and(|| card.mask())
+    }
+
+    fn request_and(&mut self, mask: impl FnOnce()) -> (Prep, Next) {
+        let prep = loop {
+            // SAFETY: the handle is this caller's alone.
+            let said = unsafe { sys::fq_seat_schedule(self.at.raw()) };
+            if let Some(prep) = Prep::of("seat_schedule", said) {
+                break prep;
+            }
+        };
+        if prep != Prep::Granted {
+            return (prep, Next::Gone);
+        }
+        mask();
+        let mut next = sys::FQ_NEXT_GONE;
+        // SAFETY: the handle is this caller's alone, and the number lies elsewhere.
+        match unsafe { sys::fq_seat_hand_again(self.at.raw(), &mut next) } {
+            sys::FQ_OK => (prep, Next::of("seat_hand_again", next)),
+            said => unexpected("seat_hand_again", said),
+        }
     }
 
     /// What the state word tells, of the `FQ_BIT_..` of [`sys`].

@@ -1,9 +1,12 @@
 //! The controller of a shared instance, who enables and disables it.
 use crate::answers::TryTake;
+use crate::caller::Caller;
+use crate::card::Card;
 use crate::fault::unexpected;
 use crate::handle::Handle;
 use crate::packets::Counts;
 use crate::sys;
+use crate::words::{Next, Prep};
 use std::marker::PhantomData;
 use std::thread;
 
@@ -76,7 +79,8 @@ impl Control<Off> {
     }
 
     /// Enables the instance, try after try until one decides (`napi_enable`). What came while it
-    /// was off is polled once somebody schedules.
+    /// was off is polled once somebody schedules: ask once behind it, or enable by
+    /// [`open`](Control::open). A card that is masked, with a full ring, would stand still for ever.
     pub fn enable(self, threaded: bool) -> Control<On> {
         let mut control = self;
         loop {
@@ -85,6 +89,19 @@ impl Control<Off> {
                 Err(off) => control = off,
             }
         }
+    }
+
+    /// A driver's open: enables, and asks once by this caller, with [`mask`](Card::mask) where that
+    /// is granted. The answers are those of [`request_masked`](Caller::request_masked).
+    pub fn open(
+        self,
+        threaded: bool,
+        caller: &mut Caller,
+        card: &mut impl Card,
+    ) -> (Control<On>, Prep, Next) {
+        let on = self.enable(threaded);
+        let (prep, next) = caller.request_masked(card);
+        (on, prep, next)
     }
 }
 

@@ -60,7 +60,8 @@ impl Polling {
 
     /// Ends the poll as the kernel does (`__napi_poll`): after a full one, which gave its whole
     /// weight, where no disable is pending, it is requeued, or stays with its thread; else it is
-    /// completed, and handed over again where a request was missed.
+    /// completed, and handed over again where a request was missed. After [`Next::Again`] of
+    /// [`Kind::Thread`] its thread is to be woken, also where the poll was the list's.
     pub fn end(mut self, full: bool) -> End {
         let mut next = 0;
         // SAFETY: the handle is this poller's alone, and the number lies elsewhere.
@@ -73,7 +74,8 @@ impl Polling {
 
     /// Ends the poll of a card that can be looked at: as [`end`](Polling::end), and where the
     /// instance was released it unmasks, looks, and if something is there asks for a poll itself,
-    /// masks and hands over. An interrupt of an edge is lost without this look.
+    /// masks and hands over. An interrupt of an edge is lost without this look. It may hand over to
+    /// the thread, which is to be woken then, as after [`end`](Polling::end).
     pub fn end_watched(self, full: bool, card: &mut impl Look) -> End {
         let caller = match self.end(full) {
             End::Over(caller, Next::Gone) => caller,

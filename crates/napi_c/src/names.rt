@@ -1,8 +1,8 @@
 //! The version and the names of numbers, for callers that have no inline functions of C's header.
 ghost use Rattle.std.specs.Prelude.{◌≡◌, ◌≤◌, length};
 
-// Writes a text and a 0 behind it, where there is room for both, and answers its length.
-fn write(text: &[u8], to: &mut [u8]) -> usize
+/// Writes a text and a 0 behind it, where there is room for both, and answers its length.
+pub fn write(text: &[u8], to: &mut [u8]) -> usize
     ensures length { result ≡ length text.now }
     ensures kept { length to.new ≤ result → to.new ≡ to.old }
 {
