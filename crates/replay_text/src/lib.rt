@@ -1,4 +1,4 @@
-//! Behind the door `replay`: what every replay of a trace shares, why it failed, and the lines that each report has; and how each
+//! Internal crate of `replay`: what all replays of a trace share: their errors, the common lines of their reports, and how each
 //! program ends.
 #![tactic(auto)]
 
