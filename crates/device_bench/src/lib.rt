@@ -1,4 +1,4 @@
-//! Internal crate of `device_model`: the devices on which the rows of a trace act.
+//! Internal crate of the facade `device_model`: the devices on which the rows of a trace act.
 //!
 //! `specs/Device.antt` defines the effect of rows and polls on a device, and the contracts of [`SerialBench`] say that its
 //! calls have that effect. docs/RULES.md has the rules.

@@ -1,4 +1,4 @@
-//! Internal crate of `device_model`: the rows of a trace, read from the bytes of a text.
+//! Internal crate of the facade `device_model`: the rows of a trace, read from the bytes of a text.
 //!
 //! `specs/Trace.antt` defines which rows a text has, or which is its first error, and the contract of [`read_trace`] says that
 //! it returns these. docs/FORMATS.md describes the format. [`reader_of`], [`next_record`] and [`number_below_21`] serve other

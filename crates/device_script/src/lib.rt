@@ -1,4 +1,4 @@
-//! Internal crate of `device_model`: a device whose acts are its rows of a trace.
+//! Internal crate of the facade `device_model`: a device whose acts are its rows of a trace.
 #![tactic(auto)]
 
 mod dealing;

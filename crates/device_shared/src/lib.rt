@@ -1,5 +1,5 @@
-//! Internal crate of `device_model`: the receive side of a device whose instance threads could share, while one thread owns all
-//! its callers, and the bench of such devices.
+//! Internal crate of the facade `device_model`: the receive side of a device whose instance threads could share, while one
+//! thread owns all its callers, and the bench of such devices.
 //!
 //! [`SharedReceive`] keeps the callers and the controller of an instance of `napi_calls`. After each of its calls they meet,
 //! and because no other thread has a seat, they then know the whole history of the instance. So each call has exactly the

@@ -1,5 +1,5 @@
-//! Internal crate of `poll_engine`: poll lists of one thread, polling runs, and the polling of an instance by its thread, for
-//! any kind of instance.
+//! Internal crate of the facade `poll_engine`: poll lists of one thread, polling runs, and the polling of an instance by its
+//! thread, for any kind of instance.
 //!
 //! The rules are those of `net_rx_action` and `napi_threaded_poll` of Linux 6.6 (`net/core/dev.c`). A [`Bench`] polls instances
 //! by number, and states by its own relations what a poll does; a [`PollList`] holds numbers. With a [`PollingRun`] the caller

@@ -1,5 +1,5 @@
-//! Internal crate of `replay`: what all replays of a trace share: their errors, the common lines of their reports, and how each
-//! program ends.
+//! Internal crate of the facade `replay`: what all replays of a trace share: their errors, the common lines of their reports,
+//! and how each program ends.
 #![tactic(auto)]
 
 mod fault;

@@ -1,4 +1,5 @@
-//! Internal crate of `replay`: a replay of a trace with threads, and one by one thread on instances that threads could share.
+//! Internal crate of the facade `replay`: a replay of a trace with threads, and one by one thread on instances that threads
+//! could share.
 //!
 //! With threads, there is an interrupt worker for each device, pollers, and a thread for each device that is ever threaded.
 //! What is written is a function of the bytes read, whatever the threads do.

@@ -1,4 +1,4 @@
-//! Internal crate of `replay`: the command line, which replay it asks for, and its settings.
+//! Internal crate of the facade `replay`: the command line, which replay it asks for, and its settings.
 //!
 //! [`parse_words`] returns the mode and the [`Settings`] that the arguments name, by clap, and [`parse_serial_words`] the
 //! settings for a program that has only serial mode; `specs/Words.antt` defines what the arguments mean without clap.
