@@ -6,6 +6,7 @@ header.py --names prints their names. header.py --doxygen FILE prints a header w
 import pathlib
 import re
 import sys
+import textwrap
 
 HEADER = pathlib.Path(__file__).resolve().parent.parent / "include/fintaqush.h"
 # In the header's order: each group's name, and what its manual page says that it is.
@@ -102,7 +103,8 @@ def manual(name, what, comment, text, version):
         yield roff(prose(comment))
     for doc, found in declarations(text):
         for code, _ in found:
-            yield f".PP\n.nf\n{roff(code)}\n.fi"
+            lines = code.splitlines() if "\n" in code else textwrap.wrap(code, 72, subsequent_indent="    ")
+            yield ".PP\n.nf\n" + roff("\n".join(lines)) + "\n.fi"
         said = " ".join(filter(None, [doc, *(f"{call_of(code)}: {behind}." for code, behind in found if behind)]))
         if said:
             yield f".RS 4\n{roff(said)}\n.RE" if found else f".PP\n{roff(said)}"

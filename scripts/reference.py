@@ -12,7 +12,8 @@ import surface
 
 TOP = pathlib.Path(__file__).resolve().parent.parent
 FACADES = "napi_model dql_core rx_ring tx_ring napi_word napi_calls poll_engine device_model replay machine".split()
-DEFINED = re.compile(r"^(?: {2}| {4})?(?:(?:abbrev|pub|unfoldable|record|data) )+([\w-]+)|^([\w-]+) :(?: |$)")
+# A definition at the start of a line, or in a `module _`; not a record's field.
+DEFINED = re.compile(r"^(?:(?:abbrev|pub|unfoldable|record|data) )+([\w-]+)|^ +(?:pub )?(?:abbrev|unfoldable|record|data) (?:pub )?([\w-]+)|^([\w-]+) :(?: |$)")
 NAME = re.compile(r"[A-Za-z_][\w-]*")
 
 
@@ -23,7 +24,7 @@ def definitions(crate):
     for path in sorted((TOP / "crates" / crate / "specs").glob("*.antt")):
         for line in path.read_text().splitlines():
             if is_defined := DEFINED.match(line):
-                found.setdefault(is_defined[1] or is_defined[2], {})[path.stem] = True
+                found.setdefault(is_defined[is_defined.lastindex], {})[path.stem] = True
     return {name: list(modules) for name, modules in found.items()}
 
 
@@ -80,9 +81,10 @@ def definition_page(crate):
 
 def definition_lines(path):
     names, shown = scope(path), set()
-    for line in path.read_text().splitlines():
+    text = re.sub(r"^use .*\n\n?", "", path.read_text(), flags=re.M)  # its links take their place
+    for line in text.splitlines():
         is_defined = DEFINED.match(line)
-        name = is_defined and (is_defined[1] or is_defined[2])
+        name = is_defined and is_defined[is_defined.lastindex]
         own = name if name in names and names[name][1] == f"{path.stem}.{name}" and name not in shown else ""
         shown.add(own)
         yield linked(line, names, "", own)
