@@ -81,7 +81,7 @@ def definition_page(crate):
 
 def definition_lines(path):
     names, shown = scope(path), set()
-    text = re.sub(r"^use .*\n\n?", "", path.read_text(), flags=re.M)  # its links take their place
+    text = re.sub(r"^use .*\n", "", path.read_text(), flags=re.M)  # links take their place
     for line in text.splitlines():
         is_defined = DEFINED.match(line)
         name = is_defined and is_defined[is_defined.lastindex]
