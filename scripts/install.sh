@@ -4,7 +4,7 @@
 # zsh and fish. What only `fintaqush` runs goes to PREFIX/lib/fintaqush. What isn't built yet is proved and built first.
 # --library leaves the command and the programs out, which take most of the time. --python puts bindings/python where python3 looks below
 # PREFIX, else into lib/python3/dist-packages. With DESTDIR set, all goes below that folder, for PREFIX.
-# --uninstall removes what an install put there, and nothing else. --programs tells the programs' names, and does nothing.
+# --uninstall removes what an install put there, and nothing else. --programs only prints the programs' names.
 # Exit status: 0 done; 64 the words are wrong; 69 a program is missing; 70 something couldn't be built; 73 it can't be written there.
 set -euo pipefail
 unset CDPATH
@@ -101,7 +101,7 @@ Cflags: -I${includedir}
 END
 
 cat > "$scratch/FintaqushConfig.cmake" << 'END'
-# Fintaqush::fintaqush, the shared library, and Fintaqush::static. Paths are told from where this file lies.
+# Fintaqush::fintaqush, the shared library, and Fintaqush::static. Paths are relative to the folder of this file.
 get_filename_component(fintaqush_prefix "${CMAKE_CURRENT_LIST_DIR}/../../.." ABSOLUTE)
 if(NOT TARGET Fintaqush::fintaqush)
   add_library(Fintaqush::fintaqush SHARED IMPORTED)

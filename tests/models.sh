@@ -42,7 +42,7 @@ case ${1:-} in
     '') ;;
     *) sed -n 's/^# usage/usage/p' "$0"; exit 64 ;;
 esac
-# finds PLACE NAME FILE OLD NEW: of the copy of what the models stand for, `look` tells a change of FILE, in which OLD stands.
+# finds PLACE NAME FILE OLD NEW: of the copy of what the models stand for, `look` names a function after a change of FILE, which has OLD.
 finds() {
     local file=$scratch/copy/$3 status=0
     cp "$file" "$scratch/kept"

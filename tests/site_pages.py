@@ -60,9 +60,10 @@ def references(made, texts):
     name that a clause cites, with its definition."""
     header = (TOP / "include/fintaqush.h").read_text()
     calls = set(re.findall(r"\b(fq_\w+)\(", header))
-    for name, folder in (("doxygen", "c"), ("cargo", "rust")):
-        if not is_missing(name, f"the reference of {folder} in the site") and not (made / "reference" / folder).is_dir():
-            yield f"there is no reference/{folder}"
+    if not is_missing("doxygen", "the reference of C and C++ in the site") and not (made / "reference/c").is_dir():
+        yield "there is no reference/c"
+    if not is_missing("cargo", "the reference of Rust in the site") and not (made / "reference/rust").is_dir():
+        yield "there is no reference/rust"
     if (made / "reference/c").is_dir():
         shown = "".join(path.read_text() for path in (made / "reference/c").glob("group__*.html"))
         yield from (f"reference/c lacks {name}" for name in sorted(calls) if not re.search(rf'class="memtitle">.*{name}\(\)', shown))
