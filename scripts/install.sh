@@ -1,11 +1,11 @@
 #!/usr/bin/env bash
 # scripts/install.sh [--library] [--python] [--libdir=FOLDER] [--uninstall] PREFIX: installs the C library, static and shared, with its
-# headers, its pkg-config and CMake files, its manual pages, its guide and its examples, and the command `fintaqush` and the proved programs with theirs, and completions for bash,
-# zsh and fish. What only `fintaqush` runs goes to PREFIX/lib/fintaqush. What isn't built yet is proved and built first.
+# headers, its pkg-config and CMake files, its manual pages, its guide and its examples, and the command `fintaqush` and the proved programs
+# with theirs, and completions for bash, zsh and fish. What only `fintaqush` runs goes to PREFIX/lib/fintaqush. What isn't built yet is proved and built first.
 # --library leaves the command and the programs out, which take most of the time. --python puts bindings/python where python3 looks below
 # PREFIX, else into lib/python3/dist-packages. With DESTDIR set, all goes below that folder, for PREFIX.
 # --libdir is where libraries go below PREFIX, lib if it isn't said: as lib/x86_64-linux-gnu.
-# --uninstall removes what an install put there, and nothing else. --programs tells the programs' names, and does nothing.
+# --uninstall removes what an install put there, and nothing else. --programs only prints the programs' names.
 # Exit status: 0 done; 64 the words are wrong; 69 a program is missing; 70 something couldn't be built; 73 it can't be written there.
 set -euo pipefail
 unset CDPATH
@@ -44,13 +44,14 @@ to=${DESTDIR:-}$prefix
 version=$(sed -n 's/^#define FQ_VERSION "\([0-9.]*\)"$/\1/p' "$top/include/fintaqush.h")
 major=${version%%.*}
 
-mapfile -t calls < <("$top/scripts/c_manual.py" --names | sed 's/$/.3/') # the manual pages of the calls
 guide=share/doc/fintaqush # the pages for users of the library, and the examples
 pages=(C.md GUIDE.md LIMITS.md)
 examples=("$top"/examples/c/*)
 library_files=("$libdir"/{libfintaqush.a,"libfintaqush.so.$version","libfintaqush.so.$major",libfintaqush.so,pkgconfig/fintaqush.pc}
     "$libdir"/cmake/Fintaqush/{FintaqushConfig,FintaqushConfigVersion}.cmake include/{fintaqush.h,fintaqush.hpp,fintaqush_tsan.h}
-    share/man/man3/fintaqush.3 "${calls[@]/#/share/man/man3/}" "${pages[@]/#/$guide/}" "${examples[@]/#"$top"/$guide}")
+    share/man/man3/fintaqush.3 "${pages[@]/#/$guide/}" "${examples[@]/#"$top"/$guide}")
+mapfile -t call_pages < <(python3 -EsSB "$top/scripts/header.py" --names) # a page for each group of calls, and one for each call, which leads there
+library_files+=("${call_pages[@]/#/share/man/man3/}")
 home=lib/fintaqush # where what `fintaqush` runs lies, as in a checkout
 parts=(fintaqush scripts/{build,replay,subcommands,words}.py docs/usage.txt examples/{linux-veth-bursts,busy-poll}.csv examples/veth-backlog.rec)
 for file in "$top"/tools/*; do
@@ -112,7 +113,7 @@ Cflags: "-I${includedir}"
 END
 
 sed -e "s|@UP@|$(realpath -sm --relative-to="/$libdir/cmake/Fintaqush" /)|" -e "s|@LIBDIR@|$(for_sed "$libdir")|g" > "$scratch/FintaqushConfig.cmake" << 'END'
-# Fintaqush::fintaqush, the shared library, and Fintaqush::static. Paths are told from where this file lies.
+# Fintaqush::fintaqush, the shared library, and Fintaqush::static. Paths are relative to the folder of this file.
 get_filename_component(fintaqush_prefix "${CMAKE_CURRENT_LIST_DIR}/@UP@" ABSOLUTE)
 if(NOT TARGET Fintaqush::fintaqush)
   add_library(Fintaqush::fintaqush SHARED IMPORTED)
@@ -179,10 +180,9 @@ put 644 "$scratch/fintaqush.pc" "$libdir/pkgconfig/fintaqush.pc"
 put 644 "$scratch/FintaqushConfig.cmake" "$libdir/cmake/Fintaqush/FintaqushConfig.cmake"
 put 644 "$scratch/FintaqushConfigVersion.cmake" "$libdir/cmake/Fintaqush/FintaqushConfigVersion.cmake"
 put 644 "$top/docs/man/fintaqush.3" share/man/man3/fintaqush.3
-mkdir "$scratch/man3"
-"$top/scripts/c_manual.py" "$scratch/man3" || stop 70 "the manual pages of the library couldn't be made"
-for name in "${calls[@]}"; do
-    put 644 "$scratch/man3/$name" "share/man/man3/$name"
+python3 -EsSB "$top/scripts/header.py" "$scratch/calls" || stop 70 "the manual pages of the calls couldn't be made, by python3"
+for name in "${call_pages[@]}"; do
+    put 644 "$scratch/calls/$name" "share/man/man3/$name"
 done
 for name in "${pages[@]}"; do
     page_of "$top/docs/$name" > "$scratch/page"
