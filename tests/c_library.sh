@@ -35,11 +35,6 @@ refused() {
 
 # ---- the archive and the header
 
-header_calls() {
-    awk '/static inline/ { next } match($0, /fq_[a-z_]+\(/) && /^(FQ_|struct |uint|size_t)/ {
-        print substr($0, RSTART, RLENGTH - 1) }' "$header" | sort
-}
-
 exports() { nm -g --defined-only "$scratch/libfintaqush.a" | awk 'NF == 3 { print $3 }' | sort; }
 
 same_calls() { diff <(header_calls) <(exports | grep '^fq_'); }

@@ -30,12 +30,6 @@ needs() { readelf -d "$1" | grep -q "NEEDED.*\[$2\]"; }
 
 needs_libc_alone() { [ "$(readelf -d "$1" | grep -c NEEDED)" = 1 ] && needs "$1" libc.so.6; }
 
-# The calls that the header declares and the library has.
-header_calls() {
-    awk '/static inline/ { next } match($0, /fq_[a-z_]+\(/) && /^(FQ_|struct |uint|size_t)/ {
-        print substr($0, RSTART, RLENGTH - 1) }' "$top/include/fintaqush.h" | sort
-}
-
 # What a shared library gives is what the header declares, each call with the version that it came with, which is none of later.
 exports_calls_alone() {
     nm -D --defined-only "$1" | awk '$2 != "A" { print $3 }' > "$scratch/exported"
