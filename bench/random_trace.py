@@ -49,7 +49,7 @@ class Trace:
         self.lines = []
 
     def row(self, device, event, value):
-        # moments needn't rise
+        # moments needn't increase
         self.moment = max(0, self.moment + self.dice.choice([0, 1, 1, 2, 500, 2000, -3]))
         self.lines.append("%d,%d,%s,%d" % (self.moment, device, event, value))
 
@@ -90,7 +90,7 @@ class Trace:
         if not off:
             return
         device = self.dice.choice(off)
-        # most devices are let go first, so that few enables meet a disable that is pending
+        # most devices are released first, so that few enables meet a disable that is pending
         if self.dice.random() < 0.9:
             for _ in range(self.dice.choice([2, 6])):
                 self.row(0, "softirq", 0)

@@ -35,7 +35,7 @@ sys.path.insert(0, str(TOP / "tests"))
 import runs
 
 ENDS = re.compile("jmp|ret|ud2")
-# A function, what stands in a piece of it or leads there (`>` is where the piece begins), and why no run reaches it.
+# A function, what is in a part of it or leads there (`>` marks where the part begins), and why no run reaches it.
 RULES = [
     ("", r"ud2$", "excluded"),
     ("", r"SubCommand|subcommand|fill_in_global|build_levels", "clap"),

@@ -14,7 +14,7 @@ import sys
 import time
 
 TOP = os.path.dirname(os.path.dirname(os.path.realpath(__file__)))
-# Where git doesn't look, or, in what is no clone, where caches are.
+# A folder that git ignores, or outside a clone the user's cache.
 CACHE = os.environ.get("XDG_CACHE_HOME") or os.path.expanduser("~/.cache")
 BUILT = f"{TOP}/.git/built" if os.path.isdir(f"{TOP}/.git") else f"{CACHE}/fintaqush/{TOP.replace('/', '%')}"
 AT_WORK = {}  # the crates that are being built, and the process of each
@@ -191,7 +191,7 @@ def prove(asked):
     every, processors = left, len(os.sched_getaffinity(0))
     lanes = min(max(int(re.search(r"MemAvailable: *(\d+)", read("/proc/meminfo"))[1]) // 2_500_000, 1), processors)  # kB of a check
     say(f"proving and building {names} and what they stand on, {len(every)} crates: on 4 cores some {len(every) // 3 + 1} minutes")
-    # No old one answers for new sources, nor does one over other libraries than those that stand.
+    # Old libraries aren't used with new sources, nor those built with other libraries than the present ones.
     old = [it.made for it in crates().values() if not {*every}.isdisjoint(it.all) and (it.is_library or it in every)]
     subprocess.run(["rm", "-rf", *old], check=False)
     while left or AT_WORK:
@@ -202,7 +202,7 @@ def prove(asked):
             else:
                 crate.end(status, since)
         ready = [it for it in left if {*left, *AT_WORK}.isdisjoint(it.all[:-1])][: max(lanes - len(AT_WORK), 0)]
-        # Each by several processes, as memory was counted for: what one leaves idle at its ends, the others take.
+        # Each by several processes, for which memory was counted: what one leaves idle at its end, the others use.
         jobs = 1 if lanes == 1 else min(processors, 4, max(2, 6 - len(AT_WORK) - len(ready)))
         for crate in ready:
             AT_WORK[crate] = crate.begin(jobs, every.index(crate))

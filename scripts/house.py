@@ -96,7 +96,7 @@ class Source:
         self.crate.count("tests" if self.is_test else "contracts")
         if clause:
             self.in_clause = True
-            # A closure's clauses stand within the body.
+            # A closure's clauses are within the body.
             if self.functions and not self.functions[-1].has_body:
                 self.functions[-1].clauses[clause[1]].append(clause[2])
         if self.in_clause:
@@ -128,7 +128,7 @@ class Source:
         if self.is_test:
             return
         self.crate.count("functions")
-        # The line that closes the body is none of it.
+        # The line that closes the body isn't counted.
         function.lines = max(function.lines - 1, 0)
         self.crate.reach("function", function.lines)
         if function.lines >= LONGEST_FUNCTION:

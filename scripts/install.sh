@@ -1,11 +1,12 @@
 #!/usr/bin/env bash
-# scripts/install.sh [--library] [--python] [--uninstall] PREFIX: installs the C library, static and shared, with its headers, its
-# pkg-config and CMake files and its manual page, and the command `fintaqush` and the proved programs with theirs, and completions for bash,
-# zsh and fish. What only `fintaqush` runs goes to PREFIX/lib/fintaqush. What isn't built yet is proved and built first.
-# --library leaves the command and the programs out, which take most of the time. --python puts bindings/python where python3 looks below
-# PREFIX, else into lib/python3/dist-packages. With DESTDIR set, all goes below that folder, for PREFIX.
-# --uninstall removes what an install put there, and nothing else. --programs tells the programs' names, and does nothing.
-# Exit status: 0 done; 64 the words are wrong; 69 a program is missing; 70 something couldn't be built; 73 it can't be written there.
+# scripts/install.sh [--library] [--python] [--uninstall] PREFIX: installs the C library, static and shared, with its headers,
+# its pkg-config and CMake files and its manual page, and the command `fintaqush` and the proved programs with theirs, and
+# completions for bash, zsh and fish. What only `fintaqush` runs goes to PREFIX/lib/fintaqush. What isn't built yet is proved
+# and built first. --library leaves the command and the programs out, which take most of the time. --python puts bindings/python
+# where python3 looks below PREFIX, else into lib/python3/dist-packages. With DESTDIR set, all goes below that folder, for
+# PREFIX. --uninstall removes what an install put there, and nothing else. --programs only prints the programs' names. Exit
+# status: 0 done; 64 the arguments are wrong; 69 a program is missing; 70 something couldn't be built; 73 it can't be written
+# there.
 set -euo pipefail
 unset CDPATH
 top=$(dirname "$(dirname "$(readlink -f "${BASH_SOURCE[0]}")")")
@@ -80,7 +81,7 @@ command -v "$cc" > /dev/null || stop 69 "there is no $cc, which makes the shared
 [ -n "$is_library" ] && [ -z "$is_python" ] || command -v python3 > /dev/null ||
     stop 69 "there is no python3, which the command and the package are written in"
 "$top/scripts/c_library.sh" "$scratch" || stop 70 "the C library couldn't be built"
-# the exports alone, of all that the archive has, each of this version
+# only the exports, of all that the archive has, each with this version
 echo "FINTAQUSH_$major { global: fq_*; local: *; };" > "$scratch/exports"
 "$cc" -shared -Wl,-soname,"libfintaqush.so.$major" -Wl,--version-script="$scratch/exports" -Wl,--whole-archive \
     "$scratch/libfintaqush.a" -Wl,--no-whole-archive -o "$scratch/libfintaqush.so.$version" || stop 70 "the shared library couldn't be made"
@@ -126,7 +127,7 @@ else()
 endif()
 END
 
-# The program itself refuses these words.
+# The program itself rejects these arguments.
 cat > "$scratch/program" << 'END'
 #!/bin/sh
 case "$# ${1:-}" in

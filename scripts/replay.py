@@ -1,7 +1,7 @@
 """The launcher, which ./replay begins: its words, the trace, the runs, and what is said of them."""
 import sys
 
-# Until `end_by` takes signals and errors: they end in a line.
+# Until `end_by` handles signals and errors: they end the program with a message.
 sys.excepthook = lambda kind, error, _: sys.stderr.write(
     f"replay: {'interrupted' if kind is KeyboardInterrupt else 'out of memory' if kind is MemoryError else error or kind.__name__}\n")
 
@@ -113,7 +113,7 @@ class Call:
         if is_unproved:
             say("an unproved run: the program is made anew each time and nothing is checked (up to a minute)")
             return self.unproved("this was an UNPROVED run")[0]
-        # On a terminal an answer comes at once, and the proof of it behind.
+        # On a terminal the report comes at once, and the proof of the program after it.
         if not is_ready and os.isatty(1) and kit() and all(len(self.kept) <= MOST_KEPT for _ in self.parts()):
             say("the program is to be proved and built first: meanwhile the answer of an UNPROVED run, in up to a minute")
             first = self.unproved("this was an UNPROVED run; now it is proved. Ctrl-C leaves what is proved by then, "
@@ -135,7 +135,7 @@ class Call:
         if not self.files and os.isatty(0):
             return "no trace: name a file, or give one on standard input"
         try:
-            # `/proc/kmsg` is a file too, and waits for more.
+            # `/proc/kmsg` is a file too, and reading it waits for more.
             end = os.open(self.files[0], os.O_RDONLY | (os.O_NONBLOCK if os.path.isfile(self.files[0]) else 0)) if self.name else 0
             os.read(end, 0)  # a folder can be opened too
         except OSError as error:

@@ -1,8 +1,8 @@
 #!/usr/bin/env bash
 # scripts/site.sh FOLDER: the pages and the manual pages as one HTML site for reading offline, by pandoc (Debian: apt install
-# pandoc), with the pictures and the files to which the pages link; FOLDER/index.html is README.md. The folder isn't there yet, or
-# is empty. It is made beside itself and renamed at the end.
-# Exit status: 0 done; 64 no folder, or more words; 69 there is no pandoc; 70 a page couldn't be made; 73 it can't be written there.
+# pandoc), with the pictures and the files to which the pages link; FOLDER/index.html is README.md. The folder must be new or
+# empty. It is made under another name and renamed at the end. Exit status: 0 done; 64 no folder, or more arguments; 69 there is
+# no pandoc; 70 a page couldn't be made; 73 it can't be written there.
 set -euo pipefail
 unset CDPATH
 top=$(dirname "$(dirname "$(readlink -f "${BASH_SOURCE[0]}")")")
@@ -26,7 +26,7 @@ cd "$top"
 
 mapfile -t pages < <(git ls-files -- '*.md' 'docs/man/*')
 
-# Where a page stands in the site.
+# The place of a page in the site.
 place_of() {
     case $1 in
         *README.md) echo "${1%README.md}index.html" ;;
@@ -35,10 +35,10 @@ place_of() {
     esac
 }
 
-# way_up PLACE: what leads from a page's folder to the top of the site.
+# way_up PLACE: the path from a page's folder to the top of the site.
 way_up() { printf '%s' "${1//[^\/]/}" | sed 's|/|../|g'; }
 
-# Each page's place and name, found once, since each page has links to all.
+# Each page's place and name, found once, because each page has links to all.
 declare -A places names
 for page in "${pages[@]}"; do
     places[$page]=$(place_of "$page")
@@ -91,7 +91,7 @@ show() {
         --include-before-body "$new/nav.html" "$1" | relink > "$new/$place"
 }
 
-# The files and folders of the repository to which a page links, without its parts; of a folder all files.
+# The files and folders of the repository to which a page links, without anchors; of a folder all files.
 linked() {
     local name
     while IFS= read -r name; do

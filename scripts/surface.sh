@@ -1,7 +1,7 @@
 #!/usr/bin/env bash
-# scripts/surface.sh DOOR: prints what a door gives its users, from the sources: each public item and call that it passes on, also the
-# calls of a type that is passed on under another name, with their `///`, signatures and clauses. Exit status: 0; 64 there is no such
-# door.
+# scripts/surface.sh FACADE: prints what a facade crate offers its users, from the sources: each public item and call that it
+# re-exports, including the calls of a type that is re-exported under another name, with their `///`, signatures and clauses.
+# Exit status: 0; 64 there is no such facade.
 set -euo pipefail
 unset CDPATH
 cd "$(dirname "$(dirname "$(readlink -f "${BASH_SOURCE[0]}")")")"

@@ -25,7 +25,7 @@ total devices 1 runs 1 polls 2 work 2 squeezed 0
 """
 THREADS_REPORT = b"device 1 arrived 2 bytes 160\ntotal devices 1\n"
 
-# Each a name, options, the input, the status and the line.
+# Each row: a name, options, the input, the status and the message.
 WORDS = [
     ("an option that there isn't", ["--frobnicate"], TWO_PACKETS, 64, "usage fault 64"),
     ("an option that is no text", [b"--budget=\xff"], TWO_PACKETS, 64, "usage fault 64"),
@@ -67,7 +67,8 @@ def of_trace(cases):
 
 
 REPLAYED = of_trace(WORDS + INPUTS + ROWS + PENDING)
-# Each program with the options of a run that succeeds, its input, and how its output begins and ends; and the cases of its faults.
+# Each program with the options of a run that succeeds, its input, and how its output begins and ends; and the cases of its
+# errors.
 PROGRAMS = [
     ("napi_serial", [], TWO_PACKETS, REPORT, REPORT, REPLAYED),
     ("napi_replay", ["--mode", "serial"], TWO_PACKETS, REPORT, REPORT, in_mode("serial", REPLAYED)),
@@ -79,7 +80,7 @@ PROGRAMS = [
      [(name, words, text, status, line.format("arrivals")) for name, words, text, status, line in WORDS + INPUTS + MACHINE]),
 ]
 
-# How each of the two outputs may be.
+# The states of each of the two outputs.
 OPEN, SHUT, FULL, UNREAD = "open", "closed", "full", "a pipe that no program reads"
 passed = failed = 0
 

@@ -186,7 +186,7 @@ def one_queue(program, seed="1", count="60"):
     return []
 
 
-# ---- what is refused
+# ---- what is rejected
 
 def faults(program):
     """Each fault of the rows with its line and status, and with nothing written; in a row that has several the lowest one."""
@@ -336,9 +336,9 @@ def livelock(program):
 
 # ---- what Linux did
 
-# A recording as ftrace's text, with arrivals to a microsecond and costs that are fitted. All others take its costs: a second recording,
-# whose own `costs` rejects because a line over its polls explains nothing, and traces, with arrivals to a millisecond. Each with its
-# budget. No card interrupted, and no application used what was received.
+# A recording as ftrace's text, with arrivals to a microsecond and costs that are fitted. All others use its costs: a second
+# recording, whose own `costs` rejects because a line over its polls explains nothing, and traces, with arrivals to a
+# millisecond. Each with its budget. No card interrupted, and no application used what was received.
 RECORDED = (("tests/tools/soft-gso-23", 23), ("tests/tools/soft-tcp", 300), ("examples/linux-veth-bursts", 300),
             ("examples/linux-veth-small-budget", 64))
 

@@ -387,7 +387,7 @@ def end_use(processor, packet):
     processor.waits.append(processor.clock - packet)
 
 
-# ---- the application on a processor of its own
+# ---- the application on its own processor
 
 def wake_application(processor):
     its = processor.application

@@ -27,7 +27,7 @@ SIX_DEVICES = "\n".join(
     + ["13,0,softirq,0", "14,4,enable,0", "15,4,rx,9", "16,0,softirq,0", ""]
 )
 ONE_PACKET = "moment,device,event,value\n0,1,open,4\n1,1,rx,100\n"
-# What a trace that ends so is answered.
+# The result for a trace that ends like this.
 NAMED_CUTS = [
     (ONE_PACKET + "2,0,softi", "trace fault 2 BadFields row 3"),
     (ONE_PACKET + "2,0", "trace fault 2 BadFields row 3"),

@@ -17,11 +17,11 @@ from page_commands import SKIPPED, is_missing, listed
 TOP = pathlib.Path(__file__).resolve().parent.parent
 DOORS = "napi_model dql_core rx_ring tx_ring napi_word napi_calls poll_engine device_model replay machine".split()
 README_WORDS = 700
-# What is made, or stands in somebody else's folder.
+# What is generated, or is in another folder than the repository's.
 MADE = re.compile(r"(^|/)out(/|$)|include/linux/|crates/first|NAME|FOLDER|FILE|PROGRAM|TRACE|DOOR|\.\.\./|^\.\.?/\.\./|[*<>{}$]|^/")
-# Crates that use the library's doors, beside those named for tests.
+# Crates that use the library's facades, besides those named for tests.
 USERS = ("bench_", "example_", "uses_")
-# Words in code that are others': the kernel's, a file format's, an instruction's, and what stands for a file.
+# Words in code that come from elsewhere: from the kernel, a file format, an instruction set; and names that stand for a file.
 OUTSIDE = {"__do_softirq", "time_after", "softnet_stat", "virtio_net", "sysexits", "btr", "mb", "MACHINES", "enqueue_to_backlog",
            "rps_trigger_softirq", "nstat", "UdpRcvbufErrors", "no_std", "num_queued", "num_completed",
            "dql_check_stall", "stall_thrs", "irq_suspend_timeout", "EPIOCSPARAMS", "napi_busy_loop_rcu", "NAPI_STATE_THREADED_BUSY_POLL", "_locked"}

@@ -10,7 +10,7 @@ import sys
 TOP = pathlib.Path(__file__).resolve().parent.parent
 HEADER = (TOP / "include/fintaqush.h").read_text()
 SYS = (TOP / "bindings/rust/src/sys.rs").read_text()
-# The functions whose types are Rust's own, or which are methods over its traits of a card, as is that struct.
+# The functions whose types are Rust's own, or that are methods over its traits of a card; and that struct.
 RUSTS_OWN = {"fq_status_name", "fq_fault_name", "fq_seat_interrupt_masked", "fq_seat_end_watched", "fq_seat_end_unmasked"}
 STRUCTS_OWN = {"fq_card"}
 C_TYPES = {"u8": "uint8_t", "u32": "uint32_t", "u64": "uint64_t", "AtomicU64": "uint64_t", "i64": "int64_t", "usize": "size_t", "bool": "bool",

@@ -33,7 +33,7 @@ def site(script, pages):
         if ended.returncode != 0:
             yield f"status {ended.returncode}: {ended.stderr}"
             return
-        # Those of docs/steps are no pages of the site's making.
+        # The pages of docs/steps aren't made by the site's script.
         texts = {path: path.read_text() for path in made.rglob("*.html") if path.parent.name != "steps"}
         if len(texts) != len(pages) + len(MANUALS):
             yield f"{len(texts)} pages, of {len(pages) + len(MANUALS)}"

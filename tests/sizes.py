@@ -12,7 +12,8 @@ import time
 from collections import Counter
 
 MOST_ROWS, MOST_PLACES, MOST_DEVICES, MOST_POLLERS = 100000, 65536, 16, 8
-# MiB of address space: twice what the greatest input took (14, 37 and 95). With threads each has a stack, and malloc's own 64 MiB.
+# MiB of address space: twice what the greatest input needed (14, 37 and 95). With threads each has a stack, and malloc's own 64
+# MiB.
 MEMORY = {"napi_serial": 28, "napi_series": 74, "napi_machine": 190, "napi_replay": 8192}
 HEADER = b"moment,device,event,value\n"
 REPLAYS = [("napi_serial", []), ("napi_replay", ["--mode", "shared"]), ("napi_replay", ["--mode", "threads"]), ("napi_series", [])]

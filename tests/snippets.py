@@ -6,7 +6,7 @@ import textwrap
 import page_commands
 
 TOP = pathlib.Path(__file__).resolve().parent.parent
-# A shown block that begins so is a program, or a part of one.
+# A shown block that begins like this is a program, or a part of one.
 CODE = re.compile(r'(//|/\*|"""|#!?\[|#include|(pub|ghost|use|impl|fn|const|static|struct|enum|trait|let|mod|abbrev|int|limit) )')
 ENDINGS = (".rt", ".antt", ".rs", ".c", ".cc", ".cpp", ".h", ".hpp", ".py")
 

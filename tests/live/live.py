@@ -313,7 +313,7 @@ def check_here(program, folder, numbers, total):
             write_kept(folder, place, kept)
 
 
-# ---- what the repository keeps
+# ---- recordings in the repository
 
 def read_kept(place, folder=HERE / "kept"):
     kept = json.loads((folder / f"{place + 1}.json").read_text(encoding="utf-8"))

@@ -190,7 +190,7 @@ class Rig:
         if setting.poller == "backlog":
             files["queues/rx-0/rps_cpus"] = f"{1 << RECEIVES:x}"
         for number in range(1, setting.devices + 1):
-            # In a mount namespace of its own, where /sys shows the devices of this network namespace.
+            # In its own mount namespace, where /sys shows the devices of this network namespace.
             self.within(self.into, "sh", "-c", ";".join(f"echo {value} > /sys/class/net/vb{number}/{name}" for name, value in files.items()))
         if setting.poller == "thread":
             for process in tasks(r"napi/vb1-\d+"):

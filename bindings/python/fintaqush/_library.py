@@ -79,12 +79,12 @@ class Replayed(ctypes.Structure):
     _fields_ = [("length", size), ("fault", u32), ("row", u32)]
 
 
-# The structs whose size the library tells, by their numbers in `enum fq_struct`; and all.
+# The structs whose size the library returns, by their numbers in `enum fq_struct`; and all.
 NUMBERS = {Handle: 0, Dql: 1, DqlMade: 2, Napi: 3, Packet: 4, Counts: 5, RunReport: 10}
 STRUCTS = {*NUMBERS, Settings, Replayed}
 
 try:
-    # A call that is short keeps the interpreter's lock, and one that takes long lets it go.
+    # A short call keeps the interpreter's lock, and a long one releases it.
     _short, _long = ctypes.PyDLL(place()), ctypes.CDLL(place())
 except OSError as error:
     raise missing(error) from None
