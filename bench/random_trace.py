@@ -11,7 +11,7 @@ WEIGHTS = [40, 8, 8, 18, 6, 3, 9, 5, 3]
 
 
 def refused(dice, device):
-    """A row, or what should be one, that a reader refuses; the last four where the device is in the wrong state."""
+    """A row that a reader rejects, or that is none; the last four if the device is in the wrong state."""
     return dice.choice([
         "1,%d,rx" % device,
         "1,%d,rx,0" % device,

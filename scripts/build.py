@@ -1,5 +1,6 @@
-"""What ./replay and build.sh prove and build by. Libraries stand in a folder of their own, with their statements alone as `rt ci` leaves
-them: a check over their proofs, which `rt lib` keeps, loads several times as much. So `rattle` is called as `rt ci` calls it."""
+"""How ./replay and build.sh prove and build. Libraries are in a folder of their own, with only their statements, as `rt ci`
+leaves them: a check that also loads their proofs, which `rt lib` keeps, needs several times the memory. So `rattle` is
+called as `rt ci` calls it."""
 import contextlib
 import ctypes
 import fcntl
@@ -26,7 +27,7 @@ INSTALLED = not os.path.exists(f"{TOP}/crates.txt")  # by scripts/install.sh, wh
 
 
 class Stop(Exception):
-    """The end of a call: its status, and its line on standard error."""
+    """The end of a call: its status, and its message on standard error."""
 
 
 def read(path):
@@ -35,7 +36,7 @@ def read(path):
 
 
 def write(text, end=1):
-    """Writes all of it, and returns whether that went well."""
+    """Writes all of it, and returns whether that succeeded."""
     with contextlib.suppress(OSError), open(end, "wb", closefd=False) as file:
         file.write(text)
         return True
@@ -43,12 +44,13 @@ def write(text, end=1):
 
 
 def say(line):
-    """In place of the line that tells how far a build is, where one stands."""
+    """Prints a line, in place of the progress line if there is one."""
     write(f"{CLEAR if AT_WORK and os.isatty(2) else ''}{NAME}: {line}\n".encode(errors="surrogateescape"), 2)
 
 
 def end_by(call):
-    """Ends this process as the call ends, by its status or by a line and a status; or by a signal's. What it began ends with it."""
+    """Ends this process as the call ends, with its status or with a message and a status; or by a signal. Its child processes
+    end with it."""
     def interrupt(number, _):
         say("interrupted" + "; each crate that was proved is kept" * bool(AT_WORK))
         os._exit(130 if number == signal.SIGINT else 143)
@@ -64,7 +66,7 @@ def end_by(call):
 
 
 def child(memory=0):
-    """What a process of this one does as it begins: it ends with this one, however that ends, and has so many MiB."""
+    """What a child process does first: it ends with its parent, however that ends, and its memory is limited to this many MiB."""
     LIBC.prctl(1, signal.SIGTERM)  # PR_SET_PDEATHSIG
     with contextlib.suppress(OSError):  # else the prover's processes wake, and stop, each other all the time
         os.sched_setscheduler(0, os.SCHED_BATCH, os.sched_param(0))
@@ -113,17 +115,18 @@ class Crate:
 
     @functools.cached_property
     def all(self):
-        """What it stands on in this checkout, lowest first, and it."""
+        """Its dependencies in this checkout, lowest first, and itself."""
         return [*dict.fromkeys(it for name in self.uses if name in crates() for it in crates()[name].all), self]
 
     def texts(self):
-        """Its folders and files, as the system tells of them."""
+        """Its folders and files, with their times."""
         for part in ("src", "specs", "proofs"):
             for folder, _, names in os.walk(f"{self.folder}/{part}"):
                 yield from (os.stat(f"{folder}/{it}") for it in (".", *names))
 
     def is_built(self):
-        """Whether it stands, and nothing that it is made of is newer. Folders count too: one that has lost a file is newer."""
+        """Whether it is built, and nothing from which it is made is newer. Folders count too: one that has lost a file is
+        newer."""
         try:
             stands = os.stat(f"{self.made}/format" if self.is_library else self.made).st_mtime_ns
             changed = [os.stat(f"{TOP}/crates.txt").st_mtime_ns, *(it.st_mtime_ns for crate in self.all for it in crate.texts())]
@@ -134,7 +137,7 @@ class Crate:
             return False
 
     def words(self, verb, jobs):
-        """The prover's command that checks or builds it by so many processes, over the libraries that stand."""
+        """The prover's command that checks or builds it by this many processes, with the libraries that are built."""
         root, at = "src/main.rt" if self.is_program else "src/lib.rt", kit()
         words = [f"{at}/bin/rattle", verb, "--crate-name", self.name, root, "--jobs", str(jobs), "-L", f"dependency={BUILT}"]
         words += ["--antt-project", f"{at}/rattle/logic/antt-project.json", "--logic-built", f"{at}/logic_built"]
@@ -142,7 +145,7 @@ class Crate:
         return [*words, "-L", f"dependency={at}/rlibs", *(word for it in uses for word in ("--extern", it))]
 
     def begin(self, jobs, place):
-        """Begins to prove and to build it, by so many processes, which yield to those of a crate before it."""
+        """Starts to prove and to build it, by this many processes, with a lower priority than those of a crate before it."""
         command = [*self.words("build", jobs), "-o", f"{self.made}.new", *["--crate-type", "staticlib"] * self.is_archive]
         command += ["--statements"] if self.is_library else ["--toolchain", f"{kit()}/toolchain", "--backend", "llvm"]
         with open(self.log, "wb") as log:
@@ -150,7 +153,7 @@ class Crate:
             return subprocess.Popen(command, preexec_fn=lambda: (os.nice(place), child()), **how)
 
     def end(self, status, since):
-        """Puts what was built in its place, as old as the build: what was changed meanwhile is newer."""
+        """Moves what was built into place, with the time of the build's start: a source changed meanwhile is newer."""
         new = f"{self.made}.new"
         if status == 0 and self.is_program:
             os.replace(new, f"{BUILT}/{self.name}.o")
@@ -166,7 +169,7 @@ class Crate:
 
 
 def to_build(asked):
-    """Which of these crates and of those below them are to be built, that of the longest chain upwards first."""
+    """Which of these crates and of those below them have to be built, that of the longest chain upwards first."""
     every, chain = [], {}
     for crate in dict.fromkeys(it for crate in asked for it in crate.all):
         if not crate.is_built() or any(it in every for it in crate.all):
@@ -177,7 +180,8 @@ def to_build(asked):
 
 
 def time_left(every, left, seconds):
-    """The time that is left, by the sizes of the crates that were built, of those at work as if each were half done. Nothing before the first."""
+    """The time that is left, by the sizes of the crates that were built; those in progress count half. Nothing before the
+    first."""
     sizes = {it: sum(each.st_size for each in it.texts()) or 1 for it in every}
     at_work = sum(sizes[it] for it in AT_WORK)
     built = sum(sizes.values()) - sum(sizes[it] for it in left) - at_work
@@ -186,7 +190,7 @@ def time_left(every, left, seconds):
 
 
 def prove(asked):
-    """Proves and builds these crates, and what they stand on as far as that isn't done."""
+    """Proves and builds these crates, and those below them, if that isn't done."""
     names, since, left = " and ".join(it.name for it in asked), time.time_ns(), to_build(asked)
     every, processors = left, len(os.sched_getaffinity(0))
     lanes = min(max(int(re.search(r"MemAvailable: *(\d+)", read("/proc/meminfo"))[1]) // 2_500_000, 1), processors)  # kB of a check
@@ -218,7 +222,8 @@ def prove(asked):
 
 
 def build(names):
-    """Sees to it that they stand. One build at a time in a checkout: a second one waits, and mostly finds all built then."""
+    """Ensures that they are built. Only one build runs at a time in a checkout: a second one waits, and mostly finds all built
+    then."""
     if unknown := [it for it in names if it not in crates()]:
         raise Stop(64, f"there is no crate {unknown[0]!r} in crates.txt")
     if not (asked := [it for it in map(crates().get, names) if not it.is_built()]):

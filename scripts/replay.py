@@ -1,4 +1,4 @@
-"""The launcher, which ./replay begins: its words, the trace, the runs, and what is said of them."""
+"""The launcher, which ./replay starts: its options, the trace, the runs, and what it prints about them."""
 import sys
 
 # Until `end_by` handles signals and errors: they end the program with a message.
@@ -56,7 +56,7 @@ CAUSES = {  # by the fault's number and the line behind it: the first that fits
 
 
 def shown(name):
-    """As it is where it can be printed, else as a word of bash, so that no terminal acts on it."""
+    """The name itself if it is printable, otherwise quoted for bash, so that a terminal doesn't interpret it."""
     return name if name.isprintable() else "$'%s'" % re.sub(rb"[^ -~]|['\\]", lambda it: b"\\%03o" % ord(it[0]), os.fsencode(name)).decode()
 
 
@@ -72,7 +72,7 @@ def version():
 
 
 class Call:
-    """A call of the launcher. What is none of its own words and no file is the program's to refuse."""
+    """A call of the launcher. What is neither one of its own options nor a file is left to the program to reject."""
 
     def __init__(self, given):
         self.words, self.files, self.own, rest = [], [], set(), iter(given)
@@ -129,7 +129,8 @@ class Call:
         return self.finish(*last)
 
     def open(self):
-        """Opens the trace, or returns why it can't. It goes to the program through here, since not every one can be read twice."""
+        """Opens the trace, or returns why it can't. It is passed to the program through here, because not every input can be
+        read twice."""
         if len(self.files) > 1:
             return f"two traces are named, {self.name} and {shown(self.files[1])}: replay one at a time"
         if not self.files and os.isatty(0):
@@ -144,7 +145,7 @@ class Call:
         return ""
 
     def parts(self):
-        """All of the trace: what is kept of it, and what comes then, which is kept as long as that isn't too much."""
+        """All of the trace: what is kept of it, and what arrives then, which is kept while it isn't too much."""
         yield bytes(self.kept)
         try:
             for text in self.rest:
@@ -154,7 +155,8 @@ class Call:
             raise Stop(66, f"{self.which}: a read of it failed") from None
 
     def pass_on(self, to, process):
-        """Half a trace is none: where a read fails the program ends before it could take it for one."""
+        """Passes the trace to a program. Half a trace isn't a trace: if a read fails, the program is ended before it could
+        accept it as one."""
         try:
             all(write(text, to.fileno()) for text in self.parts())
         except Stop as stop:
@@ -163,7 +165,7 @@ class Call:
         to.close()
 
     def run(self, command, memory=0, is_kept=True, **where):
-        """Runs a program over the trace, in so many MiB: its status, its output where that is kept, and what it said."""
+        """Runs a program over the trace, with this many MiB: returns its status, its output if that is kept, and its messages."""
         process = subprocess.Popen(command, stdin=subprocess.PIPE, stdout=subprocess.PIPE if is_kept else None, stderr=subprocess.PIPE,
                                    preexec_fn=lambda: child(memory=memory), restore_signals=False, **where)
         to, process.stdin = process.stdin, None
@@ -174,7 +176,7 @@ class Call:
         return 128 - status if (status := process.returncode) < 0 else status, output, said.decode(errors="replace")
 
     def unproved(self, line):
-        """`rt try` runs the sources without their proofs, and leaves no program. Its own lines on that are left out."""
+        """`rt try` runs the sources without their proofs, and leaves no program. Its own lines about that are left out."""
         command = [f"{kit()}/bin/rt", "try", "--steps", "4000000000", "--seconds", "600", "--", *self.words]
         status, output, said = self.run(command, cwd=self.crate.folder)
         status = status if re.search("^run=ended ", said, re.M) else 70
@@ -184,7 +186,7 @@ class Call:
         return status, output, said
 
     def finish(self, status, output, said):
-        """Prints the output, if it was kept, and what was said; then one line for people behind it, where there is more to say."""
+        """Prints the output, if it was kept, and the messages; then one line of explanation, if there is more to say."""
         is_json, to_json = "--json" in self.own and status == 0, [f"{TOP}/tools/report2json"]
         if output and (subprocess.run(to_json, input=output, preexec_fn=child, check=False).returncode if is_json else not write(output)):
             raise Stop(4, f"the report couldn't be written{' as JSON' * is_json}")
@@ -201,7 +203,7 @@ class Call:
         return status
 
     def explain(self, fault, row):
-        """The line, its text and the likely cause. A row counts records: nothing is told where its line isn't known for sure."""
+        """The line, its text and the likely cause. A row counts records: nothing is printed if its line isn't known for sure."""
         data = bytes(self.kept)
         if packed := next((packed for first, packed in PACKED.items() if fault == 1 and re.match(first, data)), ""):
             return f": the file is {packed}{' ' + shlex.quote(self.name) if self.name else ''} | {CALLED}"

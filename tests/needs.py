@@ -25,7 +25,7 @@ def rows():
 
 
 def packages():
-    """The Debian packages that have each need; none where no package gives it."""
+    """The Debian packages for each need; none if no package has it."""
     return {row[0]: [name for name in row[1:] if name != "-"] for row in rows()}
 
 

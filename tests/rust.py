@@ -32,7 +32,7 @@ def header_names():
 
 
 def functions():
-    """Of each function of the binding its name, the types of its arguments, and of its answer."""
+    """Each function of the binding: its name, the types of its arguments, and of its result."""
     text = without_comments(SYS, r"//[^\n]*")
     for name, arguments, answer in re.findall(r"pub (?:unsafe )?fn (fq_\w+)\(([^)]*)\)(?: -> ([^;{]+))?[;{]", text):
         types = [one.split(":")[1].strip() for one in arguments.split(",") if one.strip()]
@@ -41,14 +41,14 @@ def functions():
 
 
 def structs():
-    """Of each struct of the binding its name, and its fields with their types."""
+    """Each struct of the binding: its name, and its fields with their types."""
     text = without_comments(SYS, r"//[^\n]*")
     for name, body in re.findall(r"pub struct (fq_\w+) \{(.*?)\n\}", text, re.DOTALL):
         yield name, re.findall(r"(?:pub(?:\(crate\))? )?(\w+): ([^,]+),", body)
 
 
 def numbers():
-    """Of each number of the binding its name, and its value as C has it."""
+    """Each number of the binding: its name, and its value as C has it."""
     for name, value in re.findall(r"^    (FQ_\w+) = (\d+),", SYS, re.MULTILINE):
         yield name, value
     for name, value in re.findall(r"^pub const (FQ_\w+): u(?:32|64) = ([^;]+);", SYS, re.MULTILINE):
