@@ -22,7 +22,7 @@ fi
 exec 4>> "$log"
 hertz=$(getconf CLK_TCK)
 begin=${EPOCHREALTIME/[.,]/}
-order=()            # crates, as they are first told of
+order=()            # crates, as they are first named
 sums=()             # the lines `N passed, M failed`, with their seconds
 declare -A seen=()  # of `CRATE PART`, PART proof, tests or edits: when it stood, in ms
 declare -A word=()  # what the gate says of it where that isn't `proved`

@@ -22,13 +22,17 @@ kit=$(dirname "$(rt doc 2> /dev/null)") # the folder of the toolchain
 # checksums [TOP [KIT]]: a line for each function that the models name, and for each that these call (model_texts.py).
 checksums() { python3 -B "$top/tests/model_texts.py" "${1:-$top}" "${2:-$kit}"; }
 
-# is_read_kit: whether the toolchain is the kit with whose functions the models were compared, which is in the first line.
-is_read_kit() { [ "$(head -n 1 "$models/stands_for.txt")" = "# $(rt version)" ]; }
+# of_kit: of these lines those of the toolchain's functions.
+of_kit() { grep '^[^ ]* kit '; }
+
+# is_read_kit: whether the toolchain is the kit with which the models were compared, which is the first line's, or has the same functions.
+is_read_kit() {
+    [ "$(head -n 1 "$models/stands_for.txt")" = "# $(rt version)" ] || cmp -s <(of_kit < "$models/stands_for.txt") <(checksums | of_kit)
+}
 
 # look [TOP [KIT]]: the functions whose code has changed, or that are missing; with another kit only those of this repository.
 look() {
-    local functions=.
-    is_read_kit || functions='^[^ ]* [^ /]*/'
+    [ -n "${functions:-}" ] || { is_read_kit && functions=. || functions='^[^ ]* [^ /]*/'; }
     checksums "$@" > "$scratch/all" || return
     grep -v '^#' "$models/stands_for.txt" | grep "$functions" > "$scratch/read"
     grep "$functions" "$scratch/all" > "$scratch/now"
@@ -62,7 +66,7 @@ else
     mkdir -p "$scratch/copy/rattle" && cp -r "$top"/{crates,models} "$scratch/copy" && cp -r "$kit"/rattle/{crossbeam_utils,crossbeam_queue,atomic_table} "$scratch/copy/rattle"
     check 'a change in napi_word is found' finds napi_word/steps schedule_load crates/napi_word/src/steps.rt 'if seen.flags.disable' 'if seen.flags.sched'
     check 'a change in poll_runs is found' finds poll_runs/polling let_go crates/poll_runs/src/polling.rt 'if next == Next::Repoll' 'if next != Next::Repoll'
-    if is_read_kit; then
+    if [ "$functions" = . ]; then
         check 'a change of the parker is found' finds 'kit crossbeam_utils/sync/parker/ruled' unpark_as rattle/crossbeam_utils/src/sync/parker/ruled.rt '== PARKED' '!= PARKED'
         check 'a change of the queue is found' finds 'kit crossbeam_queue/array_queue/steps' push_from rattle/crossbeam_queue/src/array_queue/steps.rt 'tail == stamp' 'tail != stamp'
         check 'a change of the atomics is found' finds 'kit atomic_table/steps' compare_exchange rattle/atomic_table/src/steps.rt 'old, new) }' 'new, old) }'

@@ -19,7 +19,7 @@ DOORS = "napi_model dql_core rx_ring tx_ring napi_word napi_calls poll_engine de
 README_WORDS = 700
 # What is generated, or is in another folder than the repository's.
 MADE = re.compile(r"(^|/)out(/|$)|include/linux/|crates/first|NAME|FOLDER|FILE|PROGRAM|TRACE|DOOR|\.\.\./|^\.\.?/\.\./|[*<>{}$]|^/")
-# Crates that use the library's facades, besides those named for tests.
+# Crates that use the library's facades, apart from those named for tests.
 USERS = ("bench_", "example_", "uses_")
 # Words in code that come from elsewhere: from the kernel, a file format, an instruction set; and names that stand for a file.
 OUTSIDE = {"__do_softirq", "time_after", "softnet_stat", "virtio_net", "sysexits", "btr", "mb", "MACHINES", "enqueue_to_backlog",

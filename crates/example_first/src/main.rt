@@ -4,7 +4,7 @@
 use anyhow::Result;
 use napi_model::{Done, Kind, Prep, SerialNapi};
 
-// Every caller of an instance has a number; the controller's is given when the instance is made.
+// Each caller of an instance has a number; the controller's is named when the instance is made.
 const INTERRUPT: u32 = 0;
 
 const POLLER: u32 = 1;
