@@ -1,12 +1,13 @@
 #!/usr/bin/env bash
-# scripts/install.sh [--library] [--python] [--libdir=FOLDER] [--uninstall] PREFIX: installs the C library, static and shared, with its
-# headers, its pkg-config and CMake files, its manual pages, its guide and its examples, and the command `fintaqush` and the proved programs
-# with theirs, and completions for bash, zsh and fish. What only `fintaqush` runs goes to PREFIX/lib/fintaqush. What isn't built yet is proved and built first.
-# --library leaves the command and the programs out, which take most of the time. --python puts bindings/python where python3 looks below
-# PREFIX, else into lib/python3/dist-packages. With DESTDIR set, all goes below that folder, for PREFIX.
-# --libdir is where libraries go below PREFIX, lib if it isn't said: as lib/x86_64-linux-gnu.
-# --uninstall removes what an install put there, and nothing else. --programs only prints the programs' names.
-# Exit status: 0 done; 64 the words are wrong; 69 a program is missing; 70 something couldn't be built; 73 it can't be written there.
+# scripts/install.sh [--library] [--python] [--libdir=FOLDER] [--uninstall] PREFIX: installs the C library, static and shared,
+# with its headers, its pkg-config and CMake files, its manual pages, its guide and its examples, and the command `fintaqush` and
+# the proved programs with theirs, and completions for bash, zsh and fish. What only `fintaqush` runs goes to
+# PREFIX/lib/fintaqush. What isn't built yet is proved and built first. --library leaves the command and the programs out, which
+# take most of the time. --python puts bindings/python where python3 looks below PREFIX, else into lib/python3/dist-packages.
+# With DESTDIR set, all goes below that folder, for PREFIX. --libdir is where libraries go below PREFIX, such as
+# lib/x86_64-linux-gnu; without it, lib. --uninstall removes what an install put there, and nothing else. --programs only prints
+# the programs' names. Exit status: 0 done; 64 the arguments are wrong; 69 a program is missing; 70 something couldn't be built;
+# 73 it can't be written there.
 set -euo pipefail
 unset CDPATH
 top=$(dirname "$(dirname "$(readlink -f "${BASH_SOURCE[0]}")")")
@@ -90,7 +91,7 @@ command -v "$cc" > /dev/null || stop 69 "there is no $cc, which makes the shared
 [ -n "$is_library" ] && [ -z "$is_python" ] || command -v python3 > /dev/null ||
     stop 69 "there is no python3, which the command and the package are written in"
 "$top/scripts/c_library.sh" "$scratch" || stop 70 "the C library couldn't be built"
-# The exports alone, each of the version that it came with; what it writes once, as it is loaded, is read only then.
+# only the exports, each with the version that it came with; tables that the loader fills are read-only afterwards
 "$cc" -shared -s -Wl,-soname,"libfintaqush.so.$major" -Wl,--version-script="$top/scripts/exports.map" -Wl,-z,relro,-z,now \
     -Wl,--whole-archive "$scratch/libfintaqush.a" -Wl,--no-whole-archive -o "$scratch/libfintaqush.so.$version" ||
     stop 70 "the shared library couldn't be made"
@@ -140,7 +141,7 @@ else()
 endif()
 END
 
-# The program itself refuses these words.
+# The program itself rejects these arguments.
 cat > "$scratch/program" << 'END'
 #!/bin/sh
 case "$# ${1:-}" in
