@@ -14,7 +14,7 @@ from tooltest import HEADER, REPLAY, TOP, InFolder, run
 BROWSER = next(filter(None, map(shutil.which, ("chromium", "chromium-browser", "google-chrome"))), None)
 # docs/FORMATS.md, "The state word".
 FLAGS = {0: "SCHED", 1: "MISSED", 2: "DISABLE", 3: "NPSVC", 6: "IN_BUSY_POLL", 8: "THREADED", 9: "SCHED_THREADED", 32: "QUEUED", 33: "TO_THREAD"}
-# Steps on by the key, the button, the slider and a stroke in turn, then back by each, and tells what is shown after each step.
+# Steps on by the key, the button, the slider and a stroke in turn, then back by each, and prints what is shown after each step.
 WALK = """<script>
 const one = name => document.querySelector(name).textContent;
 const told = [], shown = () => told.push({ place: by('place').textContent, list: one('.list'), said: one('.said'),

@@ -28,7 +28,7 @@ SERIES_HEAD = "row,moment,device,state,waiting,arrived,dropped,polled,in_flight,
 CAPTURED = "100.000000 eth0  In  ifindex 2 02:00:00:00:00:01 ethertype IPv4 (0x0800), length 60: 10.0.0.1 > 10.0.0.2: UDP\n"
 ALL = ["raise", "report2json", "traffic", "compare-runs", "compare-recording", "plot", "from-ftrace", "from-pcap", "sweep", "steps", "what-if", "costs",
        "record", "advise", "completion", "try"]
-# As somebody has it, and as a machine has it that tells no locale.
+# With the locale of a user, and with none.
 USUAL = dict(os.environ)
 BARE = {"PATH": os.environ["PATH"], "HOME": os.environ.get("HOME", "/"), "CI": "true"}
 MOST_SECONDS = 300
