@@ -49,7 +49,7 @@ class Plot(InFolder):
     def test_runs_raised_anew_keep_the_rows_numbers(self):
         trace = self.write("trace.csv", HEADER + "0,1,open,8\n" + "1,1,rx,60\n" * 2 + "2,0,softirq,0\n3,0,softirq,0\n")
         script = run("plot", trace, "--raise", "--budget", "1", "--weight", "1", "--script").stdout
-        # Row 4 has one of two packets, and two runs are raised after it.
+        # Row 4 has one of two packets, and two runs are raised behind it.
         self.assertIn("<< END\n4 1 1\n4.333333333 1 1\n4.666666667 0 0\n5 0 0\nEND", script)
 
     def test_rows_alone(self):
