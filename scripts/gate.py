@@ -15,7 +15,7 @@ import shutil
 import subprocess
 import tempfile
 
-from build import BUILT, TOP, build, child, crates, end_by, read
+from build import BUILT, TOP, build, child, crates, end_by, read, sums
 
 GONE = "has no field|is not in scope|has no `|was not admitted"  # of what an edit takes away, and a proof names
 HEAD = re.compile(r"^( *)(?:pub(?:\([a-z]+\))? )?(?:const |unsafe |extern \"C\" )*fn (\w+)", re.M)
@@ -168,7 +168,7 @@ def try_all(asked):
     """Tries the edits of these crates, up to four at a time, with a line for each; returns how many are rejected, and how many
     aren't."""
     asked = [it for it in asked if os.path.isdir(f"{it.folder}/must-fail")]
-    asked.sort(key=lambda it: -sum(text.st_size for text in it.texts()))
+    asked.sort(key=lambda it: -it.size())
     build(list(dict.fromkeys(below.name for it in asked for below in it.all[:-1])))
     tried = []
     with concurrent.futures.ThreadPoolExecutor(min(len(os.sched_getaffinity(0)), 4)) as pool:
@@ -183,6 +183,7 @@ def prove_all(room, names):
     """Runs `rt ci` on a copy of these crates with those below them, or of all that it reads, and keeps what it has built."""
     asked = [*dict.fromkeys(below for name in names or crates() for below in crates()[name].all)]
     listed = {crate.name for crate in asked}
+    times = {crate: (crate.sources, crate.times())[1] for crate in asked}
 
     def left_out(folder, files):
         """Files and folders not to copy. Everything else is copied: `rt ci` has to see links, and files that no crate reads."""
@@ -205,6 +206,8 @@ def prove_all(room, names):
             subprocess.run(["rm", "-rf", crate.made], check=True)
             os.makedirs(os.path.dirname(crate.made), exist_ok=True)
             shutil.move(built, crate.made)
+            crate.stands(times[crate])
+    sums().keep()
     told = re.match(r"(\d+) passed, (\d+) failed", last)
     passed, failed = map(int, told.groups()) if told else (0, 1)
     return passed, failed or int(ran.returncode != 0)

@@ -13,7 +13,7 @@ import shlex
 import subprocess
 import threading
 
-from build import INSTALLED, TOP, Stop, build, child, crates, end_by, kit, read, say, write
+from build import INSTALLED, TOP, Stop, build, child, clear, crates, end_by, kit, read, say, write
 from words import RANGES, judge, quoted
 
 CALLED = os.environ.get("FINTAQUSH_NAME", "./replay")  # as a subcommand of `fintaqush` was asked for it
@@ -71,6 +71,57 @@ def version():
             f"program of serial mode: {serial}\nprogram of every mode: {every}\nkit: {of_kit or 'no rt on PATH'}\n")
 
 
+class Run:
+    """A program that runs over the trace of a call, with this many MiB: its status, its output if that is kept, and its messages."""
+
+    def __init__(self, call, command, memory=0, is_kept=True, **where):
+        self.call, self.told = call, (None, "")
+        self.process = subprocess.Popen(command, stdin=subprocess.PIPE, stdout=subprocess.PIPE if is_kept else None, stderr=subprocess.PIPE,
+                                        preexec_fn=lambda: child(memory=memory), restore_signals=False, **where)
+        to, self.process.stdin = self.process.stdin, None
+        threading.Thread(target=call.pass_on, args=(to, self.process), daemon=True).start()
+        self.reader = threading.Thread(target=self.read, daemon=True)
+        self.reader.start()
+
+    def read(self):
+        self.told = self.process.communicate()
+
+    def is_over(self):
+        return not self.reader.is_alive()
+
+    def result(self):
+        self.reader.join()
+        if self.call.failed:
+            raise self.call.failed
+        output, said = self.told
+        return 128 - status if (status := self.process.returncode) < 0 else status, output, said.decode(errors="replace")
+
+
+class First:
+    """The report of an unproved run, while the program is proved and built: it is printed once, as soon as it is complete."""
+
+    def __init__(self, call):
+        self.call, self.run, self.answer = call, call.begin_unproved(), None
+
+    def tell(self):
+        """Waits for it, unless it was printed."""
+        if not self.answer:
+            result = self.run.result()
+            clear()
+            self.answer = self.call.end_unproved(result, "this was an UNPROVED run; the proof goes on. Ctrl-C leaves what is proved by "
+                                                         "then, and the next call goes on from there")
+
+    def look(self):
+        if self.run.is_over():
+            self.tell()
+
+    def end(self):
+        """What was printed; a run that isn't over yet isn't needed any more."""
+        if not self.answer:
+            self.run.process.terminate()
+        return self.answer
+
+
 class Call:
     """A call of the launcher. What is neither one of its own options nor a file is left to the program to reject."""
 
@@ -112,15 +163,21 @@ class Call:
             raise Stop(64, "--unproved runs the sources of a checkout, and this is an installed program, which is proved")
         if is_unproved:
             say("an unproved run: the program is made anew each time and nothing is checked (up to a minute)")
-            return self.unproved("this was an UNPROVED run")[0]
-        # On a terminal the report comes at once, and the proof of the program after it.
+            return self.end_unproved(self.begin_unproved().result(), "this was an UNPROVED run")[0]
+        # On a terminal an answer comes while the proof of it is made.
         if not is_ready and os.isatty(1) and kit() and all(len(self.kept) <= MOST_KEPT for _ in self.parts()):
-            say("the program is to be proved and built first: meanwhile the answer of an UNPROVED run, in up to a minute")
-            first = self.unproved("this was an UNPROVED run; now it is proved. Ctrl-C leaves what is proved by then, "
-                                  "and the next call goes on from there")
-        build([self.crate.name])
+            say("the program is to be proved and built: meanwhile the answer of an UNPROVED run, in up to a minute")
+            beside = First(self)
+            try:
+                build([self.crate.name], beside.look)
+            except Stop:
+                beside.tell()
+                raise
+            first = beside.end()
+        else:
+            build([self.crate.name])
         memory = 0 if self.memory == "unlimited" else int(self.memory)
-        last = self.run([self.crate.made, *self.words], memory, first or "--json" in self.own)
+        last = Run(self, [self.crate.made, *self.words], memory, first or "--json" in self.own).result()
         if first and first[:2] == last[:2] and last[2] in first[2]:
             say("the proved program gives the same bytes")
             return last[0]
@@ -164,21 +221,14 @@ class Call:
             process.kill()
         to.close()
 
-    def run(self, command, memory=0, is_kept=True, **where):
-        """Runs a program over the trace, with this many MiB: returns its status, its output if that is kept, and its messages."""
-        process = subprocess.Popen(command, stdin=subprocess.PIPE, stdout=subprocess.PIPE if is_kept else None, stderr=subprocess.PIPE,
-                                   preexec_fn=lambda: child(memory=memory), restore_signals=False, **where)
-        to, process.stdin = process.stdin, None
-        threading.Thread(target=self.pass_on, args=(to, process), daemon=True).start()
-        output, said = process.communicate()
-        if self.failed:
-            raise self.failed
-        return 128 - status if (status := process.returncode) < 0 else status, output, said.decode(errors="replace")
-
-    def unproved(self, line):
-        """`rt try` runs the sources without their proofs, and leaves no program. Its own lines about that are left out."""
+    def begin_unproved(self):
+        """`rt try` runs the sources without their proofs, and leaves no program."""
         command = [f"{kit()}/bin/rt", "try", "--steps", "4000000000", "--seconds", "600", "--", *self.words]
-        status, output, said = self.run(command, cwd=self.crate.folder)
+        return Run(self, command, cwd=self.crate.folder)
+
+    def end_unproved(self, result, line):
+        """Prints the output of such a run, without rt's own lines about it."""
+        status, output, said = result
         status = status if re.search("^run=ended ", said, re.M) else 70
         said = re.sub("^(checked: |races: |run=).*\n", "", said, flags=re.M)
         self.finish(status, output, said)
