@@ -1,9 +1,9 @@
-"""The commands of the pages: each is run in a copy of the repository, or commands.txt says who runs it or why nobody does.
+"""The commands of the pages: each is run in a copy of the repository, or commands.txt says which test runs it or why none does.
 
-A command of a page is a line of a block that begins with a program's name, a line `$ COMMAND` with what it prints below it, or
-text in code of two words and more, of which the first one is a program's name. What stands behind three spaces, or behind `#`,
-is a remark. A synopsis, as `./fintaqush raise TRACE WORD ..`, is held against the program's usage text. What proves, measures or installs
-is run by hand: there has to be such a command.
+A command of a page is a line of a block that begins with a program's name, a line `$ COMMAND` with its output below it, or code
+of at least two words, of which the first one is a program's name. Text after three spaces, or after `#`, is a remark. A synopsis,
+such as `./fintaqush raise TRACE WORD ..`, is compared with the program's usage text. Commands that prove, measure or install are
+run by hand: the command has to exist.
 """
 import functools
 import os

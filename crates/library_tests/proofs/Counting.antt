@@ -1,4 +1,4 @@
--- How many calls of a kind several calls make, one after the other.
+-- How many calls of a kind are made in a sequence of calls.
 use Rattle.std.proofs.Common.{◌≡◌, ℕ, ◌+◌, Bool, false, cond, List, [], ◌∷◌, ◌++◌, flat_map, refl, sym, ap, ◌∙◌, arith}
 use Rattle.napi_model.specs.declared.event.{Call.Call, Event.Event, Operation.{Operation, TheVariants.{Look, Schedule, Take, Complete}}}
 use Rattle.napi_model.specs.declared.{event.{Prep.Prep, Done.Done}, state.{Seen.Seen, Kind.Kind}}
@@ -12,7 +12,7 @@ count_joined f (x ∷ xs) ys =
     let e = count_joined f xs ys in
     omega (arith, e)
 
--- what is lost is looks
+-- failed attempts are looks
 pub lost_none : {c : Call} (f : Operation → Bool) → ((x : Seen) → f (Look x) ≡ false) → (n : ℕ) (ts : List (Lost c)) (os : List Operation)
     → count f (events n (flat_map looks ts ++ os)) ≡ count f (events n os)
 lost_none f dull n [] os = refl
@@ -38,7 +38,7 @@ made f n {p} {q} {os} m is = record {
   own = ap (count f) m.grown ∙ count_joined f (own_list p) (events (number_of p) os) ∙ ap (λ (k : ℕ). count f (own_list p) + k) is;
 }
 
--- what a seat made since it was new, its number has in the history
+-- what a seat has made since it was new is what its number has in the history
 pub held : {n : Napi} {c k : ℕ} {f : Operation → Bool} {q : Pass} (h : List Event) → HasCalled n c f k q → own (number_of q) h ≡ own_list q
     → count f (own c h) ≡ k
 held {n} {c} {k} {f} {q} h has exact =

@@ -1,4 +1,4 @@
--- What several calls tell of a caller's own list, one after the other.
+-- What a sequence of calls says about a caller's own list.
 use Rattle.std.proofs.Common.{◌≡◌, List, [], ◌∷◌, ◌++◌, ℕ, true, refl}
 use Rattle.napi_model.specs.declared.{event.{Call.Call, Operation.{Operation, TheVariants.{Look, TakeDisable, Unmark}}}, state.Seen.Seen}
 use Rattle.{napi_model.specs.Word.word_of, napi_word.specs.declared.table.Pass.Pass}
@@ -32,7 +32,7 @@ then {p} {q} {r} {ts} {u} {us} d e = by e.operations e.told e.made
       made = more o ps d.made m;
     }
 
--- one operation, a look, one behind its look, and two looks of a call that was lost
+-- one operation, a look, one after its look, and two looks of a failed attempt
 pub one : {p q : Pass} (o : Operation) → Made p (o ∷ []) q → Did p (does o ∷ []) q
 one o m = record { operations = o ∷ []; told = (refl, tt); made = m }
 

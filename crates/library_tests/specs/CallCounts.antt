@@ -1,4 +1,4 @@
--- How many calls of a kind a caller's own list holds.
+-- How many calls of a kind are in a caller's own list.
 use Rattle.std.specs.Prelude.{◌≡◌, ℕ, ◌+◌, Bool, true, false, cond, List, [], ◌∷◌}
 use Rattle.napi_model.specs.declared.event.Event.{Event}
 use Rattle.napi_model.specs.declared.event.Operation.{Operation}
@@ -10,7 +10,7 @@ use Rattle.napi_calls.specs.declared.types.Napi.{Napi}
 use Rattle.napi_calls.specs.Instance.{IsNewSeat}
 use Rattle.napi_calls.specs.Seats.{SameSeat, own_list}
 
--- the events whose operation passes the test
+-- how many events have an operation that passes the test
 abbrev pub count : (Operation → Bool) → List Event → ℕ
 count f [] = 0
 count f (e ∷ es) = cond (f e.operation) 1 0 + count f es
@@ -23,16 +23,17 @@ abbrev pub is_take : Operation → Bool
 is_take (Take kind reply) = true
 is_take _ = false
 
--- from p on so many of them were made, on one seat
+-- from p on this many of them were made, on the same seat
 pub record Calls (f : Operation → Bool) (n : ℕ) (p q : Pass) : Type 0 where
   pub seat : SameSeat p q
   pub own : count f (own_list q) ≡ count f (own_list p) + n
 
--- the seat with this number of the instance made so many since it was new
+-- the seat with this number of the instance has made this many since it was new
 abbrev pub HasCalled : Napi → ℕ → (Operation → Bool) → ℕ → Pass → Type 0
 HasCalled napi c f n q = (p : Pass) × IsNewSeat napi c p × Calls f n p q
 
--- one legal history of three callers and the controller: 1000 schedules of each of the first two, so many takes of the third
+-- one legal history of three callers and the controller: 1000 schedules by each of the first two, and this many takes by the
+-- third
 pub record HoldCalls (takes : ℕ) : Type 0 where
   pub history : List Event
   pub legal : LegalHistory 3 (opening 3) history

@@ -1,4 +1,4 @@
--- What a run tells of a caller's own list.
+-- What a run says about a caller's own list.
 use Rattle.std.specs.Prelude.{◌≡◌, ◌≢◌, ℕ, List, [], ◌∷◌, Option, Some, None}
 use Rattle.napi_model.specs.declared.event.Operation.{Operation}
 use Rattle.napi_model.specs.declared.event.Operation.TheVariants.{Look}
@@ -9,7 +9,7 @@ use Rattle.napi_calls.specs.declared.answers.TryPrep.{TryPrep}
 use Rattle.napi_calls.specs.Made.{Made}
 use Rattle.napi_calls.specs.Calls.{Prepares}
 
--- a look that told this word, one within a call, two of a call that was lost, or another operation
+-- a look that showed this word, a look within a call, two looks of a failed attempt, or another operation
 pub data Told : Type 0 where
   says : ℕ → Told
   looks : Told
@@ -24,13 +24,13 @@ IsTold (changed ∷ ts) (Look x ∷ Look y ∷ os) = (y ≢ x) × IsTold ts os
 IsTold (does o ∷ ts) (p ∷ os) = (p ≡ o) × IsTold ts os
 IsTold _ _ = ⊥
 
--- from p on q's own list grew by what is told so
+-- from p to q the own list grew by these
 pub record Did (p : Pass) (ts : List Told) (q : Pass) : Type 0 where
   pub operations : List Operation
   pub told : IsTold ts operations
   pub made : Made p operations q
 
--- a caller who schedules while another is within a call, and what it is answered then
+-- a caller that schedules while another is within a call, and the result
 abbrev pub Asked : Option Caller → Option TryPrep → Type 0
 Asked (Some c) (Some a) = Prepares c.pass a
 Asked (Some c) None = ⊥

@@ -1,4 +1,4 @@
-//! An instance of two callers, and the answers that the runs want; another answer ends the test.
+//! An instance of two callers, and calls with the result that a test expects; any other result fails the test.
 
 ghost use Rattle.std.specs.Prelude.{◌≡◌, ◌≤◌, ℕ, [], ◌∷◌, length, slice_get, Some, true, false};
 ghost use Rattle.rx_ring.specs.Ends.{IsOneRing, received_list};
@@ -74,7 +74,7 @@ pub fn seat_two(
     }
 }
 
-/// A new bed.
+/// Returns a new bed.
 pub fn make_bed(rt: &impl Abort, alloc: Global) -> Bed
     ensures first { IsNewSeat result.napi 0 result.first.pass }
     ensures second { IsNewSeat result.napi 1 result.second.pass }
@@ -93,7 +93,7 @@ pub fn make_bed(rt: &impl Abort, alloc: Global) -> Bed
     seat_two(rt, input, napi, callers, control)
 }
 
-/// A look, which has to tell this word.
+/// Makes a look, which has to show this word.
 pub fn looked(rt: &impl Abort, napi: &Napi, caller: &mut Caller, word: u64)
     requires { IsSeatOf napi.now caller.old.pass }
     ensures seat { IsSeatOf napi.now caller.new.pass }
@@ -106,7 +106,7 @@ pub fn looked(rt: &impl Abort, napi: &Napi, caller: &mut Caller, word: u64)
     }
 }
 
-/// Enables the instance, which has to be decided at the first try.
+/// Enables the instance, which has to be decided at the first attempt.
 pub fn enabled(rt: &impl Abort, napi: &Napi, control: Control<Off>, threaded: bool) -> Control<On>
     requires { IsSeatOf napi.now control.pass }
     ensures seat { IsSeatOf napi.now result.pass }
@@ -119,7 +119,7 @@ pub fn enabled(rt: &impl Abort, napi: &Napi, control: Control<Off>, threaded: bo
     control
 }
 
-/// A schedule, which has to be granted.
+/// Makes a schedule, which has to be granted.
 pub fn granted(rt: &impl Abort, napi: &Napi, caller: Caller) -> Granted
     requires { IsSeatOf napi.now caller.pass }
     ensures seat { IsSeatOf napi.now result.pass }
@@ -132,7 +132,7 @@ pub fn granted(rt: &impl Abort, napi: &Napi, caller: Caller) -> Granted
     granted
 }
 
-/// A schedule, which has to be missed.
+/// Makes a schedule, which has to be missed.
 pub fn missed(rt: &impl Abort, napi: &Napi, caller: Caller) -> Caller
     requires { IsSeatOf napi.now caller.pass }
     ensures seat { IsSeatOf napi.now result.pass }
@@ -154,7 +154,7 @@ pub fn handed(napi: &Napi, granted: Granted, kind: Kind) -> Caller
     granted.hand(napi, kind)
 }
 
-/// Takes the instance, which has to be there.
+/// Takes the instance, which has to be in that queue.
 pub fn taken(rt: &impl Abort, napi: &Napi, caller: Caller, kind: Kind) -> Polling
     requires { IsSeatOf napi.now caller.pass }
     ensures seat { IsSeatOf napi.now result.pass }
@@ -167,7 +167,7 @@ pub fn taken(rt: &impl Abort, napi: &Napi, caller: Caller, kind: Kind) -> Pollin
     polling
 }
 
-/// Tries to take the instance, which must not be there.
+/// Tries to take the instance, which must not be in that queue.
 pub fn not_there(rt: &impl Abort, napi: &Napi, caller: Caller, kind: Kind) -> Caller
     requires { IsSeatOf napi.now caller.pass }
     ensures seat { IsSeatOf napi.now result.pass }
@@ -180,7 +180,7 @@ pub fn not_there(rt: &impl Abort, napi: &Napi, caller: Caller, kind: Kind) -> Ca
     caller
 }
 
-/// Completes, which has to be answered by another grant.
+/// Completes a poll, which has to be granted again.
 pub fn again(rt: &impl Abort, napi: &Napi, polling: Polling) -> Granted
     requires { IsSeatOf napi.now polling.pass }
     ensures seat { IsSeatOf napi.now result.pass }
@@ -193,7 +193,7 @@ pub fn again(rt: &impl Abort, napi: &Napi, polling: Polling) -> Granted
     granted
 }
 
-/// Completes, which has to release the instance.
+/// Completes a poll, which has to release the instance.
 pub fn released(rt: &impl Abort, napi: &Napi, polling: Polling) -> Caller
     requires { IsSeatOf napi.now polling.pass }
     ensures seat { IsSeatOf napi.now result.pass }
@@ -207,7 +207,7 @@ pub fn released(rt: &impl Abort, napi: &Napi, polling: Polling) -> Caller
     caller
 }
 
-/// Disables the instance, which nobody must have.
+/// Disables the instance, which no caller may own.
 pub fn disabled(rt: &impl Abort, napi: &Napi, control: Control<On>) -> Control<Off>
     requires { IsSeatOf napi.now control.pass }
     ensures seat { IsSeatOf napi.now result.pass }
@@ -221,7 +221,7 @@ pub fn disabled(rt: &impl Abort, napi: &Napi, control: Control<On>) -> Control<O
     control
 }
 
-/// Hands the instance to the list to be polled again.
+/// Queues the instance on the list to be polled again.
 pub fn requeued(napi: &Napi, polling: Polling) -> Caller
     requires { IsSeatOf napi.now polling.pass }
     ensures { IsSeatOf napi.now result.pass }
@@ -229,7 +229,7 @@ pub fn requeued(napi: &Napi, polling: Polling) -> Caller
     polling.requeue(napi)
 }
 
-/// Polls by this weight, which has to give these packets.
+/// Polls with this weight, which has to return these packets.
 pub fn polled(
     rt: &impl Abort,
     napi: &Napi,

@@ -1,4 +1,4 @@
-//! Busy polling: who takes an idle instance for it, what is held meanwhile, and the stop.
+//! Busy polling: taking an idle instance, held completions, and the stop.
 
 ghost use Rattle.std.specs.Prelude.{◌≡◌, [], ◌∷◌, true, false};
 ghost use Rattle.napi_model.specs.declared.state.Kind.TheVariants as kind;
@@ -57,7 +57,7 @@ pub(crate) fn stopped(rt: &impl Abort, napi: &Napi, busy: Busy) -> Polling
     polling
 }
 
-// Number 0 busy polls. Number 1 is missed, doesn't find the instance on the list, and is refused.
+// Number 0 busy polls. Number 1's request is missed, its take from the list fails, and so does its busy poll.
 fn miss_while_busy(rt: &impl Abort, napi: &Napi, first: Caller, second: Caller) -> (Caller, Caller)
     requires first { IsSeatOf napi.now first.pass }
     requires second { IsSeatOf napi.now second.pass }
@@ -90,8 +90,7 @@ fn miss_while_busy(rt: &impl Abort, napi: &Napi, first: Caller, second: Caller) 
     (first, second)
 }
 
-// Number 0 busy polls while the controller is to disable the instance. Number 1 sets it threaded between the two steps of the
-// stop.
+// Number 0 busy polls while the controller disables the instance. Number 1 sets it threaded between the two steps of the stop.
 fn set_within_a_stop(
     rt: &impl Abort,
     napi: &Napi,
@@ -255,7 +254,7 @@ const PACKET: Packet = Packet {
     bytes: 60,
 };
 
-// Busy polls once, which has to give these packets.
+// Busy polls once, which has to return these packets.
 fn busy_polled(rt: &impl Abort, napi: &Napi, busy: &mut Busy, packets: &[Packet])
     requires { IsSeatOf napi.now busy.old.pass }
     ensures { IsSeatOf napi.now busy.new.pass }
@@ -265,7 +264,7 @@ fn busy_polled(rt: &impl Abort, napi: &Napi, busy: &mut Busy, packets: &[Packet]
     assert_eq!(rt; batch.as_slice(), packets);
 }
 
-// By the waiting form, number 0 takes the instance to busy poll what was put; a poll that it completes is held.
+// With the waiting form, number 0 takes the instance to busy poll what was put; a poll that it completes is held.
 fn busy_twice(rt: &(impl Wait + Abort), napi: &Napi, first: Caller) -> Busy
     requires { IsSeatOf napi.now first.pass }
     ensures { IsSeatOf napi.now result.pass }
@@ -280,7 +279,7 @@ fn busy_twice(rt: &(impl Wait + Abort), napi: &Napi, first: Caller) -> Busy
     busy
 }
 
-// By the waiting form, number 1 can't take it.
+// With the waiting form, number 1 can't take it.
 fn not_taken(rt: &(impl Wait + Abort), napi: &Napi, second: Caller) -> Caller
     requires { IsSeatOf napi.now second.pass }
     ensures { IsSeatOf napi.now result.pass }
@@ -292,7 +291,7 @@ fn not_taken(rt: &(impl Wait + Abort), napi: &Napi, second: Caller) -> Caller
     second
 }
 
-// By the waiting forms, with packets: what is polled in between is what was put, and what is put after the ends of the ring
+// With the waiting forms, and packets: what is polled in between is what was put, and what is put after the ends of the ring
 // met isn't polled by the next poll.
 #[test]
 fn busy_polls_give_what_was_put(rt: HostRuntime) -> Result<(), Fail> {

@@ -1,4 +1,4 @@
-//! Two callers in threads of their own, which take turns by a lock: each reply is that of the turns before it.
+//! Two callers in two threads, which alternate by a lock: each reply depends on the turns before it.
 
 ghost use Rattle.std.specs.Prelude.{[], ◌∷◌, true, false};
 ghost use Rattle.napi_model.specs.declared.state.Kind.TheVariants as kind;
@@ -21,27 +21,27 @@ use std::test::Fail;
 use std::thread;
 use std::thread::Threads;
 
-// How many turns were made, and what wakes the thread whose turn is next.
+// How many turns were made, and the condition on which the next thread waits.
 #[derive(Drop)]
 struct Turns {
     made: Mutex<u32>,
     changed: Condvar,
 }
 
-// Waits until so many turns were made.
+// Waits until this many turns were made.
 fn await_turn<R: Wait>(rt: &R, turns: &Turns, made: u32) {
     let _made = turns
         .changed
         .wait_while(rt, turns.made.lock(rt), |count| *count != made);
 }
 
-// So many turns are made now.
+// Records that this many turns were made.
 fn end_turn<R: Wait>(rt: &R, turns: &Turns, made: u32) {
     *turns.made.lock(rt) = made;
     turns.changed.notify_all();
 }
 
-// Number 0 has the turns 0, 2 and 4: it is granted the instance, misses it, and takes and releases what number 1 hands over.
+// Number 0 has the turns 0, 2 and 4: it is granted the instance, misses it, and takes and releases what number 1 queues.
 fn first_turns<R: Wait + Abort>(rt: &R, napi: &Napi, first: Caller, turns: &Turns) -> Caller
     requires { IsSeatOf napi.now first.pass }
     ensures { Did first.pass
@@ -64,7 +64,7 @@ fn first_turns<R: Wait + Abort>(rt: &R, napi: &Napi, first: Caller, turns: &Turn
     released(rt, napi, poller)
 }
 
-// Number 1 has the turns 1 and 3: it takes the instance, and is granted it again and hands it over.
+// Number 1 has the turns 1 and 3: it takes the instance, and is granted it again and queues it.
 fn second_turns<R: Wait + Abort>(rt: &R, napi: &Napi, second: Caller, turns: &Turns) -> Caller
     requires { IsSeatOf napi.now second.pass }
     ensures { Did second.pass
@@ -81,7 +81,7 @@ fn second_turns<R: Wait + Abort>(rt: &R, napi: &Napi, second: Caller, turns: &Tu
     second
 }
 
-// Both callers, each in a thread of its own.
+// Runs both callers, each in its own thread.
 fn play<R: Threads + Wait + Abort + Copy + Drop + Send>(
     rt: R,
     napi: &Napi,

@@ -1,4 +1,4 @@
-//! What whoever has an instance tells of it, and the meetings of its ring's ends that no other test makes.
+//! Reads by the owners of an instance, and the meetings of its ring's ends that no other test makes.
 
 ghost use Rattle.napi_calls.specs.Instance.{IsSeatOf};
 ghost use Rattle.napi_calls.specs.Seats.{IsInputOf};
@@ -11,7 +11,7 @@ use rx_ring::{RxIn, ring};
 use std::process::Abort;
 use std::test::Fail;
 
-// The clauses of `beside` want an end of the instance's ring.
+// The contract of `beside` requires an end of the instance's ring.
 fn beside_of(control: &mut Control<Off>, input: &mut RxIn)
     requires { IsInputOf input.old control.old.pass }
 {

@@ -1,4 +1,4 @@
-//! What another does between the look and the exchange of one call.
+//! What another caller does between the look and the exchange of one call.
 
 ghost use Rattle.std.specs.Prelude.{◌≡◌, [], ◌∷◌, is_none, true, false, Some};
 ghost use Rattle.std.specs.Option.{ForSome};
@@ -20,13 +20,13 @@ use napi_model::Kind;
 use std::process::Abort;
 use std::test::Fail;
 
-/// Another caller, who schedules once in the middle of a call.
+/// Another caller, which schedules once during a call.
 pub struct Schedules<'a> {
     /// The instance.
     pub napi: &'a Napi,
     /// The caller, until it has scheduled.
     pub caller: Option<Caller>,
-    /// What it was answered then.
+    /// The result of its schedule.
     pub answer: Option<TryPrep>,
     ghost before: { ForSome caller (λ c. IsSeatOf napi.now c.pass × (is_none answer ≡ true)) },
     ghost after: { ForSome answer (λ a. IsSeatOf napi.now (seat_of a)) },
@@ -45,7 +45,7 @@ impl Between for Schedules<'_> {
 }
 
 impl Schedules<'_> {
-    /// What the schedule was answered.
+    /// Returns the result of the schedule.
     pub fn answered(self, rt: &impl Abort) -> TryPrep
         ensures seat { IsSeatOf self.entry.napi.now (seat_of result) }
         ensures answer { self.entry.answer ≡ Some result }
@@ -65,7 +65,7 @@ impl Schedules<'_> {
     }
 }
 
-/// Another caller, who sets the instance threaded in the middle of a call.
+/// Another caller, which sets the instance threaded during a call.
 pub struct SetsThreaded<'a> {
     /// The instance.
     pub napi: &'a Napi,

@@ -1,4 +1,4 @@
-//! Two pollers, each in a thread of its own: both batches joined are what was put and isn't left, each packet once.
+//! Two pollers, each in its own thread: both batches concatenated are what was put and isn't left, each packet once.
 
 ghost use Rattle.std.specs.Prelude.{◌≡◌, List, [], length};
 ghost use Rattle.rx_ring.specs.declared.packet.Packet.{Packet};
@@ -19,7 +19,7 @@ use std::sync::Wait;
 use std::test::Fail;
 use std::thread::{Threads, join, yield_now};
 
-// Asks for a poll, and hands to the list what it is granted.
+// Requests a poll, and queues the instance on the list if it is granted.
 fn ask(rt: &impl Wait, napi: &Napi, caller: Caller) -> Caller
     requires { IsSeatOf napi.now caller.pass }
     ensures seat { SameSeat caller.pass result.pass }
@@ -32,7 +32,7 @@ fn ask(rt: &impl Wait, napi: &Napi, caller: Caller) -> Caller
     }
 }
 
-// Waits until the instance is on the list, polls two packets of it, and hands it to the list again.
+// Waits until the instance is on the list, polls two of its packets, and queues it on the list again.
 fn poll_two(rt: &impl Wait, napi: &Napi, caller: Caller, batch: &mut Batch) -> Caller
     requires { IsSeatOf napi.now caller.pass }
     ensures seat { SameSeat caller.pass result.pass }
@@ -69,7 +69,7 @@ fn release(rt: &impl Wait, napi: &Napi, caller: Caller) -> Caller
     }
 }
 
-// Each poller in a thread of its own.
+// Runs each poller in its own thread.
 fn both<R: Threads + Wait + Copy + Drop + Send>(
     rt: R,
     napi: &Napi,
@@ -147,7 +147,7 @@ fn fill(rt: &impl Abort, input: &mut RxIn)
     }
 }
 
-// A new bed, with four packets in its ring.
+// Returns a new bed, with four packets in its ring.
 fn filled(rt: &impl Abort, alloc: Global) -> Bed
     ensures first { IsNewSeat result.napi 0 result.first.pass }
     ensures second { IsNewSeat result.napi 1 result.second.pass }

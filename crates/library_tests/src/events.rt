@@ -1,4 +1,4 @@
-//! Two callers in turn, with all their events: at the end the one history is read off.
+//! Two callers that alternate, with all their events: the one history is obtained at the end.
 
 ghost use Rattle.std.specs.Prelude.{◌≡◌, List, [], ◌∷◌};
 ghost use Rattle.napi_model.specs.declared.event.Event.{Event};

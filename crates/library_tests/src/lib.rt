@@ -1,5 +1,5 @@
-//! Tests of the library's calls, from other crates as their users are: worked runs, refusals, and threads. Nothing but tests
-//! stands here, so that the crates below are proved once.
+//! Tests of the library's calls, from another crate like those of its users: worked runs, failing calls, and threads. There are
+//! only tests here, so that the crates below are proved once.
 #![tactic(auto)]
 
 #[cfg(test)]

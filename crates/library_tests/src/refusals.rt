@@ -1,4 +1,4 @@
-//! What is refused, with what comes back.
+//! Calls that fail, and the values that they return.
 
 use crate::bed::{
     Bed, closed, disabled, enabled, granted, handed, make_bed, released, seat_two, taken,
@@ -63,7 +63,7 @@ fn poll_packet(rt: &impl Abort, alloc: Global, bed: Bed) {
     assert_eq!(rt; ctx.counts().packets, 1);
 }
 
-// Out of memory isn't taken here: the program `memory_tests` tries each call with its allocations refused.
+// The program `memory_tests` tests failing allocations.
 #[test]
 fn an_instance_polls_what_was_put_before_it_was_made(rt: HostRuntime) -> Result<(), Fail> {
     let (mut input, ctx) = ring(rt.alloc(), 4)?;

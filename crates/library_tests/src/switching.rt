@@ -1,4 +1,4 @@
-//! Calls that try until one decides come back, though another thread changes the word all the time and tries are lost.
+//! Calls that retry until an attempt decides return, even if another thread changes the word all the time and attempts fail.
 
 ghost use Rattle.napi_calls.specs.Instance.{IsSeatOf};
 
@@ -14,7 +14,7 @@ const SETTINGS: u64 = 10_000_000;
 
 const ROUNDS: u64 = 2000;
 
-// Sets and clears THREADED until it is over.
+// Sets and clears THREADED until `over` is set.
 fn keep_setting(napi: &Napi, caller: Caller, over: &AtomicBool) -> Caller
     requires { IsSeatOf napi.now caller.pass }
 {
@@ -28,7 +28,7 @@ fn keep_setting(napi: &Napi, caller: Caller, over: &AtomicBool) -> Caller
     caller
 }
 
-// Disables and enables so often.
+// Disables and enables this often.
 fn keep_switching(rt: &impl Wait, napi: &Napi, control: Control<On>) -> Control<On>
     requires { IsSeatOf napi.now control.pass }
 {
@@ -40,7 +40,7 @@ fn keep_switching(rt: &impl Wait, napi: &Napi, control: Control<On>) -> Control<
     control
 }
 
-// Completes a poll. The poll that has to follow goes to the list.
+// Completes a poll. If a request was missed, the instance goes to the list.
 fn completed(rt: &impl Wait, napi: &Napi, polling: Polling) -> Caller
     requires { IsSeatOf napi.now polling.pass }
     ensures { IsSeatOf napi.now result.pass }
@@ -51,7 +51,7 @@ fn completed(rt: &impl Wait, napi: &Napi, polling: Polling) -> Caller
     }
 }
 
-// Busy polls once, where the instance is idle.
+// Busy polls once, if the instance is idle.
 fn busy_once(rt: &impl Wait, napi: &Napi, caller: Caller) -> Caller
     requires { IsSeatOf napi.now caller.pass }
     ensures { IsSeatOf napi.now result.pass }
@@ -62,7 +62,7 @@ fn busy_once(rt: &impl Wait, napi: &Napi, caller: Caller) -> Caller
     }
 }
 
-// Asks for a poll, which goes to the list where it is granted.
+// Requests a poll, and queues the instance on the list if it is granted.
 fn ask_once(rt: &impl Wait, napi: &Napi, caller: Caller) -> Caller
     requires { IsSeatOf napi.now caller.pass }
     ensures { IsSeatOf napi.now result.pass }
@@ -88,7 +88,7 @@ fn poll_list(rt: &impl Wait, napi: &Napi, caller: Caller) -> Caller
     unreachable!()
 }
 
-// Busy polls and asks for polls so often.
+// Busy polls and requests polls this often.
 fn keep_polling(rt: &impl Wait, napi: &Napi, caller: Caller) -> Caller
     requires { IsSeatOf napi.now caller.pass }
 {

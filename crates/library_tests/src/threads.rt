@@ -1,4 +1,4 @@
-//! Two interrupts, a poller and the controller, each in a thread of its own.
+//! Two interrupts, a poller and the controller, each in its own thread.
 
 ghost use Rattle.std.specs.Prelude.{◌≡◌};
 ghost use Rattle.napi_word.specs.Passes.{SameTable};
@@ -57,7 +57,7 @@ fn seat_three(rt: &impl Abort, alloc: Global, ctx: RxCtx) -> Seated
     }
 }
 
-// Asks for a poll, and hands to the list what it is granted.
+// Requests a poll, and queues the instance on the list if it is granted.
 fn ask(rt: &impl Wait, napi: &Napi, caller: Caller) -> Caller
     requires { IsSeatOf napi.now caller.pass }
     ensures { Calls is_schedule 1 caller.pass result.pass }
@@ -69,7 +69,7 @@ fn ask(rt: &impl Wait, napi: &Napi, caller: Caller) -> Caller
     }
 }
 
-// Puts a packet before each schedule, where it has a ring.
+// Puts a packet before each schedule, if it has a ring.
 fn interrupt(
     rt: &impl Wait,
     napi: &Napi,
@@ -95,14 +95,14 @@ fn interrupt(
     caller
 }
 
-// What a poller did: where it stands, how many packets came in their turn, and how often it tried to take the instance.
+// What a poller did: its caller, how many packets arrived in order, and how often it tried to take the instance.
 struct Polled {
     caller: Caller,
     in_turn: u64,
     takes: u64,
 }
 
-// How many packets came in their turn, behind this batch.
+// Returns how many packets arrived in order, after this batch.
 fn counted(batch: &Batch, in_turn: u64) -> u64 {
     let mut next = in_turn;
     for packet in batch.as_slice() {
@@ -111,7 +111,7 @@ fn counted(batch: &Batch, in_turn: u64) -> u64 {
     next
 }
 
-// Takes the instance, if it is there, and polls it once: answers whether it was.
+// Takes the instance, if it is on the list, and polls it once; returns whether it was.
 fn turn(
     rt: &impl Wait,
     napi: &Napi,
@@ -199,7 +199,7 @@ fn switch(
     control
 }
 
-// Runs both interrupts, the poller and the controller, each in a thread of its own.
+// Runs both interrupts, the poller and the controller, each in its own thread.
 fn play<R: Threads + Wait + Copy + Drop + Send>(
     rt: R,
     napi: &Napi,
@@ -264,7 +264,7 @@ fn play<R: Threads + Wait + Copy + Drop + Send>(
     (first, second, poller, control)
 }
 
-// Closes the instance: its one history holds each caller's calls.
+// Closes the instance: its one history contains each caller's calls.
 fn closed(
     rt: &impl Abort,
     alloc: Global,

@@ -1,4 +1,4 @@
-//! Two callers in turn, each word looked at: the words are those of docs/FORMATS.md.
+//! Two callers that alternate, with every state word checked: the words are those of docs/FORMATS.md.
 
 ghost use Rattle.std.specs.Prelude.{[], ◌∷◌, true, false};
 ghost use Rattle.napi_model.specs.declared.state.Kind.TheVariants as kind;
@@ -18,7 +18,7 @@ use rx_ring::{Batch, Packet};
 use std::process::Abort;
 use std::test::Fail;
 
-// Number 1 polls what number 0 was granted, and number 0 what number 1 was granted again. Whatever they look at is told.
+// Number 1 polls what number 0 was granted, and number 0 what number 1 was granted again. All looks are recorded.
 fn take_turns(
     rt: &impl Abort,
     napi: &Napi,
@@ -85,7 +85,7 @@ fn two_callers(rt: HostRuntime) -> Result<(), Fail> {
     Ok(())
 }
 
-// What the calls give back or put into the slot has lost no packet: the batches joined are what was put.
+// The calls that give back or take the context lose no packet: the batches concatenated are what was put.
 #[test]
 fn no_packet_is_thrown_away(rt: HostRuntime) -> Result<(), Fail> {
     let Bed {
@@ -126,7 +126,7 @@ fn no_packet_is_thrown_away(rt: HostRuntime) -> Result<(), Fail> {
     Ok(())
 }
 
-// The mark of `beside` ends where the context is given back: the next poller finds what was put meanwhile.
+// The mark of `beside` ends when the context is given back: the next poller finds what was put meanwhile.
 #[test]
 fn what_is_put_behind_a_meeting_is_polled(rt: HostRuntime) -> Result<(), Fail> {
     let Bed {
@@ -158,7 +158,8 @@ fn what_is_put_behind_a_meeting_is_polled(rt: HostRuntime) -> Result<(), Fail> {
     Ok(())
 }
 
-// Number 0 sets the instance threaded and asks again while number 1 polls it, who hands it to the thread and takes it there.
+// Number 0 sets the instance threaded and requests a poll again while number 1 polls it; number 1 queues it for the thread and
+// takes it from there.
 fn hand_to_the_thread(
     rt: &impl Abort,
     napi: &Napi,
@@ -196,7 +197,7 @@ fn hand_to_the_thread(
     (first, released(rt, napi, poller))
 }
 
-// An instance that is set threaded while it is polled is handed to its thread, and taken from there alone.
+// An instance that is set threaded while it is polled is queued for its thread, and can only be taken from there.
 #[test]
 fn what_the_thread_has_isnt_on_the_list(rt: HostRuntime) -> Result<(), Fail> {
     let Bed {

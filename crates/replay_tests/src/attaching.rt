@@ -1,12 +1,12 @@
-//! Devices whose memory is refused, and devices of all numbers.
+//! Failing allocations for devices, and devices of all numbers.
 
 use crate::sides::told_of;
 use device_model::{ReplayBench, SerialBench, SharedBench};
 use std::alloc::{AllocError, Global};
 use std::test::Fail;
 
-// Where memory is refused (`rt try --test --fail-alloc 5`, to 8) nothing changed, and the next call attaches the device. One
-// that is there stays as it is, be memory refused or not.
+// If an allocation fails (`rt try --test --fail-alloc 5`, to 8) nothing changes, and the next call attaches the device. A
+// device that exists is unchanged, whether or not an allocation fails.
 #[test]
 fn attached_again(rt: HostRuntime) -> Result<(), Fail> {
     let mut bench = SerialBench::new(rt.alloc())?;
@@ -24,7 +24,7 @@ fn attached_again(rt: HostRuntime) -> Result<(), Fail> {
     Ok(())
 }
 
-// Devices of all numbers, with rings of 333 places and more.
+// Devices of all numbers, with rings of capacity 333 and more.
 fn attach_each<B: ReplayBench>(alloc: Global, bench: &mut B) -> Result<(), AllocError> {
     for device in 1..17u32 {
         bench.attach(alloc, device, 333 * device, 0)?;

@@ -1,4 +1,4 @@
-//! A bench of one thread: what is counted of a device, and each call of a row.
+//! A bench of one thread: the counts of a device, and each call of a row.
 
 use device_model::{DeviceCounts, DeviceState, ReplayBench, SerialBench, TxCounts};
 use napi_model::Kind;

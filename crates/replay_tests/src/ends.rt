@@ -1,4 +1,4 @@
-//! A trace and its reports, and readers and writers that give or take a byte at a time and fail.
+//! A trace and its reports, and readers and writers that transfer one byte at a time and fail.
 
 use std::alloc::Global;
 use std::io;
@@ -22,7 +22,7 @@ total devices 1 runs 1 polls 1 work 1 squeezed 0
 /// Its report with threads.
 pub(crate) const ONE_PACKET_THREADS: &str = "device 1 arrived 1 bytes 100\ntotal devices 1\n";
 
-/// Gives a byte at a time, and fails at one of its reads.
+/// Returns one byte at a time, and fails at one of its reads.
 #[derive(Drop)]
 pub(crate) struct FailingReader {
     bytes: &'static [u8],
@@ -30,7 +30,7 @@ pub(crate) struct FailingReader {
 }
 
 impl FailingReader {
-    /// A reader of this text that fails after so many reads.
+    /// Returns a reader of this text that fails after this many reads.
     pub(crate) fn new(text: &'static str, before: u32) -> FailingReader {
         FailingReader {
             bytes: text.as_bytes(),
@@ -54,16 +54,16 @@ impl Read for FailingReader {
     }
 }
 
-/// Takes a byte at a time, and fails at one of its writes.
+/// Takes one byte at a time, and fails at one of its writes.
 #[derive(Drop)]
 pub(crate) struct FailingWriter {
-    /// The bytes taken.
+    /// The bytes that were written.
     pub(crate) taken: Vec<u8>,
     before: u32,
 }
 
 impl FailingWriter {
-    /// A writer that fails after so many writes.
+    /// Returns a writer that fails after this many writes.
     pub(crate) fn new(alloc: Global, before: u32) -> FailingWriter {
         FailingWriter {
             taken: Vec::new(alloc),
@@ -90,16 +90,16 @@ impl Write for FailingWriter {
     }
 }
 
-/// Gives a front, and then the same bytes again and again, so many in all.
+/// Returns a first part, and then the same bytes again and again, this many in all.
 #[derive(Drop)]
 pub(crate) struct LongReader<'a> {
-    /// What comes first.
+    /// The first part.
     pub(crate) front: &'static [u8],
-    /// What comes then, again and again.
+    /// The bytes that are repeated after it.
     pub(crate) again: &'static [u8],
-    /// How many bytes are left to give.
+    /// How many bytes are left.
     pub(crate) left: u64,
-    /// How many bytes were given.
+    /// How many bytes were read.
     pub(crate) given: &'a mut u64,
 }
 

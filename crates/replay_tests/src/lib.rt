@@ -1,5 +1,5 @@
-//! Tests that cross crates: what no contract says of whole replays, of the machine, of readers and writers that fail, and of
-//! benches. Nothing but tests stands here, so that the crates below are proved once.
+//! Tests that involve several crates: what no contract says about whole replays, the machine, readers and writers that fail,
+//! and benches. There are only tests here, so that the crates below are proved once.
 #![tactic(auto)]
 
 #[cfg(test)]

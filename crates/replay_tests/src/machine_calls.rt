@@ -7,7 +7,7 @@ use machine::{
 use std::alloc::Global;
 use std::test::Fail;
 
-// The last row's moment falls.
+// The last row's moment decreases.
 const ARRIVALS: &str = "moment,device,bytes\n5,1,100\n5,2,60\n4,1,60\n";
 
 // Flows of one to twenty digits, the last of them 10^20 - 1.
@@ -60,7 +60,7 @@ const TAKEN: [&str; 42] = [
     "--wake=1000000000",
 ];
 
-// A value below or above the range of each option, options that there aren't any more, and what no option takes.
+// A value below or above the range of each option, former options, and values that no option accepts.
 const REFUSED: [&str; 35] = [
     "--processors=0",
     "--processors=65",

@@ -1,4 +1,4 @@
-//! Whole runs, and each fault of arrivals.
+//! Whole runs, and each error of arrivals.
 
 use crate::ends::{FailingReader, FailingWriter};
 use machine::{MachineFault, Settings, fault_line, parse_words, run_machine, status};
@@ -49,7 +49,7 @@ time 0 end 132000 interrupt 4000 poll 5000 use 120000 idle 3000
 total devices 1 arrived 4 dropped 0 polled 4 refused 0 used 4
 ";
 
-// Of tests/machine_model.py.
+// From tests/machine_model.py.
 const SMALL_SOCKET: &str =
     "device 1 arrived 3 dropped 0 polled 3 interrupts 1 polls 1 mean 8000 wait50 10000 wait90 10992 wait99 10992 wait999 10992 most 11000
 device 2 arrived 1 dropped 0 polled 1 interrupts 1 polls 1 mean 13500 wait50 13488 wait90 13488 wait99 13488 wait999 13488 most 13500
@@ -59,7 +59,7 @@ application 0 end 73000 wakes 1 use 60000 idle 10000
 total devices 2 arrived 4 dropped 0 polled 4 refused 2 used 2
 ";
 
-// Of tests/machine_model.py.
+// From tests/machine_model.py.
 const FLOWS_REPORT: &str =
     "device 1 arrived 1 dropped 0 polled 1 interrupts 1 polls 1 mean 6000 wait50 6000 wait90 6000 wait99 6000 wait999 6000 most 6000
 device 2 arrived 2 dropped 0 polled 2 interrupts 1 polls 1 mean 6000 wait50 2000 wait90 10000 wait99 10000 wait999 10000 most 10000
@@ -71,7 +71,7 @@ time 1 end 19000 interrupt 8000 poll 5000 use 6000 idle 0
 total devices 3 arrived 4 dropped 0 polled 4 refused 0 used 4
 ";
 
-// The machine that these arguments ask for.
+// Returns the machine that these arguments ask for.
 fn machine_of(alloc: Global, words: &[&str]) -> Result<Settings, Fail> {
     let mut given = Vec::new(alloc);
     for word in words {
@@ -155,7 +155,7 @@ fn writes_fail_in_turn(rt: HostRuntime) -> Result<(), Fail> {
     Ok(())
 }
 
-// The line and the exit status of the fault that these bytes have.
+// Returns the message and the exit status of the error of these bytes.
 fn fault_of(alloc: Global, text: &str, settings: &Settings) -> Result<(String, u8), Fail> {
     let mut report = Vec::new(alloc);
     let answer = run_machine(alloc, text.as_bytes(), &mut report, settings);

@@ -1,4 +1,4 @@
-//! How the records of a trace may be written, and what a reader makes of bytes that are none.
+//! How the records of a trace may be written, and the result for bytes that aren't records.
 
 use crate::ends::HEADER;
 use device_model::{Event, Row, Trace, TraceFault, read_trace};
@@ -14,7 +14,7 @@ fn row(moment: u64, device: u32, event: Event, value: u32) -> Row {
     }
 }
 
-// What a text of these rows below the header is read as.
+// Returns what is read from a text of these rows after the header.
 fn read_rows(alloc: Global, rows: &str) -> Result<Trace, TraceFault> {
     let text = format!(in alloc; "{HEADER}{rows}").map_err(|_| TraceFault::OutOfMemory)?;
     read_trace(alloc, text.as_bytes())

@@ -1,4 +1,4 @@
-//! Whole replays over instances that threads could share, beside those on one thread; and the end of a bench.
+//! Whole replays on instances that threads could share, compared with those on one thread; and the end of a bench.
 
 use crate::ends::HEADER;
 use crate::sides::told_of;
@@ -10,7 +10,7 @@ use replay::{ReplayFault, Settings, replay_serial, replay_shared};
 use std::alloc::{AllocError, Global};
 use std::test::Fail;
 
-// Rows, each text as many times as told, with their budget, weight and window.
+// Rows, each text repeated as often as given, with their budget, weight and window.
 struct Rows {
     name: &'static str,
     rows: &'static [(u32, &'static str)],
@@ -103,7 +103,7 @@ const TRACES: [Rows; 9] = [
     },
 ];
 
-// The text of the first of these rows.
+// Returns the text of the first of these rows.
 fn front_of(alloc: Global, rows: &str, count: usize) -> Result<String, AllocError> {
     let mut text = String::from_str(alloc, HEADER)?;
     for row in rows.lines().take(count) {
@@ -113,7 +113,7 @@ fn front_of(alloc: Global, rows: &str, count: usize) -> Result<String, AllocErro
     Ok(text)
 }
 
-// Both modes give the same bytes or the same fault behind each row of each trace.
+// Both modes have the same bytes or the same error after each row of each trace.
 #[test]
 fn shared_as_serial_behind_each_row(rt: HostRuntime) -> Result<(), Fail> {
     for trace in &TRACES {
@@ -138,7 +138,7 @@ fn shared_as_serial_behind_each_row(rt: HostRuntime) -> Result<(), Fail> {
     Ok(())
 }
 
-// What arrived is polled or left. Then the bench ends, whose instances are handed over, repolled, to be disabled or disabled.
+// What arrived is polled or left. Then the bench ends, with instances that are queued, repolled, being disabled or disabled.
 #[test]
 fn packets_at_the_end(rt: HostRuntime) -> Result<(), Fail> {
     let mut bench = SharedBench::new(&rt, rt.alloc())?;
@@ -146,18 +146,18 @@ fn packets_at_the_end(rt: HostRuntime) -> Result<(), Fail> {
         assert_eq!(rt; bench.attach(rt.alloc(), device, 4, 0), Ok(()));
     }
     assert_eq!(rt; bench.attached(), 5);
-    // Repolled, and so handed to the list again.
+    // Repolled, and so queued on the list again.
     assert_eq!(rt; bench.arrive(2, 100), Some(Kind::List));
     assert_eq!(rt; bench.arrive(2, 60), None);
     let once = bench.poll_once(2, 1);
     assert_eq!(rt; (once.work, once.next), (1, Next::Repoll));
-    // Handed to its thread.
+    // Queued for its thread.
     bench.set_threaded(3, true);
     assert_eq!(rt; bench.arrive(3, 7), Some(Kind::Thread));
-    // Handed to the list, with a disable that is pending.
+    // Queued on the list, with a disable that is pending.
     assert_eq!(rt; bench.arrive(5, 8), Some(Kind::List));
     bench.disable(5);
-    // Off.
+    // Disabled.
     bench.disable(16);
     bench.disable(7);
     bench.settle();
@@ -205,7 +205,7 @@ fn packets_at_the_end(rt: HostRuntime) -> Result<(), Fail> {
     Ok(())
 }
 
-// One more device, and one that is there already, leave a device as it was.
+// Attaching one more device, or one that exists, doesn't change a device.
 #[test]
 fn another_device_stays(rt: HostRuntime) -> Result<(), Fail> {
     let mut bench = SharedBench::new(&rt, rt.alloc())?;
@@ -214,7 +214,7 @@ fn another_device_stays(rt: HostRuntime) -> Result<(), Fail> {
     bench.send(1, 1500);
     assert!(rt; bench.uses_transmit(1));
     let before = told_of(&bench, 1);
-    // A device that is there stays as it is.
+    // A device that exists is unchanged.
     assert_eq!(rt; bench.attach(rt.alloc(), 1, 8, 5), Ok(()));
     assert_eq!(rt; bench.attach(rt.alloc(), 3, 65536, 5), Ok(()));
     assert_eq!(rt; told_of(&bench, 1), before);
@@ -224,8 +224,8 @@ fn another_device_stays(rt: HostRuntime) -> Result<(), Fail> {
     Ok(())
 }
 
-// A fault in mid-trace ends the bench, with a packet in a ring and a disable that is pending, and is answered; so is want of
-// memory, wherever it comes (`rt try --test --fail-alloc 1`, to 40), and the next replay goes through.
+// An error in the middle of a trace ends the bench, with a packet in a ring and a disable that is pending, and is returned; so
+// is a failing allocation, wherever it occurs (`rt try --test --fail-alloc 1`, to 40), and the next replay succeeds.
 #[test]
 fn fault_in_mid_trace(rt: HostRuntime) {
     let text = "moment,device,event,value\n0,1,open,4\n1,1,rx,100\n2,1,disable,0\n3,1,enable,0\n";

@@ -1,10 +1,10 @@
-//! What is told of a device, and of its transmit side.
+//! The counts of a device, and of its transmit side.
 
 use device_model::{DeviceCounts, ReplayBench, ScriptDevice, SerialBench, opening_of, read_trace};
 use poll_engine::{Act, Device};
 use std::test::Fail;
 
-/// What is told of a device, where it is attached.
+/// Returns the counts of a device, if it is attached.
 pub(crate) fn told_of<B: ReplayBench>(bench: &B, device: u32) -> Option<DeviceCounts> {
     if bench.is_attached(device) {
         Some(bench.counts(device))
@@ -13,7 +13,7 @@ pub(crate) fn told_of<B: ReplayBench>(bench: &B, device: u32) -> Option<DeviceCo
     }
 }
 
-// A done row of no packets counts nothing, and is yet a row of the transmit side.
+// A done row of no packets counts nothing, but is a row of the transmit side.
 #[test]
 fn used_without_a_packet(rt: HostRuntime) -> Result<(), Fail> {
     let mut bench = SerialBench::new(rt.alloc())?;
@@ -34,7 +34,7 @@ fn used_without_a_packet(rt: HostRuntime) -> Result<(), Fail> {
     Ok(())
 }
 
-// A device's acts play its tx and done rows as they are asked for.
+// A device's acts apply its tx and done rows when they are asked for.
 #[test]
 fn scripted(rt: HostRuntime) -> Result<(), Fail> {
     let text = "moment,device,event,value

@@ -1,4 +1,4 @@
-//! A user of `device_model` alone: its clause counts the rows of a trace that it was handed.
+//! A program that uses only `device_model`: its contract counts the rows of a trace.
 #![tactic(auto)]
 
 ghost use Rattle.std.specs.Prelude.{◌≡◌, filter, length};
@@ -12,7 +12,7 @@ fn is_arrival(row: &Row) -> bool
     matches!(row.event, Event::Rx)
 }
 
-/// How many packets arrive in a trace.
+/// Returns how many packets arrive in a trace.
 pub fn arrivals(trace: &Trace) -> usize
     ensures { result ≡ length (filter (λ row. is_rx row.event) trace.now.rows) }
 {

@@ -1,4 +1,5 @@
-//! A user of `dql_core` alone: its clauses speak of the limit in whole numbers that a limit of wrapping counters shows.
+//! A program that uses only `dql_core`: its contract is about the limit in whole numbers that a limit of wrapping counters
+//! represents.
 #![tactic(auto)]
 
 ghost use Rattle.std.specs.Prelude.{◌≡◌, true, false};
@@ -8,7 +9,7 @@ ghost use Rattle.dql_core.specs.declared.whole.Limit.{Limit};
 
 use dql_core::Dql;
 
-/// Queues an object where bytes are available, and answers whether it was queued. One that wasn't left the limit as it was.
+/// Queues an object if enough bytes are available, and returns whether it did; otherwise the limit is unchanged.
 pub fn queue_within(limit: &mut Dql, count: u32) -> bool
     ensures queued { result ≡ true → (s : Limit) → Shows limit.old s
         → Shows limit.new (after_queued s count) }

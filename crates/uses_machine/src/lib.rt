@@ -1,5 +1,5 @@
-//! A user of `machine` alone: a run, with the exit status of a program where it is refused. Of what was written it passes on what
-//! `run_machine` promises.
+//! A program that uses only `machine`: a run, with the exit status of an error. Its contract on the output is that of
+//! `run_machine`.
 #![tactic(auto)]
 
 ghost use Rattle.std.specs.Prelude.{◌≡◌, IfErr, OnOk};
@@ -12,7 +12,7 @@ use machine::{Settings, run_machine, status};
 use std::alloc::Global;
 use std::io::{Read, Write};
 
-/// Runs the machine of these settings on arrivals, and writes its report. The error is the exit status.
+/// Runs the machine with these settings on arrivals, and writes its report. The error is the exit status.
 pub fn run<R: Read + Drop, W: Write>(
     alloc: Global,
     reader: R,

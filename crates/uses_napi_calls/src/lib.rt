@@ -1,5 +1,5 @@
-//! A user of `napi_calls` alone: its clauses say that the controller's seat stays one of its instance, what the instance's
-//! history goes on from, and in what state the type of a control says that the instance is.
+//! A program that uses only `napi_calls`: its contract states that the controller's seat still belongs to its instance, how the
+//! instance's history continues, and which state the type of the controller implies.
 #![tactic(auto)]
 
 ghost use Rattle.std.specs.Prelude.{◌≡◌, false};
@@ -10,7 +10,7 @@ ghost use Rattle.napi_calls.specs.Seats.{SameSeat, ShowsLegal, shown, state_of};
 use napi_calls::{Control, Napi, On};
 use std::sync::Wait;
 
-/// Resets a card: waits until nobody polls its instance, and lets it go again, to be polled from the list.
+/// Resets a card: waits until no caller owns its instance, and enables it again, to be polled from the list.
 pub fn reset<R: Wait>(rt: &R, napi: &Napi, control: Control<On>) -> Control<On>
     requires { IsSeatOf napi.now control.pass }
     ensures seat { SameSeat control.pass result.pass }

@@ -1,4 +1,4 @@
-//! A user of `napi_model` alone: its clauses speak of the state that an instance is left in, and of the reply that this state
+//! A program that uses only `napi_model`: its contract states the instance's state after a call, and the reply that the state
 //! determines.
 #![tactic(auto)]
 
@@ -10,8 +10,8 @@ ghost use Rattle.napi_model.specs.declared.state.Place.TheVariants.{Listed};
 
 use napi_model::{Kind, Prep, SerialNapi};
 
-/// A request for a poll, with the handing over that has to follow a grant. Answers the reply to it: an instance that was granted
-/// is on the list now.
+/// Requests a poll, and queues the instance if it is granted. Returns the reply; an instance that was granted is on the list
+/// then.
 pub fn interrupt(napi: &mut SerialNapi, who: u32) -> Prep
     ensures reply { result ≡ schedule_reply (state_of napi.old) }
     ensures listed { result ≡ Granted → (state_of napi.new).place ≡ Listed }

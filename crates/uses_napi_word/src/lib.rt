@@ -1,4 +1,4 @@
-//! A user of `napi_word` alone: its clauses say which step of its own a pass made, and that it stays a pass of its table.
+//! A program that uses only `napi_word`: its contract states which step a pass made, and that it still belongs to its table.
 #![tactic(auto)]
 
 ghost use Rattle.std.specs.Prelude.{◌≡◌, None, false};
@@ -8,7 +8,7 @@ ghost use Rattle.napi_word.specs.Slot.{stays};
 
 use napi_word::{Pass, StateTable};
 
-/// Whether a request for a poll may be tried now. Where a disable is pending it was refused by this step.
+/// Returns whether a request for a poll may be tried now. If a disable is pending, this step was the failed request.
 pub fn may_ask(table: &StateTable, pass: &mut Pass) -> bool
     requires { IsPassOf table.now pass.old }
     ensures pass { IsPassOf table.now pass.new }

@@ -1,5 +1,5 @@
-//! A user of `poll_engine` alone: a bench of its own, with a relation of its own that tells its polls, and a run over it, of which
-//! it passes on what `run_softirq` promises.
+//! A program that uses only `poll_engine`: its own bench, with its own relation for the polls, and a run over it, whose
+//! contract is that of `run_softirq`.
 #![tactic(auto)]
 
 ghost use Rattle.std.specs.Prelude.{◌≤◌, List};
@@ -10,7 +10,7 @@ ghost use Rattle.uses_poll_engine.specs.Polled.{Polls};
 
 use poll_engine::{Bench, BusyReport, Next, Once, PlainList, RunReport, ThreadReport, run_softirq};
 
-/// A card with so many packets.
+/// A card with this many packets.
 #[derive(Drop)]
 pub struct Card {
     /// The packets that wait to be polled.

@@ -1,5 +1,5 @@
-//! A user of `replay` alone: a replay on one thread, with the exit status of a program where it is refused. Of what was written it
-//! passes on what `replay_serial` promises.
+//! A program that uses only `replay`: a replay on one thread, with the exit status of an error. Its contract on the output is
+//! that of `replay_serial`.
 #![tactic(auto)]
 
 ghost use Rattle.std.specs.Prelude.{◌≡◌, Ok, IfErr, OnOk};
@@ -12,7 +12,7 @@ use replay::{Settings, replay_serial, status};
 use std::alloc::Global;
 use std::io::{Read, Write};
 
-/// Replays a trace by these settings, and writes the report of it. The error is the exit status.
+/// Replays a trace with these settings, and writes its report. The error is the exit status.
 pub fn replay<R: Read + Drop, W: Write>(
     alloc: Global,
     reader: R,

@@ -1,5 +1,5 @@
-//! A user of `tx_ring` alone: its clauses speak of the transmit queue that a ring shows, and of the first reason why a packet
-//! isn't sent.
+//! A program that uses only `tx_ring`: its contract is about the transmit queue that a ring represents, and about the first
+//! reason why a packet can't be sent.
 #![tactic(auto)]
 
 ghost use Rattle.std.specs.Prelude.{◌≡◌, ◌↔◌, None, true};
@@ -8,7 +8,7 @@ ghost use Rattle.tx_ring.specs.Ring.{ShowsQueue};
 
 use tx_ring::TxRing;
 
-/// Sends a packet where nothing speaks against it, and answers whether it was sent.
+/// Sends a packet, and returns whether that succeeded.
 pub fn is_sent(ring: &mut TxRing, bytes: u32) -> bool
     ensures when { (t : TransmitQueue) → ShowsQueue ring.old t
         → (result ≡ true) ↔ (send_fault t bytes ≡ None) }

@@ -1,6 +1,6 @@
 use Rattle.std.proofs.Common.{◌≡◌, ◌*◌, ◌≤◌, take}
 use Rattle.replay_rows.specs.Report.{totals_of}
-use Rattle.replay_rows.proofs.report.Totals.of.Given as goal
+use Rattle.replay_rows.proofs.report.RunTotals.of.Given as goal
 
 abbrev pub invariant-loop-line : goal.invariant-loop-line
 invariant-loop-line l = record {
