@@ -1,7 +1,6 @@
 //! Traces with what each mode answers, worked by hand: the report, or the line of the fault. They are read from memory, and the
 //! reports are written to memory.
 
-use crate::ends::HEADER;
 use crate::failing::{MODES, replay_in};
 use replay::{Mode, ReplayFault, Settings, fault_line, status};
 use std::alloc::{AllocError, Global};
@@ -9,6 +8,7 @@ use std::process::Abort;
 use std::sync::Wait;
 use std::test::Fail;
 use std::thread::Threads;
+use test_ends::HEADER;
 
 // A trace, each text as many times as told, played by a budget of so many packets and a window of so many polls. With threads
 // the report tells arrivals and transmit state alone.

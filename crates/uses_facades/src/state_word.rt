@@ -1,0 +1,17 @@
+//! A user of `napi_word` alone: its clauses say which step of its own a pass made, and that it stays a pass of its table.
+
+ghost use Rattle.std.specs.Prelude.{◌≡◌, None, false};
+ghost use Rattle.napi_word.specs.Events.{by_load};
+ghost use Rattle.napi_word.specs.Passes.{IsPassOf, Makes};
+ghost use Rattle.napi_word.specs.Slot.{stays};
+
+use napi_word::{Pass, StateTable};
+
+/// Whether a request for a poll may be tried now. Where a disable is pending it was refused by this step.
+pub fn may_ask(table: &StateTable, pass: &mut Pass) -> bool
+    requires { IsPassOf table.now pass.old }
+    ensures pass { IsPassOf table.now pass.new }
+    ensures refused { result ≡ false → Makes pass.old (by_load None) stays pass.new }
+{
+    table.schedule_load(pass).is_some()
+}
