@@ -1,8 +1,9 @@
-"""What ./replay and build.sh prove and build by. Libraries stand in a folder of their own, with their statements alone as `rt ci` leaves
-them: a check over their proofs, which `rt lib` keeps, loads several times as much. So `rattle` is called as `rt ci` calls it.
+"""How ./replay and build.sh prove and build. Libraries are in a folder of their own, with only their statements, as `rt ci`
+leaves them: a check that also loads their proofs, which `rt lib` keeps, needs several times the memory. So `rattle` is
+called as `rt ci` calls it.
 
-Beside what was built, NAME, stands NAME.sum: checksums of the sources that it was made of, and of itself. So what a copied checkout has,
-or another one has built, is as good as what is built here, whatever the times of its files."""
+Next to each built file NAME is NAME.sum: checksums of the sources that it was made from, and of itself. So what was copied
+with a checkout, or was built in another one, counts as built here, whatever the times of its files."""
 import contextlib
 import ctypes
 import fcntl
@@ -19,7 +20,7 @@ import sys
 import time
 
 TOP = os.path.dirname(os.path.dirname(os.path.realpath(__file__)))
-# Where git doesn't look, or, in what is no clone, where caches are.
+# A folder that git ignores, or outside a clone the user's cache.
 CACHE = os.environ.get("XDG_CACHE_HOME") or os.path.expanduser("~/.cache")
 BUILT = f"{TOP}/.git/built" if os.path.isdir(f"{TOP}/.git") else f"{CACHE}/fintaqush/{TOP.replace('/', '%')}"
 AT_WORK = {}  # the crates that are being built, and the process of each
@@ -31,7 +32,8 @@ INSTALLED = not os.path.exists(f"{TOP}/crates.txt")  # by scripts/install.sh, wh
 
 
 class Sums(dict):
-    """Checksums of files by their paths below the top, each behind the times and the size that the file had: such a file isn't read again."""
+    """Checksums of files by their paths below the top, each with the times and the size of its file: while these stay the same, the file
+    isn't read again."""
 
     def __init__(self):
         super().__init__()
@@ -46,13 +48,13 @@ class Sums(dict):
             return self[at][3]
         with open(path, "rb") as file:
             sum = hashlib.sha256(file.read()).hexdigest()
-        # A file that was changed just now may be changed once more at the same time, as far as its times tell.
+        # A file that was changed just now may be changed again within the resolution of its times.
         if time.time_ns() - max(state[:2]) > 10**9:
             self[at], self.is_changed = [*state, sum], True
         return sum
 
     def keep(self):
-        """For later calls, where this one may write."""
+        """Keeps them for later calls, if this one may write."""
         if self.is_changed:
             with contextlib.suppress(OSError):
                 with open(f"{self.kept}.{os.getpid()}", "w", encoding="utf-8") as file:
@@ -62,7 +64,7 @@ class Sums(dict):
 
 
 class Stop(Exception):
-    """The end of a call: its status, and its line on standard error."""
+    """The end of a call: its status, and its message on standard error."""
 
 
 def read(path):
@@ -71,7 +73,7 @@ def read(path):
 
 
 def write(text, end=1):
-    """Writes all of it, and returns whether that went well."""
+    """Writes all of it, and returns whether that succeeded."""
     with contextlib.suppress(OSError), open(end, "wb", closefd=False) as file:
         file.write(text)
         return True
@@ -79,7 +81,7 @@ def write(text, end=1):
 
 
 def clear():
-    """Takes away the line that tells how far a build is, where one stands."""
+    """Removes the progress line, if there is one."""
     if AT_WORK and os.isatty(2):
         write(CLEAR.encode(), 2)
 
@@ -90,7 +92,8 @@ def say(line):
 
 
 def end_by(call):
-    """Ends this process as the call ends, by its status or by a line and a status; or by a signal's. What it began ends with it."""
+    """Ends this process as the call ends, with its status or with a message and a status; or by a signal. Its child processes
+    end with it."""
     def interrupt(number, _):
         say("interrupted" + "; each crate that was proved is kept" * bool(AT_WORK))
         os._exit(130 if number == signal.SIGINT else 143)
@@ -106,7 +109,7 @@ def end_by(call):
 
 
 def child(memory=0):
-    """What a process of this one does as it begins: it ends with this one, however that ends, and has so many MiB."""
+    """What a child process does first: it ends with its parent, however that ends, and its memory is limited to this many MiB."""
     LIBC.prctl(1, signal.SIGTERM)  # PR_SET_PDEATHSIG
     with contextlib.suppress(OSError):  # else the prover's processes wake, and stop, each other all the time
         os.sched_setscheduler(0, os.SCHED_BATCH, os.sched_param(0))
@@ -164,7 +167,7 @@ class Crate:
 
     @functools.cached_property
     def all(self):
-        """What it stands on in this checkout, lowest first, and it."""
+        """Its dependencies in this checkout, lowest first, and itself."""
         return [*dict.fromkeys(it for name in self.uses if name in crates() for it in crates()[name].all), self]
 
     def texts(self):
@@ -179,35 +182,36 @@ class Crate:
         return sum(os.path.getsize(f"{self.folder}/{it}") for it in self.texts())
 
     def own(self):
-        """A checksum of its row of crates.txt and of its files, as they are now."""
+        """Returns a checksum of its line in crates.txt and of its files, as they are now."""
         return sum_of([self.name, self.kind, *self.uses, *(f"{it} {sums().of(f'{self.folder}/{it}')}" for it in self.texts())])
 
     @functools.cached_property
     def sources(self):
-        """The same, as it was when it was first asked for."""
+        """The same checksum, as it was at the first use."""
         return self.own()
 
     def sum(self):
-        """Of its sources, with those below it, and of what was made of them; of a library, which another kit can't read, of the kit too."""
+        """Returns a checksum of its sources, of those of the crates below it, and of what was built; of a library, which another kit can't
+        read, also of the kit."""
         made = [sums().of(f"{self.made}/format"), read(f"{kit()}/KIT-ID")] if self.is_library else [sums().of(self.made)]
         return sum_of([*(it.sources for it in self.all), *made])
 
     def is_built(self):
-        """Whether what stands was made of these sources."""
+        """Whether what was built was made from these sources."""
         try:
             return read(f"{self.made}.sum") == self.sum()
         except OSError:
             return False
 
     def stands(self, times):
-        """Notes that what stands was made of these sources, unless one was changed since its files had these times, or one of a library
-        below it was."""
+        """Records that what was built was made from these sources, unless one of its files, or of a library below it, has changed since
+        these times."""
         if self.own() == self.sources and self.times() == times and all(it.is_built() for it in self.all[:-1]):
             with open(f"{self.made}.sum", "w", encoding="utf-8") as file:
                 file.write(self.sum())
 
     def words(self, verb, jobs):
-        """The prover's command that checks or builds it by so many processes, over the libraries that stand."""
+        """The prover's command that checks or builds it by this many processes, with the libraries that are built."""
         root, at = "src/main.rt" if self.is_program else "src/lib.rt", kit()
         words = [f"{at}/bin/rattle", verb, "--crate-name", self.name, root, "--jobs", str(jobs), "-L", f"dependency={BUILT}"]
         words += ["--antt-project", f"{at}/rattle/logic/antt-project.json", "--logic-built", f"{at}/logic_built"]
@@ -215,7 +219,7 @@ class Crate:
         return [*words, "-L", f"dependency={at}/rlibs", *(word for it in uses for word in ("--extern", it))]
 
     def begin(self, jobs, place):
-        """Begins to prove and to build it, by so many processes, which yield to those of a crate before it."""
+        """Starts to prove and to build it, by this many processes, with a lower priority than those of a crate before it."""
         command = [*self.words("build", jobs), "-o", f"{self.made}.new", *["--crate-type", "staticlib"] * self.is_archive]
         command += ["--statements"] if self.is_library else ["--toolchain", f"{kit()}/toolchain", "--backend", "llvm"]
         self.begun = self.times()
@@ -224,7 +228,7 @@ class Crate:
             return subprocess.Popen(command, preexec_fn=lambda: (os.nice(place), child()), **how)
 
     def end(self, status):
-        """Puts what was built in its place. What was changed meanwhile is built again by the next call."""
+        """Moves what was built into place. If a source has changed meanwhile, the next call builds it again."""
         new = f"{self.made}.new"
         if status == 0 and self.is_program:
             os.replace(new, f"{BUILT}/{self.name}.o")
@@ -240,7 +244,7 @@ class Crate:
 
 
 def to_build(asked):
-    """Which of these crates and of those below them are to be built, that of the longest chain upwards first."""
+    """Which of these crates and of those below them have to be built, that of the longest chain upwards first."""
     every, chain = [], {}
     for crate in dict.fromkeys(it for crate in asked for it in crate.all):
         if not crate.is_built() or any(it in every for it in crate.all):
@@ -251,7 +255,7 @@ def to_build(asked):
 
 
 def time_left(every, left, seconds):
-    """The time that is left, by the sizes of the crates that were built, of those at work as if each were half done. Nothing before the first."""
+    """The time that is left, by the sizes of the crates that were built; those in progress count half. Nothing before the first."""
     sizes = {it: it.size() or 1 for it in every}
     at_work = sum(sizes[it] for it in AT_WORK)
     built = sum(sizes.values()) - sum(sizes[it] for it in left) - at_work
@@ -260,12 +264,12 @@ def time_left(every, left, seconds):
 
 
 def prove(asked, beside):
-    """Proves and builds these crates, and what they stand on as far as that isn't done, and does what goes on beside it."""
+    """Proves and builds these crates, and those below them, if that isn't done, and calls `beside` again and again meanwhile."""
     names, since, left = " and ".join(it.name for it in asked), time.time_ns(), to_build(asked)
     every, processors = left, len(os.sched_getaffinity(0))
     lanes = min(max(int(re.search(r"MemAvailable: *(\d+)", read("/proc/meminfo"))[1]) // 2_500_000, 1), processors)  # kB of a check
     say(f"proving and building {names} and what they stand on, {len(every)} crates: on 4 cores some {len(every) // 3 + 1} minutes")
-    # No old one answers for new sources, nor does one over other libraries than those that stand.
+    # Old libraries aren't used with new sources, nor those built with other libraries than the present ones.
     old = [it.made for it in crates().values() if not {*every}.isdisjoint(it.all) and (it.is_library or it in every)]
     subprocess.run(["rm", "-rf", *old, *(f"{it}.sum" for it in old)], check=False)
     while left or AT_WORK:
@@ -276,7 +280,7 @@ def prove(asked, beside):
             else:
                 crate.end(status)
         ready = [it for it in left if {*left, *AT_WORK}.isdisjoint(it.all[:-1])][: max(lanes - len(AT_WORK), 0)]
-        # Each by several processes, as memory was counted for: what one leaves idle at its ends, the others take.
+        # Each by several processes, for which memory was counted: what one leaves idle at its end, the others use.
         jobs = 1 if lanes == 1 else min(processors, 4, max(2, 6 - len(AT_WORK) - len(ready)))
         for crate in ready:
             AT_WORK[crate] = crate.begin(jobs, every.index(crate))
@@ -293,7 +297,7 @@ def prove(asked, beside):
 
 
 def lock(file, beside):
-    """Waits until no other build is at work in this checkout."""
+    """Waits until no other build runs in this checkout."""
     is_told = False
     while True:
         try:
@@ -305,8 +309,8 @@ def lock(file, beside):
 
 
 def build(names, beside=lambda: None):
-    """Sees to it that they stand. One build at a time in a checkout: a second one waits, and mostly finds all built then. While anything
-    is waited for, `beside` is called again and again."""
+    """Ensures that they are built. Only one build runs at a time in a checkout: a second one waits, and mostly finds all built then.
+    While it waits, `beside` is called again and again."""
     if unknown := [it for it in names if it not in crates()]:
         raise Stop(64, f"there is no crate {unknown[0]!r} in crates.txt")
     asked = [it for it in map(crates().get, names) if not it.is_built()]

@@ -1,7 +1,7 @@
-"""The launcher, which ./replay begins: its words, the trace, the runs, and what is said of them."""
+"""The launcher, which ./replay starts: its options, the trace, the runs, and what it prints about them."""
 import sys
 
-# Until `end_by` takes signals and errors: they end in a line.
+# Until `end_by` handles signals and errors: they end the program with a message.
 sys.excepthook = lambda kind, error, _: sys.stderr.write(
     f"replay: {'interrupted' if kind is KeyboardInterrupt else 'out of memory' if kind is MemoryError else error or kind.__name__}\n")
 
@@ -56,7 +56,7 @@ CAUSES = {  # by the fault's number and the line behind it: the first that fits
 
 
 def shown(name):
-    """As it is where it can be printed, else as a word of bash, so that no terminal acts on it."""
+    """The name itself if it is printable, otherwise quoted for bash, so that a terminal doesn't interpret it."""
     return name if name.isprintable() else "$'%s'" % re.sub(rb"[^ -~]|['\\]", lambda it: b"\\%03o" % ord(it[0]), os.fsencode(name)).decode()
 
 
@@ -72,7 +72,7 @@ def version():
 
 
 class Run:
-    """A program at work over the trace of a call, in so many MiB: its status, its output where that is kept, and what it said."""
+    """A program that runs over the trace of a call, with this many MiB: its status, its output if that is kept, and its messages."""
 
     def __init__(self, call, command, memory=0, is_kept=True, **where):
         self.call, self.told = call, (None, "")
@@ -98,13 +98,13 @@ class Run:
 
 
 class First:
-    """The answer of an unproved run while the program is proved and built: it is told once, as soon as it is there."""
+    """The report of an unproved run, while the program is proved and built: it is printed once, as soon as it is complete."""
 
     def __init__(self, call):
         self.call, self.run, self.answer = call, call.begin_unproved(), None
 
     def tell(self):
-        """Waits for it, unless it was told."""
+        """Waits for it, unless it was printed."""
         if not self.answer:
             result = self.run.result()
             clear()
@@ -116,14 +116,14 @@ class First:
             self.tell()
 
     def end(self):
-        """What was told; a run that isn't over yet isn't wanted any more."""
+        """What was printed; a run that isn't over yet isn't needed any more."""
         if not self.answer:
             self.run.process.terminate()
         return self.answer
 
 
 class Call:
-    """A call of the launcher. What is none of its own words and no file is the program's to refuse."""
+    """A call of the launcher. What is neither one of its own options nor a file is left to the program to reject."""
 
     def __init__(self, given):
         self.words, self.files, self.own, rest = [], [], set(), iter(given)
@@ -186,13 +186,14 @@ class Call:
         return self.finish(*last)
 
     def open(self):
-        """Opens the trace, or returns why it can't. It goes to the program through here, since not every one can be read twice."""
+        """Opens the trace, or returns why it can't. It is passed to the program through here, because not every input can be
+        read twice."""
         if len(self.files) > 1:
             return f"two traces are named, {self.name} and {shown(self.files[1])}: replay one at a time"
         if not self.files and os.isatty(0):
             return "no trace: name a file, or give one on standard input"
         try:
-            # `/proc/kmsg` is a file too, and waits for more.
+            # `/proc/kmsg` is a file too, and reading it waits for more.
             end = os.open(self.files[0], os.O_RDONLY | (os.O_NONBLOCK if os.path.isfile(self.files[0]) else 0)) if self.name else 0
             os.read(end, 0)  # a folder can be opened too
         except OSError as error:
@@ -201,7 +202,7 @@ class Call:
         return ""
 
     def parts(self):
-        """All of the trace: what is kept of it, and what comes then, which is kept as long as that isn't too much."""
+        """All of the trace: what is kept of it, and what arrives then, which is kept while it isn't too much."""
         yield bytes(self.kept)
         try:
             for text in self.rest:
@@ -211,7 +212,8 @@ class Call:
             raise Stop(66, f"{self.which}: a read of it failed") from None
 
     def pass_on(self, to, process):
-        """Half a trace is none: where a read fails the program ends before it could take it for one."""
+        """Passes the trace to a program. Half a trace isn't a trace: if a read fails, the program is ended before it could
+        accept it as one."""
         try:
             all(write(text, to.fileno()) for text in self.parts())
         except Stop as stop:
@@ -225,7 +227,7 @@ class Call:
         return Run(self, command, cwd=self.crate.folder)
 
     def end_unproved(self, result, line):
-        """Prints what such a run gave, without rt's own lines on it."""
+        """Prints the output of such a run, without rt's own lines about it."""
         status, output, said = result
         status = status if re.search("^run=ended ", said, re.M) else 70
         said = re.sub("^(checked: |races: |run=).*\n", "", said, flags=re.M)
@@ -234,7 +236,7 @@ class Call:
         return status, output, said
 
     def finish(self, status, output, said):
-        """Prints the output, if it was kept, and what was said; then one line for people behind it, where there is more to say."""
+        """Prints the output, if it was kept, and the messages; then one line of explanation, if there is more to say."""
         is_json, to_json = "--json" in self.own and status == 0, [f"{TOP}/tools/report2json"]
         if output and (subprocess.run(to_json, input=output, preexec_fn=child, check=False).returncode if is_json else not write(output)):
             raise Stop(4, f"the report couldn't be written{' as JSON' * is_json}")
@@ -251,7 +253,7 @@ class Call:
         return status
 
     def explain(self, fault, row):
-        """The line, its text and the likely cause. A row counts records: nothing is told where its line isn't known for sure."""
+        """The line, its text and the likely cause. A row counts records: nothing is printed if its line isn't known for sure."""
         data = bytes(self.kept)
         if packed := next((packed for first, packed in PACKED.items() if fault == 1 and re.match(first, data)), ""):
             return f": the file is {packed}{' ' + shlex.quote(self.name) if self.name else ''} | {CALLED}"

@@ -1,9 +1,9 @@
 #!/usr/bin/env bash
-# Tries the launcher. What building is about is tried in a small checkout of its own, with a kit that proves nothing and makes a
-# program of a few lines; what faults are about, on the real program. The last line is `N passed, M failed, K skipped`.
+# Tries the launcher. Builds are tried in a small checkout, with a kit that proves nothing and makes a program of a few lines;
+# errors are tried with the real program. The last line is `N passed, M failed, K skipped`.
 set -u
 unset CDPATH
-# A signal that whoever called this ignores can't be tried, and a shell can't take it back by itself.
+# A signal that the caller of this script ignores can't be tried, and a shell can't stop ignoring it by itself.
 [ -n "${SIGNALS_AS_USUAL:-}" ] || SIGNALS_AS_USUAL=yes exec env --default-signal=INT,TERM,HUP,PIPE bash "$0" "$@"
 top=$(dirname "$(dirname "$(readlink -f "$0")")")
 scratch=$(mktemp -d)
@@ -15,8 +15,8 @@ launcher=$top/replay small=$scratch/small
 # is ACTUAL PATTERN
 # shellcheck disable=SC2053
 is() { echo "$1"; [[ $1 = $2 ]]; }
-# tries: each row of its input, NAME % COMMAND % PATTERN, is a check of a command of bash: of its status, and of all lines, those of
-# standard error first, with | between them.
+# tries: each row of its input, NAME % COMMAND % PATTERN, is a check of a bash command: of its status, and of all lines, those
+# of standard error first, with | between them.
 tries() {
     while IFS=% read -r -u 3 name command wanted; do
         status=0
@@ -31,7 +31,7 @@ built() { replay trace.csv "$@" > made 2>&1; }
 on_terminal() { python3 -c 'import os, pty, sys; sys.exit(os.waitstatus_to_exitcode(pty.spawn(sys.argv[1:])))' "$@" < /dev/null; }
 as_nobody() { if [ "$(id -u)" = 0 ]; then setpriv --reuid=65534 --regid=65534 --clear-groups "$@"; else "$@"; fi; }
 comes() { for _ in $(seq 3000); do "$@" > /dev/null && return; sleep 0.02; done; }
-# began: the crates that were begun since it was last asked.
+# began: the crates that were started since the last call.
 began() { sed -n 's/^begin //p' rt.log | sort | paste -s -d ' '; : > rt.log; }
 change() { echo >> "$small/crates/${1:-low}/src/lib.rt"; }
 # signalled SIGNAL [HOW]: to the launcher alone, while a build or a program is at work; and what goes on behind that.
@@ -41,7 +41,7 @@ signalled() {
     kill -"$1" $!
     status=0
     wait $! || status=$?
-    # The stand-in for `rt` doesn't end what it began, as `rt` does.
+    # The replacement for `rt` doesn't end what it started, as `rt` does.
     [ -z "${2:-}" ] || kill "$(pgrep -f "^$scratch/slow")"
     sleep 0.3
     pgrep -f "$scratch/bin/rattle|^$scratch/slow"
@@ -95,7 +95,7 @@ echo "$header" > trace.csv
 printf '%s\n0,1,Rx,9\n' "$header" | tee bad.csv > $'bad\e[31m\u202e.csv'
 (umask 077 && cp trace.csv secret.csv && chmod 000 secret.csv)
 python3 -c 'import socket; socket.socket(socket.AF_UNIX).bind("socket")'
-# The tools that the launcher takes, and no `rt`.
+# The tools that the launcher uses, and no `rt`.
 mkdir few deep && cp "$(command -v sleep)" slow
 for tool in env sh dirname readlink cat; do ln -s "$(command -v "$tool")" "few/$tool"; done
 ln -s "$(as_nobody sh -c 'command -v python3')" few/python3
@@ -118,7 +118,7 @@ all='--mode --pollers --budget --weight --window --unproved --json --build --ver
 two=$top/examples/two-packets.csv
 version=$(sed -n 's/^#define FQ_VERSION "\(.*\)"$/\1/p' "$top/include/fintaqush.h")
 
-# The real program, on files of these bytes: its fault, and the launcher's line.
+# The real program, on files of these bytes: its error, and the launcher's message.
 check 'the real program stands, or is built' "$top/scripts/build.sh" napi_serial
 while IFS=% read -r rows wanted; do
     printf '%b' "$rows" > faulty.csv
@@ -165,7 +165,7 @@ the kernel's log ends in a line % replay /proc/kmsg % *@(trace fault 1 BadHeader
 replay: /proc/kmsg: it can't be read: operation not permitted)
 END
 
-# All else: how it is built, what it is called with, and what surrounds the call.
+# All else: how it is built, its arguments, and its environment.
 launcher=$small/replay PATH=$scratch/bin:$PATH
 fault="trace fault 4 BadEvent row 1|replay: bad.csv line 2, '0,1,Rx,9': $events"
 answer="napi_serial |$header"
