@@ -1,7 +1,7 @@
 #!/usr/bin/env bash
-# scripts/package.sh FOLDER: makes FOLDER/fintaqush_VERSION_ARCHITECTURE.deb, a Debian package of what scripts/install.sh installs, for
-# machines without the kit; by dpkg-deb. What isn't built yet is proved and built first.
-# Exit status: 0 done; 64 the words are wrong; 69 a program is missing; 70 something couldn't be built; 73 it can't be written there.
+# scripts/package.sh FOLDER: makes FOLDER/fintaqush_VERSION_ARCHITECTURE.deb, a Debian package of what scripts/install.sh
+# installs, for machines without the kit; by dpkg-deb. What isn't built yet is proved and built first. Exit status: 0 done; 64
+# the arguments are wrong; 69 a program is missing; 70 something couldn't be built; 73 it can't be written there.
 set -euo pipefail
 unset CDPATH
 top=$(dirname "$(dirname "$(readlink -f "${BASH_SOURCE[0]}")")")
@@ -26,7 +26,7 @@ stage=$scratch/stage
 DESTDIR=$stage "$top/scripts/install.sh" --python /usr
 chmod -R u=rwX,go=rX "$stage"
 
-# the newest C library that any of it asks for
+# the newest C library that any of the files requires
 glibc=$(find "$stage/usr" -type f \( -perm -100 -o -name '*.so.*' \) -exec readelf -V {} + 2> /dev/null |
     grep -o 'GLIBC_[0-9.]*[0-9]' | sort -uV | tail -n 1) || true
 version=$(sed -n 's/^#define FQ_VERSION "\([0-9.]*\)"$/\1/p' "$top/include/fintaqush.h")

@@ -32,7 +32,7 @@ def clauses_of(path):
 
 
 def functions(crates):
-    """All functions of these crates by their names, each with the clauses of all that bear it."""
+    """All functions of these crates by name, each with the clauses of all functions with that name."""
     found = {}
     for crate in crates:
         for path in pathlib.Path("crates", crate, "src").rglob("*.rt"):

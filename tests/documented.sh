@@ -1,6 +1,6 @@
 #!/usr/bin/env bash
-# Every public item, field, variant and trait method of the crates has a `///` above it. Each that hasn't is shown.
-# The last line sums up the files: N passed, M failed.
+# Every public item, field, variant and trait method of the crates has a `///` above it. Each that lacks one is printed. The
+# last line sums up the files: N passed, M failed.
 set -euo pipefail
 unset CDPATH
 cd "$(dirname "$(dirname "$(readlink -f "${BASH_SOURCE[0]}")")")"
@@ -8,8 +8,8 @@ cd "$(dirname "$(dirname "$(readlink -f "${BASH_SOURCE[0]}")")")"
 passed=0
 failed=0
 for file in $(git ls-files 'crates/*/src/*.rt'); do
-    # `inside` is the public enum or trait, at this depth, whose items need a line each; `told` says that the last line,
-    # attributes aside, was a `///`.
+    # `inside` is the public enum or trait, at this depth, whose items need a line each; `told` says that the last line, apart
+    # from attributes, was a `///`.
     if awk '
         { match($0, /^ */); depth = RLENGTH; line = substr($0, depth + 1) }
         line == "" || line ~ /^#\[/ { if (line == "") told = 0; next }

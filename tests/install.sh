@@ -1,7 +1,8 @@
 #!/usr/bin/env bash
-# scripts/install.sh: into a prefix and below a DESTDIR; programs that find the library by pkg-config and by CMake; each program and
-# subcommand as it is installed, from another folder, and the package for Python; and all of it removed again. scripts/package.sh likewise,
-# in a root of its own. What needs a program that isn't installed is skipped. The last line is `N passed, M failed, K skipped`.
+# scripts/install.sh: into a prefix and below a DESTDIR; programs that find the library by pkg-config and by CMake; each program
+# and subcommand as it is installed, from another folder, and the package for Python; and all of it removed again.
+# scripts/package.sh likewise, in its own root. What needs a program that isn't installed is skipped. The last line is `N
+# passed, M failed, K skipped`.
 set -uo pipefail
 unset CDPATH
 top=$(dirname "$(dirname "$(readlink -f "$0")")")
@@ -19,9 +20,9 @@ ends_with() {
     [ "$status" = "$wanted" ]
 }
 
-# linked FLAG ..: the example, which finds the library by pkg-config alone, prints what it has to.
+# linked FLAG ..: the example, which finds the library by pkg-config only, prints what it has to.
 linked() {
-    # shellcheck disable=SC2046 # the words that pkg-config gives
+    # shellcheck disable=SC2046 # the flags of pkg-config
     cc -Wall -Wextra -Werror -pthread "$top/examples/c/threads.c" $(pkg-config --cflags --libs fintaqush) "$@" -o "$scratch/threads" &&
         LD_LIBRARY_PATH=$prefix/lib "$scratch/threads" | diff - "$top/examples/c/threads.stdout"
 }
@@ -30,7 +31,7 @@ needs() { readelf -d "$1" | grep -q "NEEDED.*\[$2\]"; }
 
 needs_libc_alone() { [ "$(readelf -d "$1" | grep -c NEEDED)" = 1 ] && needs "$1" libc.so.6; }
 
-# what a shared library gives is what the header declares
+# a shared library exports what the header declares
 exports_calls_alone() {
     nm -D --defined-only "$1" | awk '$2 != "A" { print $3 }' > "$scratch/exported"
     ! grep -v "^fq_[a-z_]*@@FINTAQUSH_${version%%.*}$" "$scratch/exported" && grep -q '^fq_seat_poll@' "$scratch/exported"
@@ -59,13 +60,13 @@ is_empty_of_files() { [ -z "$(find "$1" -type f -o -type l)" ]; }
 version=$(sed -n 's/^#define FQ_VERSION "\(.*\)"$/\1/p' "$top/include/fintaqush.h")
 unset PROGRAM SERIES MACHINE
 
-# there COMMAND ..: in a folder that has nothing to do with it.
+# there COMMAND ..: in an unrelated folder.
 there() {
     rm -rf "$scratch/there"
     mkdir "$scratch/there" && cd "$scratch/there" && "$@"
 }
 
-# program_runs BIN NAME: its example gives what it has to.
+# program_runs BIN NAME: its example has the right output.
 program_runs() {
     local words=()
     [ ! -e "$top/crates/$2/args" ] || mapfile -t words < "$top/crates/$2/args"
@@ -79,7 +80,7 @@ program_starts() {
     [ "$("$1/$2" --version)" = "$2 of Fintaqush $version" ] && "$1/$2" --help | grep -q "^usage: $2 .*< $input.csv;"
 }
 
-# subcommand_starts BIN NAME: it prints its usage by this name, and refuses an option that doesn't exist.
+# subcommand_starts BIN NAME: it prints its usage by this name, and rejects an option that doesn't exist.
 subcommand_starts() {
     "$1/fintaqush" "$2" --help | grep -q "^usage: fintaqush $2" || return
     case $2 in
@@ -89,10 +90,11 @@ subcommand_starts() {
     esac
 }
 
-# names_nothing_else FOLDER: the only commands are the programs and `fintaqush`, so that no other package has one of their names.
+# names_nothing_else FOLDER: the only commands are the programs and `fintaqush`, so that no other package has one of their
+# names.
 names_nothing_else() { [ "$(ls "$1/bin" | paste -s -d ' ')" = 'fintaqush napi_machine napi_replay napi_serial napi_series' ]; }
 
-# subcommands_work BIN: what they do by the programs beside them, and what they read.
+# subcommands_work BIN: what they do with the installed programs, and what they read.
 subcommands_work() {
     local trace=$top/examples/linux-veth-bursts.csv words='--budget 16 --weight 8' f=$1/fintaqush
     # shellcheck disable=SC2086 # words
@@ -107,7 +109,8 @@ subcommands_work() {
         [ "$("$f" what-if arrivals --budget 16,64 | wc -l)" = 3 ] && { "$f" raise "$trace" --buget 3; [ "$?" = 2 ]; }
 }
 
-# programs_work BIN: subcommands that are programs print what these do, and replay explains a fault, as the launcher of a checkout.
+# programs_work BIN: subcommands that are programs print what these do, and replay explains an error, like the launcher of a
+# checkout.
 programs_work() {
     local f=$1/fintaqush bursts=$top/examples/bursts.csv
     "$f" traffic --arrivals > arrivals && cmp <("$f" replay "$bursts" --budget 64) <("$1/napi_serial" --budget 64 < "$bursts") &&
@@ -129,14 +132,14 @@ tries() {
         [ "$(ls)" = "$(printf '%s\n' few fintaqush-try.html tour)" ]
 }
 
-# python_replays FOLDER: as napi_serial, by the package there.
+# python_replays FOLDER: like napi_serial, by the package there.
 python_replays() {
     local program='import fintaqush, sys; print(end=fintaqush.replay(sys.stdin.buffer.read()).text)'
     PYTHONDONTWRITEBYTECODE='' PYTHONPATH=$1/lib/python3/dist-packages python3 -c "$program" < "$top/crates/napi_serial/stdin" |
         diff - "$top/crates/napi_serial/stdout"
 }
 
-# pages_are_whole FOLDER: each manual page is read without a warning, and each program and subcommand has one.
+# pages_are_whole FOLDER: each manual page is formatted without a warning, and each program and subcommand has one.
 pages_are_whole() {
     local page name
     for name in "$1"/bin/* $("$top/fintaqush" --names | sed 's/^/fintaqush-/'); do
@@ -148,7 +151,7 @@ pages_are_whole() {
     done
 }
 
-# has_version FILE: it tells the header's, and no other.
+# has_version FILE: it contains the header's version, and no other.
 has_version() { [ "$(grep -oE '(Fintaqush |^version = "|^## )[0-9]+\.[0-9]+\.[0-9]+' "$1" | sed 's/.*[ "]//' | head -n 1)" = "$version" ]; }
 
 check 'the programs are built' "$top/scripts/build.sh" $("$top/scripts/install.sh" --programs)
@@ -195,7 +198,7 @@ check 'with paths of the prefix' grep -q '^prefix=/usr$' "$scratch/stage/usr/lib
 check 'uninstalls below DESTDIR' env DESTDIR="$scratch/stage" "$top/scripts/install.sh" --uninstall /usr
 check 'nothing is left there' is_empty_of_files "$scratch/stage"
 
-# by_dpkg WORD ..: in a root of its own, which has none of what it depends on.
+# by_dpkg ARGUMENT ..: in its own root, which has none of the dependencies.
 by_dpkg() { dpkg --root="$scratch/root" --force-not-root --force-depends --force-script-chrootless --log=/dev/null "$@"; }
 
 if has dpkg-deb 'the Debian package'; then

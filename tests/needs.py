@@ -10,7 +10,7 @@ import subprocess
 import sys
 
 TOP = pathlib.Path(__file__).resolve().parent.parent
-# How scripts name what they need: the words behind these, without quotes.
+# How scripts name what they need: the unquoted words after these.
 NAMED = {
     "*.sh": (r"\bskip (?:'[^']*'|\"[^\"]*\") ([\w/.+= -]+)", r"(?:if|!|\|\||&&) has ([\w.+-]+) ", r"(?:\|\||^ +) ?over ([\w/.+-]+)",
              r"this needs ([\w/.+-]+)", r"\bfor program in ([\w+ -]+); do\n +(?:command -v|has) \"\$program\"", r"^ *kernel=([\w/]+)$",
@@ -27,7 +27,7 @@ def rows():
 
 
 def packages():
-    """The Debian packages that have each need; none where no package gives it."""
+    """The Debian packages for each need; none if no package has it."""
     return {row[0]: [name for name in row[1:] if name != "-"] for row in rows()}
 
 

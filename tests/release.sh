@@ -1,6 +1,6 @@
 #!/usr/bin/env bash
-# scripts/release.sh: what a release has; the package and the tarball are installed in roots of their own, and each program there runs
-# its example, with no rt on PATH. The last line is `N passed, M failed, K skipped`.
+# scripts/release.sh: the files of a release; the package and the tarball are installed in roots of their own, and each program
+# there runs its example, with no rt on PATH. The last line is `N passed, M failed, K skipped`.
 set -uo pipefail
 unset CDPATH PROGRAM SERIES MACHINE PYTHONPATH
 top=$(dirname "$(dirname "$(readlink -f "$0")")")
@@ -12,10 +12,10 @@ version=$(sed -n 's/^#define FQ_VERSION "\(.*\)"$/\1/p' "$top/include/fintaqush.
 name=fintaqush-$version-$(uname -m)
 release=$scratch/release
 
-# without_kit COMMAND ..: with nothing of this shell's surroundings.
+# without_kit COMMAND ..: without this shell's environment.
 without_kit() { env -i PATH=/usr/bin:/bin LC_ALL=C.UTF-8 HOME="$scratch" "$@"; }
 
-# program_runs BIN NAME: its example gives what it has to.
+# program_runs BIN NAME: its example has the right output.
 program_runs() {
     local words=()
     [ ! -e "$top/crates/$2/args" ] || mapfile -t words < "$top/crates/$2/args"

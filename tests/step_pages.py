@@ -1,5 +1,5 @@
-"""step_pages.py KEPT MADE: whether a page of docs/steps that is kept shows the rows and states of one that tools/steps made now. Its
-sentences may be in other words."""
+"""step_pages.py KEPT MADE: whether a page of docs/steps in the repository shows the rows and states of one that tools/steps
+made now. Its sentences may differ."""
 import json
 import re
 import sys

@@ -1,5 +1,5 @@
-/* corners [NAME]: answers at corners, each case by hand, with calls and structs of the header alone. Where one isn't what it has to be
- * it tells which, and ends by 9. To be linked with --wrap for malloc, realloc and free. */
+/* corners [NAME]: results in corner cases, each case by hand, with calls and structs of the header only. If one is wrong it
+ * prints which, and exits with 9. To be linked with --wrap for malloc, realloc and free. */
 #include "memory.h"
 #include <fintaqush.h>
 #include <stdio.h>
@@ -24,7 +24,8 @@ static void given_up(void) {
     want(fq_abandon(&control) == FQ_OK && fq_abandon(irq) == FQ_OK && fq_abandon(poller) == FQ_OK && blocks == 0, "nothing is left");
 }
 
-/* Who took the instance as its thread, and polled its whole weight, polls on: no list has it then, of which nobody knows. */
+/* A caller that took the instance as its thread, and polled its whole weight, polls again: otherwise no list would have the
+ * instance. */
 static void a_full_poll_of_a_thread(void) {
     uint32_t next = 99;
     enabled(true);
@@ -37,7 +38,7 @@ static void a_full_poll_of_a_thread(void) {
     given_up();
 }
 
-/* A busy poller polls on, full or not; and how a poll ended is told on each path. */
+/* A busy poller keeps polling, full or not; and how a poll ended is set on each path. */
 static void a_full_poll_of_a_busy_poller(void) {
     uint32_t next = 99;
     enabled(false);
@@ -50,7 +51,7 @@ static void a_full_poll_of_a_busy_poller(void) {
     given_up();
 }
 
-/* A byte above 1 is what 1 is, and a place above 5 what 5 is, to each call. */
+/* A byte above 1 means 1, and a place above 5 means 5, in each call. */
 static void bytes_of_an_instance(void) {
     for (size_t at = 0; at < 8; at++) {
         for (unsigned byte = at < 7 ? 2 : 6; byte < 256; byte++) {
@@ -69,7 +70,7 @@ static void bytes_of_an_instance(void) {
     }
 }
 
-/* Bounds that are refused give a limit of 0, which goes on as one. */
+/* After bounds that are rejected the limit is 0, and works as one. */
 static void a_limit_out_of_bounds(void) {
     struct fq_dql dql;
     want(fq_dql_init(&dql, 5, 4, 0, 0) == FQ_BAD_BOUNDS && fq_dql_limit(&dql) == 0 && fq_dql_avail(&dql) == 0, "min above max");
@@ -85,7 +86,7 @@ static void a_polled_instance_is_handed(void) {
     want(fq_napi_hand(&napi, 2, FQ_LIST) == FQ_OK && fq_napi_take(&napi, 2, FQ_LIST) == FQ_TAKEN, "to the list");
 }
 
-/* The number that is being polled counts among the 64, and comes back behind the others by its poll's end. */
+/* The number that is being polled counts among the 64, and returns after the others at the end of its poll. */
 static void a_list_of_64(void) {
     struct fq_handle list = FQ_NONE;
     uint32_t id = 99, len = 99;
@@ -98,7 +99,8 @@ static void a_list_of_64(void) {
     want(fq_run_next(&list, &id) == FQ_DONE && fq_abandon(&list) == FQ_OK && blocks == 0, "the end");
 }
 
-/* Devices with weights of their own, below the run's, are polled as by net_rx_action, which asks a full poll's device again. */
+/* Devices with their own weights, below the run's, are polled as by net_rx_action, which asks again for a device with a full
+ * poll. */
 static void weights_of_devices(void) {
     static const uint32_t weights[3] = {8, 16, 64}, polls[] = {0, 1, 2, 0, 1, 2, 0, 1};
     uint32_t left[3] = {20, 40, 100}, id = 99;
@@ -121,7 +123,7 @@ static void weights_of_devices(void) {
     want(made == 8 && left[0] + left[1] + left[2] == 0 && fq_abandon(&list) == FQ_OK && blocks == 0, "all is polled");
 }
 
-/* A split looks at its handle before it takes memory, which may be out. */
+/* A split checks its handle before it allocates, which may fail. */
 static void a_split_of_what_is_no_ring(void) {
     struct fq_handle list = FQ_NONE, out = FQ_NONE;
     want(fq_list_new(&list) == FQ_OK, "a list");
@@ -131,7 +133,7 @@ static void a_split_of_what_is_no_ring(void) {
     want(fq_abandon(&list) == FQ_OK && blocks == 0, "the end");
 }
 
-/* Where an instance over a ring can't be made, whichever take of memory is refused, the ring is as it was, and nothing else is set. */
+/* If an instance over a ring can't be made, whichever allocation fails, the ring is unchanged, and nothing else is set. */
 static void a_ring_whose_instance_is_refused(void) {
     uint32_t said = FQ_OUT_OF_MEMORY;
     for (long at = 1; said == FQ_OUT_OF_MEMORY; at++) {
@@ -152,8 +154,8 @@ static void a_ring_whose_instance_is_refused(void) {
     given_up();
 }
 
-/* So many buffers are used in turn, for a ring of 256 places and bursts of 16, which are put as far as they fit while a poll's packets
- * are read: how many of these are written over by then. */
+/* This many buffers are used in turn, for a ring of capacity 256 and bursts of 16, of which as many are put as fit while a
+ * poll's packets are read: returns how many of these are overwritten by then. */
 static unsigned written_over(uint64_t buffers) {
     static uint64_t written[400];
     struct fq_handle ring = FQ_NONE;

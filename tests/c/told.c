@@ -1,5 +1,5 @@
-/* What the library tells of itself is what the header says: version, names, sizes. A text comes with a 0 behind where there is room for
- * both, and else not at all. Where this isn't so it ends by 9. */
+/* What the library says about itself is what the header says: version, names, sizes. A text ends with a 0 if there is room
+ * for both, otherwise nothing is written. It exits with 9 if this isn't so. */
 #include <fintaqush.h>
 #include <stdio.h>
 #include <stdlib.h>

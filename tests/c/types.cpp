@@ -1,5 +1,5 @@
-// What fintaqush.hpp adds to the header: a callback that throws, what was moved from, rings without an instance, busy polling, counts,
-// words, cards, and memory that is out. To be linked with --wrap for malloc, realloc and free.
+// What fintaqush.hpp adds to the header: a callback that throws, objects that were moved from, rings without an instance, busy
+// polling, counts, words, cards, and failing allocations. To be linked with --wrap for malloc, realloc and free.
 #include <fintaqush.hpp>
 #include <cstdio>
 #include <cstdlib>
@@ -56,7 +56,7 @@ static_assert(noexcept(std::declval<Caller>().schedule()) && noexcept(std::declv
 static_assert(!std::is_convertible_v<int, Weight> && !std::is_constructible_v<Weight, int>);
 static_assert(Weight::of<1>().get() == 1 && Weight().get() == 64 && !Weight::make(0) && !Weight::make(65) && Weight::make(64)->get() == 64);
 
-// The structs whose functions had their names.
+// The structs whose names were taken by functions.
 [[maybe_unused]] static void names() {
     fq_counts counts{};
     fq_tx_shown state{};
@@ -102,7 +102,7 @@ static void rings() {
     want(!whole->put(1, 1) && whole->poll(out) == 0 && std::move(*whole).finish().put == 0 && !std::move(*whole).split(), "it is gone");
 }
 
-// A card whose packets come at the moments of its calls.
+// A card whose packets arrive at given calls.
 struct Card {
     unsigned there = 0, behind_unmask = 0;
     bool masked = true;
@@ -172,7 +172,7 @@ static void busy() {
     want(off.counts().polls == 1, "the counts of what is off");
 }
 
-// What was moved from answers, and never loops.
+// An object that was moved from still returns from every call.
 static void moved() {
     auto shared = Shared::make(4, 2);
     want(shared.has_value(), "a shared instance");

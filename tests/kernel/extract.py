@@ -18,7 +18,7 @@ FORMS = [
 
 
 def definition(text, name):
-    """The one definition of that name, or None."""
+    """The one definition with that name, or None."""
     found = [match[0] for form in FORMS for match in re.finditer(form.format(re.escape(name)), text, re.M | re.S)]
     return found[0] if len(found) == 1 else None
 

@@ -28,7 +28,7 @@ def text_of(name, value):
 
 
 def rows_of(program):
-    """Of each group: its base's name, the lines of the base, and the predicted lines."""
+    """For each group: its base's name, the lines of the base, and the predicted lines."""
     for place, group in enumerate(GROUPS):
         yield group.base.name, *judged(program, group, read_kept(place))
 

@@ -1,4 +1,5 @@
-"""Four cards of 64 places get 8 packets each in a millisecond, and one run of polls has a budget: how many are lost?"""
+"""Four cards with rings of capacity 64 get 8 packets each per millisecond, and one run of polls has a budget: how many are
+lost?"""
 from fintaqush import List, Napi, Next, Ring, Status
 
 

@@ -1,7 +1,7 @@
-"""Fintaqush for Python: the packet polling core of Linux 6.6 (NAPI) and byte queue limits, over the shared C library.
+"""Fintaqush for Python: the packet polling core of Linux 6.6 (NAPI) and byte queue limits, by the shared C library.
 
-Names, answers and faults are those of include/fintaqush.h, without FQ_. Each call is made under the interpreter's lock, so threads may
-share an object; a run has its list for itself. `replay` lets other threads go on.
+Names, results and errors are those of include/fintaqush.h, without FQ_. Each call holds the interpreter's lock, so threads may
+share an object; during a run only the run may use its list. `replay` releases the lock.
 """
 from ._answers import Fault, Kind, Next, Status, TraceFault, Word
 from ._objects import Counts, Limit, List, Napi, Packet, Ring, RunReport

@@ -1,4 +1,4 @@
-"""The shared library: where it lies, its structs and calls, and that it has them as they are told here."""
+"""The shared library: where it is, its structs and calls, and a check that it has them as declared here."""
 from __future__ import annotations
 
 import ctypes
@@ -18,7 +18,7 @@ DECLARED: dict[str, tuple[Any, dict[str, Any]]] = {}  # each call's answer and a
 
 
 class Missing(ImportError):
-    """The library isn't there, or is another one. Where nobody catches it, it is told in one line."""
+    """The library is missing, or another one. If it isn't caught, it prints one line."""
 
 
 def _one_line(kind: type[BaseException], fault: BaseException, trace: TracebackType | None, others: Any = sys.excepthook) -> None:
@@ -29,13 +29,14 @@ def _one_line(kind: type[BaseException], fault: BaseException, trace: TracebackT
 
 
 def missing(why: object) -> Missing:
-    """To be raised where the package can't be loaded."""
+    """Returns the exception for a package that can't be loaded."""
     sys.excepthook = _one_line
     return Missing(f"fintaqush: {why}; FINTAQUSH_LIB may name the folder of {SONAME}", name="fintaqush")
 
 
 def place() -> str:
-    """The library's: in the folder that FINTAQUSH_LIB names, else where this was installed with it, else by the usual search."""
+    """Returns the library's path: in the folder that FINTAQUSH_LIB names, otherwise where this was installed with it, otherwise
+    by the usual search."""
     beside = pathlib.Path(__file__).resolve().parents[3] / SONAME
     if named := os.environ.get("FINTAQUSH_LIB"):
         return os.path.join(named, SONAME)
@@ -79,26 +80,26 @@ class Replayed(ctypes.Structure):
     _fields_ = [("length", size), ("fault", u32), ("row", u32)]
 
 
-# The structs whose size the library tells, by their numbers in `enum fq_struct`; and all.
+# The structs whose size the library returns, by their numbers in `enum fq_struct`; and all.
 NUMBERS = {Handle: 0, Dql: 1, DqlMade: 2, Napi: 3, Packet: 4, Counts: 5, RunReport: 10}
 STRUCTS = {*NUMBERS, Settings, Replayed}
 
 try:
-    # A call that is short keeps the interpreter's lock, and one that takes long lets it go.
+    # A short call keeps the interpreter's lock, and a long one releases it.
     _short, _long = ctypes.PyDLL(place()), ctypes.CDLL(place())
 except OSError as error:
     raise missing(error) from None
 
 
 def number(value: int, name: str, kind: Any = u32) -> int:
-    """A number that its type has; ctypes would cut another one."""
+    """Checks that a number fits its type; ctypes would truncate it."""
     if not 0 <= operator.index(value) <= MOST[kind]:
         raise ValueError(f"{name} is 0 to {MOST[kind]}, not {value}")
     return value
 
 
 def declare(name: str, answer: Any = Status, of: ctypes.CDLL = _short, **arguments: Any) -> Callable[..., Any]:
-    """A call of the library, which raises Fault where that answers one."""
+    """Declares a call of the library, which raises Fault if that returns an error."""
     try:
         function = getattr(of, f"fq_{name}")
     except AttributeError:
@@ -118,7 +119,7 @@ def declare(name: str, answer: Any = Status, of: ctypes.CDLL = _short, **argumen
 
 
 def checked(said: int) -> Status:
-    """An answer that is no fault."""
+    """Returns a status that isn't an error, and raises Fault for one that is."""
     if said == Status.OUT_OF_MEMORY:
         raise MemoryError("FQ_OUT_OF_MEMORY")
     if 0 < said < Status.GRANTED or said >= Status.NOT_ALLOWED:
@@ -164,7 +165,7 @@ replay = declare("replay", u32, _long, settings=Settings, trace=ctypes.c_char_p,
 
 
 def differences() -> Iterator[str]:
-    """The structs that the library has otherwise: by their sizes, and by calls whose answers are known."""
+    """The structs that differ in the library: by their sizes, and by calls with known results."""
     yield from (f"the size of {kind.__name__}" for kind, at in NUMBERS.items() if ctypes.sizeof(kind) != struct_size(at))
     limit, refused, state = dql_new(0, 9, 1000, 0), dql_new(2, 1, 1000, 0), napi_new(7)
     dql_queued(limit.dql, 5)

@@ -1,4 +1,4 @@
-//! The safe calls, on worked cases: what each kind of value does, and what is refused.
+//! The safe calls, on worked cases: what each kind of value does, and what fails.
 use fintaqush::sys::{FQ_BIT_DISABLE, FQ_BIT_LISTED, FQ_BIT_NPSVC, FQ_BIT_SCHED, FQ_BIT_THREADED};
 use fintaqush::*;
 use std::fmt::Write;
@@ -241,7 +241,7 @@ fn a_disable_waits_for_the_poller_and_refuses_requests() {
         TryTake::Taken(off) => off,
         other => panic!("{other:?}"),
     };
-    // while it is off a request is missed, and no poll follows
+    // while it is disabled a request is missed, and no poll follows
     assert!(matches!(interrupts.schedule(), Sched::Missed(_)));
     drop(off.enable(false));
 }
@@ -262,7 +262,7 @@ fn what_comes_under_busy_polling_is_polled_behind_the_stop() {
     };
     let mut polling = busy.stop();
     assert_eq!(numbers(polling.poll(Weight::MAX, &mut batch)), [7]);
-    // that poll was the request's (busy_poll_stop clears MISSED)
+    // that poll served the request (busy_poll_stop clears MISSED)
     assert!(matches!(polling.complete(), Completed::Released(_)));
     drop((on.disable(), interrupts));
 }
@@ -273,7 +273,7 @@ fn what_is_dropped_is_given_up() {
     input.put(packet(1)).unwrap();
     assert_eq!(interrupts.interrupt(Kind::List), Prep::Granted);
     drop(take(poller));
-    // its poller is gone, so nobody polls it again
+    // its poller is gone, so it is never polled again
     assert_eq!(interrupts.interrupt(Kind::List), Prep::Missed);
     assert!(interrupts.take(Kind::List).is_err());
     assert!(matches!(on.mark().try_take(), TryTake::Busy(_)));
@@ -462,9 +462,9 @@ fn faults_have_numbers_and_names() {
     assert_eq!(sys::fq_status_name(5), "?");
 }
 
-// ---- ends of polls that mind a card
+// ---- ends of polls that handle a card
 
-// A card: what is there, what comes behind its next unmask, and whether it is masked.
+// A card: its packets, those that arrive after its next unmask, and whether it is masked.
 #[derive(Default)]
 struct Model {
     there: usize,
@@ -589,7 +589,7 @@ fn a_full_poll_stays_with_its_thread() {
     assert!(matches!(marked.try_take(), TryTake::Taken(_)));
 }
 
-// ---- what else is counted and told
+// ---- other counts and results
 
 #[test]
 fn polls_are_counted_of_whoever_has_them() {
