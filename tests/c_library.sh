@@ -44,7 +44,7 @@ exports() { nm -g --defined-only "$scratch/libfintaqush.a" | awk 'NF == 3 { prin
 
 same_calls() { diff <(header_calls) <(exports | grep '^fq_'); }
 
-no_other_exports() { ! exports | grep -v -e '^fq_' -e '^rattle_'; }
+no_other_exports() { ! exports | grep -v '^fq_'; }
 
 asks_for_libc_alone() {
     ! nm -u "$scratch/libfintaqush.a" | awk 'NF == 2 { print $2 }' | grep -v -x -e 'rattle_.*' -e memcpy -e memset -e memmove -e malloc \
@@ -81,7 +81,21 @@ if ! "$top/scripts/c_library.sh" "$scratch"; then
     echo '0 passed, 1 failed'
     exit 1
 fi
+# The statuses that the header names with fq_replay, which are the order that corners.c tries.
+replay_names() { awk '/^\/\* Replays a trace/ { on = 1 } on { print } /\*\// { on = 0 }' "$header" | grep -oE 'FQ_[A-Z_]+' | awk '!told[$0]++' | xargs; }
+
+order_of_a_replay() { [ "$(replay_names)" = 'FQ_BAD_WEIGHT FQ_BAD_BUDGET FQ_OUT_OF_MEMORY FQ_BAD_TRACE FQ_NO_ROOM FQ_OK' ]; }
+
+# The page tells the size of the archive, within a tenth.
+told_size() {
+    local told
+    told=$(grep -oE 'libfintaqush\.a` \(some [0-9]+ KB' "$top/docs/C.md" | grep -oE '[0-9]+')
+    awk -v told="$told" -v bytes="$(stat -c %s "$scratch/libfintaqush.a")" 'BEGIN { print told, bytes; exit !(bytes > told * 900 && bytes < told * 1100) }'
+}
+
 check 'the header declares what is exported' same_calls
+check 'it names the refusals of a replay in their order' order_of_a_replay
+check "the archive's size, as the page tells it" told_size
 check 'nothing else is exported' no_other_exports
 check 'nothing is asked for but the C library' asks_for_libc_alone
 check 'no number twice' each_number_once
@@ -122,7 +136,7 @@ echo 'it tells of itself what the header says' > "$scratch/told"
 check 'told.c compiles' compile gcc "$top/tests/c/told.c" "$scratch/tells" -O2
 check 'what the library tells of itself' compared "$scratch/told" "$scratch/tells"
 
-echo '10 corners, each answered as it has to be' > "$scratch/cornered"
+echo '16 corners, each answered as it has to be' > "$scratch/cornered"
 check 'corners.c compiles' compile gcc "$top/tests/c/corners.c" "$scratch/corners" -O2 "$wraps"
 check 'answers at corners' compared "$scratch/cornered" "$scratch/corners"
 

@@ -11,7 +11,8 @@ TOP = pathlib.Path(__file__).resolve().parent.parent
 HEADER = (TOP / "include/fintaqush.h").read_text()
 SYS = (TOP / "bindings/rust/src/sys.rs").read_text()
 # The functions whose types are Rust's own, or that are methods over its traits of a card; and that struct.
-RUSTS_OWN = {"fq_status_name", "fq_fault_name", "fq_seat_interrupt_masked", "fq_seat_end_watched", "fq_seat_end_unmasked"}
+RUSTS_OWN = {"fq_status_name", "fq_fault_name", "fq_seat_interrupt_masked", "fq_seat_end_watched", "fq_seat_end_unmasked",
+             "fq_seat_request", "fq_control_open"}
 STRUCTS_OWN = {"fq_card"}
 C_TYPES = {"u8": "uint8_t", "u32": "uint32_t", "u64": "uint64_t", "AtomicU64": "uint64_t", "i64": "int64_t", "usize": "size_t", "bool": "bool",
            "c_void": "void", "c_char": "char"}
@@ -23,9 +24,9 @@ def without_comments(text, comment):
 
 def header_names():
     text = without_comments(HEADER, r"/\*.*?\*/")
-    calls = re.findall(r"^(?:[A-Z_]+ )*(?:static inline )?(?:const )?(?:struct )?\w+ \*?(fq_\w+)\(", text, re.MULTILINE)
+    calls = re.findall(r"^(?:[A-Z_]+ )*(?:static inline )?(?:const )?(?:struct |enum )?\w+ \*?(fq_\w+)\(", text, re.MULTILINE)
     structs = re.findall(r"^struct (fq_\w+) \{", text, re.MULTILINE)
-    enumerators = [name for body in re.findall(r"^enum \w+ \{(.*?)\}", text, re.MULTILINE | re.DOTALL)
+    enumerators = [name for body in re.findall(r"^enum \w+ (?:FQ_NUMBER )?\{(.*?)\}", text, re.MULTILINE | re.DOTALL)
                    for name in re.findall(r"(FQ_\w+) =", body)]
     bits = re.findall(r"^#define (FQ_BIT_\w+)", text, re.MULTILINE)
     return {"function": set(calls), "struct": set(structs), "number": set(enumerators + bits)}

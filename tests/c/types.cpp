@@ -64,6 +64,24 @@ static_assert(Weight::of<1>().get() == 1 && Weight().get() == 64 && !Weight::mak
     static_cast<void>(counts), static_cast<void>(state), static_cast<void>(made);
 }
 
+// What ends a run is told by its name, with what was polled until then, and the others stay listed.
+static void refused_runs(List &list) {
+    using Did = std::pair<std::uint32_t, fq_next>;
+    const auto ends = [&](fq_status status, std::uint32_t polls, auto &&poll) {
+        want(list.push(1) && list.push(2) && list.push(3), "a list of three");
+        const Ran ran = list.run(300, 64, 1024, poll);
+        want(ran.status == status && !ran && !ran.has_value() && ran.report.work == 5 && ran->polls == polls, "why a run ended, and its report");
+        want(list.run(300, 64, 1024, [](std::uint32_t, std::uint32_t) { return Did{0, FQ_NEXT_GONE}; })->polls == 1, "the last one is listed still");
+    };
+    ends(FQ_BAD_WORK, 2, [](std::uint32_t id, std::uint32_t) { return id == 1 ? Did{5, FQ_NEXT_GONE} : Did{65, FQ_NEXT_GONE}; });
+    ends(FQ_BAD_NEXT, 2, [](std::uint32_t id, std::uint32_t) { return id == 1 ? Did{5, FQ_NEXT_GONE} : Did{0, fq_next(9)}; });
+    ends(FQ_IN_USE, 2, [&](std::uint32_t id, std::uint32_t) {
+        if (id == 1) return Did{5, FQ_NEXT_GONE};
+        want(list.push(id).status == FQ_OK && list.push(id).status == FQ_IN_USE, "it lists itself, once");
+        return Did{0, FQ_NEXT_AGAIN};
+    });
+}
+
 static void runs() {
     auto list = List::make();
     want(list && list->push(1) && list->push(2), "a list of two");
@@ -77,8 +95,10 @@ static void runs() {
     const auto too_much = [](std::uint32_t, std::uint32_t weight) { return std::pair(weight + 1, FQ_NEXT_GONE); };
     want(!list->run(300, 64, 1024, too_much) && list->size() == 0, "too many packets end a run");
     want(list->push(3) && !list->run(300, 65, 1024, too_much), "a weight of 65");
+    want(list->run(300, 65, 1024, too_much).status == FQ_BAD_WEIGHT && list->run(0, 64, 1024, too_much).status == FQ_BAD_BUDGET, "and why");
     const auto report = list->run(300, 64, 1024, [](std::uint32_t id, std::uint32_t) { return std::pair(id, FQ_NEXT_GONE); });
     want(report && report->polls == 1 && report->work == 3, "a run behind those");
+    refused_runs(*list);
 }
 
 static void rings() {

@@ -78,6 +78,12 @@ class Fault(ValueError):
     def __str__(self) -> str:
         return f"FQ_{self.status.name}"
 
+    @property
+    def message(self) -> str:
+        """What the status says in words."""
+        from . import _library  # which raises this
+        return _library.message(self.status)
+
 
 class TraceFault(Fault):
     """A trace can't be replayed: the error's number and name, and the row, as described in docs/FORMATS.md."""

@@ -68,6 +68,18 @@ class Counts(ctypes.Structure):
     _fields_ = [("polls", u64), ("packets", u64), ("bytes", u64)]
 
 
+class RingShown(ctypes.Structure):
+    _fields_ = [("put", u64), ("places", size)]
+
+
+class TxShown(ctypes.Structure):
+    _fields_ = [("queued", u32), ("completed", u32), ("limit", u32), ("avail", ctypes.c_int64), ("stopped", boolean)]
+
+
+class Answers(ctypes.Structure):
+    _fields_ = [(name, u64) for name in ("granted", "missed", "disabled", "released", "again", "held", "changed")]
+
+
 class RunReport(ctypes.Structure):
     _fields_ = [("polls", u32), ("work", u32), ("squeezed", boolean)]
 
@@ -81,7 +93,7 @@ class Replayed(ctypes.Structure):
 
 
 # The structs whose size the library returns, by their numbers in `enum fq_struct`; and all.
-NUMBERS = {Handle: 0, Dql: 1, DqlMade: 2, Napi: 3, Packet: 4, Counts: 5, RunReport: 10}
+NUMBERS = {Handle: 0, Dql: 1, DqlMade: 2, Napi: 3, Packet: 4, Counts: 5, RingShown: 7, TxShown: 8, Answers: 9, RunReport: 10}
 STRUCTS = {*NUMBERS, Settings, Replayed}
 
 try:
@@ -128,6 +140,7 @@ def checked(said: int) -> Status:
 
 
 struct_size = declare("struct_size", size, which=u32)
+status_message = declare("status_message", size, status=u32, to=ctypes.c_char_p, room=size)
 abandon = declare("abandon", handle=Handle)
 dql_new = declare("dql_new", DqlMade, min=u32, max=u32, hold_ms=u64, now_ms=u64)
 dql_queued = declare("dql_queued", dql=Dql, count=u32)
@@ -141,6 +154,7 @@ napi_schedule = declare("napi_schedule", napi=Napi, who=u32)
 napi_hand = declare("napi_hand", napi=Napi, who=u32, kind=u32)
 napi_take = declare("napi_take", napi=Napi, who=u32, kind=u32)
 napi_complete = declare("napi_complete", napi=Napi, who=u32)
+napi_end = declare("napi_end", napi=Napi, who=u32, full=boolean, next=ctypes.POINTER(u32))
 napi_busy_take = declare("napi_busy_take", napi=Napi, who=u32)
 napi_busy_stop = declare("napi_busy_stop", napi=Napi, who=u32)
 napi_set_threaded = declare("napi_set_threaded", None, napi=Napi, who=u32, threaded=boolean)
@@ -153,6 +167,26 @@ ring_new = declare("ring_new", ring=Handle, capacity=size)
 ring_put = declare("ring_put", ring=Handle, number=u64, bytes=u32)
 ring_poll = declare("ring_poll", ring=Handle, weight=size, out=ctypes.POINTER(Packet), len=size, count=ctypes.POINTER(size))
 count = declare("count", handle=Handle, counts=Counts)
+ring_show = declare("ring_show", ring=Handle, shown=RingShown)
+tx_new = declare("tx_new", tx=Handle, capacity=size, min=u32, max=u32, hold_ms=u64, now_ms=u64)
+tx_send = declare("tx_send", tx=Handle, bytes=u32)
+tx_done = declare("tx_done", tx=Handle, count=u32, now_ms=u64)
+tx_state = declare("tx_state", tx=Handle, state=TxShown)
+shared_new = declare("shared_new", ring=Handle, control=Handle, seats=ctypes.POINTER(Handle), count=size)
+seat_schedule = declare("seat_schedule", seat=Handle)
+seat_take = declare("seat_take", seat=Handle, kind=u32)
+seat_busy_take = declare("seat_busy_take", seat=Handle)
+seat_set_threaded = declare("seat_set_threaded", seat=Handle, threaded=boolean)
+seat_hand = declare("seat_hand", seat=Handle, kind=u32)
+seat_poll = declare("seat_poll", seat=Handle, weight=size, out=ctypes.POINTER(Packet), len=size, count=ctypes.POINTER(size))
+seat_requeue = declare("seat_requeue", seat=Handle)
+seat_complete = declare("seat_complete", seat=Handle)
+seat_busy_stop = declare("seat_busy_stop", seat=Handle)
+seat_look = declare("seat_look", seat=Handle, word=ctypes.POINTER(u64))
+seat_count = declare("seat_count", seat=Handle, answers=Answers)
+control_enable = declare("control_enable", control=Handle, threaded=boolean)
+control_mark = declare("control_mark", control=Handle)
+control_try_take = declare("control_try_take", control=Handle)
 list_new = declare("list_new", list=Handle)
 list_push = declare("list_push", list=Handle, id=u32)
 list_len = declare("list_len", list=Handle, len=ctypes.POINTER(u32))
@@ -162,6 +196,13 @@ run_polled = declare("run_polled", list=Handle, work=u32, next=u32)
 run_end = declare("run_end", list=Handle, report=RunReport)
 replay = declare("replay", u32, _long, settings=Settings, trace=ctypes.c_char_p, len=size, report=ctypes.c_char_p, room=size,
                  replayed=Replayed)
+
+
+def message(status: int) -> str:
+    """Returns the message of a status, or "?" for an unknown number."""
+    text = ctypes.create_string_buffer(96)  # FQ_MESSAGE_ROOM
+    status_message(status, text, len(text))
+    return text.value.decode()
 
 
 def differences() -> Iterator[str]:

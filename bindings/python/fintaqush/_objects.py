@@ -22,6 +22,16 @@ class Counts(NamedTuple):
     bytes: int
 
 
+class TxState(NamedTuple):
+    """The state of a transmit ring: all bytes sent and all completed, modulo 2^32, the limit, what may still be sent, and whether
+    the limit has stopped the queue."""
+    queued: int
+    completed: int
+    limit: int
+    avail: int
+    stopped: bool
+
+
 class RunReport(NamedTuple):
     """The report of a run: its polls, their packets, and whether the budget or the window was used up."""
     polls: int
@@ -97,6 +107,14 @@ class Napi(_One):
         poller. NOT_ALLOWED."""
         return Status(c.napi_complete(self._state, who))
 
+    def end(self, full: bool, who: int = 0) -> Next | None:
+        """Ends a poll as the kernel does (`__napi_poll`), and returns what to pass to the run. After a full poll, which returned the whole
+        weight, the instance is on the list again, or stays with its thread (None: poll again), unless a disable is pending. Any other
+        poll is completed, and queued again if a request was missed; after AGAIN_THREAD its thread has to poll. Returns None for a busy
+        poller too. NOT_ALLOWED."""
+        next = c.u32()
+        return None if c.napi_end(self._state, who, full, next) == Status.HELD else Next(next.value)
+
     def busy_take(self, who: int = 0) -> bool:
         """Takes an idle instance to busy poll it (`napi_busy_loop`); returns False if it isn't idle."""
         return bool(c.napi_busy_take(self._state, who) == Status.TAKEN)
@@ -110,7 +128,8 @@ class Napi(_One):
         c.napi_set_threaded(self._state, who, threaded)
 
     def enable(self, threaded: bool = False, who: int = 0) -> None:
-        """For the controller: enables the instance (`napi_enable`). NOT_ALLOWED."""
+        """For the controller: enables the instance (`napi_enable`). Call `schedule` once after it, because earlier requests aren't polled.
+        NOT_ALLOWED."""
         c.napi_enable(self._state, who, threaded)
 
     def mark_disable(self, who: int = 0) -> None:
@@ -165,6 +184,30 @@ class Ring(_Owned):
         counts = c.Counts()
         c.count(self._at, counts)
         return Counts(counts.polls, counts.packets, counts.bytes)
+
+
+class TxRing(_Owned):
+    """A transmit ring of 1 to 65536 packets under a byte queue limit between min and max: it keeps the sizes of the packets that were
+    sent and aren't completed. Times are milliseconds of your own clock. BAD_BOUNDS, BAD_CAPACITY."""
+
+    def __init__(self, capacity: int, min: int = 0, max: int = 1879048192, hold_ms: int = 1000, now_ms: int = 0) -> None:
+        super().__init__(c.tx_new, capacity, min, max, hold_ms, now_ms)
+
+    def send(self, bytes: int) -> Status:
+        """Gives a packet to the device (`netdev_tx_sent_queue`): OK; or, if nothing is sent, STOPPED by the limit, or FULL. TOO_LARGE,
+        TOO_MUCH_IN_FLIGHT."""
+        return Status(c.tx_send(self._at, bytes))
+
+    def done(self, count: int, now_ms: int) -> bool:
+        """Completes the oldest packets (`netdev_tx_completed_queue`); returns False, and completes none, if the device holds fewer."""
+        return bool(c.tx_done(self._at, count, now_ms) == Status.OK)
+
+    @property
+    def state(self) -> TxState:
+        """The state of the ring."""
+        shown = c.TxShown()
+        c.tx_state(self._at, shown)
+        return TxState(shown.queued, shown.completed, shown.limit, shown.avail, shown.stopped)
 
 
 class List(_Owned):

@@ -7,7 +7,7 @@ use crate::handle::Handle;
 use crate::packets::Answers;
 use crate::polling::Polling;
 use crate::sys;
-use crate::words::{Kind, Prep};
+use crate::words::{Kind, Next, Prep};
 
 /// A caller that owns nothing: an interrupt handler, or a poller or thread that isn't polling.
 ///
@@ -117,6 +117,40 @@ impl Caller {
             }
         }
         prep
+    }
+
+    /// Requests a poll (`napi_schedule`), from an interrupt, a timer or a driver's open. A granted
+    /// request queues the instance where the state word says: [`Next::Again`] says where, and the
+    /// caller puts the number on the list or wakes the thread. Otherwise returns [`Next::Gone`].
+    pub fn request(&mut self) -> (Prep, Next) {
+        self.request_and(|| {})
+    }
+
+    /// Like [`request`](Caller::request), with [`mask`](Card::mask) between the grant and the queuing.
+    ///
+    /// If `mask` panics, the instance is never polled again.
+    pub fn request_masked(&mut self, card: &mut impl Card) -> (Prep, Next) {
+        self.request_and(|| card.mask())
+    }
+
+    fn request_and(&mut self, mask: impl FnOnce()) -> (Prep, Next) {
+        let prep = loop {
+            // SAFETY: the handle is this caller's alone.
+            let said = unsafe { sys::fq_seat_schedule(self.at.raw()) };
+            if let Some(prep) = Prep::of("seat_schedule", said) {
+                break prep;
+            }
+        };
+        if prep != Prep::Granted {
+            return (prep, Next::Gone);
+        }
+        mask();
+        let mut next = sys::FQ_NEXT_GONE;
+        // SAFETY: the handle is this caller's alone, and the number lies elsewhere.
+        match unsafe { sys::fq_seat_hand_again(self.at.raw(), &mut next) } {
+            sys::FQ_OK => (prep, Next::of("seat_hand_again", next)),
+            said => unexpected("seat_hand_again", said),
+        }
     }
 
     /// Reads the state word: a sum of the `FQ_BIT_..` of [`sys`].

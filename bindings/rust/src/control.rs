@@ -1,9 +1,12 @@
 //! The controller of a shared instance, which enables and disables it.
 use crate::answers::TryTake;
+use crate::caller::Caller;
+use crate::card::Card;
 use crate::fault::unexpected;
 use crate::handle::Handle;
 use crate::packets::Counts;
 use crate::sys;
+use crate::words::{Next, Prep};
 use std::marker::PhantomData;
 use std::thread;
 
@@ -76,7 +79,8 @@ impl Control<Off> {
     }
 
     /// Enables the instance, and retries until an attempt decides (`napi_enable`). Packets that arrived while it was disabled
-    /// are polled after the next schedule.
+    /// are polled after the next schedule, so schedule once after this call, or enable by [`open`](Control::open). Otherwise a
+    /// card that is masked and whose ring is full is never polled again.
     pub fn enable(self, threaded: bool) -> Control<On> {
         let mut control = self;
         loop {
@@ -85,6 +89,19 @@ impl Control<Off> {
                 Err(off) => control = off,
             }
         }
+    }
+
+    /// A driver's open: enables, and asks once by this caller, with [`mask`](Card::mask) where that
+    /// is granted. The answers are those of [`request_masked`](Caller::request_masked).
+    pub fn open(
+        self,
+        threaded: bool,
+        caller: &mut Caller,
+        card: &mut impl Card,
+    ) -> (Control<On>, Prep, Next) {
+        let on = self.enable(threaded);
+        let (prep, next) = caller.request_masked(card);
+        (on, prep, next)
     }
 }
 

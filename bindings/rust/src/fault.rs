@@ -57,6 +57,16 @@ impl Fault {
         sys::fq_status_name(self.0)
     }
 
+    /// Returns its message, as `"a weight is 1 to 64 packets"`.
+    pub fn message(self) -> String {
+        let mut text = vec![0; sys::FQ_MESSAGE_ROOM];
+        // SAFETY: the array has so many bytes, and is this call's alone.
+        let length =
+            unsafe { sys::fq_status_message(self.0, text.as_mut_ptr().cast(), text.len()) };
+        text.truncate(length);
+        String::from_utf8_lossy(&text).into_owned()
+    }
+
     // The result of a call that succeeds if it returns `FQ_OK`.
     pub(crate) fn unless_made(status: u32) -> Result<(), Fault> {
         match status {

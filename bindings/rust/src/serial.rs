@@ -1,7 +1,7 @@
 //! Instances of one thread.
 use crate::fault::{unexpected, Fault};
 use crate::sys;
-use crate::words::{Done, Kind, Prep};
+use crate::words::{Done, Kind, Next, Prep};
 use std::cell::Cell;
 use std::marker::PhantomData;
 
@@ -59,6 +59,21 @@ impl SerialNapi {
         }
     }
 
+    /// Ends a poll as the kernel does (`__napi_poll`): after a full one, which used its whole weight,
+    /// the instance is on the list again, or stays with its thread, unless a disable is pending;
+    /// otherwise it is completed, and queued again if a request was missed. `None`: the caller polls
+    /// again. After [`Next::Again`] of [`Kind::Thread`] the caller wakes its thread.
+    pub fn end(&mut self, who: u32, full: bool) -> Result<Option<Next>, Fault> {
+        let mut next = sys::FQ_NEXT_GONE;
+        // SAFETY: the instance is borrowed by this call alone, and the number lies elsewhere.
+        match unsafe { sys::fq_napi_end(&mut self.raw, who, full, &mut next) } {
+            sys::FQ_OK => Ok(Some(Next::of("napi_end", next))),
+            sys::FQ_HELD => Ok(None),
+            sys::FQ_NOT_ALLOWED => Err(Fault::NOT_ALLOWED),
+            said => unexpected("napi_end", said),
+        }
+    }
+
     /// Takes an idle instance to busy poll it (`napi_busy_loop`); returns false if it isn't idle.
     pub fn busy_take(&mut self, who: u32) -> bool {
         // SAFETY: only this call borrows the instance.
@@ -101,7 +116,8 @@ impl SerialNapi {
         Fault::unless_made(unsafe { sys::fq_napi_unmark(&mut self.raw, who) })
     }
 
-    /// For the controller: enables the instance (`napi_enable`).
+    /// For the controller: enables the instance (`napi_enable`). Call [`schedule`](SerialNapi::schedule) once after it, because
+    /// earlier requests aren't polled.
     pub fn enable(&mut self, who: u32, threaded: bool) -> Result<(), Fault> {
         // SAFETY: only this call borrows the instance.
         Fault::unless_made(unsafe { sys::fq_napi_enable(&mut self.raw, who, threaded) })

@@ -57,6 +57,9 @@ statuses! {
     FQ_BAD_TRACE = 120,
 }
 
+/// Room for each text of the library, with the 0 behind it.
+pub const FQ_MESSAGE_ROOM: usize = 96;
+
 /// The number of `struct fq_handle` for [`fq_struct_size`].
 pub const FQ_STRUCT_HANDLE: u32 = 0;
 /// The number of `struct fq_dql` for [`fq_struct_size`].
@@ -314,6 +317,7 @@ pub struct fq_replayed {
 extern "C" {
     pub fn fq_version(to: *mut c_char, room: usize) -> usize;
     pub fn fq_status_text(status: u32, to: *mut c_char, room: usize) -> usize;
+    pub fn fq_status_message(status: u32, to: *mut c_char, room: usize) -> usize;
     pub fn fq_fault_text(fault: u32, to: *mut c_char, room: usize) -> usize;
     pub fn fq_struct_size(which: u32) -> usize;
 
@@ -338,6 +342,7 @@ extern "C" {
     pub fn fq_napi_hand(napi: *mut fq_napi, who: u32, kind: u32) -> u32;
     pub fn fq_napi_take(napi: *mut fq_napi, who: u32, kind: u32) -> u32;
     pub fn fq_napi_complete(napi: *mut fq_napi, who: u32) -> u32;
+    pub fn fq_napi_end(napi: *mut fq_napi, who: u32, full: bool, next: *mut u32) -> u32;
     pub fn fq_napi_busy_take(napi: *mut fq_napi, who: u32) -> u32;
     pub fn fq_napi_busy_stop(napi: *mut fq_napi, who: u32) -> u32;
     pub fn fq_napi_set_threaded(napi: *mut fq_napi, who: u32, threaded: bool);

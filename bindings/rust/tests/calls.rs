@@ -451,6 +451,72 @@ fn a_poll_that_panics_ends_the_run() {
     assert_eq!(listed(&mut list), [2]);
 }
 
+// ---- ends of polls on one thread, requests, opens
+
+#[test]
+fn a_full_poll_under_a_disable_is_completed() {
+    let mut napi = SerialNapi::new(CONTROLLER);
+    napi.enable(CONTROLLER, false).unwrap();
+    assert_eq!(napi.schedule(INTERRUPT), Prep::Granted);
+    napi.hand(INTERRUPT, Kind::List).unwrap();
+    assert!(napi.take(POLLER, Kind::List));
+    assert_eq!(napi.end(INTERRUPT, true), Err(Fault::NOT_ALLOWED));
+    assert_eq!(napi.end(POLLER, true), Ok(Some(Next::Repoll)));
+    napi.mark_disable(CONTROLLER).unwrap();
+    assert!(napi.take(POLLER, Kind::List));
+    assert_eq!(napi.end(POLLER, true), Ok(Some(Next::Gone)));
+    assert_eq!(napi.take_disable(CONTROLLER), Ok(true));
+}
+
+#[test]
+fn an_end_on_one_thread_goes_by_the_word() {
+    let mut napi = SerialNapi::new(CONTROLLER);
+    napi.enable(CONTROLLER, true).unwrap();
+    assert_eq!(napi.schedule(INTERRUPT), Prep::Granted);
+    napi.hand(INTERRUPT, Kind::Thread).unwrap();
+    assert!(napi.take(POLLER, Kind::Thread));
+    assert_eq!(napi.end(POLLER, true), Ok(None));
+    assert_eq!(napi.schedule(INTERRUPT), Prep::Missed);
+    let again = Some(Next::Again(Kind::Thread));
+    assert_eq!(napi.end(POLLER, false), Ok(again));
+    assert!(napi.take(POLLER, Kind::Thread));
+    assert_eq!(napi.end(POLLER, false), Ok(Some(Next::Gone)));
+}
+
+#[test]
+fn an_open_asks_once_and_a_request_goes_by_the_word() {
+    for threaded in [false, true] {
+        let Shared {
+            input: _input,
+            control,
+            callers: [mut interrupts, mut poller],
+        } = Shared::<2>::new(4).unwrap();
+        assert_eq!(interrupts.request(), (Prep::Missed, Next::Gone));
+        let mut card = Model::default();
+        let kind = if threaded { Kind::Thread } else { Kind::List };
+        let (_on, prep, next) = control.open(threaded, &mut poller, &mut card);
+        assert_eq!((prep, next), (Prep::Granted, Next::Again(kind)));
+        assert!(card.masked);
+        assert_eq!(interrupts.request(), (Prep::Missed, Next::Gone));
+        let polling = poller.take(kind).expect("it was asked for");
+        let End::Over(poller, next) = polling.end(false) else {
+            panic!("it is over")
+        };
+        assert_eq!(next, Next::Again(kind));
+        let polling = poller.take(kind).expect("again");
+        assert!(matches!(polling.end(false), End::Over(_, Next::Gone)));
+        interrupts.set_threaded(!threaded);
+        let other = if threaded { Kind::List } else { Kind::Thread };
+        assert_eq!(interrupts.request(), (Prep::Granted, Next::Again(other)));
+    }
+}
+
+#[test]
+fn a_fault_says_what_it_means() {
+    assert_eq!(Fault::BAD_WEIGHT.message(), "a weight is 1 to 64 packets");
+    assert_eq!(Fault::OUT_OF_MEMORY.message(), "out of memory");
+}
+
 // ---- faults
 
 #[test]

@@ -1,8 +1,8 @@
 //! The version and the names of numbers, for callers that can't use the inline functions of C's header.
 ghost use Rattle.std.specs.Prelude.{◌≡◌, ◌≤◌, length};
 
-// Writes a text and a 0 after it, if there is room for both, and returns the text's length.
-fn write(text: &[u8], to: &mut [u8]) -> usize
+/// Writes a text and a 0 after it, if there is room for both, and returns the text's length.
+pub fn write(text: &[u8], to: &mut [u8]) -> usize
     ensures length { result ≡ length text.now }
     ensures kept { length to.new ≤ result → to.new ≡ to.old }
 {

@@ -59,7 +59,8 @@ fn numbers_of(place: Place) -> (u8, u32)
     }
 }
 
-fn state_of(napi: &FqNapi) -> State
+/// The state that the struct's bytes are.
+pub fn state_of(napi: &FqNapi) -> State
     ensures { result ≡ state_in napi.now }
 {
     State {
