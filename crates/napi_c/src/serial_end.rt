@@ -12,8 +12,11 @@ use c_handles::status;
 use napi_model::{Call, Done, Kind, Operation};
 
 const GONE: u32 = 0;
+
 const AGAIN: u32 = 1;
+
 const AGAIN_THREAD: u32 = 2;
+
 const REPOLL: u32 = 3;
 
 /// The end of a poll, full or not, as `__napi_poll` and its callers end it: a full one goes to the list again, or stays with its thread,
@@ -65,7 +68,11 @@ fn completed(napi: &mut FqNapi, who: u32, next: &mut u32) -> u32
         Some(Operation::Complete(Done::Released)) => status::OK,
         Some(Operation::Complete(Done::Held)) => status::HELD,
         Some(Operation::Complete(Done::Again)) => {
-            let kind = if is_threaded { Kind::Thread } else { Kind::List };
+            let kind = if is_threaded {
+                Kind::Thread
+            } else {
+                Kind::List
+            };
             let Some(_) = step(napi, who, Call::Hand(kind)) else {
                 unreachable!()
             };

@@ -5,7 +5,8 @@ use Rattle.device_transmit.specs.Transmits.{Transmits, is_used}
 use Rattle.{device_places.specs.Places.at, device_transmit.specs.Transmits.tx_counts_of, device_bench.specs.Bench.{attached, counts_at}}
 use Rattle.device_bench.specs.declared.counts.{DeviceCounts.DeviceCounts, DeviceState.{DeviceState, TheVariants.{On, Off, Pending}}}
 use Rattle.{device_rows.specs.declared.row.Row.Row, replay_rows.specs.{Replay.after_all, Transmits.transmits_of}}
-use Rattle.replay_rows.specs.{ReplayState.ReplayState, declared.{report.RunTotals.RunTotals, line.Line.{Line, TheVariants.{Softirq, Kthread}}}}
+use Rattle.replay_rows.specs.ReplayState.{ReplayState}
+use Rattle.replay_rows.specs.declared.{report.RunTotals.RunTotals, line.Line.{Line, TheVariants.{Softirq, Kthread}}}
 use Rattle.{replay_rows.specs.declared.line.Line.TheVariants.Busy, replay_text.specs.{declared.fault.ReplayFault.ReplayFault, Lines.ended}}
 use Rattle.{replay_text.specs.Lines.{flag, tx_lines, words}, poll_runs.specs.declared.run.RunReport.RunReport}
 use Rattle.replay_words.specs.declared.settings.Settings.{Settings}
