@@ -19,7 +19,7 @@ minutes of processor time, and a compiler may choose other registers than RULES 
     85  digits: more of them than a flag or the count of the devices has
     58  excluded by the proof: traps, numbers out of their ranges, more entries than devices, more polls than packets
     22  host: more words than memory has, calls that a signal ends, and input read ahead, which the reader of records never does
-    30  csv: fields that are trimmed, titles that are kept, and reading on behind the end
+    30  csv: fields that are trimmed, titles that are kept, and reading on after the end
 """
 import concurrent.futures
 import itertools

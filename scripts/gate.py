@@ -217,7 +217,7 @@ def gate(words):
     if words[0] == "proofs":
         passed, failed = prove_all(words[1], words[2:])
     else:
-        os.nice(5)  # the tests beside them mostly wait, and have their times
+        os.nice(5)  # the tests that run at the same time mostly wait, and have their times
         passed, failed = try_all([crates()[name] for name in words[1:] or crates()])
     print(f"{passed} passed, {failed} failed", flush=True)
     return 1 if failed else 0

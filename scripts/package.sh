@@ -138,7 +138,7 @@ Description: packet polling core of Linux (NAPI) for Python
 END
 package fintaqush "$architecture" net << END
 Depends: libc6 (>= $(glibc_of "$scratch/fintaqush")), python3 (>= 3.9)
-Suggests: gnuplot-nox, tcpdump, parallel, ethtool, iproute2
+Suggests: python3-matplotlib, libjs-dygraphs, tcpdump, parallel, ethtool, iproute2
 Description: replay and prediction of what a receiving Linux machine does
  Programs that replay traces of network devices by the rules of NAPI and byte
  queue limits of Linux 6.6, and tools that record a running machine, predict

@@ -29,7 +29,7 @@ PACKED = {  # by what the file begins with
     rb"\xff\xfe|m\x00": "in UTF-16: iconv -f UTF-16LE -t UTF-8",
     rb"\xfe\xff|\x00m": "in UTF-16: iconv -f UTF-16BE -t UTF-8",
 }
-CAUSES = {  # by the fault's number and the line behind it: the first that fits
+CAUSES = {  # by the error's number and the line after it: the first that fits
     "1 .*[;\t]": "the fields have {others} between them, and need commas",
     "1 ": f"the first line has to be {HEADER}, in lower case and without spaces, or {HEADER},2 for version 2",
     "2 [ \t]+$": "a line of spaces is a row; an empty line is none",

@@ -1,8 +1,9 @@
 #!/usr/bin/env python3
-"""modes.py PROGRAM SERIAL: the three modes of the replay beside one another. The last line is `N passed, M failed`.
+"""modes.py PROGRAM SERIAL: compares the three modes of the replay with one another. The last line is `N passed, M failed`.
 
-Serial mode is the judge of shared mode, and of SERIAL, which has serial mode alone: the runs of runs.txt, and random traces of
-both versions by several settings. Of a trace that is cut anywhere, the rules of docs/FORMATS.md, written down here anew, say whether it has a fault, and which."""
+Serial mode is the reference for shared mode, and for SERIAL, which has only serial mode: on the runs of runs.txt, and on random
+traces of both versions with several settings. For a trace that is cut off anywhere, the rules of docs/FORMATS.md, implemented
+here again, say whether it has an error, and which."""
 import os
 import re
 import subprocess

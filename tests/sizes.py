@@ -1,8 +1,8 @@
 #!/usr/bin/env python3
 """sizes.py FOLDER: runs each program in FOLDER/NAME/out on inputs of all sizes, with all the memory that it needs: none fails, and its
-report has the counts of the input. The sizes are the powers of two and the numbers beside them, up to the most that there may be:
-100,000 rows, rings of 65,536 places, 16 devices, 8 pollers. Address space is bounded, to twice what the greatest of these inputs took
-where threads don't share it. The last line is `N passed, M failed`."""
+report has the counts of the input. The sizes are the powers of two and the numbers next to them, up to the limits: 100,000 rows,
+rings of capacity 65,536, 16 devices, 8 pollers. Address space is limited to twice what the greatest of these inputs needed, unless
+threads share it. The last line is `N passed, M failed`."""
 
 import os
 import resource

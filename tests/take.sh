@@ -27,8 +27,8 @@ leaves_as_it_was() {
     diff -r "$scratch/before" "$to" && [ "$said" = 0 ]
 }
 
-# tells NAME: copies it, and keeps the output.
-tells() { take "$1" "$to" > "$scratch/taken" 2> "$scratch/told"; }
+# takes NAME: copies it, and keeps the output.
+takes() { take "$1" "$to" > "$scratch/taken" 2> "$scratch/told"; }
 
 # is_whole: each crate that was copied has the files and the line that it has here, and nothing else.
 is_whole() {
@@ -71,17 +71,17 @@ with_program() {
 # ---- what is copied
 
 begin
-check 'takes poll_engine' tells poll_engine
+check 'takes poll_engine' takes poll_engine
 check 'as the last of them' [ "$(tail -n 1 "$scratch/taken")" = poll_engine ]
 check 'each file and each line' is_whole
 check 'each crate behind those that it stands on' is_closed
-check 'it tells the handles' grep -q 'HANDLES has to allow: Threads, Wait$' "$scratch/told"
+check 'it prints the handles' grep -q 'HANDLES has to allow: Threads, Wait$' "$scratch/told"
 check 'a second time nothing is to be done' leaves_as_it_was 0 take poll_engine "$to"
 cp "$top/HANDLES" "$to/HANDLES"
-check 'with these handles' tells poll_engine
+check 'with these handles' takes poll_engine
 check 'nothing is told' [ ! -s "$scratch/told" ]
 printf 'mine:   napi_model   # of my own' >> "$to/crates.txt"
-check 'takes another one beside it' tells dql_core
+check 'takes another one as well' takes dql_core
 check 'a line of its own stays' grep -qx 'mine:   napi_model   # of my own' "$to/crates.txt"
 check 'and the new one has its own' grep -qx 'dql_core: thiserror' "$to/crates.txt"
 
@@ -101,7 +101,7 @@ check 'a line of that name with other words' leaves_as_it_was 65 take tx_ring "$
 # ---- a program that uses the copy
 
 begin
-check 'takes tx_ring' tells tx_ring
+check 'takes tx_ring' takes tx_ring
 check 'with the limit below it' [ "$(cat "$scratch/taken")" = $'dql_core\ntx_ring' ]
 check 'which takes no handle' [ ! -s "$scratch/told" ]
 with_program sends 'tx_ring dql_core' << 'END'

@@ -1,5 +1,5 @@
 /* DPDK's ports polled under NAPI's rules; each is a host 10.99.0.2 that answers ARP, pings and UDP to port 7 in the frame that was
- * received. DPDK tells that the card is done with a frame by freeing it.
+ * received. DPDK frees a frame when the card has completed it.
  *
  * dpdk [EAL's words] -- napi|one|busy|power [--budget 1..65535] [--min BYTES]
  *
@@ -23,7 +23,7 @@ struct port {
     bool switches; /* whether its driver turns the interrupt on and off; otherwise only epoll does */
     struct rte_mbuf *waiting[WAITING];
     uint64_t first, let, behind; /* the limit has allowed the answers from first on, those from let on wait for it, and the
-                                  * next one goes to behind */
+                                  * next one goes to `behind` */
     uint32_t freed;
     unsigned long dropped;
 };

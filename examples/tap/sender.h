@@ -17,7 +17,7 @@ struct sender {
     uint8_t (*frames)[FRAME];
     uint32_t bytes[SLOTS];
     uint64_t first, given, behind; /* the card has the frames from first on, those from given on wait, and the next one goes
-                                    * to behind */
+                                    * to `behind` */
     uint64_t credit;               /* what the card may take by its rate, in bits times the nanoseconds of a second */
     unsigned long answered, sent, failed, dropped, held;
     struct trace *trace;

@@ -1,8 +1,8 @@
-/* A driver in user space of a virtio-net card, with its interrupts: behind it the far host 10.99.0.2 answers ARP, pings and UDP to port 7.
+/* A driver in user space for a virtio-net card, with its interrupts. Its host 10.99.0.2 answers ARP, pings and UDP to port 7.
  *
- * The interrupt thread waits for MSI-X and asks for polls. The poller has the poll list, polls both queues by driven runs, and sends the
- * answers under a byte queue limit; it disables and enables too. SIGHUP does either in turn, SIGUSR1 prints the counts, and SIGINT
- * disables, prints, and ends. usage: virtio ADDRESS, as 0000:00:05.0. */
+ * The interrupt thread waits for MSI-X and requests polls. The poller has the poll list, polls both queues in runs, and sends
+ * the answers under a byte queue limit; it disables and enables too. SIGHUP does either in turn, SIGUSR1 prints the counts, and
+ * SIGINT disables, prints, and ends. usage: virtio ADDRESS, for example 0000:00:05.0. */
 #define _GNU_SOURCE
 #include "answer.h"
 #include "card.h"
@@ -37,7 +37,7 @@ static atomic_bool asked; /* for the counts */
 static int wake, stop;
 static uint8_t *buffers; /* one for each descriptor that receives */
 static uint8_t *slots;   /* answers, in turn: the card has those from first on, those from given on wait, and the next one
-                          * goes to behind */
+                          * goes to `behind` */
 static uint32_t lengths[SLOTS];
 static uint64_t first, given, behind;
 static unsigned long runs, squeezed, dropped, held, disorder;

@@ -23,7 +23,7 @@ struct ring {
 static struct device device;
 static uint8_t *memory;
 static struct ring fill, completion, rx, tx;
-static struct xdp_desc waiting[FRAMES]; /* from first on, up to behind: the answers that wait for the limit */
+static struct xdp_desc waiting[FRAMES]; /* from first on, up to `behind`: the answers that wait for the limit */
 static uint64_t first, behind;
 static unsigned long kicks;
 

@@ -199,7 +199,7 @@ replay = declare("replay", u32, _long, settings=Settings, trace=ctypes.c_char_p,
 
 
 def message(status: int) -> str:
-    """What a status says in words; "?" of a number that is none."""
+    """Returns the message of a status, or "?" for an unknown number."""
     text = ctypes.create_string_buffer(96)  # FQ_MESSAGE_ROOM
     status_message(status, text, len(text))
     return text.value.decode()

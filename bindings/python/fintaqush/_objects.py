@@ -23,7 +23,7 @@ class Counts(NamedTuple):
 
 
 class TxState(NamedTuple):
-    """What a transmit ring shows: all bytes sent and all that are complete, modulo 2^32, the limit, what may still be sent, and whether
+    """The state of a transmit ring: all bytes sent and all completed, modulo 2^32, the limit, what may still be sent, and whether
     the limit has stopped the queue."""
     queued: int
     completed: int
@@ -108,10 +108,10 @@ class Napi(_One):
         return Status(c.napi_complete(self._state, who))
 
     def end(self, full: bool, who: int = 0) -> Next | None:
-        """Ends a poll as the kernel does (`__napi_poll`), and answers what a run is told. After a full one, which gave its whole weight,
-        the instance is on the list again, or stays with its thread (None: poll on), unless a disable is pending. Any other is completed,
-        and handed over again where a request was missed; after AGAIN_THREAD its thread is to poll. None of a busy poller too.
-        NOT_ALLOWED."""
+        """Ends a poll as the kernel does (`__napi_poll`), and returns what to pass to the run. After a full poll, which returned the whole
+        weight, the instance is on the list again, or stays with its thread (None: poll again), unless a disable is pending. Any other
+        poll is completed, and queued again if a request was missed; after AGAIN_THREAD its thread has to poll. Returns None for a busy
+        poller too. NOT_ALLOWED."""
         next = c.u32()
         return None if c.napi_end(self._state, who, full, next) == Status.HELD else Next(next.value)
 
@@ -188,23 +188,23 @@ class Ring(_Owned):
 
 class TxRing(_Owned):
     """A transmit ring of 1 to 65536 packets under a byte queue limit between min and max: it keeps the sizes of the packets that were
-    sent and aren't complete. Moments are milliseconds of a clock of your own. BAD_BOUNDS, BAD_CAPACITY."""
+    sent and aren't completed. Times are milliseconds of your own clock. BAD_BOUNDS, BAD_CAPACITY."""
 
     def __init__(self, capacity: int, min: int = 0, max: int = 1879048192, hold_ms: int = 1000, now_ms: int = 0) -> None:
         super().__init__(c.tx_new, capacity, min, max, hold_ms, now_ms)
 
     def send(self, bytes: int) -> Status:
-        """A packet is given to the device (`netdev_tx_sent_queue`): OK; nothing is sent: STOPPED by the limit, or FULL. TOO_LARGE,
+        """Gives a packet to the device (`netdev_tx_sent_queue`): OK; or, if nothing is sent, STOPPED by the limit, or FULL. TOO_LARGE,
         TOO_MUCH_IN_FLIGHT."""
         return Status(c.tx_send(self._at, bytes))
 
     def done(self, count: int, now_ms: int) -> bool:
-        """The device is done with the oldest packets (`netdev_tx_completed_queue`); False, and nothing is done: it holds fewer."""
+        """Completes the oldest packets (`netdev_tx_completed_queue`); returns False, and completes none, if the device holds fewer."""
         return bool(c.tx_done(self._at, count, now_ms) == Status.OK)
 
     @property
     def state(self) -> TxState:
-        """What it shows."""
+        """The state of the ring."""
         shown = c.TxShown()
         c.tx_state(self._at, shown)
         return TxState(shown.queued, shown.completed, shown.limit, shown.avail, shown.stopped)

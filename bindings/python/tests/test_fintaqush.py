@@ -1,4 +1,4 @@
-"""The package fintaqush. What is expected stands in include/fintaqush.h, docs/FORMATS.md, examples/ and the outputs of examples/c."""
+"""The package fintaqush. Expected values are from include/fintaqush.h, docs/FORMATS.md, examples/ and the outputs of examples/c."""
 import copy
 import ctypes
 import inspect
@@ -52,7 +52,7 @@ class TestHeader(unittest.TestCase):
         self.assertIn(f'#define FQ_VERSION "{fintaqush.__version__}"\n', HEADER)
 
     def test_calls(self):
-        """Each call that is declared has the header's answer and arguments."""
+        """Each call that is declared has the header's result and arguments."""
         self.assertGreater(len(_library.DECLARED), 30)
         for name, (answer, arguments) in _library.DECLARED.items():
             said, told = re.search(rf"^(?:FQ_\w+ )?((?:struct |enum )?\w+) fq_{name}\((.*)\);", HEADER, re.M).groups()
@@ -127,7 +127,7 @@ class TestLimit(Refusals):
 
 
 class TestNapi(Refusals):
-    """The words are those of the table in docs/FORMATS.md."""
+    """The state words are those of the table in docs/FORMATS.md."""
 
     def test_a_turn(self):
         napi = Napi(controller=1)
@@ -361,7 +361,7 @@ class TestRuns(Refusals):
         self.assertEqual(len(softirq), 64)
 
     def wrecked(self, fault, poll):
-        """What a run leaves whose poll of device 2 of three fails: the list is whole without it, and runs again."""
+        """After a run whose poll of device 2 of three fails, the list has the others, and runs again."""
         softirq = List()
         for device in 1, 2, 3:
             softirq.push(device)
@@ -405,7 +405,7 @@ class TestRuns(Refusals):
 
 class TestReplay(Refusals):
     def test_two_packets(self):
-        """The report that docs/FORMATS.md tells of."""
+        """The report that docs/FORMATS.md shows."""
         report = replay((TOP / "examples/two-packets.csv").read_bytes())
         shown = re.search(r"The report:\n\n(.*?)\n\n", (TOP / "docs/FORMATS.md").read_text(), re.S)[1]
         self.assertEqual(report.text, re.sub(r"^    ", "", shown, flags=re.M) + "\n")
@@ -452,7 +452,7 @@ class TestReplay(Refusals):
             self.assertEqual(([turn._asdict() for turn in report.turns], report.listed), (turns, listed))
 
     def test_a_long_report(self):
-        """Longer than the room that is guessed first."""
+        """Longer than the buffer that is tried first."""
         rows = "0,1,open,1\n" + "".join(f"0,{device},open,1\n" for device in range(2, 17)) + "0,0,softirq,0\n" * 99000
         report = replay(("moment,device,event,value\n" + rows).encode())
         self.assertEqual((len(report.turns), report.runs, len(report.devices)), (99000, 99000, 16))

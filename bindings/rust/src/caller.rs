@@ -9,7 +9,7 @@ use crate::polling::Polling;
 use crate::sys;
 use crate::words::{Kind, Next, Prep};
 
-/// A caller that owns nothing: an interrupt, a poller or a thread poller at rest.
+/// A caller that owns nothing: an interrupt handler, or a poller or thread that isn't polling.
 ///
 /// A caller has no poll context, so it can't poll:
 ///
@@ -20,7 +20,7 @@ use crate::words::{Kind, Next, Prep};
 /// }
 /// ```
 ///
-/// What was spent on a call is gone, so nobody is two callers at a time:
+/// A value that was passed to a call is gone, so there is never a second one for the same caller:
 ///
 /// ```compile_fail,E0382
 /// use fintaqush::{Caller, Kind, Sched};
@@ -38,7 +38,7 @@ use crate::words::{Kind, Next, Prep};
 /// }
 /// ```
 ///
-/// It goes to a thread of its own, and isn't used by two:
+/// It can be sent to another thread, but not shared by two:
 ///
 /// ```
 /// fn goes_to_a_thread<T: Send>() {}
@@ -126,9 +126,9 @@ impl Caller {
         self.request_and(|| {})
     }
 
-    /// The same, with [`mask`](Card::mask) between the grant and the hand-over.
+    /// Like [`request`](Caller::request), with [`mask`](Card::mask) between the grant and the queuing.
     ///
-    /// Where `mask` panics nobody polls the instance again.
+    /// If `mask` panics, the instance is never polled again.
     pub fn request_masked(&mut self, card: &mut impl Card) -> (Prep, Next) {
         self.request_and(|| card.mask())
     }

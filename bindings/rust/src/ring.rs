@@ -42,7 +42,7 @@ impl Ring {
         put(&mut self.at, packet)
     }
 
-    /// Puts as many of the first packets in as fit, behind all others, and answers how many.
+    /// Puts as many of the first packets as fit at the end of the ring, and returns how many.
     ///
     /// ```
     /// use fintaqush::{Fault, Packet, Ring};

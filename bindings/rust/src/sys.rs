@@ -157,7 +157,7 @@ pub struct fq_napi {
     pub threaded: u8,
     /// `NAPI_STATE_SCHED_THREADED`.
     pub sched_threaded: u8,
-    /// 0 nobody, 1 granted, 2 listed, 3 to its thread, 4 polled, otherwise the controller.
+    /// 0 no owner, 1 granted, 2 listed, 3 to its thread, 4 polled, otherwise the controller.
     pub place: u8,
     /// The number of its owner.
     pub owner: u32,

@@ -1,4 +1,4 @@
-//! The packet polling core for C: exports over the crates below, each of which checks what the call below asks for.
+//! The packet polling core for C: exports that check the preconditions of the calls that they make.
 #![tactic(auto)]
 
 mod control_calls;
