@@ -165,7 +165,7 @@ def door_rules(_page):
     for user in sorted((TOP / "crates/uses_facades/src").glob("[!l]*.rt")):
         text = user.read_text()
         named = {*re.findall(r"^(?:ghost )?use (?:Rattle\.)?(\w+)", text, re.M)} - {"std", "mathlib", "crate", "uses_facades"}
-        if re.findall(r"\A//! A user of `(\w+)` alone", text) != [*named]:
+        if re.findall(r"\A//! A program that uses only `(\w+)`:", text) != [*named]:
             yield f"{user.name} isn't of one facade: it names {', '.join(sorted(named))}"
 
 
