@@ -73,7 +73,7 @@ class Source:
     def __init__(self, crate, path):
         self.crate = crate
         self.path = path
-        self.is_test = crate.name.startswith("uses_") or any(part.endswith("tests") for part in (crate.name, path.stem, path.parent.name))
+        self.is_test = crate.name.startswith(("test_", "uses_")) or any(part.endswith("tests") for part in (crate.name, path.stem, path.parent.name))
         self.depth = 0
         self.functions = []
         self.ghost = 0       # how many brackets of a clause or of a ghost item are open

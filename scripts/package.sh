@@ -41,7 +41,7 @@ Section: net
 Priority: optional
 Installed-Size: $(du -sk "$stage/usr" | cut -f 1)
 Depends: libc6 (>= ${glibc#GLIBC_}), python3 (>= 3.9)
-Suggests: gnuplot-nox, tcpdump, parallel, ethtool, iproute2
+Suggests: python3-matplotlib, libjs-dygraphs, tcpdump, parallel, ethtool, iproute2
 Description: packet polling core of Linux (NAPI) with byte queue limits, proved
  The replay of traces of network devices by the rules of NAPI and byte queue
  limits of Linux 6.6, its series, tools for traces and reports, and the library

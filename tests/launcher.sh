@@ -34,7 +34,7 @@ comes() { for _ in $(seq 3000); do "$@" > /dev/null && return; sleep 0.02; done;
 # began: the crates that were started since the last call.
 began() { sed -n 's/^begin //p' rt.log | sort | paste -s -d ' '; : > rt.log; }
 change() { echo >> "$small/crates/${1:-low}/src/lib.rt"; }
-# signalled SIGNAL [HOW]: to the launcher alone, while a build or a program is at work; and what goes on behind that.
+# signalled SIGNAL [HOW]: to the launcher only, while a build or a program is at work; and what goes on afterwards.
 signalled() {
     env --default-signal=INT "$launcher" ${2:-} trace.csv > made &
     comes pgrep -f "^$scratch/slow|^/bin/sh $scratch/bin/rattle build --crate-name ${at:-low}" && sleep 0.3 # the launcher notes it

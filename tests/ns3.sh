@@ -120,7 +120,9 @@ check 'a budget that is too large is refused' refused 64 "$scratch/bottleneck" -
 check 'calls that can not be written are told' refused 74 "$scratch/bottleneck" --load=1000 --calls=/dev/full
 check 'arrivals that can not be written are told' refused 74 "$scratch/bottleneck" --load=1000 --arrivals=/dev/full
 check 'limits without words are refused' refused 64 "$scratch/limits"
-if has gnuplot 'its picture'; then
+if ! python3 -c 'import matplotlib' 2> /dev/null && ! /usr/bin/python3 -c 'import matplotlib' 2> /dev/null; then
+    skip 'its picture' matplotlib
+else
     check 'the picture is drawn' [ "$(head -c 4 "$scratch/bottleneck.png" | tail -c 3)" = PNG ]
 fi
 

@@ -20,7 +20,7 @@ TOP = pathlib.Path(__file__).resolve().parent.parent
 LIST = TOP / "tests/commands.txt"
 LONGEST = 900  # seconds; nothing is judged by its time
 PROGRAMS = set("""rt cc gcc g++ clang clang++ c++ make cmake ctest cargo rustc python3 bash sh awk sbatch trace-cmd apt apt-get git cp mv rm
-    mkdir cd printf echo cat head pkg-config valgrind gnuplot man ip ethtool taskset tcpdump parallel perf sudo export curl ns3 tar diff
+    mkdir cd printf echo cat head pkg-config valgrind man ip ethtool taskset tcpdump parallel perf sudo export curl ns3 tar diff
     fintaqush napi_machine napi_replay napi_series napi_serial""".split())
 SUBCOMMANDS = runpy.run_path(str(TOP / "scripts/subcommands.py"))["FILES"]
 FOLDERS = r"(?:\./|\.\./)*(?:bench|crates|bindings|examples|scripts|tests|tools)/[\w./-]+"
@@ -42,11 +42,12 @@ SKIPPED = []  # what was, a line each
 
 @functools.cache
 def is_missing(program, what):
-    """Whether a program isn't installed; what needs it is skipped, and named once."""
-    if not shutil.which(program):
+    """Whether a program or a library isn't installed; what needs it is skipped, and named once."""
+    is_here = needs.is_here(program)
+    if not is_here:
         SKIPPED.append(needs.skipped("pages", what, program))
         print(SKIPPED[-1])
-    return not shutil.which(program)
+    return not is_here
 
 
 def begins_a_command(text):

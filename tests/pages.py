@@ -20,7 +20,7 @@ README_WORDS = 700
 # What is generated, or is in another folder than the repository's.
 MADE = re.compile(r"(^|/)out(/|$)|include/linux/|crates/first|NAME|FOLDER|FILE|PROGRAM|TRACE|DOOR|\.\.\./|^\.\.?/\.\./|[*<>{}$]|^/")
 # Crates that use the library's facades, apart from those named for tests.
-USERS = ("bench_", "example_", "uses_")
+USERS = ("bench_", "example_", "test_", "uses_")
 # Words in code that come from elsewhere: from the kernel, a file format, an instruction set; and names that stand for a file.
 OUTSIDE = {"__do_softirq", "time_after", "softnet_stat", "virtio_net", "sysexits", "btr", "mb", "MACHINES", "enqueue_to_backlog",
            "rps_trigger_softirq", "nstat", "UdpRcvbufErrors", "no_std", "num_queued", "num_completed",
@@ -156,12 +156,17 @@ def door_page(page):
 
 def door_rules(_page):
     """An internal crate has the prefix of its facade's name; tests, examples, benches and users name none, except the one with
-    which programs end."""
+    which programs end; and each file of `uses_facades` is of one facade."""
     needs, door = needs_of_crates(), door_of()
     yield from (f"{name} hasn't the prefix of {door[name]}" for name in door if name.split("_")[0] != door[name].split("_")[0])
     for name in needs:
         if name.startswith(USERS) or name.endswith("_tests"):
             yield from (f"{name} names {low}, which stands behind {door[low]}" for low in needs[name] if low in door and low != "replay_text")
+    for user in sorted((TOP / "crates/uses_facades/src").glob("[!l]*.rt")):
+        text = user.read_text()
+        named = {*re.findall(r"^(?:ghost )?use (?:Rattle\.)?(\w+)", text, re.M)} - {"std", "mathlib", "crate", "uses_facades"}
+        if re.findall(r"\A//! A user of `(\w+)` alone", text) != [*named]:
+            yield f"{user.name} isn't of one facade: it names {', '.join(sorted(named))}"
 
 
 def crate_picture(picture):

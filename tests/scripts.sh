@@ -68,7 +68,7 @@ sums 1 '2 passed, 1 failed, 0 skipped' unknown
 sums 1 '2 passed, 1 failed, 0 skipped' uncounted
 sums 1 '4 passed, 1 failed, 2 skipped' part broken
 check 'tests/needs.txt has what tests need, and nothing else' python3 -B "$top/tests/needs.py"
-check 'scripts/test-packages.sh lists the packages' grep -qx gnuplot-nox <("$top/scripts/test-packages.sh" --list)
+check 'scripts/test-packages.sh lists the packages' grep -qx python3-matplotlib <("$top/scripts/test-packages.sh" --list)
 check 'and what each gives' grep -qx 'spin: the search of the models' <("$top/scripts/test-packages.sh" --gives)
 check 'for all that it lists, and those that are only fetched' eval '[ "$("$top/scripts/test-packages.sh" --gives | grep -vc "^linux-")" = "$("$top/scripts/test-packages.sh" --list | wc -l)" ]'
 # without_root: in a copy that every user may read.

@@ -73,16 +73,13 @@ def references(made, texts):
     if (made / "reference/rust").is_dir():
         exported = re.findall(r"\b[A-Z]\w+", " ".join(re.findall(r"^pub use ([^;]*);", (TOP / "bindings/rust/src/lib.rs").read_text(), re.M)))
         yield from (f"reference/rust lacks {name}" for name in exported if name not in (made / "reference/rust/fintaqush/index.html").read_text())
-    manuals = "".join(texts.get(made / "docs/man" / f"fintaqush_{name}.3.html", "") for name, _ in header_groups())
+    groups = runpy.run_path(str(TOP / "scripts/header.py"))["groups"]()
+    manuals = "".join(texts.get(made / "docs/man" / f"fintaqush_{name}.3.html", "") for name, *_ in groups)
     yield from (f"no manual page of a group has {name}" for name in sorted(calls) if name not in manuals)
     facade = texts.get(made / "reference/rattle/dql_core.html", "")
     wanted = '<a href="../definitions/dql_core.html#Limit.after_queued">after_queued</a>'
     if wanted not in facade or 'id="Limit.after_queued"' not in texts.get(made / "reference/definitions/dql_core.html", ""):
         yield "after_queued in a clause of dql_core doesn't link to its definition"
-
-
-def header_groups():
-    return runpy.run_path(str(TOP / "scripts/header.py"))["GROUPS"]
 
 
 def anchors(made, texts):

@@ -9,12 +9,12 @@ import subprocess
 import unittest
 
 from prefixes import report_of
-from tooltest import HEADER, REPLAY, TOP, InFolder, run
+from tooltest import HEADER, REPLAY, TOP, InFolder, contrast, run
 
 BROWSER = next(filter(None, map(shutil.which, ("chromium", "chromium-browser", "google-chrome"))), None)
 # docs/FORMATS.md, "The state word".
 FLAGS = {0: "SCHED", 1: "MISSED", 2: "DISABLE", 3: "NPSVC", 6: "IN_BUSY_POLL", 8: "THREADED", 9: "SCHED_THREADED", 32: "QUEUED", 33: "TO_THREAD"}
-# Steps on by the key, the button, the slider and a stroke in turn, then back by each, and tells what is shown after each step.
+# Steps on by the key, the button, the slider and a stroke in turn, then back by each, and prints what is shown after each step.
 WALK = """<script>
 const one = name => document.querySelector(name).textContent;
 const told = [], shown = () => told.push({ place: by('place').textContent, list: one('.list'), said: one('.said'),
@@ -34,16 +34,6 @@ for (let place = 1; place < count; place++) { back[place % 4](); shown(); }
 key('End'); shown(); key('Home'); shown();
 document.body.replaceChildren(made('pre', 'told', JSON.stringify(told)));
 </script>"""
-
-
-def contrast(one, other):
-    """The contrast of two colours, as WCAG 2 defines it."""
-    def light(color):
-        parts = [int(color[place : place + 2], 16) / 255 for place in (0, 2, 4)]
-        red, green, blue = (part / 12.92 if part <= 0.04045 else ((part + 0.055) / 1.055) ** 2.4 for part in parts)
-        return 0.2126 * red + 0.7152 * green + 0.0722 * blue
-    low, high = sorted((light(one), light(other)))
-    return (high + 0.05) / (low + 0.05)
 
 
 class Steps(InFolder):

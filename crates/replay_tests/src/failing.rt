@@ -1,8 +1,5 @@
 //! The result of each mode if its reader or its writer fails, and the messages of errors that no run of the program shows.
 
-use crate::ends::{
-    FailingReader, FailingWriter, ONE_PACKET, ONE_PACKET_REPORT, ONE_PACKET_THREADS,
-};
 use device_model::TraceFault;
 use poll_engine::OpenGate;
 use replay::{
@@ -15,6 +12,7 @@ use std::process::ExitCode;
 use std::sync::Wait;
 use std::test::Fail;
 use std::thread::Threads;
+use test_ends::{FailingReader, FailingWriter, ONE_PACKET, ONE_PACKET_REPORT, ONE_PACKET_THREADS};
 
 pub(crate) const MODES: [(Mode, &str); 3] = [
     (Mode::Serial, ONE_PACKET_REPORT),

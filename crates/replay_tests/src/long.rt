@@ -1,10 +1,10 @@
 //! Inputs of any length: what is read of them, and that no length is an error.
 
-use crate::ends::LongReader;
 use crate::failing::{MODES, replay_in};
 use device_model::{TraceFault, read_trace};
 use replay::{ReplayFault, Settings};
 use std::test::Fail;
+use test_ends::LongReader;
 
 // More than a reader's buffer holds, many times. `tests/inputs.sh` tries the built program with 70 MB.
 const LONG: u64 = 1_000_000;

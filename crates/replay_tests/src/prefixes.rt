@@ -1,6 +1,5 @@
 //! Every prefix of a trace's bytes in each mode: the error of the row that it cuts off, or the report of the rows that it has.
 
-use crate::ends::HEADER;
 use crate::failing::{MODES, replay_in};
 use crate::worked::{ONE, joined};
 use device_model::TraceFault;
@@ -10,6 +9,7 @@ use std::process::Abort;
 use std::sync::Wait;
 use std::test::Fail;
 use std::thread::Threads;
+use test_ends::HEADER;
 
 // 129 packets, a run, a disable, and a run: rows 2 to 130, 131, 132 and 133.
 const ROWS: [(u32, &str); 4] = [

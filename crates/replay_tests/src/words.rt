@@ -86,12 +86,10 @@ fn refused_words(rt: HostRuntime) {
     }
 }
 
-// If each allocation fails in turn, the only other result is OutOfMemory.
 #[test]
-fn refused_memory(rt: HostRuntime) {
+fn a_mode_and_a_budget(rt: HostRuntime) {
     let answer = parse(rt.alloc(), &["--mode=serial", "--budget", "5"]);
-    let refused = answer == Err(WordFault::OutOfMemory);
-    assert!(rt; refused || answer == serial(1, 5, 64, 1024));
+    assert_eq!(rt; answer, serial(1, 5, 64, 1024));
 }
 
 #[test]

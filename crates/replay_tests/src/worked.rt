@@ -1,7 +1,6 @@
 //! Traces with the result of each mode, worked by hand: the report, or the message of the error. They are read from memory, and
 //! the reports are written to memory.
 
-use crate::ends::HEADER;
 use crate::failing::{MODES, replay_in};
 use replay::{Mode, ReplayFault, Settings, fault_line, status};
 use std::alloc::{AllocError, Global};
@@ -9,6 +8,7 @@ use std::process::Abort;
 use std::sync::Wait;
 use std::test::Fail;
 use std::thread::Threads;
+use test_ends::HEADER;
 
 // A trace, each text repeated as often as given, replayed with this budget and this window. With threads the report shows only
 // arrivals and the transmit side.
