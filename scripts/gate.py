@@ -168,7 +168,7 @@ def try_all(asked):
     """Tries the edits of these crates, up to four at a time, with a line for each; returns how many are rejected, and how many
     aren't."""
     asked = [it for it in asked if os.path.isdir(f"{it.folder}/must-fail")]
-    asked.sort(key=lambda it: -it.size())
+    asked.sort(key=lambda it: -it.size)
     build(list(dict.fromkeys(below.name for it in asked for below in it.all[:-1])))
     tried = []
     with concurrent.futures.ThreadPoolExecutor(min(len(os.sched_getaffinity(0)), 4)) as pool:
