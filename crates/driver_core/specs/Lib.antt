@@ -1,0 +1,4 @@
+pub mod Device
+pub mod Queue
+pub mod Driver
+pub mod Todo
