@@ -1,6 +1,8 @@
 -- What a driver holds, and what it says is to be done.
-use Rattle.std.specs.Prelude.{◌≡◌, ◌≤◌, ◌<◌, ◌+◌, ℕ, true, List, [], ◌∷◌, ◌++◌, slice_set, Option, Some, None, ◌==◌, if◌then◌else◌}
+use Rattle.std.specs.Prelude.{◌≡◌, ◌≤◌, ◌<◌, ◌+◌, ℕ, Bool, true, List, [], ◌∷◌, ◌++◌, slice_set, Option, Some, None, ◌==◌, if◌then◌else◌}
 use Rattle.std.specs.List.{All}
+use Rattle.poll_runs.specs.{Laws.IsPlainRun, declared.run.RunReport.RunReport}
+use Rattle.driver_core.specs.declared.limits.Limits.{Limits}
 use Rattle.poll_runs.specs.{Driven.IsGoing, Steps.HoldsNothing, Plain.{NothingBehind, OwnPushes, all_held}, Polls.Poll, declared.bench.Next.Next}
 use Rattle.driver_core.specs.declared.device.{Device.Device, Stage.Stage}
 use Rattle.driver_core.specs.declared.device.Chore.TheVariants as chore
@@ -12,6 +14,17 @@ devices_of driver = driver.devices.items
 
 abbrev pub stage_of : Driver → ℕ → Stage
 stage_of driver id = (device_at (devices_of driver) id).stage
+
+-- the devices that are on the poll list and not yet in a run, in order
+abbrev pub list_of : Driver → List ℕ
+list_of driver = driver.list
+
+abbrev pub limits_of : Driver → Limits
+limits_of driver = driver.limits
+
+-- a run is under way
+abbrev pub is_running : Driver → Bool
+is_running driver = driver.runs
 
 -- the device that is being polled
 abbrev pub polled_in : Driver → Option ℕ
@@ -55,7 +68,11 @@ pub record IsIdle (driver : Driver) : Type 0 where
 
 -- a run is under way that began when the list held these devices, and made these polls; nothing else was put on the list since
 abbrev pub IsRunning : List ℕ → List Poll → Driver → Type 0
-IsRunning start polls driver = (driver.runs ≡ true) × IsGoing all_held OwnPushes NothingBehind start polls driver.list driver.run
+IsRunning start polls driver = (is_running driver ≡ true) × IsGoing all_held OwnPushes NothingBehind start polls driver.list driver.run
+
+-- the run that began when the list held these devices, and made these polls, is over, and this is its report
+abbrev pub IsEnded : Limits → List ℕ → List Poll → Driver → RunReport → Type 0
+IsEnded limits start polls after report = IsPlainRun limits.budget limits.window start polls (list_of after) report
 
 -- what is said to be done is to be done; sleep is said only if each device is at rest, and nothing is on the list
 abbrev pub IsDue : Driver → Todo → Type 0

@@ -36,19 +36,19 @@ fn new_devices(alloc: Global, count: usize) -> Result<Vec<Device>, AllocError>
 
 impl Driver {
     ghost use Rattle.std.specs.Prelude.{◌↔◌, ◌∷◌, ◌++◌, None, Some, List, [], IsOk, IsTrue, OnOk, OnErr, slice_set};
-    ghost use Rattle.poll_runs.specs.Laws.{IsPlainRun};
+    ghost use Rattle.driver_core.specs.declared.todo.Todo.{Todo};
     ghost use Rattle.poll_runs.specs.Polls.{Poll};
     ghost use Rattle.driver_core.specs.declared.device.Stage.TheVariants.{Looking, Unmasking};
     ghost use Rattle.driver_core.specs.Device.{interrupted, looked, masked, opened, polled, stopped, unmasked, IsGranted, IsMasking, MayStop};
     ghost use Rattle.driver_core.specs.Queue.{device_at};
-    ghost use Rattle.driver_core.specs.Driver.{devices_of, polled_in, poll_of, stage_of, Ends, HandsOver, IsDue, IsIdle, IsRunning, Puts};
+    ghost use Rattle.driver_core.specs.Driver.{devices_of, polled_in, poll_of, stage_of, is_running, limits_of, list_of, Ends, HandsOver, IsDue, IsEnded, IsIdle, IsRunning, Puts};
 
     /// A driver of so many devices, 1 to 64, all closed.
     pub fn new(alloc: Global, devices: u32, limits: Limits) -> Result<Driver, AllocError>
         requires { devices ≤ 64 }
         ensures devices { IfOk result (λ driver. devices_of driver ≡ replicate devices (at Closed false)) }
         ensures idle { IfOk result (λ driver. IsIdle driver) }
-        ensures limits { IfOk result (λ driver. driver.limits ≡ limits) }
+        ensures limits { IfOk result (λ driver. limits_of driver ≡ limits) }
     {
         let closed = new_devices(alloc, devices as usize)?;
         Ok(Driver {
@@ -187,7 +187,7 @@ impl Driver {
     pub fn fetched(&mut self, device: u32, packets: u32) -> Result<(), NotDue>
         requires { device < length (devices_of self.old) }
         ensures when { IsOk result
-            ↔ (polled_in self.old ≡ Some device) × (packets ≤ self.old.limits.weight) }
+            ↔ (polled_in self.old ≡ Some device) × (packets ≤ (limits_of self.old).weight) }
         ensures ok { OnOk result (Ends device packets self.old self.new) }
         ensures going { (start : List _) (polls : List Poll) → OnOk result (IsRunning start polls self.old
             → IsRunning start (polls ++ poll_of device packets self.old ∷ []) self.new) }
@@ -211,10 +211,10 @@ impl Driver {
         ensures devices { self.new.devices ≡ self.old.devices }
         ensures rests { polled_in self.new ≡ None }
         ensures limits { self.new.limits ≡ self.old.limits }
-        ensures runs { self.new.runs ≡ true }
+        ensures runs { is_running self.new ≡ true }
         ensures going { (start : List _) (polls : List Poll) → IsRunning start polls self.old
             → IsRunning start polls self.new }
-        ensures begun { self.old.runs ≡ false → IsRunning self.old.list [] self.new }
+        ensures begun { is_running self.old ≡ false → IsRunning (list_of self.old) [] self.new }
     {
         if self.runs {
             return;
@@ -232,15 +232,15 @@ impl Driver {
     #[tactic(auto, using(crate::proofs::QueueFacts::next_keeps, crate::proofs::QueueFacts::finish_keeps, crate::proofs::QueueFacts::asked_is_listed))]
     fn advance(&mut self) -> Todo
         requires rests { polled_in self.old ≡ None }
-        requires runs { self.old.runs ≡ true }
+        requires runs { is_running self.old ≡ true }
         ensures due { IsDue self.new result }
         ensures devices { self.new.devices ≡ self.old.devices }
         ensures limits { self.new.limits ≡ self.old.limits }
         ensures going { (start : List _) (polls : List Poll) → IsRunning start polls self.old
-            → self.new.runs ≡ true → IsRunning start polls self.new }
-        ensures run { (start : List _) (polls : List Poll) (report : _) → result ≡ Todo.Ended report
+            → is_running self.new ≡ true → IsRunning start polls self.new }
+        ensures ended { (start : List _) (polls : List Poll) (report : _) → result ≡ Todo.Ended report
             → IsRunning start polls self.old
-            → IsPlainRun self.old.limits.budget self.old.limits.window start polls self.new.list report }
+            → IsEnded (limits_of self.old) start polls self.new report }
     {
         match self.run.next(&mut self.list) {
             Some(device) => Todo::Fetch(device, self.limits.weight),
@@ -256,7 +256,18 @@ impl Driver {
     pub fn next(&mut self) -> Todo
         ensures due { IsDue self.new result }
         ensures devices { devices_of self.new ≡ devices_of self.old }
-        ensures limits { self.new.limits ≡ self.old.limits }
+        ensures limits { limits_of self.new ≡ limits_of self.old }
+
+        // The runs are polling runs over the list, as long as no device is put on it meanwhile.
+        ensures begins { is_running self.old ≡ false → is_running self.new ≡ true
+            → IsRunning (list_of self.old) [] self.new }
+        ensures going { (start : List _) (polls : List Poll) → IsRunning start polls self.old
+            → is_running self.new ≡ true → IsRunning start polls self.new }
+        ensures ended { (start : List _) (polls : List Poll) (report : _) → result ≡ Todo.Ended report
+            → IsRunning start polls self.old
+            → IsEnded (limits_of self.old) start polls self.new report }
+        ensures whole { (report : _) → result ≡ Todo.Ended report → is_running self.old ≡ false
+            → IsEnded (limits_of self.old) (list_of self.old) [] self.new report }
     {
         if let Some(device) = self.run.asked() {
             return Todo::Fetch(device, self.limits.weight);
