@@ -146,10 +146,19 @@ pub begin_keeps : (devices : List Device) (list after : List ℕ) (run run' : Po
 begin_keeps devices list after run run' nothing b rests q =
     let own : run'.own ≡ list = b.takes.gives ∙ ap (λ (xs : List ℕ). list ++ xs) b.takes.moved ∙ append-nil list in
     let moved : (m : List ℕ → ℕ) → ((xs ys : List ℕ) → m (xs ++ ys) ≡ m xs + m ys)
-        → (m after + (m (asked_for run'.asked) + (m run'.own + m run'.repoll))
-        ≡ m list + (m (asked_for run.asked) + (m run.own + m run.repoll))) =
-    λ m add. omega (arith, none m add, ap m own, ap m b.takes.nothing_kept, ap m b.repoll, ap m nothing.own, ap m nothing.repoll,
-      ap (λ (o : Option ℕ). m (asked_for o)) rests, ap (λ (o : Option ℕ). m (asked_for o)) nothing.asked) in
+    → (m after + (m (asked_for run'.asked) + (m run'.own + m run'.repoll))
+    ≡ m list + (m (asked_for run.asked) + (m run.own + m run.repoll))) =
+    λ m add. omega (
+      arith,
+      none m add,
+      ap m own,
+      ap m b.takes.nothing_kept,
+      ap m b.repoll,
+      ap m nothing.own,
+      ap m nothing.repoll,
+      ap (λ (o : Option ℕ). m (asked_for o)) rests,
+      ap (λ (o : Option ℕ). m (asked_for o)) nothing.asked,
+    ) in
     record {
       each = λ k. moved (occurs k) (occurs-append k) ∙ q.each k;
       size = omega (arith, moved length length-append, q.size, held-is run, held-is run');
@@ -161,11 +170,21 @@ pub finish_keeps : (devices : List Device) (list came after : List ℕ) (run run
     → IsQueue devices list run → IsQueue devices after run'
 finish_keeps devices list came after run run' rests nothing nobody back q =
     let moved : (m : List ℕ → ℕ) → ((xs ys : List ℕ) → m (xs ++ ys) ≡ m xs + m ys)
-        → (m after + (m (asked_for run'.asked) + (m run'.own + m run'.repoll))
-        ≡ m list + (m (asked_for run.asked) + (m run.own + m run.repoll))) =
-    λ m add. omega (arith, none m add, ap m back, add run.own ((list ++ came) ++ run.repoll), add (list ++ came) run.repoll, add list came,
-      ap m nobody, ap m nothing.own, ap m nothing.repoll,
-      ap (λ (o : Option ℕ). m (asked_for o)) rests, ap (λ (o : Option ℕ). m (asked_for o)) nothing.asked) in
+    → (m after + (m (asked_for run'.asked) + (m run'.own + m run'.repoll))
+    ≡ m list + (m (asked_for run.asked) + (m run.own + m run.repoll))) =
+    λ m add. omega (
+      arith,
+      none m add,
+      ap m back,
+      add run.own ((list ++ came) ++ run.repoll),
+      add (list ++ came) run.repoll,
+      add list came,
+      ap m nobody,
+      ap m nothing.own,
+      ap m nothing.repoll,
+      ap (λ (o : Option ℕ). m (asked_for o)) rests,
+      ap (λ (o : Option ℕ). m (asked_for o)) nothing.asked,
+    ) in
     record {
       each = λ k. moved (occurs k) (occurs-append k) ∙ q.each k;
       size = omega (arith, moved length length-append, q.size, held-is run, held-is run');
@@ -211,10 +230,17 @@ polled_keeps devices list after run run' id to next lt asked rests own repoll ha
     let was : flag (listed_at devices id) ≡ 1 = ap flag (asked_is_listed devices list run id asked q) in
     let now : flag (is_listed to.stage) ≡ flag (comes_back next) = ap flag back in
     let moved : (m : List ℕ → ℕ) → ((xs ys : List ℕ) → m (xs ++ ys) ≡ m xs + m ys)
-        → (m after + (m (asked_for run'.asked) + (m run'.own + m run'.repoll)) + m (id ∷ [])
-        ≡ m list + (m (asked_for run.asked) + (m run.own + m run.repoll)) + cond (comes_back next) (m (id ∷ [])) 0) =
-    λ m add. omega (arith, none m add, handed m add next id list after run.repoll hands, ap m repoll, ap m own,
-      ap (λ (o : Option ℕ). m (asked_for o)) rests, ap (λ (o : Option ℕ). m (asked_for o)) asked) in
+    → (m after + (m (asked_for run'.asked) + (m run'.own + m run'.repoll)) + m (id ∷ [])
+    ≡ m list + (m (asked_for run.asked) + (m run.own + m run.repoll)) + cond (comes_back next) (m (id ∷ [])) 0) =
+    λ m add. omega (
+      arith,
+      none m add,
+      handed m add next id list after run.repoll hands,
+      ap m repoll,
+      ap m own,
+      ap (λ (o : Option ℕ). m (asked_for o)) rests,
+      ap (λ (o : Option ℕ). m (asked_for o)) asked,
+    ) in
     record {
       each = λ k. elim (cases_eq k id) [
         | inl e ↦
@@ -253,8 +279,14 @@ pub all_rest : (devices : List Device) (list : List ℕ) (run : PollingRun) → 
 all_rest devices list run chores empty nothing q k d lt =
     let e : get_or devices k d ≡ device_at devices k = get_or_default devices k d (at Closed false) lt in
     let unlisted : listed_at devices k ≡ false =
-    flag-none (listed_at devices k) (omega (arith, q.each k, ap (occurs k) empty, ap (occurs k) nothing.own, ap (occurs k) nothing.repoll,
-      ap (λ (o : Option ℕ). occurs k (asked_for o)) nothing.asked)) in
+    flag-none (listed_at devices k) (omega (
+      arith,
+      q.each k,
+      ap (occurs k) empty,
+      ap (occurs k) nothing.own,
+      ap (occurs k) nothing.repoll,
+      ap (λ (o : Option ℕ). occurs k (asked_for o)) nothing.asked,
+    )) in
     rests-at (get_or devices k d).stage (chores k d lt) (rw e unlisted)
 
 -- ---- of devices

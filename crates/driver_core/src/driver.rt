@@ -199,7 +199,10 @@ impl Driver {
         let before = self.devices[device as usize];
         let (after, next) = before.polled(packets == self.limits.weight);
         self.devices[device as usize] = after;
-        let once = Once { work: packets, next };
+        let once = Once {
+            work: packets,
+            next,
+        };
         self.run.polled(&mut self.list, once);
         Ok(())
     }

@@ -9,7 +9,7 @@ pub invariant_of-self : goal.invariant_of-self
 invariant_of-self c =
     let self = c.args.self.now in
     let asked : self.run.asked ≡ Some c.args.device = search rules in
-    let back : is_listed c.polled-next.result.0.stage ≡ comes_back c.polled-next.result.1 = 
+    let back : is_listed c.polled-next.result.0.stage ≡ comes_back c.polled-next.result.1 =
     rw c.polled-next.ensures (polled_listed (c.args.packets == self.limits.weight) c.index-before.result.now) in
     record {
       few = omega (arith, self.few, length-set self.devices.items c.args.device c.polled-next.result.0);
