@@ -192,9 +192,11 @@ FQ_CHECKED uint32_t fq_dql_queued(struct fq_dql *dql, uint32_t count);
 FQ_CHECKED uint32_t fq_dql_completed(struct fq_dql *dql, uint32_t count, uint64_t now_ms);
 /* Forgets what is in flight, and starts over (dql_reset). */
 FQ_NONNULL void fq_dql_reset(struct fq_dql *dql, uint64_t now_ms);
+/* The limit, in bytes. */
 FQ_NONNULL uint32_t fq_dql_limit(const struct fq_dql *dql);
 /* What may still be given to the device (dql_avail); negative: the queue is to be stopped. */
 FQ_NONNULL int64_t fq_dql_avail(const struct fq_dql *dql);
+/* The bytes that were queued and aren't complete. */
 FQ_NONNULL uint32_t fq_dql_in_flight(const struct fq_dql *dql);
 
 /* The same three, read in place without a call: the struct's first four numbers are the bytes queued and completed, the last

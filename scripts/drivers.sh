@@ -1,4 +1,4 @@
-# For tests of examples/DRIVER to source, behind scripts/checks.sh: `driver` is its name, and `top` the repository.
+# For tests of examples/DRIVER to source, after scripts/checks.sh: `driver` is its name, and `top` the repository.
 over=0
 
 # build NAME [FLAG ..]: the driver with these flags of the compiler, in a folder of its own in `scratch`.

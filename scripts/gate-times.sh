@@ -1,5 +1,5 @@
 #!/usr/bin/env bash
-# scripts/gate-times.sh [COMMAND ..]: runs the gate, ./test where no command is named, at the top of the repository, and tells
+# scripts/gate-times.sh [COMMAND ..]: runs the gate, ./test where no command is named, at the top of the repository, and prints
 # of each crate after how many seconds its proof, its tests and its edits stood, and what processor time each took. Every
 # line of the gate goes through with the second at which it came. Lines and table also go to out/gate-times.log, or to the
 # file LOG. Processor time is read from /proc each half second, so what ended between two looks lacks its last moment; the
@@ -22,7 +22,7 @@ fi
 exec 4>> "$log"
 hertz=$(getconf CLK_TCK)
 begin=${EPOCHREALTIME/[.,]/}
-order=()            # crates, as they are first told of
+order=()            # crates, as they are first named
 sums=()             # the lines `N passed, M failed`, with their seconds
 declare -A seen=()  # of `CRATE PART`, PART proof, tests or edits: when it stood, in ms
 declare -A word=()  # what the gate says of it where that isn't `proved`
@@ -63,7 +63,7 @@ stamp() {
     fi
 }
 
-# What a process of the prover works for, as its words tell; nothing for others.
+# What a process of the prover works for, by its arguments; nothing for others.
 work_of() {
     local words name='' is_test='' at
     mapfile -d '' -t words < "/proc/$1/cmdline" || return

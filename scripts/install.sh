@@ -1,10 +1,10 @@
 #!/usr/bin/env bash
 # scripts/install.sh [--library] [--python] [--uninstall] PREFIX: installs the C library, static and shared, with its headers, its
-# pkg-config and CMake files and its manual page, and the command `fintaqush` and the proved programs with theirs, and completions for bash,
+# pkg-config and CMake files and its manual pages, and the command `fintaqush` and the proved programs with theirs, and completions for bash,
 # zsh and fish. What only `fintaqush` runs goes to PREFIX/lib/fintaqush. What isn't built yet is proved and built first.
 # --library leaves the command and the programs out, which take most of the time. --python puts bindings/python where python3 looks below
 # PREFIX, else into lib/python3/dist-packages. With DESTDIR set, all goes below that folder, for PREFIX.
-# --uninstall removes what an install put there, and nothing else. --programs tells the programs' names, and does nothing.
+# --uninstall removes what an install put there, and nothing else. --programs only prints the programs' names.
 # Exit status: 0 done; 64 the words are wrong; 69 a program is missing; 70 something couldn't be built; 73 it can't be written there.
 set -euo pipefail
 unset CDPATH
@@ -42,6 +42,8 @@ major=${version%%.*}
 library_files=(lib/libfintaqush.a "lib/libfintaqush.so.$version" "lib/libfintaqush.so.$major" lib/libfintaqush.so
     include/fintaqush.h include/fintaqush.hpp include/fintaqush_tsan.h lib/pkgconfig/fintaqush.pc
     lib/cmake/Fintaqush/FintaqushConfig.cmake lib/cmake/Fintaqush/FintaqushConfigVersion.cmake share/man/man3/fintaqush.3)
+mapfile -t call_pages < <(python3 -EsSB "$top/scripts/header.py" --names) # a page for each group of calls, and one for each call, which leads there
+library_files+=("${call_pages[@]/#/share/man/man3/}")
 home=lib/fintaqush # where what `fintaqush` runs lies, as in a checkout
 parts=(fintaqush scripts/{build,replay,subcommands,words}.py docs/usage.txt examples/{linux-veth-bursts,busy-poll}.csv examples/veth-backlog.rec)
 for file in "$top"/tools/*; do
@@ -99,7 +101,7 @@ Cflags: -I${includedir}
 END
 
 cat > "$scratch/FintaqushConfig.cmake" << 'END'
-# Fintaqush::fintaqush, the shared library, and Fintaqush::static. Paths are told from where this file lies.
+# Fintaqush::fintaqush, the shared library, and Fintaqush::static. Paths are relative to the folder of this file.
 get_filename_component(fintaqush_prefix "${CMAKE_CURRENT_LIST_DIR}/../../.." ABSOLUTE)
 if(NOT TARGET Fintaqush::fintaqush)
   add_library(Fintaqush::fintaqush SHARED IMPORTED)
@@ -152,6 +154,10 @@ put 644 "$scratch/fintaqush.pc" lib/pkgconfig/fintaqush.pc
 put 644 "$scratch/FintaqushConfig.cmake" lib/cmake/Fintaqush/FintaqushConfig.cmake
 put 644 "$scratch/FintaqushConfigVersion.cmake" lib/cmake/Fintaqush/FintaqushConfigVersion.cmake
 put 644 "$top/docs/man/fintaqush.3" share/man/man3/fintaqush.3
+python3 -EsSB "$top/scripts/header.py" "$scratch/calls" || stop 70 "the manual pages of the calls couldn't be made, by python3"
+for name in "${call_pages[@]}"; do
+    put 644 "$scratch/calls/$name" "share/man/man3/$name"
+done
 if [ -z "$is_library" ]; then
     for name in "${programs[@]}"; do
         page=$top/docs/man/$name.1

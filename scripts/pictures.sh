@@ -1,5 +1,5 @@
 #!/usr/bin/env bash
-# scripts/pictures.sh [--check]: draws docs/pictures/*.dot anew, as .svg beside them, by Graphviz's dot (Debian: apt install
+# scripts/pictures.sh [--check]: draws docs/pictures/*.dot again, as .svg in the same folder, by Graphviz's dot (Debian: apt install
 # graphviz). Each picture keeps the checksum of the text that it was drawn from. With --check nothing is drawn, and no dot is
 # needed: each picture that is missing, older than its text or without one is named, and the status is then 1.
 set -euo pipefail

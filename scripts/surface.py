@@ -1,5 +1,5 @@
-"""What a door gives its users, from the sources: each public item that it passes on, its methods and the traits that it has, with
-`///`, signatures and clauses. scripts/surface.sh begins it.
+"""The public items of a facade crate, from the sources: each item that it re-exports, its methods and the traits that it implements,
+with `///`, signatures and clauses. scripts/surface.sh prints them; scripts/reference.py makes pages of them.
 """
 import pathlib
 import re
@@ -82,18 +82,16 @@ def type_of(line):
 
 
 def items(crate, names):
-    """These items of a crate, each with its methods."""
-    found = []
+    """These items of a crate, and the `impl`s of these types: pairs of a file and the lines of an item."""
     for path in sorted((CRATES / crate / "src").glob("*.rt")):
         lines = path.read_text().splitlines()
         for at, doc, line in parts(lines):
             item = ITEM.match(line)
             if item and item[2] in names:
                 shown = to_brace(lines, at) if item[1] in ("struct", "enum", "trait") else to_body(lines, at)
-                found.append([*doc, *shown, ""])
+                yield path, [*doc, *shown, ""]
             elif line.startswith("impl") and type_of(line) in names:
-                found.append(block(lines, at))
-    return [line for part in found for line in part]
+                yield path, block(lines, at)
 
 
 def aliased(crate, name):
@@ -106,17 +104,22 @@ def aliased(crate, name):
     return None
 
 
-def surface(door):
-    told = set()
-    for crate, names in passed_on(door):
-        print(f"// {crate}\n")
-        print("\n".join(items(crate, names)))
+def surface(facade):
+    """The parts of a facade: each a crate, the alias under which the facade re-exports its one type (None if there is none), and its items."""
+    shown = set()
+    for crate, names in passed_on(facade):
+        yield crate, None, items(crate, names)
         for name in names:
-            if (of := aliased(crate, name)) and of not in told:
-                told.add(of)
-                print(f"// {of[0]}, whose {of[1]} {name} is\n")
-                print("\n".join(items(of[0], [of[1]])))
+            if (of := aliased(crate, name)) and of not in shown:
+                shown.add(of)
+                yield of[0], (name, of[1]), items(of[0], [of[1]])
+
+
+def show(facade):
+    for crate, alias, found in surface(facade):
+        print(f"// {crate}, whose {alias[1]} {alias[0]} is\n" if alias else f"// {crate}\n")
+        print("\n".join(line for _, lines in found for line in lines))
 
 
 if __name__ == "__main__":
-    surface(sys.argv[1])
+    show(sys.argv[1])

@@ -8,7 +8,7 @@
 # usage: [LINUX=FOLDER] tests/kernel.sh [--fetch | [--traces N] [--small ROWS] [--seed N]]
 #   --fetch       only fetches the sources, with status 1 if they can't be had
 #   --traces N    random traces (5000)
-#   --small ROWS  all traces of up to so many rows behind the first ones (4)
+#   --small ROWS  all traces of up to so many rows after the first ones (4)
 #   --seed N      the first random trace (1)
 # PROGRAM=FILE names another build of napi_serial.
 set -uo pipefail
@@ -88,7 +88,7 @@ build() {
         -o "$scratch/$1" "$kernel/devices.c" "$scratch/$3/lib/dynamic_queue_limits.c"
 }
 
-# differs NAME FILE FROM TO [WHAT]: the functions with one change, planted in FILE, give another report, or what is told is WHAT.
+# differs NAME FILE FROM TO [WHAT]: the functions with one change, planted in FILE, give another report, or print WHAT.
 differs() {
     local name=$1 file=$scratch/$2 what=${5:-differs; its smallest trace}
     cp "$file" "$scratch/kept"

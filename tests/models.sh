@@ -21,13 +21,17 @@ kit=$(dirname "$(rt doc 2> /dev/null)") # the folder of the toolchain
 # checksums [TOP [KIT]]: a line for each function that the models name, and for each that these call (model_texts.py).
 checksums() { python3 -B "$top/tests/model_texts.py" "${1:-$top}" "${2:-$kit}"; }
 
-# is_read_kit: whether the toolchain is the kit whose functions the models were read beside, which is the first line's.
-is_read_kit() { [ "$(head -n 1 "$models/stands_for.txt")" = "# $(rt version)" ]; }
+# of_kit: of these lines those of the toolchain's functions.
+of_kit() { grep '^[^ ]* kit '; }
+
+# is_read_kit: whether the toolchain is the kit with which the models were compared, which is the first line's, or has the same functions.
+is_read_kit() {
+    [ "$(head -n 1 "$models/stands_for.txt")" = "# $(rt version)" ] || cmp -s <(of_kit < "$models/stands_for.txt") <(checksums | of_kit)
+}
 
 # look [TOP [KIT]]: the functions whose code isn't what it was, or that aren't there; of another kit only those of this repository.
 look() {
-    local functions=.
-    is_read_kit || functions='^[^ ]* [^ /]*/'
+    [ -n "${functions:-}" ] || { is_read_kit && functions=. || functions='^[^ ]* [^ /]*/'; }
     checksums "$@" > "$scratch/all" || return
     grep -v '^#' "$models/stands_for.txt" | grep "$functions" > "$scratch/read"
     grep "$functions" "$scratch/all" > "$scratch/now"
@@ -42,7 +46,7 @@ case ${1:-} in
     '') ;;
     *) sed -n 's/^# usage/usage/p' "$0"; exit 64 ;;
 esac
-# finds PLACE NAME FILE OLD NEW: of the copy of what the models stand for, `look` tells a change of FILE, in which OLD stands.
+# finds PLACE NAME FILE OLD NEW: of the copy of what the models stand for, `look` names a function after a change of FILE, which has OLD.
 finds() {
     local file=$scratch/copy/$3 status=0
     cp "$file" "$scratch/kept"
@@ -61,7 +65,7 @@ else
     mkdir -p "$scratch/copy/rattle" && cp -r "$top"/{crates,models} "$scratch/copy" && cp -r "$kit"/rattle/{crossbeam_utils,crossbeam_queue,atomic_table} "$scratch/copy/rattle"
     check 'a change in napi_word is found' finds napi_word/steps schedule_load crates/napi_word/src/steps.rt 'if seen.flags.disable' 'if seen.flags.sched'
     check 'a change in poll_runs is found' finds poll_runs/polling let_go crates/poll_runs/src/polling.rt 'if next == Next::Repoll' 'if next != Next::Repoll'
-    if is_read_kit; then
+    if [ "$functions" = . ]; then
         check 'a change of the parker is found' finds 'kit crossbeam_utils/sync/parker/ruled' unpark_as rattle/crossbeam_utils/src/sync/parker/ruled.rt '== PARKED' '!= PARKED'
         check 'a change of the queue is found' finds 'kit crossbeam_queue/array_queue/steps' push_from rattle/crossbeam_queue/src/array_queue/steps.rt 'tail == stamp' 'tail != stamp'
         check 'a change of the atomics is found' finds 'kit atomic_table/steps' compare_exchange rattle/atomic_table/src/steps.rt 'old, new) }' 'new, old) }'

@@ -19,7 +19,7 @@ DOORS = "napi_model dql_core rx_ring tx_ring napi_word napi_calls poll_engine de
 README_WORDS = 700
 # What is made, or stands in somebody else's folder.
 MADE = re.compile(r"(^|/)out(/|$)|include/linux/|crates/first|NAME|FOLDER|FILE|PROGRAM|TRACE|DOOR|\.\.\./|^\.\.?/\.\./|[*<>{}$]|^/")
-# Crates that use the library's doors, beside those named for tests.
+# Crates that use the library's facades, apart from those named for tests.
 USERS = ("bench_", "example_", "uses_")
 # Words in code that are others': the kernel's, a file format's, an instruction's, and what stands for a file.
 OUTSIDE = {"__do_softirq", "time_after", "softnet_stat", "virtio_net", "sysexits", "btr", "mb", "MACHINES", "enqueue_to_backlog",

@@ -1,5 +1,5 @@
 #!/usr/bin/env bash
-# tests/pages.sh [--static]: the pages beside the repository. The files that they name are there, each script is told of, and each
+# tests/pages.sh [--static]: the pages. The files that they name are there, each script says what it does, and each
 # command of each page and manual page is run, and prints what the page says; or tests/commands.txt says which other test runs it, or
 # why none does. Commands run in a fresh clone with an empty home folder. It needs the programs built, and builds the C library over
 # them; with --static it runs no command, and needs none. What needs a program that isn't installed is skipped. The last line is `N passed, M failed, K skipped`.

@@ -10,7 +10,7 @@ trap 'rm -f "$log"' EXIT
 status=${PIPESTATUS[0]}
 passed=$(grep -c ': as the kernel$' "$log")
 failed=$(grep -c ': other than the kernel$\|: the replay ended with status' "$log")
-# compare.sh is the judge: where it fails and no line tells why, that is one failure.
+# compare.sh is the judge: if it fails and no line says why, that is one failure.
 if [ "$status" != 0 ] && [ "$failed" = 0 ]; then failed=1; fi
 for trace in "$examples"/*.csv; do
     "$examples/../replay" "$trace" > "$log"

@@ -1,7 +1,8 @@
-"""The pictures beside their texts, the site of all pages, and the manual pages."""
+"""The pictures and their texts, the site of all pages with the references, and the manual pages."""
 import os
 import pathlib
 import re
+import runpy
 import subprocess
 import tempfile
 import urllib.parse
@@ -10,10 +11,11 @@ from page_commands import is_missing
 
 TOP = pathlib.Path(__file__).resolve().parent.parent
 MANUALS = sorted((TOP / "docs/man").iterdir())
+OTHERS = re.compile(r"/reference/(c|rust)/")
 
 
 def run(*words, **others):
-    return subprocess.run(words, cwd=TOP, capture_output=True, text=True, stdin=subprocess.DEVNULL, timeout=300, check=False, **others)
+    return subprocess.run(words, cwd=TOP, capture_output=True, text=True, stdin=subprocess.DEVNULL, timeout=900, check=False, **others)
 
 
 def marks():
@@ -33,10 +35,11 @@ def site(script, pages):
         if ended.returncode != 0:
             yield f"status {ended.returncode}: {ended.stderr}"
             return
-        # Those of docs/steps are no pages of the site's making.
-        texts = {path: path.read_text() for path in made.rglob("*.html") if path.parent.name != "steps"}
-        if len(texts) != len(pages) + len(MANUALS):
-            yield f"{len(texts)} pages, of {len(pages) + len(MANUALS)}"
+        # Those of docs/steps are no pages of the site's making, and doxygen and cargo make theirs.
+        texts = {path: path.read_text() for path in made.rglob("*.html") if path.parent.name != "steps" and not OTHERS.search(str(path))}
+        missing = [name for name in MANUALS if made / "docs/man" / f"{name.name}.html" not in texts]
+        yield from (f"there is no page of {name}" for name in missing)
+        yield from references(made, texts)
         for page in pages:
             name = page.relative_to(TOP).with_suffix(".html")
             path = made / (name.with_name("index.html") if page.name == "README.md" else name)
@@ -46,9 +49,50 @@ def site(script, pages):
             for lead in re.findall(r"""(?:href|src)=["']([^"'#]+)""", text):
                 if not re.match(r"[a-z]+:", lead) and not (path.parent / urllib.parse.unquote(lead)).exists():
                     yield f"{path.relative_to(made)} leads to {lead}, which isn't there"
+        yield from anchors(made, texts)
         again = run(script, str(made))
         if again.returncode != 73 or "isn't empty" not in again.stderr:
             yield f"a folder that is filled is overwritten: status {again.returncode}"
+
+
+def references(made, texts):
+    """What the references of all calls lack: a call of the header, a class of fintaqush.hpp, a public type of the Rust crate, a facade, and a
+    name that a clause cites, with its definition."""
+    header = (TOP / "include/fintaqush.h").read_text()
+    calls = set(re.findall(r"\b(fq_\w+)\(", header))
+    if not is_missing("doxygen", "the reference of C and C++ in the site") and not (made / "reference/c").is_dir():
+        yield "there is no reference/c"
+    if not is_missing("cargo", "the reference of Rust in the site") and not (made / "reference/rust").is_dir():
+        yield "there is no reference/rust"
+    if (made / "reference/c").is_dir():
+        shown = "".join(path.read_text() for path in (made / "reference/c").glob("group__*.html"))
+        yield from (f"reference/c lacks {name}" for name in sorted(calls) if not re.search(rf'class="memtitle">.*{name}\(\)', shown))
+        text = (TOP / "include/fintaqush.hpp").read_text()
+        classes = [name for name in re.findall(r"^class (?:\[\[nodiscard\]\] )?(\w+)", text, re.M) if f"detail::{name}" not in text]
+        yield from (f"reference/c lacks {name}" for name in classes if not list((made / "reference/c").glob(f"classfintaqush_1_1{name}*.html")))
+    if (made / "reference/rust").is_dir():
+        exported = re.findall(r"\b[A-Z]\w+", " ".join(re.findall(r"^pub use ([^;]*);", (TOP / "bindings/rust/src/lib.rs").read_text(), re.M)))
+        yield from (f"reference/rust lacks {name}" for name in exported if name not in (made / "reference/rust/fintaqush/index.html").read_text())
+    manuals = "".join(texts.get(made / "docs/man" / f"fintaqush_{name}.3.html", "") for name, _ in header_groups())
+    yield from (f"no manual page of a group has {name}" for name in sorted(calls) if name not in manuals)
+    facade = texts.get(made / "reference/rattle/dql_core.html", "")
+    wanted = '<a href="../definitions/dql_core.html#Limit.after_queued">after_queued</a>'
+    if wanted not in facade or 'id="Limit.after_queued"' not in texts.get(made / "reference/definitions/dql_core.html", ""):
+        yield "after_queued in a clause of dql_core doesn't link to its definition"
+
+
+def header_groups():
+    return runpy.run_path(str(TOP / "scripts/header.py"))["GROUPS"]
+
+
+def anchors(made, texts):
+    """Links of the Rattle reference to an anchor that isn't there."""
+    for path, text in texts.items():
+        if "/reference/" in str(path):
+            for name, at in set(re.findall(r'href="([^"#:]*)#([^"]+)"', text)):
+                there = (path.parent / name).resolve() if name else path
+                if there in texts and f'id="{urllib.parse.unquote(at)}"' not in texts[there]:
+                    yield f"{path.relative_to(made)} leads to {name}#{at}, which isn't there"
 
 
 def manual_warnings(manual):

@@ -2,7 +2,7 @@
 #include <fintaqush.h>
 #include <stdio.h>
 
-/* Whoever calls an instance bears a number; the controller's is named when it is made. */
+/* Each caller of an instance has a number; the controller's is named when the instance is made. */
 enum { INTERRUPT, POLLER, CONTROLLER };
 
 /* The card interrupts. Returns whether the instance was handed to the poll list now. */

@@ -2,7 +2,7 @@
 #include <fintaqush.hpp>
 #include <cstdio>
 
-// Whoever calls an instance bears a number; the controller's is named when it is made.
+// Each caller of an instance has a number; the controller's is named when the instance is made.
 enum : std::uint32_t { INTERRUPT, POLLER, CONTROLLER };
 
 // The card interrupts. The answer is whether the instance was handed to the poll list now.

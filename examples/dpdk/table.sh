@@ -1,7 +1,7 @@
 #!/usr/bin/env bash
 # examples/dpdk/table.sh: the driver busy polling, by DPDK's power idea, and under NAPI with one thread and with two, each under the same
 # loads: processor time of all its threads in milliseconds a second, and of pings the median and the 99th percentile of the time to the
-# answer in microseconds. The last line tells how busy the machine was. Status 69 as run.sh. BUILT=FOLDER: there build.sh has built it.
+# answer in microseconds. The last line says how busy the machine was. Status 69 as run.sh. BUILT=FOLDER: there build.sh has built it.
 set -uo pipefail
 unset CDPATH
 here=$(dirname "$(readlink -f "${BASH_SOURCE[0]}")")

@@ -66,7 +66,7 @@ static inline uint64_t now_ms(void) {
     return (uint64_t)now.tv_sec * 1000 + (uint64_t)now.tv_nsec / 1000000;
 }
 
-/* ---- Interrupts. Epoll tells an event once (EPOLLONESHOT), until it is armed anew. */
+/* ---- Interrupts. Epoll reports an event once (EPOLLONESHOT), until it is armed again. */
 
 static inline void arm(struct device *device, int operation, bool on) {
     struct epoll_event event = {.events = on ? EPOLLIN | EPOLLONESHOT : 0, .data.ptr = device};

@@ -109,7 +109,7 @@ drive() {
     cat "$scratch/out"
 }
 
-# is NAME: the number behind this name in the driver's lines
+# is NAME: the number after this name in the driver's lines
 is() { awk -v name="$1" '{ for (i = 1; i < NF; i++) if ($i == name) print $(i + 1) }' "$scratch/out"; }
 
 end() {

@@ -59,7 +59,7 @@ cat "$scratch/out"
 tx=$(counter tx_packets) rx=$(counter rx_packets)
 echo "the kernel: TX $tx RX $rx"
 
-# is NAME: the number behind this name in the driver's lines
+# is NAME: the number after this name in the driver's lines
 is() { awk -v name="$1" '{ for (i = 1; i < NF; i++) if ($i == name) print $(i + 1) }' "$scratch/out"; }
 check "the kernel's TX is what was read" [ "$tx" = "$(is read)" ]
 check "the kernel's RX is what was sent" [ "$rx" = "$(is sent)" ]
@@ -68,7 +68,7 @@ check 'answered = sent + failed + dropped' [ "$(is answered)" = "$(($(is sent) +
 check 'nothing is in flight' [ "$(is in_flight)" = 0 ]
 if [ -n "$trace" ]; then
     "$here/../../replay" "$trace" > "$scratch/report" || wrong=1
-    # of NAME: the number behind it in the replay's line of the device, of its requests, of its sends, and in the last one
+    # of NAME: the number after it in the replay's line of the device, of its requests, of its sends, and in the last one
     of() { awk -v name="$1" '$1 != "softirq" { for (i = 1; i < NF; i++) if ($i == name) found = $(i + 1) } END { print found }' <(grep -e "^$2 " "$scratch/report"); }
     same() {
         echo "the replay: $(of arrived device) $(of dropped device) $(of polled device) $(of left device) $(of polls device) $(of granted napi)" \

@@ -1,7 +1,7 @@
 #!/usr/bin/env bash
 # examples/tap/table.sh: the driver in five ways under the same loads, one after the other: of a flood of UDP the packets a second
 # that it read and its processor time for each; of pings of 64 bytes the median and the 99th percentile of the time to the answer, in
-# microseconds, at 100, 2000 and 20000 a second and with 32 always under way. The last line tells how busy the machine was. Status
+# microseconds, at 100, 2000 and 20000 a second and with 32 always under way. The last line says how busy the machine was. Status
 # 69 as run.sh. BUILT=FOLDER: there build.sh has built it.
 set -uo pipefail
 unset CDPATH

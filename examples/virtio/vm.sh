@@ -105,7 +105,7 @@ start_driver() {
 # counts: what the driver prints
 counts() { guest 'kill -USR1 $!; sleep 1; tail -n 3 /out'; }
 
-# card QUEUE: how many descriptors the card gave back, modulo 2^16, as its side tells (QEMU's monitor)
+# card QUEUE: how many descriptors the card gave back, modulo 2^16, as QEMU's monitor reports
 card() {
     local answers
     answers=$(grep -c used_idx: "$scratch/monitor")

@@ -1,7 +1,7 @@
 //! Times packets on their way from one thread to another: through an instance that both share, where each packet comes with a
-//! request for a poll, and through a ring of `rtrb` alone, at which the second thread looks all the time. What is counted goes
-//! to standard output, the times to standard error. The word is the number of packets. `bench/pair.sh` shows the time for each,
-//! beside a queue behind a mutex in C++.
+//! request for a poll, and through a bare ring of `rtrb`, which the second thread reads all the time. Counts go to standard
+//! output, the times to standard error. The argument is the number of packets. `bench/pair.sh` compares both times with those
+//! of a queue with a mutex in C++.
 #![tactic(auto)]
 
 mod plain;

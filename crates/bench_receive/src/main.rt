@@ -1,6 +1,6 @@
-//! Times polls of a receive ring, for the weights 1, 16 and 64, beside a plain loop over the `pop` of `rtrb`: what is
-//! counted goes to standard output, the times to standard error. The word is the number of rounds: each fills a ring of
-//! 4096 packets and empties it, and only the emptying is timed. `bench/receive.sh` shows the time for each packet.
+//! Times polls of a receive ring, for the weights 1, 16 and 64, compared with a plain loop over the `pop` of `rtrb`: counts go
+//! to standard output, the times to standard error. The argument is the number of rounds: each fills a ring of 4096 packets and
+//! empties it, and only the emptying is timed. `bench/receive.sh` prints the time per packet.
 #![tactic(auto)]
 
 mod rounds;

@@ -1,4 +1,4 @@
-//! The rounds: a ring is filled, and then emptied in the time that is taken.
+//! The rounds: a ring is filled, and then emptied while the clock runs.
 
 ghost use Rattle.std.specs.Prelude.{◌≤◌};
 
@@ -8,10 +8,10 @@ use rx_ring::{Batch, Packet, ring};
 use std::alloc::Global;
 use std::time::{Clock, Instant};
 
-// How many packets a round has, which is the capacity of its ring.
+// The number of packets in a round, which is the capacity of its ring.
 const PACKETS: u32 = 4096;
 
-/// What the rounds took and gave. The sums wrap.
+/// The time and the counts of the rounds. The sums wrap.
 #[derive(Clone, Copy)]
 pub struct Spent {
     /// The time in nanoseconds.
@@ -48,7 +48,7 @@ fn packet(round: u32, k: u32) -> Packet {
     }
 }
 
-/// Empties a receive ring by polls of one weight, so many times.
+/// Empties a receive ring by polls with one weight, this many times.
 pub fn time_polls(rt: &impl Clock, alloc: Global, rounds: u32, weight: u32) -> Result<Spent>
     requires { (1 ≤ weight) × (weight ≤ 64) }
 {
@@ -71,7 +71,7 @@ pub fn time_polls(rt: &impl Clock, alloc: Global, rounds: u32, weight: u32) -> R
     Ok(spent)
 }
 
-/// Empties a ring of `rtrb` by its own `pop`, so many times.
+/// Empties a ring of `rtrb` by its own `pop`, this many times.
 pub fn time_pops(rt: &impl Clock, alloc: Global, rounds: u32) -> Result<Spent> {
     let (mut producer, mut consumer) = RingBuffer::new(alloc, PACKETS as usize)?;
     let mut spent = Spent::new();

@@ -1,4 +1,4 @@
--- Plain rows: digits, commas, an event's word, a line feed.
+-- Plain rows: digits, commas, an event's name, a line feed.
 use Rattle.std.specs.Prelude.{◌≡◌, ℕ, ◌+◌, true, false, List, [], ◌∷◌, ◌++◌, Some, Ok}
 use Rattle.std.specs.List.{list_any}
 use Rattle.csv.specs.{Machine.next_record, Reading.{default_config, records_from, strip_bom}, Writing.{default_writer, needs_byte}}
@@ -6,23 +6,23 @@ use Rattle.csv.specs.declared.parser.State.TheVariants as state
 use Rattle.device_rows.specs.{Record.{is_numeral, numeral, row_of, version_of}, Row.{device_fits, value_fits}}
 use Rattle.device_rows.specs.declared.row.Row.{Row}
 
--- a field without a comma, a quote or an end of a line
+-- a field without a comma, a quote or a line end
 abbrev pub IsPlain : List ℕ → Type 0
 IsPlain field = list_any (needs_byte default_writer) field ≡ false
 
--- a text starts with a number that this byte ends, and goes on with the rest
+-- a text is a number that this byte ends, followed by the rest
 pub record StartsWithNumber (text : List ℕ) (stop number : ℕ) (rest : List ℕ) : Type 0 where
   pub field : List ℕ
   pub splits : text ≡ field ++ stop ∷ rest
   pub is_one : is_numeral field ≡ true
   pub value : number ≡ numeral field
 
--- a text starts with a word that a comma ends, and goes on with the rest
+-- a text is a word that a comma ends, followed by the rest
 pub record StartsWithWord (text word rest : List ℕ) : Type 0 where
   pub splits : text ≡ word ++ 44 ∷ rest
   pub plain : IsPlain word
 
--- a text, whatever comes behind it, starts with a record that tells this row where its numbers are in their ranges
+-- a text, whatever follows it, starts with a record of this row, if the row's numbers are in their ranges
 pub record StartsWithRow (version : ℕ) (text : List ℕ) (row : Row) (rest : List ℕ) : Type 0 where
   pub used : List ℕ
   pub splits : text ≡ used ++ rest
@@ -32,7 +32,7 @@ pub record StartsWithRow (version : ℕ) (text : List ℕ) (row : Row) (rest : L
   pub tells : device_fits row.event row.device ≡ true → value_fits row.event row.value ≡ true
       → (number : ℕ) → row_of version number fields ≡ Ok row
 
--- a text, whatever comes behind it, starts with the titles of a trace of this version
+-- a text, whatever follows it, starts with the titles of a trace of this version
 pub record StartsWithTitles (text : List ℕ) (version : ℕ) (rest : List ℕ) : Type 0 where
   pub used : List ℕ
   pub splits : text ≡ used ++ rest
