@@ -1,5 +1,5 @@
 -- What calls make of the poll list and the run over it.
-use Rattle.std.proofs.Common.{◌≡◌, ◌≢◌, ◌∙◌, ◌⊎◌, inl, inr, ℕ, ◌+◌, ◌<◌, ◌≤◌, Bool, true, false, cond, List, [], ◌∷◌, ◌++◌, length, refl, sym, ap, arith}
+use Rattle.std.proofs.Common.{◌≡◌, ◌≢◌, ◌∙◌, inl, inr, ℕ, ◌+◌, ◌<◌, ◌≤◌, Bool, true, false, cond, List, [], ◌∷◌, ◌++◌, length, refl, sym, ap, arith}
 use Rattle.std.proofs.Common.{Option, Some, None, get_or, set, MatchOption, length-append}
 use Rattle.std.proofs.lemmas.{List.{append-nil, get_or-set_other, get_or-set_same, get_or_default}, List.Sums.{sum_by-append, sum_by-set, count_by-le-length}, Bool.{cases_Bool, cases_eq, eq-eqb}, Bool.Decides.eqb_tells}
 use Rattle.std.proofs.Math.ListN.{length-set}

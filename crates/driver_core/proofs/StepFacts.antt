@@ -1,10 +1,10 @@
 -- Each call of a device makes legal steps of its instance.
-use Rattle.std.proofs.Common.{◌≡◌, ◌⊎◌, inl, inr, ℕ, Bool, true, false, List, [], ◌∷◌, refl, subst, sym}
+use Rattle.std.proofs.Common.{◌≡◌, inl, inr, Bool, true, false, [], ◌∷◌, refl, subst, sym}
 use Rattle.napi_model.specs.{History.{LegalHistory, state_after}, Step.{event, schedule_reply}}
 use Rattle.napi_model.specs.declared.event.Operation.TheVariants.{Schedule, Enable, MarkDisable}
-use Rattle.driver_core.specs.Device.{at, completed_at, interrupted, is_listed, is_stopping, looked, masked, opened, polled, polled_at, stopped, unmasked, IsMasking, MayStop}
-use Rattle.driver_core.specs.Steps.{CallsAreLegal, Leads, CONTROLLER, INTERRUPT, end_events, complete_events, look_events, mask_events, napi_of, poll_events}
-use Rattle.driver_core.specs.declared.device.{Device.Device, Stage.{Stage, TheVariants.{Closed, Masking, Closing, Listed, Unmasking, Looking, Armed}}}
+use Rattle.driver_core.specs.Device.{at, interrupted, is_listed, looked, masked, opened, polled, stopped, unmasked, IsMasking, MayStop}
+use Rattle.driver_core.specs.Steps.{CallsAreLegal, Leads, CONTROLLER, INTERRUPT, look_events, mask_events, napi_of, poll_events}
+use Rattle.driver_core.specs.declared.device.{Stage.{Stage, TheVariants.{Closed, Masking, Closing, Listed, Unmasking, Looking, Armed}}}
 
 interrupts : (stage : Stage) (missed : Bool)
     → Leads (at stage missed) (event INTERRUPT (Schedule (schedule_reply (napi_of (at stage missed)))) ∷ []) (interrupted (at stage missed))

@@ -1,11 +1,11 @@
 -- What holds of a device and its card whatever happens, and whenever.
-use Rattle.std.proofs.Common.{◌≡◌, ◌⊎◌, inl, inr, ℕ, ◌+◌, ◌-◌, zero, suc, Bool, true, false, cond, List, [], ◌∷◌, refl, subst}
+use Rattle.std.proofs.Common.{◌≡◌, ◌⊎◌, inl, inr, ℕ, ◌+◌, zero, suc, Bool, true, false, cond, List, [], ◌∷◌, refl, subst}
 use Rattle.std.specs.Prelude.{◌||◌, not}
-use Rattle.driver_core.specs.Device.{at, completed_at, interrupted, interrupted_at, is_stopping, looked, looked_at, masked, masked_at, opened, opened_at, polled, polled_at, stopped, stopped_at, unmasked, unmasked_at}
+use Rattle.driver_core.specs.Device.{at, completed_at, interrupted, opened, polled_at, stopped}
 use Rattle.driver_core.specs.World.{Hand, World, Event, free, to_mask, to_unmask, to_look, to_fetch, did_mask, did_unmask, saw, took}
-use Rattle.driver_core.specs.World.{arrives, interrupts, says, acts, reports, opens, stops, world_step, world_after, new_world, has_any}
-use Rattle.driver_core.specs.World.{said_at, says_by, hand_after, masked_after, packets_after, is_told, told, controlled, IsWatched, NoPacketWaitsUnseen, IsMaskedWhileListed, ListedIsMasked}
-use Rattle.driver_core.specs.declared.device.{Device.Device, Stage.{Stage, TheVariants.{Closed, Masking, Closing, Listed, Unmasking, Looking, Armed}}}
+use Rattle.driver_core.specs.World.{arrives, interrupts, says, acts, reports, opens, stops, world_step, world_after, new_world}
+use Rattle.driver_core.specs.World.{says_by, hand_after, masked_after, packets_after, is_told, told, controlled, IsWatched, NoPacketWaitsUnseen, IsMaskedWhileListed, ListedIsMasked}
+use Rattle.driver_core.specs.declared.device.{Stage.{Stage, TheVariants.{Closed, Masking, Closing, Listed, Unmasking, Looking, Armed}}}
 
 abbrev Quiet : Bool → ℕ → Type 0
 Quiet interrupting packets = (packets ≡ 0) ⊎ (interrupting ≡ true)

@@ -2,7 +2,7 @@
 -- between any two of them packets may arrive and the card may interrupt.
 use Rattle.std.specs.Prelude.{◌≡◌, ◌⊎◌, ◌||◌, ℕ, ◌+◌, ◌-◌, zero, suc, Bool, true, false, not, List, [], ◌∷◌, if◌then◌else◌}
 use Rattle.driver_core.specs.Device.{at, interrupted, looked, masked, opened, polled, stopped, unmasked}
-use Rattle.driver_core.specs.declared.device.{Chore.{Chore, TheVariants.{Mask, Unmask, Look}}, Device.Device}
+use Rattle.driver_core.specs.declared.device.{Device.Device}
 use Rattle.driver_core.specs.declared.device.Stage.{Stage, TheVariants.{Closed, Masking, Closing, Listed, Unmasking, Looking, Armed}}
 
 -- what the thread is about: nothing, or what `next` said, done or not yet, of which the driver isn't told yet

@@ -1,5 +1,5 @@
 use Rattle.std.specs.Prelude.{◌==◌}
-use Rattle.std.proofs.Common.{◌≡◌, ◌∙◌, None, Some, sym, arith, rules, length}
+use Rattle.std.proofs.Common.{◌≡◌, ◌∙◌, None, Some, sym, arith, rules}
 use Rattle.std.proofs.Math.ListN.{length-set}
 use Rattle.driver_core.specs.Device.{is_listed}
 use Rattle.driver_core.proofs.QueueFacts.{comes_back, polled_keeps, polled_listed}
