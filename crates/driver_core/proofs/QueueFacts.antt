@@ -1,7 +1,7 @@
 -- What calls make of the poll list and the run over it.
 use Rattle.std.proofs.Common.{◌≡◌, ◌≢◌, ◌∙◌, inl, inr, ℕ, ◌+◌, ◌<◌, ◌≤◌, Bool, true, false, cond, List, [], ◌∷◌, ◌++◌, length, refl, sym, ap, arith}
 use Rattle.std.proofs.Common.{Option, Some, None, get_or, set, MatchOption, length-append}
-use Rattle.std.proofs.lemmas.{List.{append-nil, get_or-set_other, get_or-set_same, get_or_default}, List.Sums.{sum_by-append, sum_by-set, count_by-le-length}, Bool.{cases_Bool, cases_eq, eq-eqb}, Bool.Decides.eqb_tells}
+use Rattle.std.proofs.lemmas.{List.{append-nil, get_or-set_other, get_or-set_same, get_or_default, get_or_past}, List.Sums.{sum_by-append, sum_by-set, count_by-le-length}, Bool.{cases_Bool, cases_eq, cases_lt, eq-eqb}, Bool.Decides.eqb_tells}
 use Rattle.std.proofs.Math.ListN.{length-set}
 use Rattle.std.specs.Prelude.{◌==◌, ◌||◌, if◌then◌else◌}
 use Rattle.std.specs.List.{All}
@@ -219,6 +219,17 @@ pub asked_is_listed : (devices : List Device) (list : List ℕ) (run : PollingRu
     → IsQueue devices list run → listed_at devices id ≡ true
 asked_is_listed devices list run id asked q =
     flag-one (listed_at devices id) (omega (arith, q.each id, ap (λ (o : Option ℕ). occurs id (asked_for o)) asked, occurs-itself id id refl))
+
+pub asked_in_range : (devices : List Device) (list : List ℕ) (run : PollingRun) (id : ℕ) → run.asked ≡ Some id
+    → IsQueue devices list run → id < length devices
+asked_in_range devices list run id asked q = elim (cases_lt id (length devices)) [
+  | inl lt ↦ lt
+  | inr past ↦
+      let none : listed_at devices id ≡ false =
+      ap (λ (d : Device). is_listed d.stage) (get_or_past devices id (at Closed false) past) in
+      let both : true ≡ false = sym (asked_is_listed devices list run id asked q) ∙ none in
+      absurd (cc both)
+]
 
 pub polled_keeps : (devices : List Device) (list after : List ℕ) (run run' : PollingRun) (id : ℕ) (to : Device) (next : Next)
     → id < length devices → run.asked ≡ Some id → run'.asked ≡ None → run'.own ≡ run.own

@@ -1,5 +1,5 @@
 -- What a driver holds, and what it says is to be done.
-use Rattle.std.specs.Prelude.{◌≡◌, ◌≤◌, ◌<◌, ◌+◌, ℕ, Bool, true, List, [], ◌∷◌, ◌++◌, slice_set, Option, Some, None, ◌==◌, if◌then◌else◌}
+use Rattle.std.specs.Prelude.{◌≡◌, ◌≤◌, ◌<◌, ◌+◌, ℕ, Bool, true, List, [], ◌∷◌, ◌++◌, length, slice_set, Option, Some, None, ◌==◌, if◌then◌else◌}
 use Rattle.std.specs.List.{All}
 use Rattle.poll_runs.specs.{Laws.IsPlainRun, declared.run.RunReport.RunReport}
 use Rattle.driver_core.specs.declared.limits.Limits.{Limits}
@@ -76,10 +76,11 @@ IsEnded limits start polls after report = IsPlainRun limits.budget limits.window
 
 -- what is said to be done is to be done; sleep is said only if each device is at rest, and nothing is on the list
 abbrev pub IsDue : Driver → Todo → Type 0
-IsDue driver (Mask id) = chore_at (stage_of driver id) ≡ Some chore.Mask
-IsDue driver (Unmask id) = chore_at (stage_of driver id) ≡ Some chore.Unmask
-IsDue driver (Look id) = chore_at (stage_of driver id) ≡ Some chore.Look
-IsDue driver (Fetch id most) = (polled_in driver ≡ Some id) × (is_listed (stage_of driver id) ≡ true) × (most ≡ driver.limits.weight)
-IsDue driver (Ended report) = HoldsNothing driver.run × (report.polls ≤ driver.limits.window)
-    × (report.work < driver.limits.budget + driver.limits.weight)
+IsDue driver (Mask id) = (id < length (devices_of driver)) × (chore_at (stage_of driver id) ≡ Some chore.Mask)
+IsDue driver (Unmask id) = (id < length (devices_of driver)) × (chore_at (stage_of driver id) ≡ Some chore.Unmask)
+IsDue driver (Look id) = (id < length (devices_of driver)) × (chore_at (stage_of driver id) ≡ Some chore.Look)
+IsDue driver (Fetch id most) = (id < length (devices_of driver)) × (polled_in driver ≡ Some id)
+    × (is_listed (stage_of driver id) ≡ true) × (most ≡ (limits_of driver).weight)
+IsDue driver (Ended report) = HoldsNothing driver.run × (report.polls ≤ (limits_of driver).window)
+    × (report.work < (limits_of driver).budget + (limits_of driver).weight)
 IsDue driver Sleep = All (λ device. IsAtRest device.stage) (devices_of driver) × IsIdle driver

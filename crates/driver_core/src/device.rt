@@ -6,7 +6,7 @@ use napi_model::Kind;
 use poll_runs::Next;
 
 /// Where a device stands: its instance (`struct napi_struct`), and whether the interrupt of its card is masked.
-#[derive(Clone, Copy, PartialEq, Eq, Debug)]
+#[derive(Clone, Copy, PartialEq, Eq, PartialOrd, Ord, Debug)]
 pub enum Stage {
     /// Disabled, in the hands of the controller, and masked (after `napi_disable`).
     Closed,
@@ -26,7 +26,7 @@ pub enum Stage {
 }
 
 /// What is to be done at the card of a device.
-#[derive(Clone, Copy, PartialEq, Eq, Debug)]
+#[derive(Clone, Copy, PartialEq, Eq, PartialOrd, Ord, Debug)]
 pub enum Chore {
     /// Mask its interrupt.
     Mask,
@@ -37,7 +37,7 @@ pub enum Chore {
 }
 
 /// One device of a driver.
-#[derive(Clone, Copy, PartialEq, Eq, Debug)]
+#[derive(Clone, Copy, PartialEq, Eq, PartialOrd, Ord, Debug)]
 pub struct Device {
     /// Where it stands.
     pub stage: Stage,

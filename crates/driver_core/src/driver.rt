@@ -183,7 +183,7 @@ impl Driver {
     }
 
     /// Packets were taken from the card, as [`Todo::Fetch`] said, so many. It ends the poll (`__napi_poll`, `napi_complete_done`).
-    #[tactic(auto, using(crate::proofs::QueueFacts::polled_keeps, crate::proofs::QueueFacts::polled_listed, crate::proofs::QueueFacts::asked_is_listed))]
+    #[tactic(auto, using(crate::proofs::QueueFacts::polled_keeps, crate::proofs::QueueFacts::polled_listed, crate::proofs::QueueFacts::asked_is_listed, crate::proofs::QueueFacts::asked_in_range))]
     pub fn fetched(&mut self, device: u32, packets: u32) -> Result<(), NotDue>
         requires { device < length (devices_of self.old) }
         ensures when { IsOk result
@@ -232,7 +232,7 @@ impl Driver {
     }
 
     // The next poll of the run, or its end.
-    #[tactic(auto, using(crate::proofs::QueueFacts::next_keeps, crate::proofs::QueueFacts::finish_keeps, crate::proofs::QueueFacts::asked_is_listed))]
+    #[tactic(auto, using(crate::proofs::QueueFacts::next_keeps, crate::proofs::QueueFacts::finish_keeps, crate::proofs::QueueFacts::asked_is_listed, crate::proofs::QueueFacts::asked_in_range))]
     fn advance(&mut self) -> Todo
         requires rests { polled_in self.old ≡ None }
         requires runs { is_running self.old ≡ true }
@@ -255,7 +255,7 @@ impl Driver {
     }
 
     /// What is to be done next. It says the same until that was done and told, or something else happened.
-    #[tactic(auto, using(crate::proofs::QueueFacts::all_rest, crate::proofs::QueueFacts::asked_is_listed))]
+    #[tactic(auto, using(crate::proofs::QueueFacts::all_rest, crate::proofs::QueueFacts::asked_is_listed, crate::proofs::QueueFacts::asked_in_range))]
     pub fn next(&mut self) -> Todo
         ensures due { IsDue self.new result }
         ensures devices { devices_of self.new ≡ devices_of self.old }

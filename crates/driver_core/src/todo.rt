@@ -1,6 +1,6 @@
 //! What a driver has to do.
 
-ghost use Rattle.std.specs.Prelude.{◌≡◌, ◌≤◌, length, IfNone, IfSome, None, Some};
+ghost use Rattle.std.specs.Prelude.{◌≡◌, ◌≤◌, ◌<◌, length, IfNone, IfSome, None, Some};
 ghost use Rattle.std.specs.List.{All};
 ghost use Rattle.driver_core.specs.Device.{chore_at};
 ghost use Rattle.driver_core.specs.Queue.{device_at};
@@ -36,6 +36,7 @@ pub struct NotDue;
 pub(crate) fn first_chore(devices: &[Device]) -> Option<(u32, Chore)>
     requires { length devices.now ≤ 64 }
     ensures none { IfNone result (All (λ device. chore_at device.stage ≡ None) devices.now) }
+    ensures range { IfSome result (λ found. found.0 < length devices.now) }
     ensures found { IfSome result
         (λ found. chore_at (device_at devices.now found.0).stage ≡ Some found.1) }
 {

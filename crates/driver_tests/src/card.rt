@@ -3,11 +3,11 @@
 ghost use Rattle.std.specs.Prelude.{◌≡◌, length, IfOk};
 ghost use Rattle.driver_core.specs.Driver.{devices_of};
 
-use driver_core::{Driver, Limits, Stage, Todo};
+use driver_core::{Device, Driver, Limits, Stage, Todo};
 use std::alloc::{AllocError, Global};
 
 /// A card that interrupts when a packet arrives, and loses that interrupt while it is masked.
-#[derive(Clone, Copy, PartialEq, Eq, Debug)]
+#[derive(Clone, Copy, PartialEq, Eq, PartialOrd, Ord, Debug)]
 pub struct Card {
     /// The packets that are still to arrive.
     pub to_come: u32,
@@ -19,10 +19,14 @@ pub struct Card {
 }
 
 /// What the thread is about: what the driver said, done or not.
-#[derive(Clone, Copy, PartialEq, Eq, Debug)]
+#[derive(Clone, Copy, PartialEq, Eq, PartialOrd, Ord, Debug)]
 pub enum Hand {
     Free,
-    Said(Todo),
+    ToMask,
+    ToUnmask,
+    ToLook,
+    /// It is to take so many packets at most.
+    ToFetch(u32),
     Masked,
     Unmasked,
     /// It looked, and saw packets or none.
@@ -55,12 +59,32 @@ pub const STEPS: [Step; 7] = [
 ];
 
 /// What a run did so far.
-#[derive(Clone, Copy, PartialEq, Eq, Debug)]
+#[derive(Clone, Copy, PartialEq, Eq, PartialOrd, Ord, Debug)]
 pub struct RunSoFar {
     pub polls: u32,
     pub packets: u32,
     /// A poll used its whole weight, and the device is to be polled again.
     pub repolled: bool,
+}
+
+impl RunSoFar {
+    /// A run that made no poll.
+    const NONE: RunSoFar = RunSoFar {
+        polls: 0,
+        packets: 0,
+        repolled: false,
+    };
+}
+
+/// All that tells one state of a bench from another.
+#[derive(Clone, Copy, PartialEq, Eq, PartialOrd, Ord, Debug)]
+pub struct State {
+    device: Device,
+    card: Card,
+    hand: Hand,
+    run: Option<RunSoFar>,
+    stops: u32,
+    sleeps: bool,
 }
 
 /// A driver of one device, its card, and its thread.
@@ -129,42 +153,37 @@ impl Bench {
         if self.hand != Hand::Free || self.sleeps {
             return false;
         }
-        let todo = self.driver.next();
-        match todo {
+        match self.driver.next() {
             Todo::Sleep => self.sleeps = true,
             Todo::Ended(_) => self.run = None,
-            _ => self.hand = Hand::Said(todo),
-        }
-        if let (Todo::Fetch(..), None) = (todo, self.run) {
-            self.run = Some(RunSoFar {
-                polls: 0,
-                packets: 0,
-                repolled: false,
-            });
+            Todo::Mask(_) => self.hand = Hand::ToMask,
+            Todo::Unmask(_) => self.hand = Hand::ToUnmask,
+            Todo::Look(_) => self.hand = Hand::ToLook,
+            Todo::Fetch(_, most) => {
+                self.hand = Hand::ToFetch(most);
+                self.run = self.run.or(Some(RunSoFar::NONE));
+            }
         }
         true
     }
 
     fn act(&mut self) -> bool {
-        let Hand::Said(todo) = self.hand else {
-            return false;
-        };
-        self.hand = match todo {
-            Todo::Mask(_) => {
+        self.hand = match self.hand {
+            Hand::ToMask => {
                 self.card.masked = true;
                 Hand::Masked
             }
-            Todo::Unmask(_) => {
+            Hand::ToUnmask => {
                 self.card.masked = false;
                 Hand::Unmasked
             }
-            Todo::Look(_) => Hand::Saw(self.card.packets > 0),
-            Todo::Fetch(_, most) => {
+            Hand::ToLook => Hand::Saw(self.card.packets > 0),
+            Hand::ToFetch(most) => {
                 let taken = self.card.packets.min(most);
                 self.card.packets -= taken;
                 Hand::Took(taken)
             }
-            Todo::Ended(_) | Todo::Sleep => Hand::Free,
+            _ => return false,
         };
         true
     }
@@ -185,7 +204,7 @@ impl Bench {
                 }
                 driver.fetched(0, taken)
             }
-            Hand::Free | Hand::Said(_) => return false,
+            _ => return false,
         };
         self.hand = Hand::Free;
         let _ = told;
@@ -202,6 +221,18 @@ impl Bench {
         }
         self.stops -= 1;
         true
+    }
+
+    /// Its state. Packets that were taken are those that aren't in the card and aren't to come.
+    pub fn state(&self) -> State {
+        State {
+            device: self.driver.device(0),
+            card: self.card,
+            hand: self.hand,
+            run: self.run,
+            stops: self.stops,
+            sleeps: self.sleeps,
+        }
     }
 
     /// Makes a step. Returns whether it could be made.

@@ -1,9 +1,10 @@
 //! Each interleaving of a card, the thread that drives it, and stops, over the driver itself.
 
-use crate::card::{Bench, STEPS, Step};
+use crate::card::{Bench, STEPS, State, Step};
 use driver_core::{Limits, Stage};
 use std::alloc::Global;
 use std::collections::{BTreeSet, VecDeque};
+use std::mem;
 use std::process::Abort;
 use std::test::Fail;
 
@@ -50,17 +51,6 @@ fn check_drains(rt: &impl Abort, mut bench: Bench) {
     assert!(rt; !is_open || bench.card.packets == 0, "left packets in the card");
 }
 
-// All that tells one state from another, as text.
-fn state_of(alloc: Global, bench: &Bench) -> Result<String, Fail> {
-    let device = bench.driver.device(0);
-    let card = bench.card;
-    let hand = bench.hand;
-    let run = bench.run;
-    let stops = bench.stops;
-    let sleeps = bench.sleeps;
-    Ok(format!(in alloc; "{device:?} {card:?} {hand:?} {run:?} {stops} {sleeps}")?)
-}
-
 /// What an exploration met.
 #[derive(Clone, Copy)]
 struct Met {
@@ -71,7 +61,7 @@ struct Met {
 
 // Each state that so many packets and stops lead to.
 fn explore(rt: &impl Abort, alloc: Global, packets: u32, stops: u32) -> Result<Met, Fail> {
-    let mut seen: BTreeSet<String> = BTreeSet::new(alloc);
+    let mut seen: BTreeSet<State> = BTreeSet::new(alloc);
     let mut paths: VecDeque<Vec<Step>> = VecDeque::new(alloc);
     paths.push_back(Vec::new(alloc))?;
     let mut met = Met {
@@ -84,18 +74,19 @@ fn explore(rt: &impl Abort, alloc: Global, packets: u32, stops: u32) -> Result<M
             break;
         };
         let mut is_end = true;
+        let mut bench = bench_after(alloc, packets, stops, &path)?;
         for step in STEPS {
-            let mut bench = bench_after(alloc, packets, stops, &path)?;
             if !bench.make(step) {
                 continue;
             }
             is_end = false;
-            if !seen.insert(state_of(alloc, &bench)?)? {
+            let reached = mem::replace(&mut bench, bench_after(alloc, packets, stops, &path)?);
+            if !seen.insert(reached.state())? {
                 continue;
             }
-            check_sleep(rt, &bench);
-            met.sleeping = met.sleeping.saturating_add(u32::from(bench.sleeps));
-            check_drains(rt, bench);
+            check_sleep(rt, &reached);
+            met.sleeping = met.sleeping.saturating_add(u32::from(reached.sleeps));
+            check_drains(rt, reached);
             let mut longer = path.clone()?;
             longer.push(step)?;
             paths.push_back(longer)?;
