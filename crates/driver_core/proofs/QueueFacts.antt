@@ -1,16 +1,22 @@
 -- What calls make of the poll list and the run over it.
-use Rattle.std.proofs.Common.{◌≡◌, ◌≢◌, ◌∙◌, inl, inr, ℕ, ◌+◌, ◌<◌, ◌≤◌, Bool, true, false, cond, List, [], ◌∷◌, ◌++◌, length, refl, sym, ap, arith}
+use Rattle.std.proofs.Common.{◌≡◌, ◌≢◌, ◌∙◌, inl, inr, ℕ, ◌+◌, ◌<◌, ◌≤◌, Bool, true, false, cond, List, [], ◌∷◌, ◌++◌, length}
+use Rattle.std.proofs.Common.{refl, sym, ap, arith}
 use Rattle.std.proofs.Common.{Option, Some, None, get_or, set, MatchOption, length-append}
-use Rattle.std.proofs.lemmas.{List.{append-nil, get_or-set_other, get_or-set_same, get_or_default, get_or_past}, List.Sums.{sum_by-append, sum_by-set, count_by-le-length}, Bool.{cases_Bool, cases_eq, cases_lt, eq-eqb}, Bool.Decides.eqb_tells}
+use Rattle.std.proofs.lemmas.{List.{append-nil, get_or-set_other, get_or-set_same, get_or_default, get_or_past}}
+use Rattle.std.proofs.lemmas.{List.Sums.{sum_by-append, sum_by-set, count_by-le-length}}
+use Rattle.std.proofs.lemmas.{Bool.{cases_Bool, cases_eq, cases_lt, eq-eqb}, Bool.Decides.eqb_tells}
 use Rattle.std.proofs.Math.ListN.{length-set}
 use Rattle.std.specs.Prelude.{◌==◌, ◌||◌, if◌then◌else◌}
 use Rattle.std.specs.List.{All}
 use Rattle.poll_runs.specs.declared.bench.Next.TheVariants as next
 use Rattle.napi_model.specs.declared.state.Kind.TheVariants as kind
 use Rattle.poll_runs.specs.{Driven.held, Plain.{HasRoom, NothingBehind, OwnPushes, all_held}, Turn.{HandsOn, Refills, asked_for}}
-use Rattle.poll_runs.specs.{Polls.{is_arrival, is_repoll}, Steps.{Asks, Begins, HoldsNothing, has_spent}, declared.{bench.Next.Next, polling_run.PollingRun.PollingRun}}
-use Rattle.driver_core.specs.{Device.{at, chore_at, completed_at, is_listed, is_stopping, polled, polled_at, IsAtRest}, Queue.{IsQueue, device_at, listed_at, listed_in, occurs}}
-use Rattle.driver_core.specs.declared.device.{Device.Device, Stage.{Stage, TheVariants.{Closed, Masking, Closing, Listed, Unmasking, Looking, Armed}}}
+use Rattle.poll_runs.specs.{Polls.{is_arrival, is_repoll}, Steps.{Asks, Begins, HoldsNothing, has_spent}}
+use Rattle.poll_runs.specs.{declared.{bench.Next.Next, polling_run.PollingRun.PollingRun}}
+use Rattle.driver_core.specs.{Device.{at, chore_at, completed_at, is_listed, is_stopping, polled, polled_at, IsAtRest}}
+use Rattle.driver_core.specs.{Queue.{IsQueue, device_at, listed_at, listed_in, occurs}}
+use Rattle.driver_core.specs.declared.device.{Device.Device}
+use Rattle.driver_core.specs.declared.device.{Stage.{Stage, TheVariants.{Closed, Masking, Closing, Listed, Unmasking, Looking, Armed}}}
 
 -- ---- devices
 
@@ -218,7 +224,8 @@ flag-one false h = absurd (omega arith)
 pub asked_is_listed : (devices : List Device) (list : List ℕ) (run : PollingRun) (id : ℕ) → run.asked ≡ Some id
     → IsQueue devices list run → listed_at devices id ≡ true
 asked_is_listed devices list run id asked q =
-    flag-one (listed_at devices id) (omega (arith, q.each id, ap (λ (o : Option ℕ). occurs id (asked_for o)) asked, occurs-itself id id refl))
+    let one : occurs id (asked_for run.asked) ≡ occurs id (id ∷ []) = ap (λ (o : Option ℕ). occurs id (asked_for o)) asked in
+    flag-one (listed_at devices id) (omega (arith, q.each id, one, occurs-itself id id refl))
 
 pub asked_in_range : (devices : List Device) (list : List ℕ) (run : PollingRun) (id : ℕ) → run.asked ≡ Some id
     → IsQueue devices list run → id < length devices
@@ -256,13 +263,16 @@ polled_keeps devices list after run run' id to next lt asked rests own repoll ha
       each = λ k. elim (cases_eq k id) [
         | inl e ↦
             let one = occurs-itself k id e in
-            let extra : cond (comes_back next) (occurs k (id ∷ [])) 0 ≡ flag (comes_back next) = ap (λ (n : ℕ). cond (comes_back next) n 0) one in
-            let to-now : flag (listed_at (set devices id to) k) ≡ flag (is_listed to.stage) = rw e (ap flag (listed-same devices id to lt)) in
+            let extra : cond (comes_back next) (occurs k (id ∷ [])) 0 ≡ flag (comes_back next) =
+            ap (λ (n : ℕ). cond (comes_back next) n 0) one in
+            let to-now : flag (listed_at (set devices id to) k) ≡ flag (is_listed to.stage) =
+            rw e (ap flag (listed-same devices id to lt)) in
             let before : flag (listed_at devices k) ≡ 1 = rw e was in
             omega (arith, moved (occurs k) (occurs-append k), q.each k, one, extra, to-now, before, now)
         | inr ne ↦
             let other = occurs-other k id ne in
-            let extra : cond (comes_back next) (occurs k (id ∷ [])) 0 ≡ 0 = ap (λ (n : ℕ). cond (comes_back next) n 0) other ∙ cond-same (comes_back next) 0 in
+            let extra : cond (comes_back next) (occurs k (id ∷ [])) 0 ≡ 0 =
+            ap (λ (n : ℕ). cond (comes_back next) n 0) other ∙ cond-same (comes_back next) 0 in
             let same : flag (listed_at (set devices id to) k) ≡ flag (listed_at devices k) = ap flag (listed-other devices id k to ne) in
             omega (arith, moved (occurs k) (occurs-append k), q.each k, other, extra, same)
       ];
@@ -307,7 +317,8 @@ after-completion stopping true = refl
 after-completion false false = refl
 after-completion true false = refl
 
-after-poll : (full stopping missed : Bool) → is_listed (polled_at full stopping missed).0.stage ≡ comes_back (polled_at full stopping missed).1
+after-poll : (full stopping missed : Bool)
+    → is_listed (polled_at full stopping missed).0.stage ≡ comes_back (polled_at full stopping missed).1
 after-poll true false missed = refl
 after-poll true true missed = after-completion true missed
 after-poll false stopping missed = after-completion stopping missed

@@ -4,7 +4,8 @@ use Rattle.std.specs.Prelude.{◌||◌, not}
 use Rattle.driver_core.specs.Device.{at, completed_at, interrupted, opened, polled_at, stopped}
 use Rattle.driver_core.specs.World.{Hand, World, Event, free, to_mask, to_unmask, to_look, to_fetch, did_mask, did_unmask, saw, took}
 use Rattle.driver_core.specs.World.{arrives, interrupts, says, acts, reports, opens, stops, world_step, world_after, new_world}
-use Rattle.driver_core.specs.World.{says_by, hand_after, masked_after, packets_after, is_told, told, controlled, IsWatched, NoPacketWaitsUnseen, IsMaskedWhileListed, ListedIsMasked}
+use Rattle.driver_core.specs.World.{says_by, hand_after, masked_after, packets_after, is_told, told, controlled, IsWatched}
+use Rattle.driver_core.specs.World.{NoPacketWaitsUnseen, IsMaskedWhileListed, ListedIsMasked}
 use Rattle.driver_core.specs.declared.device.{Stage.{Stage, TheVariants.{Closed, Masking, Closing, Listed, Unmasking, Looking, Armed}}}
 
 abbrev Quiet : Bool → ℕ → Type 0

@@ -1,19 +1,24 @@
 -- What a driver holds, and what it says is to be done.
-use Rattle.std.specs.Prelude.{◌≡◌, ◌≤◌, ◌<◌, ◌+◌, ℕ, Bool, true, List, [], ◌∷◌, ◌++◌, length, slice_set, Option, Some, None, ◌==◌, if◌then◌else◌}
+use Rattle.std.specs.Prelude.{◌≡◌, ◌≤◌, ◌<◌, ◌+◌, ℕ, Bool, true, false, List, [], ◌∷◌, ◌++◌, length, replicate, slice_set, Option}
+use Rattle.std.specs.Prelude.{Some, None, ◌==◌, if◌then◌else◌}
 use Rattle.std.specs.List.{All}
 use Rattle.poll_runs.specs.{Laws.IsPlainRun, declared.run.RunReport.RunReport}
 use Rattle.driver_core.specs.declared.limits.Limits.{Limits}
-use Rattle.poll_runs.specs.{Driven.IsGoing, Steps.HoldsNothing, Plain.{NothingBehind, OwnPushes, all_held}, Polls.Poll, declared.bench.Next.Next}
-use Rattle.driver_core.specs.declared.device.{Device.Device, Stage.Stage}
+use Rattle.poll_runs.specs.{Driven.IsGoing, Steps.HoldsNothing, Plain.{NothingBehind, OwnPushes, all_held}, Polls.Poll}
+use Rattle.poll_runs.specs.{declared.bench.Next.Next}
+use Rattle.driver_core.specs.declared.device.{Device.Device, Stage.{Stage, TheVariants.Closed}}
 use Rattle.driver_core.specs.declared.device.Chore.TheVariants as chore
-use Rattle.driver_core.specs.{Device.{chore_at, is_listed, polled, IsAtRest}, Queue.device_at, declared.driver.Driver.Driver}
+use Rattle.driver_core.specs.{Device.{at, chore_at, is_listed, polled, IsAtRest}, Queue.device_at, declared.driver.Driver.Driver}
 use Rattle.driver_core.specs.declared.todo.Todo.{Todo, TheVariants.{Mask, Unmask, Look, Fetch, Ended, Sleep}}
 
 abbrev pub devices_of : Driver → List Device
 devices_of driver = driver.devices.items
 
+abbrev pub device_of : Driver → ℕ → Device
+device_of driver id = device_at (devices_of driver) id
+
 abbrev pub stage_of : Driver → ℕ → Stage
-stage_of driver id = (device_at (devices_of driver) id).stage
+stage_of driver id = (device_of driver id).stage
 
 -- the devices that are on the poll list and not yet in a run, in order
 abbrev pub list_of : Driver → List ℕ
@@ -50,7 +55,7 @@ pub record HandsOver (id : ℕ) (to : Device) (before after : Driver) : Type 0 w
 
 -- the poll of a device that took so many packets, and how it ended
 abbrev pub polled_of : ℕ → ℕ → Driver → Device × Next
-polled_of id packets driver = polled (packets == driver.limits.weight) (device_at (devices_of driver) id)
+polled_of id packets driver = polled (packets == driver.limits.weight) (device_of driver id)
 
 abbrev pub poll_of : ℕ → ℕ → Driver → Poll
 poll_of id packets driver = record { id = id; once = record { work = packets; next = (polled_of id packets driver).1 } }
@@ -73,6 +78,10 @@ IsRunning start polls driver = (is_running driver ≡ true) × IsGoing all_held 
 -- the run that began when the list held these devices, and made these polls, is over, and this is its report
 abbrev pub IsEnded : Limits → List ℕ → List Poll → Driver → RunReport → Type 0
 IsEnded limits start polls after report = IsPlainRun limits.budget limits.window start polls (list_of after) report
+
+-- so many devices, all closed
+abbrev pub AreClosed : ℕ → Driver → Type 0
+AreClosed count driver = devices_of driver ≡ replicate count (at Closed false)
 
 -- what is said to be done is to be done; sleep is said only if each device is at rest, and nothing is on the list
 abbrev pub IsDue : Driver → Todo → Type 0

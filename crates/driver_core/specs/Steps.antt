@@ -1,13 +1,15 @@
 -- A device as a NAPI instance, and its calls as legal steps of one (`LegalStep` of `napi_model`).
 use Rattle.std.specs.Prelude.{◌≡◌, ℕ, Bool, true, false, List, [], ◌∷◌}
 use Rattle.napi_model.specs.declared.{state.{Place.Place, Place.TheVariants.{Nobody, Granted, Control}, State.State}, event.{Event.Event}}
-use Rattle.napi_model.specs.declared.event.Operation.TheVariants.{Schedule, Hand, Take, Complete, MarkDisable, TakeDisable, Unmark, Enable}
+use Rattle.napi_model.specs.declared.event.Operation.TheVariants.{Schedule, Hand, Take, Complete, MarkDisable, TakeDisable}
+use Rattle.napi_model.specs.declared.event.Operation.TheVariants.{Unmark, Enable}
 use Rattle.napi_model.specs.declared.event.Done.TheVariants.{Released, Again}
 use Rattle.napi_model.specs.{History.{LegalHistory, state_after}, Step.{event, no_flags, schedule_reply}}
 use Rattle.napi_model.specs.declared.state.Place.TheVariants as place
 use Rattle.napi_model.specs.declared.state.Kind.TheVariants as kind
 use Rattle.napi_model.specs.declared.event.Prep.TheVariants as prep
-use Rattle.driver_core.specs.Device.{interrupted, is_listed, is_stopping, looked, masked, opened, polled, stopped, unmasked, IsMasking, MayStop}
+use Rattle.driver_core.specs.Device.{interrupted, is_listed, is_stopping, looked, masked, opened, polled, stopped, unmasked}
+use Rattle.driver_core.specs.Device.{IsMasking, MayStop}
 use Rattle.driver_core.specs.declared.device.{Device.Device, Stage.{Stage, TheVariants.{Closed, Masking, Closing, Listed, Looking}}}
 
 -- the callers of the instance: who opens and stops it, its interrupt, and its poller

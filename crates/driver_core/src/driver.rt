@@ -40,13 +40,12 @@ impl Driver {
     ghost use Rattle.poll_runs.specs.Polls.{Poll};
     ghost use Rattle.driver_core.specs.declared.device.Stage.TheVariants.{Looking, Unmasking};
     ghost use Rattle.driver_core.specs.Device.{interrupted, looked, masked, opened, polled, stopped, unmasked, IsGranted, IsMasking, MayStop};
-    ghost use Rattle.driver_core.specs.Queue.{device_at};
-    ghost use Rattle.driver_core.specs.Driver.{devices_of, polled_in, poll_of, stage_of, is_running, limits_of, list_of, Ends, HandsOver, IsDue, IsEnded, IsIdle, IsRunning, Puts};
+    ghost use Rattle.driver_core.specs.Driver.{device_of, devices_of, polled_in, poll_of, stage_of, is_running, limits_of, list_of, AreClosed, Ends, HandsOver, IsDue, IsEnded, IsIdle, IsRunning, Puts};
 
     /// A driver of so many devices, 1 to 64, all closed.
     pub fn new(alloc: Global, devices: u32, limits: Limits) -> Result<Driver, AllocError>
         requires { devices ≤ 64 }
-        ensures devices { IfOk result (λ driver. devices_of driver ≡ replicate devices (at Closed false)) }
+        ensures devices { IfOk result (AreClosed devices) }
         ensures idle { IfOk result (λ driver. IsIdle driver) }
         ensures limits { IfOk result (λ driver. limits_of driver ≡ limits) }
     {
@@ -71,7 +70,7 @@ impl Driver {
     /// A device.
     pub fn device(&self, device: u32) -> Device
         requires { device < length (devices_of self.now) }
-        ensures { result ≡ device_at (devices_of self.now) device }
+        ensures { result ≡ device_of self.now device }
     {
         self.devices[device as usize]
     }
@@ -82,7 +81,7 @@ impl Driver {
     pub fn interrupt(&mut self, device: u32) -> bool
         requires { device < length (devices_of self.old) }
         ensures mask { IsTrue result ↔ IsGranted (stage_of self.old device) }
-        ensures puts { Puts device (interrupted (device_at (devices_of self.old) device)) self.old
+        ensures puts { Puts device (interrupted (device_of self.old device)) self.old
             self.new }
     {
         let before = self.devices[device as usize];
@@ -96,7 +95,7 @@ impl Driver {
     pub fn masked(&mut self, device: u32) -> Result<(), NotDue>
         requires { device < length (devices_of self.old) }
         ensures when { IsOk result ↔ IsMasking (stage_of self.old device) }
-        ensures ok { OnOk result (HandsOver device (masked (device_at (devices_of self.old) device))
+        ensures ok { OnOk result (HandsOver device (masked (device_of self.old device))
             self.old self.new) }
         ensures err { OnErr result (self.new ≡ self.old) }
     {
@@ -117,7 +116,7 @@ impl Driver {
     pub fn unmasked(&mut self, device: u32) -> Result<(), NotDue>
         requires { device < length (devices_of self.old) }
         ensures when { IsOk result ↔ (stage_of self.old device ≡ Unmasking) }
-        ensures ok { OnOk result (Puts device (unmasked (device_at (devices_of self.old) device))
+        ensures ok { OnOk result (Puts device (unmasked (device_of self.old device))
             self.old self.new) }
         ensures err { OnErr result (self.new ≡ self.old) }
     {
@@ -135,7 +134,7 @@ impl Driver {
         requires { device < length (devices_of self.old) }
         ensures when { IsOk result ↔ (stage_of self.old device ≡ Looking) }
         ensures ok { OnOk result
-            (Puts device (looked has_more (device_at (devices_of self.old) device)) self.old
+            (Puts device (looked has_more (device_of self.old device)) self.old
             self.new) }
         ensures err { OnErr result (self.new ≡ self.old) }
     {
@@ -152,7 +151,7 @@ impl Driver {
     pub fn open(&mut self, device: u32) -> Result<(), NotDue>
         requires { device < length (devices_of self.old) }
         ensures when { IsOk result ↔ (stage_of self.old device ≡ Closed) }
-        ensures ok { OnOk result (Puts device (opened (device_at (devices_of self.old) device))
+        ensures ok { OnOk result (Puts device (opened (device_of self.old device))
             self.old self.new) }
         ensures err { OnErr result (self.new ≡ self.old) }
     {
@@ -170,7 +169,7 @@ impl Driver {
     pub fn stop(&mut self, device: u32) -> Result<(), NotDue>
         requires { device < length (devices_of self.old) }
         ensures when { IsOk result ↔ MayStop (stage_of self.old device) }
-        ensures ok { OnOk result (Puts device (stopped (device_at (devices_of self.old) device))
+        ensures ok { OnOk result (Puts device (stopped (device_of self.old device))
             self.old self.new) }
         ensures err { OnErr result (self.new ≡ self.old) }
     {
@@ -189,8 +188,9 @@ impl Driver {
         ensures when { IsOk result
             ↔ (polled_in self.old ≡ Some device) × (packets ≤ (limits_of self.old).weight) }
         ensures ok { OnOk result (Ends device packets self.old self.new) }
-        ensures going { (start : List _) (polls : List Poll) → OnOk result (IsRunning start polls self.old
-            → IsRunning start (polls ++ poll_of device packets self.old ∷ []) self.new) }
+        ensures going { (start : List _) (polls : List Poll) → IsRunning start polls self.old
+            → OnOk result
+            (IsRunning start (polls ++ poll_of device packets self.old ∷ []) self.new) }
         ensures err { OnErr result (self.new ≡ self.old) }
     {
         if self.run.asked() != Some(device) || packets > self.limits.weight {
@@ -241,8 +241,8 @@ impl Driver {
         ensures limits { self.new.limits ≡ self.old.limits }
         ensures going { (start : List _) (polls : List Poll) → IsRunning start polls self.old
             → is_running self.new ≡ true → IsRunning start polls self.new }
-        ensures ended { (start : List _) (polls : List Poll) (report : _) → result ≡ Todo.Ended report
-            → IsRunning start polls self.old
+        ensures ended { (start : List _) (polls : List Poll) (report : _)
+            → result ≡ Todo.Ended report → IsRunning start polls self.old
             → IsEnded (limits_of self.old) start polls self.new report }
     {
         match self.run.next(&mut self.list) {
@@ -266,8 +266,8 @@ impl Driver {
             → IsRunning (list_of self.old) [] self.new }
         ensures going { (start : List _) (polls : List Poll) → IsRunning start polls self.old
             → is_running self.new ≡ true → IsRunning start polls self.new }
-        ensures ended { (start : List _) (polls : List Poll) (report : _) → result ≡ Todo.Ended report
-            → IsRunning start polls self.old
+        ensures ended { (start : List _) (polls : List Poll) (report : _)
+            → result ≡ Todo.Ended report → IsRunning start polls self.old
             → IsEnded (limits_of self.old) start polls self.new report }
         ensures whole { (report : _) → result ≡ Todo.Ended report → is_running self.old ≡ false
             → IsEnded (limits_of self.old) (list_of self.old) [] self.new report }
