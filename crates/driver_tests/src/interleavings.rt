@@ -32,7 +32,10 @@ fn check_sleep(rt: &impl Abort, bench: &Bench) {
     let card = bench.card;
     match bench.driver.device(0).stage {
         Stage::Closed => assert!(rt; card.masked, "closed and unmasked: {card:?}"),
-        Stage::Armed => assert!(rt; !card.masked && (card.packets == 0 || card.interrupting), "sleeps with packets: {card:?}"),
+        Stage::Armed => assert!(rt;
+            !card.masked && (card.packets == 0 || card.interrupting),
+            "sleeps with packets: {card:?}"
+        ),
         stage => assert!(rt; false, "sleeps at {stage:?}"),
     }
 }
@@ -43,12 +46,18 @@ fn check_drains(rt: &impl Abort, mut bench: Bench) {
         if bench.sleeps && !bench.card.interrupting {
             break;
         }
-        let _ = bench.make(Step::Interrupt) || bench.make(Step::Act) || bench.make(Step::Report) || bench.make(Step::Say);
+        let _ = bench.make(Step::Interrupt)
+            || bench.make(Step::Act)
+            || bench.make(Step::Report)
+            || bench.make(Step::Say);
     }
     check_sleep(rt, &bench);
     assert!(rt; bench.sleeps, "doesn't come to rest");
     let is_open = bench.driver.device(0).stage == Stage::Armed;
-    assert!(rt; !is_open || bench.card.packets == 0, "left packets in the card");
+    assert!(rt;
+        !is_open || bench.card.packets == 0,
+        "left packets in the card"
+    );
 }
 
 /// What an exploration met.

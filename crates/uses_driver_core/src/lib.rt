@@ -1,9 +1,9 @@
 //! A user of `driver_core` alone: the loop of a driver, over any cards. It passes on what a sleep promises.
 #![tactic(auto)]
 
-ghost use Rattle.std.specs.Prelude.{◌≡◌, ◌≤◌, Ok, true, length};
+ghost use Rattle.std.specs.Prelude.{◌≡◌, ◌≤◌, IfOk, true, length};
 ghost use Rattle.driver_core.specs.Driver.{IsDue, devices_of};
-ghost use Rattle.driver_core.specs.Todo.{Sleep};
+ghost use Rattle.driver_core.specs.declared.todo.Todo.TheVariants.{Sleep};
 
 use driver_core::{Driver, NotDue, Todo};
 
@@ -26,7 +26,7 @@ pub trait Card {
 // Does what the driver says. Returns whether that is nothing.
 fn act<C: Card>(driver: &mut Driver, cards: &mut [C]) -> Result<bool, NotDue>
     requires { length (devices_of driver.old) ≡ length cards.old }
-    ensures sleep { result ≡ Ok true → IsDue driver.new Sleep }
+    ensures sleep { IfOk result (λ sleeps. sleeps ≡ true → IsDue driver.new Sleep) }
     ensures cards { length cards.new ≡ length cards.old }
     ensures devices { length (devices_of driver.new) ≡ length (devices_of driver.old) }
 {
@@ -57,7 +57,7 @@ fn act<C: Card>(driver: &mut Driver, cards: &mut [C]) -> Result<bool, NotDue>
 /// rest, and nothing is on the poll list.
 pub fn drive<C: Card>(driver: &mut Driver, cards: &mut [C], most: u32) -> Result<bool, NotDue>
     requires { length (devices_of driver.old) ≡ length cards.old }
-    ensures { result ≡ Ok true → IsDue driver.new Sleep }
+    ensures { IfOk result (λ sleeps. sleeps ≡ true → IsDue driver.new Sleep) }
 {
     for _ in 0..most {
         if act(driver, cards)? {
