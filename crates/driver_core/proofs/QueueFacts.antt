@@ -198,7 +198,7 @@ finish_keeps devices list came after run run' rests nothing nobody back q =
 
 -- ---- a poll
 
--- its device stands on the list again, or is to be repolled
+-- its device goes onto the list again, or is to be repolled
 abbrev pub comes_back : Next → Bool
 comes_back next = is_arrival next || is_repoll next
 

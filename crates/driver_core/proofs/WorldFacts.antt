@@ -11,7 +11,7 @@ use Rattle.driver_core.specs.declared.device.{Stage.{Stage, TheVariants.{Closed,
 abbrev Quiet : Bool → ℕ → Type 0
 Quiet interrupting packets = (packets ≡ 0) ⊎ (interrupting ≡ true)
 
--- what holds by what the thread is about, and where the device stands
+-- what holds at each stage of the device, by what the thread is doing
 abbrev Good : Hand → Stage → Bool → Bool → ℕ → Type 0
 Good free Closed m i p = m ≡ true
 Good free (Listed s) m i p = m ≡ true

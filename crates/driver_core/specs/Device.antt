@@ -37,8 +37,8 @@ interrupted_at Armed missed = at (Masking false) missed
 
 -- ---- its card was masked, unmasked, looked at
 
--- Behind the mask a granted instance goes onto the poll list (`____napi_schedule`), and one that was stopped while nobody had
--- it is disabled.
+-- After the mask a granted instance goes onto the poll list (`____napi_schedule`), and one that was stopped while no poll was
+-- pending is disabled.
 abbrev pub masked_at : Stage → Stage
 masked_at (Masking stopping) = Listed stopping
 masked_at Closing = Closed
@@ -70,7 +70,7 @@ polled_at false stopping missed = completed_at stopping missed
 
 -- ---- it is opened and stopped (`napi_enable`, `napi_disable`)
 
--- behind the enable the card is unmasked and looked at
+-- after the enable the card is unmasked and looked at
 abbrev pub opened_at : Stage → Stage
 opened_at Closed = Unmasking
 opened_at stage = stage

@@ -14,7 +14,7 @@ listed_at devices id = is_listed (device_at devices id).stage
 abbrev pub listed_in : List Device → ℕ
 listed_in devices = count_by (λ device. is_listed device.stage) devices
 
--- how often a number stands in a list
+-- how often a number is in a list
 abbrev pub occurs : ℕ → List ℕ → ℕ
 occurs id ids = count_by (λ x. x == id) ids
 

@@ -12,7 +12,7 @@ use Rattle.driver_core.specs.Device.{interrupted, is_listed, is_stopping, looked
 use Rattle.driver_core.specs.Device.{IsMasking, MayStop}
 use Rattle.driver_core.specs.declared.device.{Device.Device, Stage.{Stage, TheVariants.{Closed, Masking, Closing, Listed, Looking}}}
 
--- the callers of the instance: who opens and stops it, its interrupt, and its poller
+-- the callers of the instance: the one that opens and stops it, its interrupt, and its poller
 abbrev pub CONTROLLER : ℕ
 CONTROLLER = 0
 
@@ -53,7 +53,7 @@ Leads d events d' = LegalHistory CONTROLLER (napi_of d) events × (napi_of d' �
 abbrev pub disables : List Event
 disables = event CONTROLLER (TakeDisable true) ∷ event CONTROLLER Unmark ∷ []
 
--- behind the mask a granted instance is handed over, and one that nobody has is disabled
+-- after the mask a granted instance is handed over, and an idle one is disabled
 abbrev pub mask_events : Stage → List Event
 mask_events Closing = disables
 mask_events stage = event INTERRUPT (Hand kind.List) ∷ []

@@ -5,7 +5,7 @@ use Rattle.driver_core.specs.Device.{at, interrupted, looked, masked, opened, po
 use Rattle.driver_core.specs.declared.device.{Device.Device}
 use Rattle.driver_core.specs.declared.device.Stage.{Stage, TheVariants.{Closed, Masking, Closing, Listed, Unmasking, Looking, Armed}}
 
--- what the thread is about: nothing, or what `next` said, done or not yet, of which the driver isn't told yet
+-- what the thread is doing: nothing, or what `next` said, done or not yet, and not yet reported
 pub data Hand : Type 0 where
   free : Hand
   to_mask : Hand
@@ -22,7 +22,7 @@ pub data Hand : Type 0 where
 pub record World : Type 0 where
   pub device : Device
   pub hand : Hand
-  -- the card: whether its interrupt is masked, whether it interrupted and the driver isn't told yet, the packets that it has
+  -- the card: whether its interrupt is masked, whether it has an interrupt that isn't reported yet, the packets that it has
   pub masked : Bool
   pub interrupting : Bool
   pub packets : ℕ
@@ -30,13 +30,13 @@ pub record World : Type 0 where
 pub data Event : Type 0 where
   -- a packet arrives; the card interrupts unless it is masked
   arrives : Event
-  -- the driver is told of an interrupt
+  -- an interrupt is reported to the driver
   interrupts : Event
   -- `next` says what is to be done
   says : Event
   -- it is done; a fetch takes so many packets, which are the weight or fewer
   acts : ℕ → Bool → Event
-  -- the driver is told
+  -- it is reported
   reports : Event
   opens : Event
   stops : Event
@@ -114,7 +114,7 @@ world_after (e ∷ es) w = world_after es (world_step e w)
 abbrev pub new_world : ℕ → World
 new_world packets = record { device = at Closed false; hand = free; masked = true; interrupting = false; packets = packets }
 
--- an open device at rest has its card unmasked, and no packets, or an interrupt of which the driver isn't told yet; a closed one is
+-- an open device at rest has its card unmasked, and no packets, or an interrupt that isn't reported yet; a closed one is
 -- masked
 abbrev pub IsWatched : Stage → World → Type 0
 IsWatched Armed w = (w.masked ≡ false) × ((w.packets ≡ 0) ⊎ (w.interrupting ≡ true))

@@ -5,19 +5,19 @@ ghost use Rattle.std.specs.Prelude.{◌≡◌};
 use napi_model::Kind;
 use poll_runs::Next;
 
-/// Where a device stands: its instance (`struct napi_struct`), and whether the interrupt of its card is masked.
+/// The stage of a device: the state of its instance (`struct napi_struct`), and whether the interrupt of its card is masked.
 #[derive(Clone, Copy, PartialEq, Eq, PartialOrd, Ord, Debug)]
 pub enum Stage {
-    /// Disabled, in the hands of the controller, and masked (after `napi_disable`).
+    /// Disabled and masked (after `napi_disable`).
     Closed,
-    /// A poll was asked for and granted. The card is to be masked, and then the device goes onto the poll list. True: it is
+    /// A poll was requested and granted. The card is to be masked, and then the device goes onto the poll list. True if it is
     /// being stopped.
     Masking(bool),
-    /// It was stopped while no poll was asked for. The card is to be masked, and then the device is closed.
+    /// It was stopped while no poll was pending. The card is to be masked, and then the device is closed.
     Closing,
-    /// On the poll list or being polled, and masked. True: it is being stopped.
+    /// On the poll list or being polled, and masked. True if it is being stopped.
     Listed(bool),
-    /// No poll is asked for, and the card is to be unmasked: after the last poll, or after it was opened.
+    /// No poll is pending, and the card is to be unmasked: after the last poll, or after an open.
     Unmasking,
     /// The card was unmasked, and is to be looked at: what arrived before the unmask didn't interrupt.
     Looking,
@@ -39,9 +39,9 @@ pub enum Chore {
 /// One device of a driver.
 #[derive(Clone, Copy, PartialEq, Eq, PartialOrd, Ord, Debug)]
 pub struct Device {
-    /// Where it stands.
+    /// Its stage.
     pub stage: Stage,
-    /// A poll was asked for while one was asked for already (`NAPI_STATE_MISSED`): another poll follows.
+    /// A poll was requested while one was pending (`NAPI_STATE_MISSED`): another poll follows.
     pub missed: bool,
 }
 

@@ -12,8 +12,8 @@ use crate::todo::{NotDue, Todo, first_chore, todo_of};
 use poll_runs::{Once, PlainList, PollList, PollingRun};
 use std::alloc::{AllocError, Global};
 
-/// The driver of 1 to 64 devices, for one thread: the instances, the poll list and the runs over it. It makes no input or output;
-/// [`next`](Driver::next) says what is to be done, and the other calls say what happened.
+/// The driver of up to 64 devices, for one thread: the instances, the poll list and the runs over it. It does no input or output:
+/// [`next`](Driver::next) says what is to be done, and the other calls report what happened.
 #[derive(Drop)]
 pub struct Driver {
     devices: Vec<Device>,
@@ -42,7 +42,7 @@ impl Driver {
     ghost use Rattle.driver_core.specs.Device.{interrupted, looked, masked, opened, polled, stopped, unmasked, IsGranted, IsMasking, MayStop};
     ghost use Rattle.driver_core.specs.Driver.{device_of, devices_of, polled_in, poll_of, stage_of, is_running, limits_of, list_of, AreClosed, Ends, HandsOver, IsDue, IsEnded, IsIdle, IsRunning, Puts};
 
-    /// A driver of so many devices, 1 to 64, all closed.
+    /// Creates a driver of so many devices, at most 64, all closed.
     pub fn new(alloc: Global, devices: u32, limits: Limits) -> Result<Driver, AllocError>
         requires { devices ≤ 64 }
         ensures devices { IfOk result (AreClosed devices) }
@@ -59,7 +59,7 @@ impl Driver {
         })
     }
 
-    /// How many devices it has, 1 to 64.
+    /// The number of its devices, at most 64.
     pub fn len(&self) -> usize
         ensures len { result ≡ length (devices_of self.now) }
         ensures few { result ≤ 64 }
@@ -67,7 +67,7 @@ impl Driver {
         self.devices.len()
     }
 
-    /// A device.
+    /// A device, by its number.
     pub fn device(&self, device: u32) -> Device
         requires { device < length (devices_of self.now) }
         ensures { result ≡ device_of self.now device }
@@ -75,8 +75,8 @@ impl Driver {
         self.devices[device as usize]
     }
 
-    /// The interrupt of a card (`napi_schedule_prep`). Returns whether the card is to be masked now; behind the mask
-    /// [`masked`](Driver::masked) is called.
+    /// The interrupt of a card (`napi_schedule_prep`). Returns whether the card is to be masked now; after
+    /// masking it, call [`masked`](Driver::masked).
     #[tactic(auto, using(crate::proofs::QueueFacts::put_same))]
     pub fn interrupt(&mut self, device: u32) -> bool
         requires { device < length (devices_of self.old) }
@@ -89,8 +89,8 @@ impl Driver {
         before.is_granted()
     }
 
-    /// The card was masked, as [`Todo::Mask`] or [`interrupt`](Driver::interrupt) said. A device whose poll was granted goes onto
-    /// the poll list (`____napi_schedule`), and one that was stopped is closed.
+    /// Reports that the card was masked, as [`Todo::Mask`] or [`interrupt`](Driver::interrupt) said. A device whose poll was
+    /// granted goes onto the poll list (`____napi_schedule`), and one that was stopped is closed.
     #[tactic(auto, using(crate::proofs::QueueFacts::put_same, crate::proofs::QueueFacts::put_new, crate::proofs::QueueFacts::room))]
     pub fn masked(&mut self, device: u32) -> Result<(), NotDue>
         requires { device < length (devices_of self.old) }
@@ -111,7 +111,7 @@ impl Driver {
         Ok(())
     }
 
-    /// The card was unmasked, as [`Todo::Unmask`] said.
+    /// Reports that the card was unmasked, as [`Todo::Unmask`] said.
     #[tactic(auto, using(crate::proofs::QueueFacts::put_same))]
     pub fn unmasked(&mut self, device: u32) -> Result<(), NotDue>
         requires { device < length (devices_of self.old) }
@@ -128,7 +128,7 @@ impl Driver {
         Ok(())
     }
 
-    /// The card was looked at, as [`Todo::Look`] said, and has packets or none.
+    /// Reports whether the card has packets, as [`Todo::Look`] asked.
     #[tactic(auto, using(crate::proofs::QueueFacts::put_same))]
     pub fn looked(&mut self, device: u32, has_more: bool) -> Result<(), NotDue>
         requires { device < length (devices_of self.old) }
@@ -163,7 +163,7 @@ impl Driver {
         Ok(())
     }
 
-    /// Stops a device that is open (`napi_disable`). It is closed once its card is masked, and the polls that were asked for are
+    /// Stops a device that is open (`napi_disable`). It is closed once its card is masked, and the polls that were requested are
     /// made.
     #[tactic(auto, using(crate::proofs::QueueFacts::put_same))]
     pub fn stop(&mut self, device: u32) -> Result<(), NotDue>
@@ -181,7 +181,8 @@ impl Driver {
         Ok(())
     }
 
-    /// Packets were taken from the card, as [`Todo::Fetch`] said, so many. It ends the poll (`__napi_poll`, `napi_complete_done`).
+    /// Reports how many packets were taken from the card, as [`Todo::Fetch`] said. It ends the poll (`__napi_poll`,
+    /// `napi_complete_done`).
     #[tactic(auto, using(crate::proofs::QueueFacts::polled_keeps, crate::proofs::QueueFacts::polled_listed, crate::proofs::QueueFacts::asked_is_listed, crate::proofs::QueueFacts::asked_in_range))]
     pub fn fetched(&mut self, device: u32, packets: u32) -> Result<(), NotDue>
         requires { device < length (devices_of self.old) }
@@ -254,7 +255,7 @@ impl Driver {
         }
     }
 
-    /// What is to be done next. It says the same until that was done and told, or something else happened.
+    /// Returns what is to be done next. It returns the same until that is reported, or something else happens.
     #[tactic(auto, using(crate::proofs::QueueFacts::all_rest, crate::proofs::QueueFacts::asked_is_listed, crate::proofs::QueueFacts::asked_in_range))]
     pub fn next(&mut self) -> Todo
         ensures due { IsDue self.new result }

@@ -5,7 +5,7 @@ ghost use Rattle.driver_core.specs.World.{ListedIsMasked, NoPacketWaitsUnseen};
 
 /// Packets may arrive, the card may interrupt, and the device may be opened and stopped, in any order, and between any two steps of
 /// what [`Driver::next`](crate::Driver::next) says. Whenever the device is at rest and open, its card is unmasked, and has no
-/// packets or an interrupt of which the driver isn't told yet.
+/// packets, or an interrupt that isn't reported yet.
 pub fn no_packet_waits_unseen()
     ensures { NoPacketWaitsUnseen }
 {}

@@ -14,7 +14,7 @@ pub struct Card {
     /// The packets that it has.
     pub packets: u32,
     pub masked: bool,
-    /// It interrupted, and the driver isn't told yet.
+    /// It has an interrupt that isn't reported to the driver yet.
     pub interrupting: bool,
 }
 
@@ -35,7 +35,7 @@ pub enum Hand {
     Took(u32),
 }
 
-/// One step of the card, of the thread, or of who opens and stops the device.
+/// One step of the card, of the thread, or an open or stop of the device.
 #[derive(Clone, Copy, PartialEq, Eq, Debug)]
 pub enum Step {
     Arrive,
@@ -76,7 +76,7 @@ impl RunSoFar {
     };
 }
 
-/// All that tells one state of a bench from another.
+/// The state of a bench: two benches in the same state go on alike.
 #[derive(Clone, Copy, PartialEq, Eq, PartialOrd, Ord, Debug)]
 pub struct State {
     device: Device,
@@ -190,7 +190,8 @@ impl Bench {
 
     fn report(&mut self) -> bool {
         let driver = &mut self.driver;
-        let told = match self.hand {
+        // An interrupt may have come between what was said and this report, which isn't due then.
+        let _ = match self.hand {
             Hand::Masked => driver.masked(0),
             Hand::Unmasked => driver.unmasked(0),
             Hand::Saw(has_more) => driver.looked(0, has_more),
@@ -207,7 +208,6 @@ impl Bench {
             _ => return false,
         };
         self.hand = Hand::Free;
-        let _ = told;
         true
     }
 

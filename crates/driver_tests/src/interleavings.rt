@@ -23,8 +23,8 @@ fn bench_after(alloc: Global, packets: u32, stops: u32, path: &[Step]) -> Result
     Ok(bench)
 }
 
-// While it sleeps the device is closed and masked, or the card is unmasked and has no packets, or an interrupt of which the driver
-// isn't told yet.
+// While it sleeps the device is closed and masked, or the card is unmasked and has no packets, or an interrupt
+// that isn't reported yet.
 fn check_sleep(rt: &impl Abort, bench: &Bench) {
     if !bench.sleeps {
         return;
@@ -110,7 +110,6 @@ fn explore(rt: &impl Abort, alloc: Global, packets: u32, stops: u32) -> Result<M
 #[test]
 fn it_never_sleeps_with_work_left(rt: HostRuntime) -> Result<(), Fail> {
     let met = explore(&rt, rt.alloc(), 5, 2)?;
-    println!(&rt; "{} states", met.states)?;
     assert!(&rt; met.sleeping > 0 && met.ends > 0, "{} states", met.states);
     Ok(())
 }
