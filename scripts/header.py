@@ -9,33 +9,35 @@ import sys
 import textwrap
 
 HEADER = pathlib.Path(__file__).resolve().parent.parent / "include/fintaqush.h"
-# In the header's order: each group's name, and what its manual page says that it is.
-GROUPS = (
-    ("status", "statuses, kinds, flags and sizes"),
-    ("dql", "byte queue limits"),
-    ("napi", "an instance of one thread"),
-    ("handle", "free, abandon and move objects of the library"),
-    ("ring", "receive rings"),
-    ("tx", "transmit rings under a byte queue limit"),
-    ("shared", "instances that threads share"),
-    ("run", "poll lists and polling runs"),
-    ("word", "a word of pending bits"),
-    ("replay", "the replay of a trace"),
-)
-# The comment of the first declaration that is of a group.
-FIRST = "/* What calls "
+# By the first call of each group: the group's name, and what its manual page says that it is. Of another group the name is in its first
+# call, and its comment says what it is.
+KNOWN = {
+    "fq_version": ("status", "statuses, kinds, flags and sizes"),
+    "fq_dql_new": ("dql", "byte queue limits"),
+    "fq_napi_new": ("napi", "an instance of one thread"),
+    "fq_free": ("handle", "free, abandon and move objects of the library"),
+    "fq_ring_new": ("ring", "receive rings"),
+    "fq_tx_new": ("tx", "transmit rings under a byte queue limit"),
+    "fq_shared_new": ("shared", "instances that threads share"),
+    "fq_list_new": ("run", "poll lists and polling runs"),
+    "fq_word_raise": ("word", "a word of pending bits"),
+    "fq_replay": ("replay", "the replay of a trace"),
+}
 BANNER = re.compile(r"/\* ---- (.*?)\*/", re.S)
+# The comment of the first declaration that is of a group.
+FIRST = re.compile(r"/\*(?:(?!\*/).)*\*/\nenum fq_status", re.S)
 
 
 def groups():
     """Each group: its name, what it is, its comment, and the header's text up to the next one."""
     text = HEADER.read_text()
-    text = text[text.index(FIRST) :]
-    parts = BANNER.split(text)
-    comments, texts = ["", *parts[1::2]], parts[::2]
-    if len(texts) != len(GROUPS):
-        sys.exit(f"header.py: {HEADER} has {len(texts)} groups, and here are {len(GROUPS)} names")
-    return [(*group, comment, part) for group, comment, part in zip(GROUPS, comments, texts)]
+    parts = BANNER.split(text[FIRST.search(text).start() :])
+    found = []
+    for comment, part in zip(["", *parts[1::2]], parts[::2]):
+        first = calls_of(part)[0]
+        name = first.split("_")[1], re.match(r"[^.(]*", prose(comment))[0].strip()
+        found.append((*KNOWN.get(first, name), comment, part))
+    return found
 
 
 def prose(comment):
@@ -108,7 +110,7 @@ def manual(name, what, comment, text, version):
         said = " ".join(filter(None, [doc, *(f"{call_of(code)}: {behind}." for code, behind in found if behind)]))
         if said:
             yield f".RS 4\n{roff(said)}\n.RE" if found else f".PP\n{roff(said)}"
-    others = [other for other, _ in GROUPS if other != name]
+    others = [group[0] for group in groups() if group[0] != name]
     yield ".SH SEE ALSO\n.BR fintaqush (3),\n" + ",\n".join(f".BR fintaqush_{other} (3)" for other in others)
 
 
@@ -129,10 +131,11 @@ def for_doxygen(path):
     text = re.sub(r"(?<=\S)( +)/\* ", r"\1/**< ", text)
     text = re.sub(r"^( *)/\*(?=[ \n])", r"\1/**", text, flags=re.M)
     text = "/** @file */\n" + text.replace("/**\n", "/** @mainpage Calls of C and C++\n", 1)
-    for name, what in GROUPS[1:]:
-        text = text.replace("/** ---- ", f"/** @}} */\n/** @defgroup {name} {what[0].upper() + what[1:]}\n * @{{\n * ", 1)
-    begin, end = text.index(FIRST.replace("/*", "/**")), text.rindex("#ifdef __cplusplus")
-    text = f"{text[:begin]}/** @defgroup status {GROUPS[0][1].capitalize()}\n * @{{ */\n{text[begin:end]}/** @}} */\n{text[end:]}"
+    status, *others = [(name, what[0].upper() + what[1:]) for name, what, _, _ in groups()]
+    for name, what in others:
+        text = text.replace("/** ---- ", f"/** @}} */\n/** @defgroup {name} {what}\n * @{{\n * ", 1)
+    begin, end = FIRST.search(text).start(), text.rindex("#ifdef __cplusplus")
+    text = f"{text[:begin]}/** @defgroup {status[0]} {status[1]}\n * @{{ */\n{text[begin:end]}/** @}} */\n{text[end:]}"
     return re.sub(r"/\*\*.*?\*/", lambda comment: re.sub(r"\b(fq_\w+|FQ_[A-Z_]*[A-Z])\b", r"#\1", comment[0]), text, flags=re.S)
 
 

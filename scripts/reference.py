@@ -11,7 +11,7 @@ import sys
 import surface
 
 TOP = pathlib.Path(__file__).resolve().parent.parent
-FACADES = "napi_model dql_core rx_ring tx_ring napi_word napi_calls poll_engine device_model replay machine".split()
+FACADES = sorted(page.parent.name for page in (TOP / "crates").glob("*/README.md"))  # only facades have a page
 # A definition at the start of a line, or in a `module _`; not a record's field.
 DEFINED = re.compile(r"^(?:(?:abbrev|pub|unfoldable|record|data) )+([\w-]+)|^ +(?:pub )?(?:abbrev|unfoldable|record|data) (?:pub )?([\w-]+)|^([\w-]+) :(?: |$)")
 NAME = re.compile(r"[A-Za-z_][\w-]*")

@@ -132,7 +132,7 @@ place_of() {
     esac
 }
 
-# way_up PLACE: what leads from a page's folder to the top of the site.
+# way_up PLACE: the path from a page's folder to the top of the site.
 way_up() { printf '%s' "${1//[^\/]/}" | sed 's|/|../|g'; }
 
 # title_of PAGE: its first heading; of a crate's page and a manual page its name.
@@ -215,7 +215,7 @@ show() {
         --include-in-header "$scratch/style.html" --include-before-body "$nav" "$(text_of "$1")" | relink > "$new/$place"
 }
 
-# The files and folders of the repository to which a page links, without its parts; of a folder all files.
+# The files and folders of the repository to which a page links, without anchors; of a folder all files.
 linked() {
     local name
     while IFS= read -r name; do

@@ -10,7 +10,7 @@ ITEM = re.compile(r"pub (?:const |unsafe )*(fn|struct|enum|trait|type|const) (\w
 
 
 def passed_on(crate):
-    """Pairs of a crate and the names that this one passes on of it, in the order of its `pub use`; its own names as one."""
+    """Pairs of a crate and the names that this one re-exports from it, in the order of its `pub use`; its own names as one."""
     text, found = (CRATES / crate / "src/lib.rt").read_text(), {}
     for place, names in re.findall(r"^pub use (?:crate::)?(\w+)::((?:\w|::|[{},\s])+);", text, re.M):
         of = place if (CRATES / place / "src").is_dir() else crate
@@ -19,7 +19,7 @@ def passed_on(crate):
 
 
 def parts(lines):
-    """Each line that isn't a `///` or an attribute, by its place, with the `///` above it."""
+    """Each line that isn't a `///` or an attribute, by its index, with the `///` above it."""
     doc = []
     for at, line in enumerate(lines):
         if line.lstrip().startswith("///"):
@@ -43,7 +43,7 @@ def to_body(lines, at):
 
 
 def to_brace(lines, at):
-    """The lines of a struct, an enum or a trait, without a struct's private fields and what is said of these."""
+    """The lines of a struct, an enum or a trait, without a struct's private fields and their comments."""
     shown, doc, is_private, is_struct = [], [], False, " struct " in lines[at]
     for line in lines[at:]:
         is_field = is_struct and re.match(r"    [a-z_]+: ", line)
@@ -59,7 +59,7 @@ def to_brace(lines, at):
 
 
 def block(lines, at):
-    """The lines of an `impl` without what is private: its head, what a trait's relations are, and each public call."""
+    """The lines of an `impl` without what is private: its head, a trait's relations, and each public call."""
     head = re.sub(r" \{.*$", "", " ".join(it.strip() for it in lines[at : next(n for n in range(at, len(lines)) if "{" in lines[n]) + 1]))
     end = at if lines[at].endswith("{}") else next(n for n in range(at, len(lines)) if lines[n].startswith("}"))
     shown = [head, ""]
@@ -95,7 +95,7 @@ def items(crate, names):
 
 
 def aliased(crate, name):
-    """The type that an alias stands for, with the crate that has it, if the name is an alias."""
+    """The type of an alias, with the crate that has it, if the name is an alias."""
     texts = {path: path.read_text() for path in sorted(CRATES.glob("*/src/*.rt"))}
     own = "\n".join(text for path, text in texts.items() if path.parts[-3] == crate)
     if alias := re.search(rf"^pub type {name}\b(?:<[^=]*>)? =\s+(\w+)", own, re.M):

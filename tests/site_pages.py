@@ -19,14 +19,14 @@ def run(*words, **others):
 
 
 def marks():
-    """Pictures that aren't drawn from their texts as they are, by the checksums that they keep."""
+    """Pictures that aren't drawn from their present texts, by the checksums that they contain."""
     ended = run("scripts/pictures.sh", "--check")
     if ended.returncode != 0:
         yield ended.stdout + ended.stderr
 
 
 def site(script, pages):
-    """What is wrong with the site: pages that it lacks or that lost their text, and links in it that lead nowhere."""
+    """What is wrong with the site: pages that are missing or lost their text, and links in it that lead nowhere."""
     if is_missing("pandoc", "whether the site of all pages is whole"):
         return
     with tempfile.TemporaryDirectory() as room:
@@ -73,16 +73,13 @@ def references(made, texts):
     if (made / "reference/rust").is_dir():
         exported = re.findall(r"\b[A-Z]\w+", " ".join(re.findall(r"^pub use ([^;]*);", (TOP / "bindings/rust/src/lib.rs").read_text(), re.M)))
         yield from (f"reference/rust lacks {name}" for name in exported if name not in (made / "reference/rust/fintaqush/index.html").read_text())
-    manuals = "".join(texts.get(made / "docs/man" / f"fintaqush_{name}.3.html", "") for name, _ in header_groups())
+    groups = runpy.run_path(str(TOP / "scripts/header.py"))["groups"]()
+    manuals = "".join(texts.get(made / "docs/man" / f"fintaqush_{name}.3.html", "") for name, *_ in groups)
     yield from (f"no manual page of a group has {name}" for name in sorted(calls) if name not in manuals)
     facade = texts.get(made / "reference/rattle/dql_core.html", "")
     wanted = '<a href="../definitions/dql_core.html#Limit.after_queued">after_queued</a>'
     if wanted not in facade or 'id="Limit.after_queued"' not in texts.get(made / "reference/definitions/dql_core.html", ""):
         yield "after_queued in a clause of dql_core doesn't link to its definition"
-
-
-def header_groups():
-    return runpy.run_path(str(TOP / "scripts/header.py"))["GROUPS"]
 
 
 def anchors(made, texts):
@@ -96,7 +93,7 @@ def anchors(made, texts):
 
 
 def manual_warnings(manual):
-    """What man says of a manual page as it shows it."""
+    """Warnings of man for a manual page."""
     if is_missing("man", f"whether {manual.name} has warnings") or is_missing("groff", f"whether {manual.name} has warnings"):
         return
     ended = run("man", "--warnings", "-l", str(manual), env={**os.environ, "MANWIDTH": "100", "LC_ALL": "C.UTF-8", "PAGER": "cat"})
@@ -107,15 +104,15 @@ def manual_warnings(manual):
 
 
 def plain_manual(manual):
-    """A manual page's words, without its requests."""
+    """A manual page's text, without its requests."""
     text = re.sub(r"^\.\\\".*$", "", manual.read_text(), flags=re.M)
     text = re.sub(r"^\.[A-Z]+ ?", "", text, flags=re.M).replace("\\-", "-").replace("\\&", "").replace('"', "")
     return re.sub(r" ([,;.])", r"\1", " ".join(text.split()))
 
 
 def whole_manual(manual):
-    """What napi_replay(1) lacks of the usage text of ./replay: words, ranges, usual values, modes, statuses; and words that are in
-    none of both. Faults are those of docs/FORMATS.md."""
+    """What napi_replay(1) lacks of the usage text of ./replay: options, ranges, defaults, modes, statuses; and options that are
+    in neither. Errors are those of docs/FORMATS.md."""
     usage = run("./replay", "--help").stdout
     words = plain_manual(manual)
     rows = re.findall(r"^  ((?:-h, )?--\w+)(?: N| M)?  +(.*)$", usage, re.M)

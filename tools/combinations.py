@@ -239,7 +239,7 @@ class Combinations:
         told = {key[1:]: row for key, row in rows.items()}
         known = [{**told[key[1:]], self.key[0]: key[0]} for key in missing if key[1:] in told]
         unknown = [key for key in missing if key[1:] not in told]
-        there = set()  # a process of parallel's that is tried again tells its first rows again
+        there = set()  # a process of parallel's that is tried again prints its first rows again
         with Progress(f"making {len(missing)} row{'s' * (len(missing) > 1)}", counted.how_far):
             for row in itertools.chain(known, self.rows_of(made, unknown, words) if unknown else []):
                 if self.key_of(row) not in there:

@@ -28,7 +28,7 @@ SENT = re.compile(r"dev=(\S+) .*\blen=(\d{1,10}) rc=(\w+)")
 POLLED = re.compile(r"napi poll on napi struct \S+ for (?:network )?device (\S+) work (\d{1,9}) budget (\d{1,9})")
 SOFTIRQ = re.compile(r"vec=(\d{1,9})")
 LOST = re.compile(r"\[LOST (\d+) EVENTS\]|\[(\d+) EVENTS DROPPED\]|PERF_RECORD_LOST lost (\d+)")
-# And the lines of a call chain, which perf puts behind an event.
+# And the lines of a call chain, which perf puts after an event.
 NO_EVENT = re.compile(r"\s*(#.*|cpus=\d+|version = .*|CPU:? ?\d+ is empty|[0-9a-f]{4,16} .* \(.*\))?$")
 
 

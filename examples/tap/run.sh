@@ -1,8 +1,8 @@
 #!/usr/bin/env bash
-# examples/tap/run.sh [WORD ..]: runs the driver, with these words, on a TAP device in a network namespace: 3000 pings of 1400 bytes,
-# a second of UDP both ways, a disable and an enable under load, and SIGINT under load. Prints the driver's counts beside the
-# kernel's, and a line `ok` or `WRONG` for each thing that has to be so. BUILT=FOLDER: there build.sh has built it. The status is 0
-# only if all is well, 69 if there is no root, no `ip`, no /dev/net/tun or no right to make a namespace.
+# examples/tap/run.sh [OPTION ..]: runs the driver, with these arguments, on a TAP device in a network namespace: 3000 pings of
+# 1400 bytes, a second of UDP both ways, a disable and an enable under load, and SIGINT under load. Prints the driver's counts
+# and the kernel's, and a line `ok` or `WRONG` for each check. BUILT=FOLDER: a folder in which build.sh has built it. The status
+# is 0 only if all checks pass, 69 if there is no root, no `ip`, no /dev/net/tun or no right to make a namespace.
 set -uo pipefail
 unset CDPATH
 here=$(dirname "$(readlink -f "${BASH_SOURCE[0]}")")
@@ -21,7 +21,7 @@ scratch=$(mktemp -d)
 trap 'remove_device; rm -rf "$scratch"' EXIT
 built=${BUILT:-$scratch}
 [ -n "${BUILT:-}" ] || "$here/build.sh" "$built" || exit
-# A trace has at most 100000 rows, so there the load is gentle.
+# A trace has at most 100000 rows, so the load is gentle then.
 under_load=(udp 7 0 600)
 [ -z "$trace" ] || under_load=(rate 200 1000000 600)
 

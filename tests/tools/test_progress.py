@@ -60,10 +60,6 @@ class Shown(InFolder):
         self.program("tcpdump", HALF)
         self.check(r"reading, 50 %, \d s left", "from-pcap", capture, "made", PATH=f"{self.folder}:{os.environ['PATH']}")
 
-    def test_a_picture(self):
-        self.program("gnuplot", "#!/bin/sh\nsleep 2.5\n")
-        self.check(r"drawing by gnuplot, [123] s", "plot", BURSTS, "--out", "x.svg", PATH=f"{self.folder}:{os.environ['PATH']}")
-
     def test_runs_that_are_raised(self):
         slow = self.program("slow", f"#!/bin/sh\nsleep 0.5\nexec '{REPLAY}' \"$@\"\n")
         self.check(r"raising runs, \d+ %", "raise", BURSTS, "--budget", "1", "--weight", "1", PROGRAM=slow)
@@ -80,9 +76,9 @@ class Shown(InFolder):
         self.assertRegex(self.seen("from-ftrace", recording, "trace", "--arrivals"), r"from-ftrace: reading, \d+ %, \d+ s left")
 
     def test_elsewhere_nothing_is_shown(self):
-        self.program("gnuplot", "#!/bin/sh\nsleep 1.5\n")
-        done = run("plot", BURSTS, "--out", "x.svg", folder=self.folder, path=f"{self.folder}:{os.environ['PATH']}")
-        self.assertEqual((done.stderr, done.returncode), ("plot: gnuplot failed: 0\n", 1))
+        slow = self.program("slow", f"#!/bin/sh\nsleep 1.5\nexec '{REPLAY}' \"$@\"\n")
+        done = run("raise", BURSTS, "--out", "x.csv", folder=self.folder, PROGRAM=slow)
+        self.assertEqual((done.stderr.count("\n"), "\r" in done.stderr, done.returncode), (1, False, 0))
 
 
 if __name__ == "__main__":

@@ -107,7 +107,7 @@ total devices 3 runs 2 polls 7 work 80 squeezed 2
     def test_it_goes_on_where_it_was(self):
         self.sweep("--without-parallel")
         lines = self.out.read_text().splitlines(keepends=True)
-        # Three rows and a part of one are there. What is there isn't made again: a row of it is told apart by its polls.
+        # Three rows and a part of one are there. What is there isn't made again: its polls distinguish it from a row that is made.
         kept = [lines[0], lines[1].replace(",1,2,1,", ",7,2,1,"), *lines[2:4], lines[4][:-5]]
         self.assertNotEqual(kept[1], lines[1])
         self.out.write_text("".join(kept))
@@ -366,7 +366,7 @@ SHELL=/bin/bash exec bash -c "$*"  # as sshd does
         self.by_slurm("--wait")
 
     # In place of sbatch: it reads the lines for it at the head of the file, and runs each job of the array after the other, with
-    # what Slurm tells a job.
+    # what Slurm sets for a job.
     SBATCH = """#!/usr/bin/env python3
 import os, re, subprocess, sys
 words = dict(re.findall(r"^#SBATCH --([a-z-]+)=(\\S+)$", open(sys.argv[1]).read(), re.M))

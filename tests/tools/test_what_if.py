@@ -292,14 +292,14 @@ class WhatIf(InFolder):
         done = run("what-if", self.arrivals, *words)
         self.assertEqual((done.returncode, list(csv.DictReader(io.StringIO(done.stdout)))), (0, self.rows(*words)))
 
-    @skip_without("gnuplot")
+    @skip_without("matplotlib")
     def test_the_picture(self):
-        for name, begins in (("x.png", b"\x89PNG"), ("x.svg", b"<?xml")):
+        for name, begins in (("x.png", b"\x89PNG"), ("x.svg", b"<?xml"), ("x.html", b"<!DOCTYPE html>")):
             self.rows("--budget", "1,300", "--load", "0.5,1,2", "--plot", self.folder / name)
             self.assertTrue((self.folder / name).read_bytes().startswith(begins))
         text = (self.folder / "x.svg").read_text()
-        for told in ("arrivals.csv: load 0.5, 1, 2; budget 1, 300.<", "Costs are given, in ns: interrupt 4000, poll 1000, packet 1000, use 2000, wake 0, app-wake 0.",
-                     "99th percentile of waits", "dropped and refused, %", "share of the processor, %", "budget 1<", "budget 300<", "load (times the arrivals)"):
+        for told in ("arrivals.csv: load 0.5, 1, 2; budget 1, 300", "Costs are given, in ns: interrupt 4000, poll 1000, packet 1000, use 2000, wake 0, app-wake 0.",
+                     "99th percentile of waits", "dropped and refused, %", "share, %", "budget 1<", "budget 300<", "load (times the arrivals)"):
             self.assertIn(told, text.replace("&apos;", "'"))
 
     def test_the_picture_of_words_that_it_cannot_tell_apart(self):

@@ -5,7 +5,7 @@
 mod pattern;
 
 use anyhow::{Context, Result};
-use pattern::{Tally, run_pairs};
+use pattern::{LimitCounts, run_pairs};
 use std::env;
 use std::time::Instant;
 
@@ -15,7 +15,7 @@ fn main(rt: HostRuntime) -> Result<()> {
         .context("a number of pairs is wanted")?;
     let pairs: u64 = word.as_str().parse().context("the number of pairs")?;
     let start = Instant::now(&rt)?;
-    let Tally {
+    let LimitCounts {
         limits,
         over,
         queued,

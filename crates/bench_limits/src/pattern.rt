@@ -10,7 +10,7 @@ const HOLD: u64 = 4;
 
 /// The counts of the pairs. The sums wrap.
 #[derive(Clone, Copy)]
-pub struct Tally {
+pub struct LimitCounts {
     /// The sum of the limits after each pair.
     pub limits: u64,
     /// How many objects were queued over the limit.
@@ -24,7 +24,7 @@ pub struct Tally {
 /// Queues an object and completes bytes, this many times: ever larger objects, and all that is in flight, in a phase that
 /// starves the queue; small objects, and a quarter of what is in flight, in a phase with slack. One pair in nine raises the
 /// limit and one in 64 lowers it.
-pub fn run_pairs(pairs: u64) -> Result<Tally, DqlFault> {
+pub fn run_pairs(pairs: u64) -> Result<LimitCounts, DqlFault> {
     let mut dql = Dql::new(0, MAX_LIMIT, HOLD, 0)?;
     let mut limits = 0u64;
     let mut over = 0u64;
@@ -40,7 +40,7 @@ pub fn run_pairs(pairs: u64) -> Result<Tally, DqlFault> {
         dql.completed(if starves { in_flight } else { in_flight / 4 }, pair)?;
         limits = limits.wrapping_add(u64::from(dql.limit()));
     }
-    Ok(Tally {
+    Ok(LimitCounts {
         limits,
         over,
         queued: dql.total_queued(),

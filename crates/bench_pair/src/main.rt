@@ -13,7 +13,7 @@ use plain::pass_plainly;
 use shared::pass_shared;
 use std::env;
 use std::time::Instant;
-use tally::Tally;
+use tally::ReceivedCounts;
 
 fn main(rt: HostRuntime) -> Result<()> {
     let word = env::args(&rt)?
@@ -22,13 +22,13 @@ fn main(rt: HostRuntime) -> Result<()> {
     let packets: u64 = word.as_str().parse().context("the number of packets")?;
 
     let start = Instant::now(&rt)?;
-    let Tally { in_turn, bytes } = pass_shared(rt, rt.alloc(), packets)?;
+    let ReceivedCounts { in_turn, bytes } = pass_shared(rt, rt.alloc(), packets)?;
     let spent = start.elapsed(&rt)?.as_nanos();
     println!(rt; "shared in turn {in_turn} bytes {bytes}")?;
     eprintln!(rt; "shared {spent} ns")?;
 
     let start = Instant::now(&rt)?;
-    let Tally { in_turn, bytes } = pass_plainly(rt, rt.alloc(), packets)?;
+    let ReceivedCounts { in_turn, bytes } = pass_plainly(rt, rt.alloc(), packets)?;
     let spent = start.elapsed(&rt)?.as_nanos();
     println!(rt; "rtrb in turn {in_turn} bytes {bytes}")?;
     eprintln!(rt; "rtrb {spent} ns")?;

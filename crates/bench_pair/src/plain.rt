@@ -1,6 +1,6 @@
 //! A bare ring of `rtrb`.
 
-use crate::tally::{PLACES, Tally, packet};
+use crate::tally::{PLACES, ReceivedCounts, packet};
 use anyhow::Result;
 use rtrb::{Consumer, Producer, RingBuffer};
 use rx_ring::Packet;
@@ -23,8 +23,8 @@ fn put_all(rt: &impl Wait, mut producer: Producer<Packet>, packets: u64) {
 }
 
 // Takes this many packets out.
-fn take_all(rt: &impl Wait, mut consumer: Consumer<Packet>, packets: u64) -> Tally {
-    let mut tally = Tally::new();
+fn take_all(rt: &impl Wait, mut consumer: Consumer<Packet>, packets: u64) -> ReceivedCounts {
+    let mut tally = ReceivedCounts::new();
     let mut count = 0u64;
     for _ in rt.forever() {
         if count == packets {
@@ -46,12 +46,12 @@ pub fn pass_plainly<R: Threads + Wait + Copy + Drop + Send>(
     rt: R,
     alloc: Global,
     packets: u64,
-) -> Result<Tally> {
+) -> Result<ReceivedCounts> {
     let (producer, consumer) = RingBuffer::new(alloc, PLACES)?;
     // If no thread can be started, the second closure is called first, and waits forever once the ring is full.
     let (tally, ()) = join(
         &rt,
-        move || -> Tally { take_all(&rt, consumer, packets) },
+        move || -> ReceivedCounts { take_all(&rt, consumer, packets) },
         move || { put_all(&rt, producer, packets) },
     );
     Ok(tally)

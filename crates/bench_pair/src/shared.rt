@@ -2,7 +2,7 @@
 ghost use Rattle.napi_word.specs.Passes.{SameTable};
 ghost use Rattle.napi_calls.specs.Instance.{IsSeatOf};
 
-use crate::tally::{PLACES, Tally, packet};
+use crate::tally::{PLACES, ReceivedCounts, packet};
 use anyhow::Result;
 use napi_calls::{Caller, Completed, Kept, Napi, NewBack, Polling, Sched, next_caller};
 use napi_model::Kind;
@@ -70,19 +70,24 @@ fn poll(rt: &impl Wait, napi: &Napi, mut polling: Polling, batch: &mut Batch) ->
     }
 }
 
-fn add_all(tally: &mut Tally, batch: &Batch) {
+fn add_all(tally: &mut ReceivedCounts, batch: &Batch) {
     for packet in batch.as_slice() {
         tally.add(packet);
     }
 }
 
 // The poller: polls whenever the instance is on the list, until the interrupt thread has ended and it isn't there any more.
-fn poll_all(rt: &impl Wait, napi: &Napi, mut caller: Caller, ended: &AtomicBool) -> (Caller, Tally)
+fn poll_all(
+    rt: &impl Wait,
+    napi: &Napi,
+    mut caller: Caller,
+    ended: &AtomicBool,
+) -> (Caller, ReceivedCounts)
     requires { IsSeatOf napi.now caller.pass }
     ensures { IsSeatOf napi.now result.0.pass }
 {
     let mut batch = Batch::new();
-    let mut tally = Tally::new();
+    let mut tally = ReceivedCounts::new();
     for _ in rt.forever() {
         let last = ended.load(Ordering::SeqCst);
         match caller.take(napi, Kind::List) {
@@ -107,7 +112,7 @@ fn serve<R: Threads + Wait + Copy + Drop + Send>(
     seats: (Caller, Caller),
     input: RxIn,
     packets: u64,
-) -> (Caller, Caller, Tally)
+) -> (Caller, Caller, ReceivedCounts)
     requires { IsSeatOf napi.now seats.0.pass × IsSeatOf napi.now seats.1.pass }
     ensures { IsSeatOf napi.now result.0.pass × IsSeatOf napi.now result.1.pass }
 {
@@ -119,7 +124,7 @@ fn serve<R: Threads + Wait + Copy + Drop + Send>(
     // If no thread can be started, the second closure is called first, and waits forever once the ring is full.
     let ((poller, tally), first) = join(
         &rt,
-        move || -> (Caller, Tally)
+        move || -> (Caller, ReceivedCounts)
             requires { IsSeatOf napi.now poller.value.pass }
             ensures { SameTable poller.value.pass result.0.pass }
         { poll_all(&rt, napi, poller.open(), end) },
@@ -136,7 +141,7 @@ pub fn pass_shared<R: Threads + Wait + Copy + Drop + Send>(
     rt: R,
     alloc: Global,
     packets: u64,
-) -> Result<Tally> {
+) -> Result<ReceivedCounts> {
     let (input, ctx) = ring(alloc, PLACES)?;
     let (napi, mut callers, control) = match Napi::new(alloc, ctx, 2) {
         Ok(made) => made,

@@ -7,17 +7,17 @@ pub const PLACES: usize = 1024;
 
 /// The counts of what arrived. They wrap.
 #[derive(Clone, Copy)]
-pub struct Tally {
+pub struct ReceivedCounts {
     /// The packets that arrived in order.
     pub in_turn: u64,
     /// The bytes of all.
     pub bytes: u64,
 }
 
-impl Tally {
+impl ReceivedCounts {
     /// Returns zero counts.
-    pub fn new() -> Tally {
-        Tally {
+    pub fn new() -> ReceivedCounts {
+        ReceivedCounts {
             in_turn: 0,
             bytes: 0,
         }

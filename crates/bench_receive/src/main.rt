@@ -6,7 +6,7 @@
 mod rounds;
 
 use anyhow::{Context, Result};
-use rounds::{Spent, time_polls, time_pops};
+use rounds::{ReceiveTimes, time_polls, time_pops};
 use std::env;
 
 fn main(rt: HostRuntime) -> Result<()> {
@@ -20,7 +20,7 @@ fn main(rt: HostRuntime) -> Result<()> {
         ("weight-16", time_polls(&rt, rt.alloc(), rounds, 16)?),
         ("weight-64", time_polls(&rt, rt.alloc(), rounds, 64)?),
     ] {
-        let Spent {
+        let ReceiveTimes {
             nanos,
             packets,
             bytes,

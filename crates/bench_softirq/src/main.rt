@@ -8,7 +8,7 @@ mod cards;
 mod rounds;
 
 use anyhow::{Context, Result};
-use rounds::{Spent, time_runs};
+use rounds::{SoftirqTimes, time_runs};
 use std::env;
 
 fn main(rt: HostRuntime) -> Result<()> {
@@ -17,7 +17,7 @@ fn main(rt: HostRuntime) -> Result<()> {
         .context("a number of rounds is wanted")?;
     let rounds: u32 = word.as_str().parse().context("the number of rounds")?;
     for packets in [1u32, 8, 64, 256] {
-        let Spent {
+        let SoftirqTimes {
             nanos,
             runs,
             polls,

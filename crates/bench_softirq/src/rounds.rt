@@ -19,7 +19,7 @@ const MOST_RUNS: u32 = 64;
 
 /// The time and the counts of the runs. The counts wrap.
 #[derive(Clone, Copy)]
-pub struct Spent {
+pub struct SoftirqTimes {
     /// The time in nanoseconds.
     pub nanos: u128,
     /// The runs.
@@ -32,9 +32,9 @@ pub struct Spent {
     pub squeezed: u64,
 }
 
-impl Spent {
-    fn new() -> Spent {
-        Spent {
+impl SoftirqTimes {
+    fn new() -> SoftirqTimes {
+        SoftirqTimes {
             nanos: 0,
             runs: 0,
             polls: 0,
@@ -60,7 +60,7 @@ fn fill(cards: &mut Cards, list: &mut PlainList, packets: u32) {
 }
 
 // Makes runs until the list is empty.
-fn empty(cards: &mut Cards, list: &mut PlainList, spent: &mut Spent) {
+fn empty(cards: &mut Cards, list: &mut PlainList, spent: &mut SoftirqTimes) {
     for _ in 0..MOST_RUNS {
         if list.ids().is_empty() {
             return;
@@ -74,10 +74,15 @@ fn empty(cards: &mut Cards, list: &mut PlainList, spent: &mut Spent) {
 }
 
 /// Fills and empties the rings this many times.
-pub fn time_runs(rt: &impl Clock, alloc: Global, rounds: u32, packets: u32) -> Result<Spent> {
+pub fn time_runs(
+    rt: &impl Clock,
+    alloc: Global,
+    rounds: u32,
+    packets: u32,
+) -> Result<SoftirqTimes> {
     let mut cards = Cards::new(alloc)?;
     let mut list = PlainList::new();
-    let mut spent = Spent::new();
+    let mut spent = SoftirqTimes::new();
     for _ in 0..rounds {
         fill(&mut cards, &mut list, packets);
         let start = Instant::now(rt)?;

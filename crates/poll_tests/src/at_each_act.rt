@@ -12,10 +12,10 @@ use std::thread::Threads;
 
 const ACTS: u32 = 50;
 
-/// Lets devices 1 and 2 on at an act once the other one has come to its own of that number.
+/// Lets devices 1 and 2 continue at an act once the other one has reached its own act with that number.
 #[derive(Drop)]
 struct MeetsAtEachAct {
-    // The acts to which each device came, a bit each.
+    // The acts that each device reached, a bit each.
     came: [AtomicU64; 2],
 }
 
@@ -47,7 +47,7 @@ impl Gate for MeetsAtEachAct {
     }
 }
 
-// Whoever makes all acts on one thread, or runs one device after the other, comes to a shut gate.
+// An implementation that makes all acts on one thread, or runs one device after the other, gets a closed gate.
 #[test]
 fn devices_meet_at_each_of_50_acts(rt: HostRuntime) -> Result<(), Fail> {
     let rows = [
@@ -94,7 +94,7 @@ impl Gate for CountsAsked {
     }
 }
 
-// The fault of these rows behind such a gate, and whether the gate was asked. Nothing is written.
+// The error of these rows with such a gate, and whether the gate was asked. Nothing is written.
 fn shut_out<P: Threads + Wait + Sync>(
     rt: &P,
     alloc: Global,
@@ -113,7 +113,7 @@ fn shut_out<P: Threads + Wait + Sync>(
     Ok((answer.err(), gate.asked.load(Ordering::SeqCst) != 0))
 }
 
-// A ring that is too small is told of the lowest device, and before any gate is asked.
+// The error of a ring that is too small names the device with the lowest number, and comes before any gate is asked.
 #[test]
 fn a_ring_is_too_small_before_any_gate(rt: HostRuntime) -> Result<(), Fail> {
     let opened = (1, "0,2,open,4\n0,1,open,1\n0,3,open,1\n");

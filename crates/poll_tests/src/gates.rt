@@ -1,4 +1,4 @@
-//! Runs of workers and pollers. Gates show that they run side by side.
+//! Runs of workers and pollers. Gates show that they run concurrently.
 
 ghost use Rattle.std.specs.Prelude.{◌≡◌, ◌≤◌, ◌∷◌, ◌++◌, [], IfOk, IsTrue};
 ghost use Rattle.std.specs.List.{All};
@@ -18,7 +18,7 @@ use std::test::Fail;
 use std::thread;
 use std::thread::Threads;
 
-// So many packets of 100 bytes.
+// Adds this many packets of 100 bytes.
 fn receive(acts: &mut Vec<Act>, packets: u64) -> Result<(), AllocError> {
     for number in 0..packets {
         acts.push(Act::Arrive(Packet { number, bytes: 100 }))?;
@@ -26,7 +26,7 @@ fn receive(acts: &mut Vec<Act>, packets: u64) -> Result<(), AllocError> {
     Ok(())
 }
 
-/// Runs the stations by so many pollers, with the usual budget, weight and window.
+/// Runs the stations by this many pollers, with the default budget, weight and window.
 pub(crate) fn run<R, D, G>(
     rt: &R,
     alloc: Global,
@@ -45,10 +45,10 @@ where
     run_workers(rt, alloc, stations, pollers, 300, 64, 1024, gate)
 }
 
-/// How often a gate looks before it gives up: some seconds long, so that a run that waits for ever ends all the same.
+/// How often a gate looks before it gives up: some seconds, so that a run that would wait forever ends.
 pub(crate) const LOOKS: u32 = 20_000_000;
 
-/// Each of these two waits at its act for the other to come to its own, as long as it is told to.
+/// Each of these two waits at its act until the other reaches its own, but not forever.
 #[derive(Drop)]
 pub(crate) struct Together {
     first: (u32, u32),
@@ -57,7 +57,7 @@ pub(crate) struct Together {
 }
 
 impl Together {
-    /// The gate of two of whom each goes by its number and its act.
+    /// Returns the gate of two threads, each given by its number and its act.
     pub(crate) fn new(first: (u32, u32), second: (u32, u32)) -> Together {
         Together {
             first,
@@ -94,12 +94,12 @@ impl Gate for Together {
     }
 }
 
-/// A gate that is shut at one act of one worker.
+/// A gate that is closed at one act of one worker.
 #[derive(Drop)]
 pub(crate) struct ShutAt {
-    /// Who is refused.
+    /// The worker.
     pub(crate) worker: u32,
-    /// At which act.
+    /// The act.
     pub(crate) act: u32,
 }
 
@@ -109,8 +109,8 @@ impl Gate for ShutAt {
     }
 }
 
-/// Holds whoever polls at its start, until a worker has come to its disable, and some while more. The worker may come to its
-/// next act only once the poller was let go.
+/// Delays a poller at its start until a worker has reached its disable, and some time more. The worker may reach its next act
+/// only after the poller was released.
 #[derive(Drop)]
 pub(crate) struct HoldsPoller {
     poller: u32,
@@ -121,7 +121,7 @@ pub(crate) struct HoldsPoller {
 }
 
 impl HoldsPoller {
-    /// The gate that holds this poller until this worker has come to the act that disables.
+    /// Returns the gate that delays this poller until this worker has reached the act that disables.
     pub(crate) fn new(poller: u32, worker: u32, disable: u32) -> HoldsPoller {
         HoldsPoller {
             poller,
@@ -163,7 +163,7 @@ impl Gate for HoldsPoller {
     }
 }
 
-// One more station.
+// Adds one more station.
 fn with(
     mut stations: Vec<Station<ActList>>,
     number: u32,
@@ -187,7 +187,7 @@ fn with(
     Ok(stations)
 }
 
-// Two devices with so many packets each, the first one with a thread of its own where it is asked for.
+// Two devices with this many packets each, the first one with its own thread if wanted.
 fn two(alloc: Global, packets: u64, thread: bool) -> Result<Vec<Station<ActList>>, AllocError>
     ensures all { IfOk result (λ v. All IsStation v.items) }
     ensures numbers { IfOk result (λ v. numbers_of v.items ≡ 2 ∷ 1 ∷ []) }
@@ -222,7 +222,7 @@ fn run_twice_500<R: Threads + Wait + Sync>(
     Ok(run(rt, alloc, stations, pollers, &OpenGate)?)
 }
 
-// What each device's ring came to: the packets put, those polled with those left, and all their bytes.
+// The totals of each device's ring: the packets put, those polled plus those left, and all their bytes.
 fn add_totals(rt: &impl Abort, done: &[Finished<ActList>], packets: u64) {
     for finished in done {
         let totals = finished.totals;
@@ -252,7 +252,7 @@ fn each_packet_is_polled_or_left(rt: HostRuntime) -> Result<(), Fail> {
     Ok(())
 }
 
-// A worker's last disable waits for the polls that its packets asked for.
+// A worker's last disable waits for the polls that its packets requested.
 #[test]
 fn what_was_put_is_polled(rt: HostRuntime) -> Result<(), Fail> {
     for thread in [false, true] {
@@ -285,7 +285,7 @@ fn threads_run_side_by_side(rt: HostRuntime) -> Result<(), Fail> {
     Ok(())
 }
 
-// Wherever the gate is shut, the run ends and says so.
+// Wherever the gate is closed, the run ends and says so.
 #[test]
 fn a_gate_shuts_the_run(rt: HostRuntime) -> Result<(), Fail> {
     for (worker, act) in [(1, 0), (1, 1), (2, 7), (1, 10), (100, 0), (201, 0)] {
@@ -296,7 +296,7 @@ fn a_gate_shuts_the_run(rt: HostRuntime) -> Result<(), Fail> {
     Ok(())
 }
 
-// A second station of one number is told.
+// A second station with the same number is an error.
 #[test]
 fn numbers_are_told_apart(rt: HostRuntime) -> Result<(), Fail> {
     let stations = two(rt.alloc(), 0, false)?;
@@ -306,7 +306,7 @@ fn numbers_are_told_apart(rt: HostRuntime) -> Result<(), Fail> {
     Ok(())
 }
 
-// Each fault has its number and its text.
+// Each error has its number and its text.
 #[test]
 fn faults_are_told(rt: HostRuntime) -> Result<(), Fail> {
     for (fault, number, text) in [
@@ -320,7 +320,7 @@ fn faults_are_told(rt: HostRuntime) -> Result<(), Fail> {
     Ok(())
 }
 
-// A packet comes and the device is disabled while whoever polls it waits at the gate: the disable waits for the poll.
+// A packet arrives and the device is disabled while its poller waits at the gate: the disable waits for the poll.
 #[test]
 fn a_disable_waits_for_a_poller_at_the_gate(rt: HostRuntime) -> Result<(), Fail> {
     for (poller, thread) in [(100, false), (201, true)] {
@@ -340,7 +340,7 @@ fn a_disable_waits_for_a_poller_at_the_gate(rt: HostRuntime) -> Result<(), Fail>
     Ok(())
 }
 
-/// Holds a poller as that gate does, and is shut for it then.
+/// Delays a poller as that gate does, and then is closed for it.
 #[derive(Drop)]
 struct ShutsPoller(HoldsPoller);
 
@@ -350,7 +350,7 @@ impl Gate for ShutsPoller {
     }
 }
 
-// Where the gate is shut for a poller, or for a thread, it polls all the same what was put before: a disable waits for that.
+// If the gate is closed for a poller, or for a thread, it still polls what was put before: a disable waits for that.
 #[test]
 fn a_poller_goes_on_behind_a_shut_gate(rt: HostRuntime) -> Result<(), Fail> {
     for (poller, thread) in [(100, false), (201, true)] {

@@ -1,5 +1,5 @@
-//! Tests of poll lists, of the polling of a shared instance, of each count that something is made for, and of runs with threads,
-//! looked at by gates. Nothing but tests stands here.
+//! Tests of poll lists, of the polling of a shared instance, of each count for which something is made, and of runs with
+//! threads, observed by gates. There are only tests here.
 #![tactic(auto)]
 
 #[cfg(test)]

@@ -13,13 +13,13 @@ use std::test::Fail;
 use std::thread;
 use std::thread::Threads;
 
-/// How often a gate looks while it is to wait a good while for others that do something.
+/// How often a gate looks while it waits for some time until others have done something.
 pub(crate) const LONG: u32 = 100_000;
 
-// How often a run is tried in which one thread has to be quicker than another that waits so.
+// How often a run is tried in which one thread has to be faster than another that waits like this.
 const TRIES: u32 = 10;
 
-/// Waits until all these bits are set, and so many turns more, but not for ever. Answers whether that came.
+/// Waits until all these bits are set, and this many looks more, but not forever. Returns whether they were set.
 pub(crate) fn comes(flags: &AtomicU32, bits: u32, more: u32) -> bool {
     let mut more = more;
     for _ in 0..LOOKS {
@@ -34,12 +34,12 @@ pub(crate) fn comes(flags: &AtomicU32, bits: u32, more: u32) -> bool {
     false
 }
 
-// The bit of a device.
+// Returns the bit of a device.
 fn bit(device: u32) -> u32 {
     if device < 32 { 1 << device } else { 0 }
 }
 
-// What is polled of each device of this trace.
+// Returns what is polled of each device of this trace.
 fn polled_of<P: Threads + Wait + Sync, G: Gate + Sync>(
     rt: &P,
     alloc: Global,
@@ -51,7 +51,7 @@ fn polled_of<P: Threads + Wait + Sync, G: Gate + Sync>(
     Ok(replay_threads(rt, alloc, text.as_bytes(), &mut report, settings, gate)?)
 }
 
-// What is polled of the first device of these rows; 0 if a thread was too slow for the gate.
+// Returns what is polled of the first device of these rows; 0 if a thread was too slow for the gate.
 fn polled_first<P: Threads + Wait + Sync, G: Gate + Sync>(
     rt: &P,
     alloc: Global,
@@ -68,7 +68,7 @@ fn polled_first<P: Threads + Wait + Sync, G: Gate + Sync>(
     }
 }
 
-/// Holds one poller at its start until the devices of the others are disabled, and keeps which devices are by then.
+/// Delays one poller at its start until the devices of the others are disabled, and records which devices are disabled by then.
 #[derive(Drop)]
 struct HoldsOne {
     poller: u32,
@@ -78,7 +78,7 @@ struct HoldsOne {
 }
 
 impl HoldsOne {
-    // The gate that holds this poller of so many, where device n is that of poller (n - 1) mod so many.
+    // Returns the gate that delays this poller, of this many, where device n is that of poller (n - 1) mod their number.
     fn new(poller: u32, pollers: u32) -> HoldsOne
         requires { 1 ≤ pollers }
     {
@@ -112,7 +112,7 @@ impl Gate for HoldsOne {
     }
 }
 
-// So many devices, each with so many packets, a disable and an enable.
+// This many devices, each with this many packets, a disable and an enable.
 fn devices(alloc: Global, count: u32, packets: u32) -> Result<String, AllocError> {
     let mut text = String::from_str(alloc, HEADER)?;
     for device in 1..count.saturating_add(1) {
@@ -125,7 +125,7 @@ fn devices(alloc: Global, count: u32, packets: u32) -> Result<String, AllocError
     Ok(text)
 }
 
-// While a poller is held, the disables of its devices wait for their packet to be polled, and those of all others end.
+// While a poller is delayed, the disables of its devices wait for their packet to be polled, and those of all others end.
 #[test]
 fn each_device_has_its_poller(rt: HostRuntime) -> Result<(), Fail> {
     let text = devices(rt.alloc(), 16, 1)?;
@@ -145,8 +145,8 @@ fn each_device_has_its_poller(rt: HostRuntime) -> Result<(), Fail> {
     Ok(())
 }
 
-// 20 packets wait when the device is being disabled. Then a poll of the whole weight ends the device's polls, but for the one
-// that a packet asked for while the device was handed over: to the list, or to its thread.
+// 20 packets wait when the device is being disabled. Then a poll of the whole weight ends the device's polls, except for the
+// one that a packet requested while the device was queued: on the list, or for its thread.
 #[test]
 fn a_poll_takes_the_weight(rt: HostRuntime) -> Result<(), Fail> {
     for (poller, threaded) in [(100, 0), (201, 1)] {
@@ -173,8 +173,8 @@ fn a_poll_takes_the_weight(rt: HostRuntime) -> Result<(), Fail> {
     Ok(())
 }
 
-/// Lets the thread of device 1 begin once all packets are put, the disable come once the thread has had a turn, and the
-/// poller begin once the device is being disabled.
+/// Lets the thread of device 1 start when all packets are put, the disable come after the thread's first poll, and the poller
+/// start when the device is being disabled.
 #[derive(Drop)]
 struct InTurn {
     disable: u32,
@@ -188,7 +188,7 @@ const THREAD_BEGINS: u32 = 2;
 const DISABLE_BEGINS: u32 = 4;
 
 impl InTurn {
-    // Waits for what was told, and so many turns more; then tells what comes of it.
+    // Waits for these bits, and this many looks more; then sets the bits of the result.
     fn wait(&self, what: u32, more: u32, tells: u32) -> bool {
         let open = comes(&self.told, what, more);
         self.told.fetch_or(tells, Ordering::SeqCst);
@@ -210,8 +210,8 @@ impl Gate for InTurn {
     }
 }
 
-// 40 packets wait for the thread, which polls one at a time, and as often as the window says. Then it leaves the device to the
-// list, whose poller polls it once while it is being disabled, and hands it to the thread for the last poll.
+// 40 packets wait for the thread, which polls one at a time, as often as the window allows. Then it leaves the device to the
+// list, whose poller polls it once while it is being disabled, and queues it for the thread for the last poll.
 #[test]
 fn a_thread_polls_as_often_as_the_window_says(rt: HostRuntime) -> Result<(), Fail> {
     let rows = [
@@ -238,8 +238,8 @@ fn a_thread_polls_as_often_as_the_window_says(rt: HostRuntime) -> Result<(), Fai
     Ok(())
 }
 
-/// Lets the poller begin once devices 1 to 15 have put their packets, and these be disabled a good while later. The packet of
-/// device 16, which wakes the poller, comes once they are, or if that takes too long.
+/// Lets the poller start when devices 1 to 15 have put their packets, and these be disabled some time later. The packet of
+/// device 16, which wakes the poller, comes after that, or if that takes too long.
 #[derive(Drop)]
 struct Sleepless {
     put: AtomicU32,
@@ -276,8 +276,8 @@ impl Gate for Sleepless {
     }
 }
 
-// A run of one poll each: of each device two polls give a packet, and the two behind them give nothing. A poller that took that
-// for the end would sleep behind so many of them in a row, with devices on its list.
+// A run of one poll each: for each device two polls return a packet, and the two after them return nothing. A poller that took
+// that for the end would sleep after many of them in a row, with devices on its list.
 #[test]
 fn a_poller_goes_on_behind_polls_of_nothing(rt: HostRuntime) -> Result<(), Fail> {
     let mut text = devices(rt.alloc(), 15, 2)?;

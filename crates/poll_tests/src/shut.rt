@@ -1,4 +1,4 @@
-//! What is still done once a gate is shut.
+//! What is still done after a gate is closed.
 
 ghost use Rattle.std.specs.Prelude.{◌≡◌, ◌≤◌, ◌∷◌, ◌++◌, [], IfOk};
 ghost use Rattle.std.specs.List.{All};
@@ -41,7 +41,7 @@ impl Device for Counting<'_> {
     }
 }
 
-// One more device, with a thread of its own, which counts its acts there.
+// Adds one more device, with its own thread, which counts its acts there.
 fn with<'a>(
     mut stations: Vec<Station<Counting<'a>>>,
     number: u32,
@@ -75,7 +75,7 @@ fn two<'a>(
     with(stations, 2, second)
 }
 
-// The acts before the shut gate are made, and none from there on.
+// The acts before the closed gate are made, and none from there on.
 #[test]
 fn no_act_is_made_behind_a_shut_gate(rt: HostRuntime) -> Result<(), Fail> {
     for act in 0..ACTS {
@@ -90,7 +90,7 @@ fn no_act_is_made_behind_a_shut_gate(rt: HostRuntime) -> Result<(), Fail> {
     Ok(())
 }
 
-/// Shuts at the first act of worker 1. Worker 2 comes to its own only a good while later.
+/// Closes at the first act of worker 1. Worker 2 reaches its own only some time later.
 #[derive(Drop)]
 struct ShutFirst {
     shut: AtomicU32,
@@ -109,7 +109,7 @@ impl Gate for ShutFirst {
     }
 }
 
-// A worker that is at an act while the gate is shut for another makes no further one.
+// A worker that is at an act while the gate is closed for another makes no further one.
 #[test]
 fn a_shut_gate_stops_the_others(rt: HostRuntime) -> Result<(), Fail> {
     let made = [AtomicU32::new(0), AtomicU32::new(0)];
@@ -124,8 +124,8 @@ fn a_shut_gate_stops_the_others(rt: HostRuntime) -> Result<(), Fail> {
     Ok(())
 }
 
-/// Shuts as one of those that poll starts, once worker 1 has made half of its acts. That one makes its next act only a good
-/// while later.
+/// Closes when one of the pollers starts, after worker 1 has made half of its acts. The worker makes its next act only some
+/// time later.
 #[derive(Drop)]
 struct ShutStart {
     starts: u32,
@@ -148,7 +148,7 @@ impl Gate for ShutStart {
     }
 }
 
-// Nor is a further act made where the gate is shut for a poller, or for a thread.
+// Nor is a further act made if the gate is closed for a poller, or for a thread.
 #[test]
 fn a_gate_shut_for_a_poller_stops_the_workers(rt: HostRuntime) -> Result<(), Fail> {
     for starts in [100, 201] {
@@ -166,7 +166,7 @@ fn a_gate_shut_for_a_poller_stops_the_workers(rt: HostRuntime) -> Result<(), Fai
     Ok(())
 }
 
-// With a gate that is open each act is made once.
+// With an open gate each act is made once.
 #[test]
 fn each_act_is_made_once(rt: HostRuntime) -> Result<(), Fail> {
     let made = [AtomicU32::new(0), AtomicU32::new(0)];

@@ -1,4 +1,4 @@
-//! Replays with threads: what is polled, and what a gate that is shut gives.
+//! Replays with threads: what is polled, and the result of a closed gate.
 
 use poll_engine::{Gate, OpenGate};
 use replay::{Polled, ReplayFault, Settings, replay_threads};
@@ -10,7 +10,7 @@ use std::thread::Threads;
 /// The first record of a trace.
 pub(crate) const HEADER: &str = "moment,device,event,value\n";
 
-// A trace below its header, each text as many times as told, its report, and the packets of each device.
+// A trace without its header, each text repeated as often as given, its report, and the packets of each device.
 #[derive(Drop)]
 struct Case {
     name: &'static str,
@@ -63,7 +63,7 @@ pub(crate) fn text_of(alloc: Global, rows: &[(u32, &str)]) -> Result<String, All
     Ok(text)
 }
 
-// The report of a case, and what was polled.
+// Returns the report of a case, and what was polled.
 fn run_case<P: Threads + Wait + Sync>(
     rt: &P,
     alloc: Global,
@@ -76,7 +76,7 @@ fn run_case<P: Threads + Wait + Sync>(
     Ok((report, polled))
 }
 
-/// Settings of so many pollers, with this budget, weight and window.
+/// Returns settings of this many pollers, with this budget, weight and window.
 pub(crate) fn settings_of(
     pollers: u32,
     budget: u32,
@@ -86,7 +86,7 @@ pub(crate) fn settings_of(
     Ok(Settings::new(pollers, budget, weight, window).ok_or("in range")?)
 }
 
-// The report is the same for every number of pollers, and however little one run or poll may do.
+// The report is the same for every number of pollers, and for every budget, weight and window.
 #[test]
 fn reports(rt: HostRuntime) -> Result<(), Fail> {
     for (pollers, budget, weight, window) in [
@@ -122,7 +122,7 @@ const SIXTY_THREE: Case = Case {
     packets: &[(1, 63)],
 };
 
-// The last disable waits for the polls that the packets asked for.
+// The last disable waits for the polls that the packets requested.
 #[test]
 fn packets_are_polled(rt: HostRuntime) -> Result<(), Fail> {
     for pollers in [1, 2, 8] {

@@ -5,7 +5,8 @@ use Rattle.device_transmit.specs.Transmits.{Transmits, is_used}
 use Rattle.{device_places.specs.Places.at, device_transmit.specs.Transmits.tx_counts_of, device_bench.specs.Bench.{attached, counts_at}}
 use Rattle.device_bench.specs.declared.counts.{DeviceCounts.DeviceCounts, DeviceState.{DeviceState, TheVariants.{On, Off, Pending}}}
 use Rattle.{device_rows.specs.declared.row.Row.Row, replay_rows.specs.{Replay.after_all, Transmits.transmits_of}}
-use Rattle.replay_rows.specs.{ReplayState.ReplayState, declared.{report.Totals.Totals, line.Line.{Line, TheVariants.{Softirq, Kthread}}}}
+use Rattle.replay_rows.specs.ReplayState.{ReplayState}
+use Rattle.replay_rows.specs.declared.{report.RunTotals.RunTotals, line.Line.{Line, TheVariants.{Softirq, Kthread}}}
 use Rattle.{replay_rows.specs.declared.line.Line.TheVariants.Busy, replay_text.specs.{declared.fault.ReplayFault.ReplayFault, Lines.ended}}
 use Rattle.{replay_text.specs.Lines.{flag, tx_lines, words}, poll_runs.specs.declared.run.RunReport.RunReport}
 use Rattle.replay_words.specs.declared.settings.Settings.{Settings}
@@ -64,7 +65,7 @@ of_run number (Kthread row device report) = 0
 of_run number (Busy row device report) = 0
 
 -- opened devices, runs, and sums over the runs
-abbrev pub totals_of : ℕ → List Line → Totals
+abbrev pub totals_of : ℕ → List Line → RunTotals
 totals_of devices lines = record {
   devices = devices;
   runs = sum_by (of_run (λ run. 1)) lines;
@@ -73,7 +74,7 @@ totals_of devices lines = record {
   squeezed = sum_by (of_run (λ run. flag run.squeezed)) lines;
 }
 
-abbrev pub total_line : Totals → List ℕ
+abbrev pub total_line : RunTotals → List ℕ
 total_line totals = words (codes "total" ∷ codes "devices" ∷ decimal totals.devices ∷ codes "runs" ∷ decimal totals.runs
     ∷ codes "polls" ∷ decimal totals.polls ∷ codes "work" ∷ decimal totals.work ∷ codes "squeezed" ∷ decimal totals.squeezed ∷ [])
 

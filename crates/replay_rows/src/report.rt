@@ -176,7 +176,7 @@ pub fn add_numbers(text: &mut String, numbers: &[u32]) -> Result<(), AllocError>
 
 /// The sums in the last line: opened devices, and sums over the runs of all softirq rows.
 #[derive(Clone, Copy)]
-pub(crate) struct Totals {
+pub(crate) struct RunTotals {
     /// Opened devices.
     pub devices: usize,
     /// Runs of the softirq.
@@ -189,7 +189,7 @@ pub(crate) struct Totals {
     pub squeezed: u64,
 }
 
-impl fmt::Display for Totals {
+impl fmt::Display for RunTotals {
     ghost use Rattle.std.specs.Prelude.{Some};
     ghost use Rattle.replay_rows.specs.Report.{total_line};
 
@@ -204,7 +204,7 @@ impl fmt::Display for Totals {
     }
 }
 
-impl Totals {
+impl RunTotals {
     // Adds the run of a softirq row; a thread's polling isn't a run, nor is busy polling.
     fn add(&mut self, line: &Line)
         requires { (self.old.runs < 2 ^ 63) × (self.old.polls < 2 ^ 63) × (self.old.work < 2 ^ 63)
@@ -229,11 +229,11 @@ impl Totals {
     }
 
     /// Returns the sums over these rows.
-    pub(crate) fn of(devices: usize, lines: &[Line]) -> Totals
+    pub(crate) fn of(devices: usize, lines: &[Line]) -> RunTotals
         requires { length lines.now ≤ 100000 }
         ensures { result ≡ totals_of devices lines.now }
     {
-        let mut totals = Totals {
+        let mut totals = RunTotals {
             devices,
             runs: 0,
             polls: 0,
@@ -248,7 +248,7 @@ impl Totals {
 }
 
 // Appends the last line.
-fn add_totals(text: &mut String, totals: &Totals) -> Result<(), AllocError>
+fn add_totals(text: &mut String, totals: &RunTotals) -> Result<(), AllocError>
     ensures { OnOk result
         (string_bytes text.new ≡ string_bytes text.old ++ ended (total_line totals.now)) }
 {
@@ -289,7 +289,7 @@ impl<B: ReplayBench> Replay<B> {
         add_lines(&mut text, self.lines.as_slice())?;
         self.add_devices(version, &mut text)?;
         add_list(&mut text, self.list.ids())?;
-        let totals = Totals::of(self.bench.attached(), self.lines.as_slice());
+        let totals = RunTotals::of(self.bench.attached(), self.lines.as_slice());
         add_totals(&mut text, &totals)?;
         Ok(text)
     }

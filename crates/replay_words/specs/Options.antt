@@ -1,4 +1,4 @@
--- A program's options, as clap is told of them, and what clap reads.
+-- A program's options, as clap is given them, and what clap reads.
 use Rattle.std.specs.Prelude.{[], ◌∷◌, true, List, Option, Some, None, map, if◌then◌else◌, codes}
 use Rattle.clap.specs.Words.{App, Row, Rule}
 use Rattle.clap.specs.{Words.{new_app, new_rule, fault_of, matches_of, first_of, found_of, rows_of}, Simple.{filled, on_top}, Walk.is_empty}
