@@ -178,6 +178,7 @@ class Crate:
     def times(self):
         return {it: os.stat(f"{self.folder}/{it}").st_mtime_ns for it in self.texts()}
 
+    @functools.cached_property
     def size(self):
         return sum(os.path.getsize(f"{self.folder}/{it}") for it in self.texts())
 
@@ -250,13 +251,13 @@ def to_build(asked):
         if not crate.is_built() or any(it in every for it in crate.all):
             every.append(crate)
     for crate in reversed(every):
-        chain[crate] = crate.size() + max((chain[it] for it in chain if crate in it.all), default=0)
+        chain[crate] = crate.size + max((chain[it] for it in chain if crate in it.all), default=0)
     return sorted(every, key=chain.get, reverse=True)
 
 
 def time_left(every, left, seconds):
     """The time that is left, by the sizes of the crates that were built; those in progress count half. Nothing before the first."""
-    sizes = {it: it.size() or 1 for it in every}
+    sizes = {it: it.size or 1 for it in every}
     at_work = sum(sizes[it] for it in AT_WORK)
     built = sum(sizes.values()) - sum(sizes[it] for it in left) - at_work
     rest = seconds * (sum(sizes.values()) - built - at_work / 2) / (built + at_work / 2) if built else 0

@@ -1,6 +1,8 @@
 """scripts/gate.py proofs ROOM [CRATE ..]: passes these crates with those below them, or all, by `rt ci` on a copy in the folder ROOM,
 which hasn't their must-fail edits; what it built scripts/build.py keeps.
-scripts/gate.py edits [CRATE ..]: tries the edits of these crates, or of all, over the libraries that stand.
+scripts/gate.py edits [CRATE ..]: tries the edits of these crates, or of all, over the libraries that stand. After `proofs` nothing is
+built again, even where `rt ci` has taken a proof from an earlier run. What a plain `rt ci` leaves in a checkout isn't used: `rt check` writes
+to the same folders, and nothing there says of which sources a library was made.
 
 A function is proved from the contracts of others, never from their bodies. So edits of the bodies of several functions are checked at
 once, and each is refused by what the prover says of its own function; `rt must-fail` checks them one by one, which takes a gate half as
@@ -168,7 +170,7 @@ def try_all(asked):
     """Tries the edits of these crates, up to four at a time, with a line for each; returns how many are rejected, and how many
     aren't."""
     asked = [it for it in asked if os.path.isdir(f"{it.folder}/must-fail")]
-    asked.sort(key=lambda it: -it.size())
+    asked.sort(key=lambda it: -it.size)
     build(list(dict.fromkeys(below.name for it in asked for below in it.all[:-1])))
     tried = []
     with concurrent.futures.ThreadPoolExecutor(min(len(os.sched_getaffinity(0)), 4)) as pool:

@@ -13,7 +13,8 @@ import surface
 TOP = pathlib.Path(__file__).resolve().parent.parent
 FACADES = sorted(page.parent.name for page in (TOP / "crates").glob("*/README.md"))  # only facades have a page
 # A definition at the start of a line, or in a `module _`; not a record's field.
-DEFINED = re.compile(r"^(?:(?:abbrev|pub|unfoldable|record|data) )+([\w-]+)|^ +(?:pub )?(?:abbrev|unfoldable|record|data) (?:pub )?([\w-]+)|^([\w-]+) :(?: |$)")
+DEFINED = re.compile(r"^(?:(?:abbrev|pub|unfoldable|record|data) )+([\w-]+)|"
+                     r"^ +(?:pub )?(?:abbrev|unfoldable|record|data) (?:pub )?([\w-]+)|^([\w-]+) :(?: |$)")
 NAME = re.compile(r"[A-Za-z_][\w-]*")
 
 
@@ -76,7 +77,8 @@ def definition_page(crate):
     for path in sorted((TOP / "crates" / crate / "specs").glob("*.antt")):
         if path.stem == "Lib":
             continue
-        yield from (f"## {path.stem}", "", f"`crates/{crate}/specs/{path.name}`", "", "<pre><code>" + "\n".join(definition_lines(path)) + "</code></pre>", "")
+        yield from (f"## {path.stem}", "", f"`crates/{crate}/specs/{path.name}`", "")
+        yield from ("<pre><code>" + "\n".join(definition_lines(path)) + "</code></pre>", "")
 
 
 def definition_lines(path):
@@ -156,9 +158,11 @@ class Facade:
         return f"[{found[1]}](#{at})" if at in self.anchors else found[1]
 
     def page(self):
-        yield from (f"# {self.facade}: all public items", "", f"Each item that the facade [{self.facade}](../../crates/{self.facade}/README.md) exports, with its "
-                    "comment, signature and clauses; a name in a clause links to its definition. `requires` is what a caller has to prove, `ensures` what the call "
-                    "guarantees. The part below a crate's name comes from this crate.", "", " · ".join(f"[{name}](#{at})" for at, name in self.contents), "")
+        yield from (f"# {self.facade}: all public items", "")
+        yield from (f"Each item that the facade [{self.facade}](../../crates/{self.facade}/README.md) exports, with its comment, signature "
+                    "and clauses; a name in a clause links to its definition. `requires` is what a caller has to prove, `ensures` what the "
+                    "call guarantees. The part below a crate's name comes from this crate.", "")
+        yield from (" · ".join(f"[{name}](#{at})" for at, name in self.contents), "")
         text = "\n".join(self.lines)
         yield re.sub(r"\[(`[^`\n]*`)\]\(([\w:]+)\)", self.resolve, text)
 

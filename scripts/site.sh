@@ -96,7 +96,8 @@ reference_page() {
     echo
     echo 'The references that are made of the sources, for people who program with the library.'
     echo
-    [ ! -d "$new/reference/c" ] || echo '- [C and C++](c/index.html): each call of `fintaqush.h` by [group](c/modules.html), each [class](c/annotated.html) of `fintaqush.hpp`'
+    [ ! -d "$new/reference/c" ] ||
+        echo '- [C and C++](c/index.html): the calls of `fintaqush.h` by [group](c/modules.html), the [classes](c/annotated.html) of `fintaqush.hpp`'
     [ ! -d "$new/reference/rust" ] || echo '- [Rust](rust/fintaqush/index.html): the crate `fintaqush`'
     echo "- Rattle, each facade crate with the clauses of its calls: $(links_to rattle .md "$made"/reference/rattle/*)"
     echo "- Rattle, the definitions that clauses cite, by crate: $(links_to definitions .md "$made"/reference/definitions/*)"
@@ -149,8 +150,10 @@ group_of() {
     case $1 in
         reference/*/*) ;;
         docs/man/*) ;;
-        docs/OPERATORS.md | docs/NAPI.md | docs/GUIDE.md | docs/LIMITS.md | docs/FAQ.md | docs/GLOSSARY.md | docs/COMPARISON.md | docs/EXAMPLES.md) echo Guides ;;
-        docs/TOOLS.md | docs/FORMATS.md | docs/TIMING.md | docs/RULES.md | docs/KERNELS.md | docs/C.md | docs/SPEED.md | bindings/* | examples/*) echo References ;;
+        docs/OPERATORS.md | docs/NAPI.md | docs/GUIDE.md | docs/LIMITS.md | docs/EXAMPLES.md) echo Guides ;;
+        docs/FAQ.md | docs/GLOSSARY.md | docs/COMPARISON.md) echo Guides ;;
+        docs/TOOLS.md | docs/FORMATS.md | docs/TIMING.md | docs/RULES.md | docs/KERNELS.md) echo References ;;
+        docs/C.md | docs/SPEED.md | bindings/* | examples/*) echo References ;;
         crates/*) echo Crates ;;
         README.md | reference/README.md) ;;
         *) echo Project ;;

@@ -154,6 +154,12 @@ echo 'each allocation was refused, and told' > "$scratch/refused_all"
 check 'refuse.c compiles' compile gcc "$top/tests/c/refuse.c" "$scratch/refuse" -O2 "$wraps"
 check 'each allocation refused in turn' compared "$scratch/refused_all" "$scratch/refuse"
 
+# ---- what each call that takes memory has made, ended in each state
+
+ends_each_box() { timeout 900 "$@" > "$scratch/printed" && grep -qx '[0-9]* cases, and nothing is left' "$scratch/printed"; }
+check 'boxes.c compiles' compile gcc "$top/tests/c/boxes.c" "$scratch/boxes" -O2 "$wraps"
+check 'no box is forgotten' ends_each_box "$scratch/boxes"
+
 # The fold of bench/limits.cc was written from the rules, apart from the library.
 as_the_fold() {
     compile gcc "$top/bench/c_library.c" "$scratch/counts" -O2 && g++ -O2 "$top/bench/limits.cc" -o "$scratch/fold" &&
@@ -241,6 +247,8 @@ sanitized() {
     done
     check "$name: refuse.c compiles" compile gcc "$top/tests/c/refuse.c" "$scratch/sanitized" -O1 -g "$flag" -fno-sanitize-recover=all "$wraps"
     check "$name: each allocation refused in turn" compared "$scratch/refused_all" "$scratch/sanitized"
+    check "$name: boxes.c compiles" compile gcc "$top/tests/c/boxes.c" "$scratch/sanitized" -O1 -g "$flag" -fno-sanitize-recover=all "$wraps"
+    check "$name: no box is forgotten" ends_each_box "$scratch/sanitized"
     check "$name: corners.c compiles" compile gcc "$top/tests/c/corners.c" "$scratch/sanitized" -O1 -g "$flag" -fno-sanitize-recover=all "$wraps"
     check "$name: answers at corners" compared "$scratch/cornered" "$scratch/sanitized"
     check "$name: types.cpp compiles" compile g++ "$top/tests/c/types.cpp" "$scratch/sanitized" -O1 -g "$flag" -fno-sanitize-recover=all "$wraps"
@@ -262,6 +270,8 @@ if has valgrind 'the examples and random calls under valgrind'; then
         check "valgrind: $name" compared "$examples/${name%.*}.stdout" \
             valgrind -q --fair-sched=yes --leak-check=full --show-leak-kinds=all --error-exitcode=9 "$scratch/watched"
     done
+    check 'boxes.c compiles for valgrind' compile gcc "$top/tests/c/boxes.c" "$scratch/watched" -O1 -g "$wraps"
+    check 'valgrind: no box is forgotten' ends_each_box valgrind -q --leak-check=full --show-leak-kinds=all --error-exitcode=9 "$scratch/watched"
     check 'compiles for valgrind' compile gcc "$top/tests/c/random.c" "$scratch/random" -O1 -g "$wraps"
     for kind in "${kinds[@]}"; do
         check "valgrind: random calls: $kind" answered 100000 1 "$kind" \

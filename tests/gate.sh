@@ -50,6 +50,10 @@ check 'the crate is proved' grep -qE '^rt: low (proved$|is kept: )' "$scratch/ou
 check 'and the other, and they are counted' [ "$(tail -n 1 "$scratch/out") $status" = '2 passed, 0 failed 0' ]
 check 'without its edits' [ ! -e "$scratch/room/crates/low/must-fail" ]
 check 'the library is kept' [ -e "$(echo "$scratch"/cache/fintaqush/*/low.rlib/format)" ]
+needs_no_build() {
+    touch -d 2000-01-01 "$scratch"/cache/fintaqush/*/low.rlib/format && [ -z "$(python3 -EsSB "$scratch/low/scripts/build.py" low 2>&1)" ]
+}
+check 'and stands for later builds, however old its files are' needs_no_build
 gate edits low one || status=$?
 check 'a wrong body is refused' grep -q '^must-fail low/the-greater-one: refused: note: src/lib.rt:7:' "$scratch/out"
 check 'and a second one of its function' grep -q '^must-fail low/the-second-one: refused: note: src/lib.rt:7:' "$scratch/out"

@@ -8,6 +8,7 @@ import os
 import re
 import subprocess
 import sys
+import time
 
 from runs import runs
 
@@ -172,7 +173,33 @@ def version_2():
             judge("%s, %s mode" % (name, mode), status == 0 and out.decode().startswith(wanted), (out + err).decode())
 
 
+def on_one_processor(program, words, feed):
+    """The status of a run that has one processor, and what it takes of it, in seconds."""
+    one = min(os.sched_getaffinity(0))
+    run = subprocess.Popen([program] + words, stdin=subprocess.PIPE, stdout=subprocess.DEVNULL, stderr=subprocess.DEVNULL,
+                           preexec_fn=lambda: os.sched_setaffinity(0, {one}))
+    with run.stdin as trace:
+        feed(trace)
+    _, status, usage = os.wait4(run.pid, 0)
+    run.returncode = os.waitstatus_to_exitcode(status)
+    return run.returncode, usage.ru_utime + usage.ru_stime
+
+
+def waits_for_the_trace(trace):
+    trace.write(SIX_DEVICES.encode())
+    trace.flush()
+    time.sleep(3)
+
+
+def idle():
+    """Over a pipe that stays open for 3 seconds no mode spins: a run takes less than a second, which is a hundred times what it needs."""
+    for program, words in [(SERIAL, [])] + [(PROGRAM, ["--mode", mode, "--pollers", "8"]) for mode in ("serial", "shared", "threads")]:
+        status, seconds = on_one_processor(program, words, waits_for_the_trace)
+        judge("idle: %s %s" % (os.path.basename(program), " ".join(words)), status == 0 and seconds < 1, "status %d, %.2f s" % (status, seconds))
+
+
 cut_traces()
+idle()
 worked_runs()
 version_2()
 random_traces(150)

@@ -24,7 +24,7 @@ USERS = ("bench_", "example_", "test_", "uses_")
 # Words in code that come from elsewhere: from the kernel, a file format, an instruction set; and names that stand for a file.
 OUTSIDE = {"__do_softirq", "time_after", "softnet_stat", "virtio_net", "sysexits", "btr", "mb", "MACHINES", "enqueue_to_backlog",
            "rps_trigger_softirq", "nstat", "UdpRcvbufErrors", "no_std", "num_queued", "num_completed",
-           "dql_check_stall", "stall_thrs", "irq_suspend_timeout", "EPIOCSPARAMS", "napi_busy_loop_rcu", "NAPI_STATE_THREADED_BUSY_POLL", "_locked"}
+           "dql_check_stall", "stall_thrs", "irq_suspend_timeout", "EPIOCSPARAMS", "napi_busy_loop_rcu", "NAPI_STATE_THREADED_BUSY_POLL", "_locked", "libfintaqush1"}
 # The crates that may have unsafe code: those that export C functions.
 EXPORTING = {"c_handles", "napi_c", "replay_c"}
 
@@ -165,7 +165,7 @@ def door_rules(_page):
     for user in sorted((TOP / "crates/uses_facades/src").glob("[!l]*.rt")):
         text = user.read_text()
         named = {*re.findall(r"^(?:ghost )?use (?:Rattle\.)?(\w+)", text, re.M)} - {"std", "mathlib", "crate", "uses_facades"}
-        if re.findall(r"\A//! A user of `(\w+)` alone", text) != [*named]:
+        if re.findall(r"\A//! A program that uses only `(\w+)`:", text) != [*named]:
             yield f"{user.name} isn't of one facade: it names {', '.join(sorted(named))}"
 
 

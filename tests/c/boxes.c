@@ -122,8 +122,8 @@ static void lists(void) {
     }
 }
 
-/* The handles of an instance: its ring's input, its controller, and two seats. */
-static struct fq_handle handles[4], *const input = &handles[0], *const control = &handles[1], *const irq = &handles[2], *const poller = &handles[3];
+/* The handles of an instance: its ring's input, its controller, and two seats; and of seats that there are too many of. */
+static struct fq_handle many[9], handles[4], *const input = &handles[0], *const control = &handles[1], *const irq = &handles[2], *const poller = &handles[3];
 
 static void made(bool bare) {
     if (bare) {
@@ -133,7 +133,7 @@ static void made(bool bare) {
     }
     want(fq_ring_new(input, 4) == FQ_OK, "its ring");
     stays(fq_shared_new(input, control, irq, 1), FQ_BAD_COUNT, blocks, "one seat");
-    stays(fq_shared_new(input, control, irq, 9), FQ_BAD_COUNT, blocks, "nine");
+    stays(fq_shared_new(input, control, many, 9), FQ_BAD_COUNT, blocks, "nine");
     stays(fq_shared_new(control, input, irq, 2), FQ_IN_USE, blocks, "a controller where the ring is");
     want(fq_shared_new(input, control, irq, 2) == FQ_OK, "an instance");
     stays(fq_shared_new(input, control, irq, 2), FQ_IN_USE, blocks, "one in its place");
@@ -178,7 +178,7 @@ static void instances(void) {
         for (int state = 0; state < 6; state++) in_state(bare, state);
     }
     stays(fq_shared_bare(control, irq, 1), FQ_BAD_COUNT, 0, "a bare instance of one seat");
-    stays(fq_shared_bare(control, irq, 9), FQ_BAD_COUNT, 0, "of nine");
+    stays(fq_shared_bare(control, many, 9), FQ_BAD_COUNT, 0, "of nine");
     struct fq_handle list = FQ_NONE;
     want(fq_list_new(&list) == FQ_OK, "a list");
     stays(fq_shared_new(&list, control, irq, 2), FQ_BAD_HANDLE, blocks, "an instance over a list");

@@ -44,7 +44,7 @@ class Shown(InFolder):
 
     def test_rows_of_a_sweep(self):
         slow = self.program("slow", f"#!/bin/sh\nsleep 0.7\nexec '{REPLAY}' \"$@\"\n")
-        words = [BURSTS, "--budget", "1,2,3,4", "--jobs", "1", "--without-parallel"]
+        words = [BURSTS, "--budget", "1,2,3,4", "--jobs", "1"]
         self.assertRegex(self.seen("sweep", *words, "--out", "rows", PROGRAM=slow), r"\r\x1b\[Ksweep: making 4 rows, (25|50|75) %, \d+ s left")
         self.assertNotIn("\x1b[K", self.seen("sweep", *words, "--out", "others", "--quiet", PROGRAM=slow))
 

@@ -20,7 +20,7 @@ REPORT = "list\ntotal devices 0 runs 0 polls 0 work 0 squeezed 0\n"
 WRITERS = {"raise": [TRACE], "report2json": ["-"], "traffic": [], "compare-runs": [TRACE, "--budget", "1", "--"],
            "plot": [TRACE, "--script"], "compare-recording": [TOP / "examples/linux-veth-small-budget", "--budget", "64"],
            "from-ftrace": [HERE / "soft-tcp.txt", "made", *(f"--pair=va{number}:vb{number}" for number in range(1, 7))],
-           "from-pcap": ["captured", "made"], "costs": [HERE / "soft-gso-23.txt"], "what-if": ["arrivals", "--without-parallel"],
+           "from-pcap": ["captured", "made"], "costs": [HERE / "soft-gso-23.txt"], "what-if": ["arrivals"],
            "advise": [HERE / "recorded-apart.rec"], "completion": ["bash"]}
 if not os.path.exists(MACHINE):
     del WRITERS["what-if"], WRITERS["advise"]
@@ -131,7 +131,7 @@ class Surroundings(InFolder):
             for tool, words, variables in (("raise", [TRACE, "--out", old], {"PROGRAM": held}), ("plot", [TRACE, "--out", old, "--force"], {"SERIES": held}),
                                            ("steps", [TRACE, "--out", "page.html"], {"PROGRAM": held}),
                                            ("advise", [HERE / "recorded-apart.rec", "--plot", old], {"MACHINE": held}),
-                                           ("sweep", [TRACE, "--without-parallel", "--resume", "--out", "rows"], {"PROGRAM": held})):
+                                           ("sweep", [TRACE, "--resume", "--out", "rows"], {"PROGRAM": held})):
                 process = self.start(tool, words, variables=variables, stdout=subprocess.PIPE)
                 until = time.monotonic() + MOST_SECONDS
                 while not (self.folder / "begun").exists():
@@ -232,7 +232,7 @@ class Surroundings(InFolder):
         """What was played is there, line by line, and the next call goes on with it."""
         held, out = self.held("held"), self.folder / "rows"
         held.write_text(held.read_text().replace("#!/bin/sh\n", f"#!/bin/sh\n[ \"$2\" = 300 ] || exec '{REPLAY}' \"$@\"\n"))
-        words = [TRACE, "--budget", "64,300", "--without-parallel", "--jobs", "1", "--out", out]
+        words = [TRACE, "--budget", "64,300", "--jobs", "1", "--out", out]
         begun = os.open(self.folder / "begun", os.O_RDONLY | os.O_NONBLOCK)
         process = self.start("sweep", [*words, "--program", held], stdout=subprocess.PIPE, start_new_session=True)
         _, said = self.interrupt(process, begun, lambda: out.read_text().count("\n") == 2)
@@ -271,7 +271,7 @@ class Surroundings(InFolder):
     def test_an_interruption_of_tools_that_read(self):
         """On a FIFO that somebody has open and writes nothing to."""
         os.mkfifo(self.folder / "fifo.csv")
-        words = {"compare-runs": ["--"], "plot": ["--script"], "from-pcap": ["made"], "from-ftrace": ["made"]}
+        words = {"compare-runs": ["--"], "plot": ["--json"], "from-pcap": ["made"], "from-ftrace": ["made"]}
         for tool in ALL:
             if tool in ("traffic", "sweep", "steps", "what-if", "record", "advise", "completion", "try"):
                 continue
@@ -310,14 +310,14 @@ class Surroundings(InFolder):
     def test_a_disk_that_is_full(self):
         """For which files stand that may not grow at all: each tool that writes some says so, and what was there stays."""
         old, rows = self.write("old.svg", "old\n"), self.folder / "rows"
-        self.assertEqual(run("sweep", TRACE, "--budget", "64", "--without-parallel", "--out", rows).returncode, 0)
+        self.assertEqual(run("sweep", TRACE, "--budget", "64", "--out", rows).returncode, 0)
         before = rows.read_text()
         self.write("captured", CAPTURED)
         names = self.names()
         words = {tool: WRITERS[tool] for tool in ("from-ftrace", "from-pcap")}
         words.update({"raise": [TRACE, "--out", old], "traffic": ["--out", old], "report2json": ["-", "--out", old],
                       "compare-runs": [TRACE, "--out", old, "--budget", "1", "--"], "plot": [TRACE, "--out", old, "--force"],
-                      "sweep": [TRACE, "--without-parallel", "--resume", "--out", rows]})
+                      "sweep": [TRACE, "--resume", "--out", rows]})
         for tool, each in words.items():
             done = subprocess.run(["bash", "-c", 'ulimit -f 0; trap "" XFSZ; exec "$0" "$@"', sys.executable, "-B", TOP / "tools" / tool, *each],
                                   capture_output=True, check=False, input=REPORT.encode(), cwd=self.folder,
@@ -339,7 +339,7 @@ class Surroundings(InFolder):
     def test_inputs_that_are_none(self):
         (self.folder / "folder.csv").mkdir()
         (self.folder / "bytes").write_bytes(b"\xff\xfe")
-        words = {"compare-runs": ["--"], "plot": ["--script"], "from-pcap": ["made"], "from-ftrace": ["made"], "what-if": ["--without-parallel"]}
+        words = {"compare-runs": ["--"], "plot": ["--json"], "from-pcap": ["made"], "from-ftrace": ["made"], "what-if": []}
         for tool in ALL:
             if tool in ("traffic", "sweep", "compare-recording", "steps", "record", "completion", "try"):
                 continue

@@ -1,7 +1,8 @@
-//! A user of each of the ten facades, a file for each, with clauses of its own: what a facade promises is enough to prove them. No file
+//! A user of each of the eleven facades, a file for each, with clauses of its own: what a facade promises is enough to prove them. No file
 //! names another crate than its facade and `std`.
 #![tactic(auto)]
 
+pub mod driver_loop;
 pub mod one_thread;
 pub mod polling;
 pub mod prediction;
