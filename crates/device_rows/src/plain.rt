@@ -1,4 +1,4 @@
-//! Plain rows, read in one pass: digits, commas, an event's word, a line feed. Of any other row nothing is told here.
+//! Plain rows, read in one pass: digits, commas, an event's word, a line feed. Nothing is said here of any other row.
 
 ghost use Rattle.std.specs.Prelude.{IfSome};
 ghost use Rattle.device_places.specs.Range.{IsWithin};
