@@ -1,7 +1,7 @@
-/* Times calls of the C library: c_library WHAT TIMES. What was counted goes to standard output, the time to standard error.
- * limits: the calls of limits.cc, which prints the same; what only reads is the header's own. turns: schedule, hand, take and
- * complete on a shared instance, by one thread. packets: puts, and polls of weight 64; bursts: the same packets, put 64 at once. beside:
- * looks by two threads at once, each by a seat of its own, whose handles lie side by side; apart: 128 bytes apart. */
+/* Times calls of the C library: c_library WHAT TIMES. Counts go to standard output, the time to standard error. limits: the
+ * calls of limits.cc, which prints the same; reads are the header's inline functions. turns: schedule, hand, take and
+ * complete on a shared instance, by one thread. packets: puts, and polls of weight 64; bursts: the same packets, put 64 at
+ * once. beside: looks by two threads at once, each by its own seat, whose handles are adjacent; apart: 128 bytes apart. */
 #include <fintaqush.h>
 #include <inttypes.h>
 #include <pthread.h>
@@ -10,7 +10,7 @@
 #include <string.h>
 #include <time.h>
 
-/* A moment; of two threads' looks the processor time of each, so that what else the machine does isn't counted. */
+/* A time; for the looks of two threads the processor time of each, so that other work of the machine isn't counted. */
 static uint64_t now(bool of_two) {
     if (of_two) return (uint64_t)clock() * (1000000000 / CLOCKS_PER_SEC) / 2;
     struct timespec at;
@@ -58,7 +58,7 @@ struct looker {
 
 static void *look(void *at) {
     struct looker *const looker = at;
-    const struct looker mine = *looker; /* which no other thread's lies beside */
+    const struct looker mine = *looker; /* which isn't adjacent to another thread's */
     bool failed = false;
     for (uint64_t i = 0; i < mine.count; i++) {
         uint64_t word;
@@ -68,7 +68,7 @@ static void *look(void *at) {
     return NULL;
 }
 
-/* The second seat's handle lies so many handles behind the first one's. */
+/* The second seat's handle is this many handles after the first one's. */
 static bool looks(uint64_t count, size_t behind) {
     static struct {
         _Alignas(128) struct fq_handle handles[16];

@@ -1,11 +1,11 @@
 #!/bin/sh
-# Times calls of the C library from C: pairs on a queue limit beside the plain C++ fold of bench/limits.cc, which is inlined, and
-# which has to count the same; turns of a shared instance by one thread (schedule, hand, take, complete) beside the same turns by
-# the typed calls (crates/bench_word); and packets, put one by one and in bursts of 64, and polled 64 at a time. Three rounds of
-# all in turn; the best time of each is shown, and how C's compares with what stands beside it. Then nine rounds of looks by two
-# threads at once, by seats whose handles lie side by side or 128 bytes apart: the best and the middle time of each.
+# Times calls of the C library from C: pairs on a queue limit, compared with the plain C++ fold of bench/limits.cc, which is
+# inlined and has to count the same; cycles of a shared instance by one thread (schedule, hand, take, complete), compared with
+# the same cycles by the typed calls (crates/bench_word); and packets, put one by one and in bursts of 64, and polled 64 at a
+# time. Three rounds of all in turn; the best time of each is printed, with C's ratio to the other. Then nine rounds of looks by
+# two threads at once, with handles that are adjacent or 128 bytes apart: the best and the median time of each.
 #
-# usage: bench/c_library.sh [TIMES]     (10000000 where none are given; of the turns and looks a tenth)
+# usage: bench/c_library.sh [TIMES]     (10000000 by default; of the cycles and looks a tenth)
 set -eu
 
 unset CDPATH
@@ -43,7 +43,7 @@ for round in 1 2 3; do
     fi
 done
 
-# Two threads meet only while both run: where that is allowed, before all other work of the machine.
+# Two threads meet only while both run: if that is allowed, before all other work of the machine.
 before=
 ! chrt -f 5 true 2> /dev/null || before='chrt -f 5'
 for round in 1 2 3 4 5 6 7 8 9; do

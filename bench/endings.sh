@@ -1,8 +1,9 @@
 #!/usr/bin/env bash
-# Whether threads mode ends: RUNS runs of it (2000) on one processor with 8 pollers, by turns under the usual, the idle and a
-# real-time scheduling, as far as chrt may, and by turns with nothing refused, and with the start of a thread or an allocation refused
-# that is drawn. Each has to end within LONGEST seconds (120) by its report, or by the line of what was refused; one that doesn't is
-# killed, and named by its words. Prints how the runs ended. The exit status is 1 where one hung or ended otherwise.
+# Whether threads mode always ends: RUNS runs of it (2000) on one processor with 8 pollers, with the normal, the idle and a
+# real-time scheduling in turn, if chrt may set it; in turn without a failed call, and with the start of a thread or an
+# allocation that fails, at random. Each has to end within LONGEST seconds (120), with its report or the message of what failed;
+# one that doesn't is killed, and its options are printed. Prints how the runs ended. The exit status is 1 if one hung or ended
+# otherwise.
 #
 # usage: [LONGEST=SECONDS] bench/endings.sh [PROGRAM [RUNS [SEED]]]
 set -euo pipefail
@@ -24,7 +25,7 @@ folder=$(mktemp -d)
 trap 'rm -rf "$folder"' EXIT
 cc -O1 -shared -fPIC -o "$folder/refuse.so" "$top/bench/refuse.c" -ldl
 
-# Sixteen devices, half of them with a thread of their own: packets, switches and threaded settings.
+# Sixteen devices, half of them with their own thread: packets, disables and enables, and threaded settings.
 awk 'BEGIN {
     print "moment,device,event,value"
     for (device = 1; device <= 16; device++) print "0," device ",open,256"
@@ -51,7 +52,7 @@ for one in --idle --fifo; do
 done
 processor=$(taskset -c -p $$ | sed 's/.*: //; s/[-,].*//')
 
-# The number of a call to refuse: drawn from those that a run makes at most.
+# The number of the call that fails: drawn from those that a run makes at most.
 RANDOM=$seed
 drawn() { echo $((RANDOM % $1 + 1)); }
 

@@ -1,9 +1,10 @@
 #!/usr/bin/env bash
-# Instructions a row of the serial replay, counted by valgrind's callgrind, for 1000, 10000 and 100000 rows and 1, 4 and 16
-# devices: bursts of 63 packets, each of one device, the devices in turn, and behind each burst a run. All rows have the same length
-# (moments of seven digits, devices of two, values of four), and each run polls one device: so the counts show what rows and
-# devices cost that are merely there. What the program does for a trace that only opens the devices is taken off. Prints a row of
-# the table for each number of devices, and how far the counts lie apart. The exit status is 1 where that is over 3 %, or where a run fails.
+# Instructions per row of the serial replay, counted by valgrind's callgrind, for 1000, 10000 and 100000 rows and 1, 4 and 16
+# devices: bursts of 63 packets, each for one device, the devices in turn, and after each burst a run. All rows have the same
+# length (moments of seven digits, devices of two, values of four), and each run polls one device: so the counts show what rows
+# and devices cost that are merely there. The cost of a trace that only opens the devices is subtracted. Prints a row of the
+# table for each number of devices, and by how much the counts differ. The exit status is 1 if that is over 3 %, or if a run
+# fails.
 # [PROGRAM=PROGRAM] bench/growth.sh
 set -euo pipefail
 unset CDPATH

@@ -1,5 +1,5 @@
-// What Linux's lib/dynamic_queue_limits.c takes from other headers of the kernel, for a program: kernel_limits.sh has it stand
-// under each of their names.
+// What Linux's lib/dynamic_queue_limits.c takes from other headers of the kernel, for a program: kernel_limits.sh puts this
+// file in place of each of them.
 #ifndef KERNEL_LIMITS_H
 #define KERNEL_LIMITS_H
 

@@ -1,11 +1,11 @@
 #!/usr/bin/env bash
-# Times pairs of `queued` and `completed` beside Linux's own text of them: `lib/dynamic_queue_limits.c` with its header, taken
-# by scripts/linux_source.sh out of Debian's package linux-source-6.12, or out of the folder LINUX of sources, and compiled
-# by cc -O2 with kernel_limits.c, which stands in for the kernel's headers. Nothing of it is kept. crates/bench_limits makes the
-# same calls; both print the same counts, which are compared. Three rounds in turn; the best time of each is shown. Where
-# neither the package nor a folder is at hand it says so, with status 0: then nothing was compared.
+# Times pairs of `queued` and `completed`, compared with Linux's own source: `lib/dynamic_queue_limits.c` with its header, taken
+# by scripts/linux_source.sh from Debian's package linux-source-6.12, or from the folder LINUX of sources, and compiled by cc
+# -O2 with kernel_limits.c, which replaces the kernel's headers. Nothing of it is kept. crates/bench_limits makes the same
+# calls; both print the same counts, which are compared. Three rounds in turn; the best time of each is printed. If there is
+# neither the package nor a folder, it says so, with status 0: then nothing was compared.
 #
-# usage: [LINUX=FOLDER] bench/kernel_limits.sh [PAIRS]     (100000000 where none are given)
+# usage: [LINUX=FOLDER] bench/kernel_limits.sh [PAIRS]     (100000000 by default)
 set -euo pipefail
 
 unset CDPATH
@@ -23,7 +23,7 @@ files=(lib/dynamic_queue_limits.c include/linux/dynamic_queue_limits.h)
 
 "$bench/../scripts/build.sh" bench_limits
 cp "$bench/../crates/bench_limits/out/bench_limits" "$work/dql_core"
-# The headers that the two files name are kernel_limits.h, each under its name.
+# Every header that the two files name is kernel_limits.h, under that name.
 sed -n 's/^#include <\(.*\)>.*/\1/p' "$work/${files[0]}" "$work/${files[1]}" | sort -u | while read -r header; do
     [ "$header" != linux/dynamic_queue_limits.h ] || continue
     mkdir -p "$work/stand_in/$(dirname "$header")"

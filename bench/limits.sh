@@ -1,9 +1,9 @@
 #!/bin/sh
-# Times pairs of `queued` and `completed`: crates/bench_limits beside a plain C++ fold of the same rules, built by g++ -O2
-# and, where there is one, by clang++ -O3. Each makes the same calls and prints the same counts, which are compared.
-# Three rounds of all programs in turn; the best time of each is shown.
+# Times pairs of `queued` and `completed`: crates/bench_limits, compared with a plain C++ fold over the same rules, built by g++
+# -O2 and, if it is installed, by clang++ -O3. Each makes the same calls and prints the same counts, which are compared. Three
+# rounds of all programs in turn; the best time of each is printed.
 #
-# usage: bench/limits.sh [PAIRS]     (100000000 where none are given)
+# usage: bench/limits.sh [PAIRS]     (100000000 by default)
 set -eu
 
 unset CDPATH

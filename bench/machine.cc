@@ -38,7 +38,7 @@ static const Range ranges[OPTIONS] = {{"processors", 1, 64}, {"queues", 1, 64}, 
     {"packet", 0, LONGEST}, {"use", 0, LONGEST}, {"wake", 0, LONGEST}};
 static uint64_t settings[OPTIONS] = {1, 1, 256, 512, 0, 300, 64, 1024, 8000000, 0, 0, 0, 0, 0, 0, 0, 4000, 1000, 1000, 2000, 0};
 
-/* The number that these digits write, at most 2^64 - 1; with a divisor its remainder, of any number. */
+/* The number that these digits denote, at most 2^64 - 1; with a divisor its remainder, of any number. */
 static uint64_t number(const char *text, size_t length, size_t most, bool &is_one, uint64_t divisor = 0) {
     uint64_t value = 0; // of the first 19 digits
     is_one &= length > 0 && length <= most;
@@ -75,7 +75,7 @@ static void read_options(int count, char **arguments) {
 
 // ---- what a processor has
 
-/* Numbers first in, first out, in one circle of places. */
+/* A queue of numbers in a circular buffer. */
 template <typename Number> class Queue {
   public:
     explicit Queue(size_t most) : slots(most) {}
@@ -113,7 +113,7 @@ class Waits {
     }
 
   private:
-    /* A bucket for each value of the first ten binary digits, and of how many follow them. */
+    /* A bucket for each value of the first ten significant bits, and the number of bits after them. */
     static size_t place_of(uint64_t wait) {
         if (wait < 1024) return wait;
         const unsigned rest = 54 - static_cast<unsigned>(__builtin_clzll(wait));
@@ -145,7 +145,7 @@ struct Device {
     Waits waits;
 };
 
-/* The timers of a processor's devices. A device has at most one: while it is masked its NAPI timer, else its card's. */
+/* The timers of a processor's devices. A device has at most one: while it is masked its NAPI timer, otherwise its card's. */
 class Timers {
   public:
     bool expire_by(uint64_t moment) const { return is_set && least <= moment; }
@@ -186,7 +186,7 @@ class Timers {
     unsigned first = DEVICES;
 };
 
-/* The application on a processor of its own. */
+/* The application on its own processor. */
 struct Application {
     bool is_awake = false, has_packet = false;
     uint64_t end = 0, hand = 0, wakes = 0;
@@ -344,7 +344,7 @@ class Processor {
         poll(own.take());
     }
 
-    /* Whether the run makes another poll; if not, it is ended. */
+    /* Returns whether the run makes another poll; if not, it ends the run. */
     bool goes_on() {
         const bool is_spent = run_work >= settings[BUDGET] || run_polls >= settings[WINDOW];
         const bool is_over = clock - run_began >= settings[TIME_LIMIT];

@@ -1,8 +1,8 @@
 #!/usr/bin/env bash
-# Whole runs of napi_machine, reading and writing included, in turn with the plain program of machine.cc (g++ -O2), on arrivals of one
-# processor: bursts at four devices. From 10000 to 10000000 packets by a budget of 64, and 10000000 with deferred interrupts, threads,
-# coalescing, a backlog, queues, and the application on a processor of its own. Prints for each the least time and the greatest size in
-# memory of both, and the ratio of the times. The exit status is 1 if their reports differ.
+# Whole runs of napi_machine, including reading and writing, in turn with the plain program of machine.cc (g++ -O2), on arrivals
+# of one processor: bursts at four devices. From 10000 to 10000000 packets with a budget of 64, and 10000000 with deferred
+# interrupts, threads, coalescing, a backlog, queues, and the application on its own processor. Prints for each the shortest
+# time and the peak memory of both, and the ratio of the times. The exit status is 1 if their reports differ.
 # [MACHINE=PROGRAM] bench/machine.sh [TURNS]
 set -euo pipefail
 unset CDPATH

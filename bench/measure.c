@@ -1,5 +1,5 @@
-// measure TRACE OUTPUT PROGRAM [WORD ..]: one run of the program from TRACE to OUTPUT. Prints its microseconds, the greatest
-// size that it had in memory in kilobytes, and its exit status. This process is small, so that size is the program's own.
+// measure TRACE OUTPUT PROGRAM [ARGUMENT ..]: runs the program once from TRACE to OUTPUT. Prints its microseconds, its peak
+// memory in kilobytes, and its exit status. This process is small, so the peak is the program's own.
 #define _GNU_SOURCE
 #include <fcntl.h>
 #include <spawn.h>

@@ -1,9 +1,9 @@
 #!/usr/bin/env bash
 # Random traces of all events in serial and in shared mode, and by another program that reads the same traces (PEER): the bytes,
-# the line of the fault and the exit status have to be the same. 1000 traces, or TRACES of them, by the seeds from 1 on
-# (random_trace.py), of VERSION 1 where none is named; budget, weight and window are by turns the usual ones and others.
-# Prints how many had a report, and how many which fault. A trace on which they differ is named by its seed and its words. The
-# exit status is 1 where bytes differ.
+# the message of the error and the exit status have to be the same. 1000 traces, or TRACES of them, with the seeds from 1 on
+# (random_trace.py), of VERSION 1 by default; budget, weight and window are in turn the defaults and others. Prints how many had
+# a report, and how many which error. A trace on which they differ is printed with its seed and its options. The exit status is
+# 1 if bytes differ.
 # [PROGRAM=PROGRAM] bench/modes.sh PEER [TRACES [VERSION]]
 set -euo pipefail
 unset CDPATH
@@ -23,12 +23,12 @@ is_program PROGRAM "$program"
 scratch=$(mktemp -d)
 trap 'rm -rf "$scratch"' EXIT
 
-# The words of a run, by its seed.
+# The options of a run, by its seed.
 budgets=('' --budget=1 --budget=64 --budget=65 --budget=7)
 weights=('' '' --weight=1 --weight=63)
 windows=('' '' --window=1 --window=5 '' --window=2 '')
 
-# play NAME PROGRAM WORD ..: what a program makes of the trace, with its status as the last line of the errors.
+# play NAME PROGRAM OPTION ..: the output of a program for the trace, with its status as the last line of the errors.
 play() {
     local name=$1 status=0
     shift

@@ -1,5 +1,5 @@
-// Packets from one thread to another through a bounded queue behind a mutex and two condition variables, written by hand for
-// comparison with crates/bench_pair: the same packets, and the same counts on standard output; the time on standard error.
+// Passes packets from one thread to another through a bounded queue with a mutex and two condition variables, for comparison
+// with crates/bench_pair: the same packets, and the same counts on standard output; the time on standard error.
 //
 // usage: pair PACKETS
 #include <array>
@@ -32,7 +32,7 @@ class Queue {
     has_packets_.notify_one();
   }
 
-  // At most the weight; waits for one.
+  // Takes at most the weight; waits for one packet.
   std::size_t poll(std::array<Packet, WEIGHT>& batch) {
     std::unique_lock<std::mutex> lock(mutex_);
     has_packets_.wait(lock, [this] { return tail_ != head_; });

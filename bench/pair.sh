@@ -1,10 +1,10 @@
 #!/bin/sh
-# Times packets on their way from one thread to another: through a shared instance, where a request for a poll comes behind each
-# packet, and through a ring of `rtrb` alone, at which the second thread looks all the time (crates/bench_pair); and through a
-# queue behind a mutex in C++ (bench/pair.cc, g++ -O2), where the second thread waits for a condition. All keep to two
-# processors, and have to count the same; nine rounds of all in turn, the best time of each is shown.
+# Times packets on their way from one thread to another: through a shared instance, with a request for a poll after each packet,
+# and through a bare ring of `rtrb`, which the second thread reads all the time (crates/bench_pair); and through a queue with a
+# mutex in C++ (bench/pair.cc, g++ -O2), where the second thread waits for a condition. All keep to two processors, and have to
+# count the same; nine rounds of all in turn, the best time of each is printed.
 #
-# usage: bench/pair.sh [PACKETS]     (1000000 where none are given)
+# usage: bench/pair.sh [PACKETS]     (1000000 by default)
 set -eu
 
 unset CDPATH

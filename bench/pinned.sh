@@ -1,7 +1,8 @@
 # shellcheck shell=sh
 # For scripts that time threads, which read this file by `.`.
 
-# pinned COUNT COMMAND ..: the command on so many of the processors that this shell may use, the last ones, so that it isn't moved.
+# pinned COUNT COMMAND ..: runs the command on this many of the processors that this shell may use, the last ones, so that it
+# isn't moved.
 pinned() {
     _processors=$(taskset -c -p $$ | awk -v count="$1" '{
         parts = split($NF, part, ",")

@@ -11,7 +11,7 @@ WEIGHTS = [40, 8, 8, 18, 6, 3, 9, 5, 3]
 
 
 def refused(dice, device):
-    """A row, or what should be one, that a reader refuses; the last four where the device is in the wrong state."""
+    """A row that a reader rejects, or that is none; the last four if the device is in the wrong state."""
     return dice.choice([
         "1,%d,rx" % device,
         "1,%d,rx,0" % device,
@@ -49,7 +49,7 @@ class Trace:
         self.lines = []
 
     def row(self, device, event, value):
-        # moments needn't rise
+        # moments needn't increase
         self.moment = max(0, self.moment + self.dice.choice([0, 1, 1, 2, 500, 2000, -3]))
         self.lines.append("%d,%d,%s,%d" % (self.moment, device, event, value))
 
@@ -90,7 +90,7 @@ class Trace:
         if not off:
             return
         device = self.dice.choice(off)
-        # most devices are let go first, so that few enables meet a disable that is pending
+        # most devices are released first, so that few enables meet a disable that is pending
         if self.dice.random() < 0.9:
             for _ in range(self.dice.choice([2, 6])):
                 self.row(0, "softirq", 0)

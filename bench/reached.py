@@ -19,7 +19,7 @@ minutes of processor time, and a compiler may choose other registers than RULES 
     85  digits: more of them than a flag or the count of the devices has
     58  excluded by the proof: traps, numbers out of their ranges, more entries than devices, more polls than packets
     22  host: more words than memory has, calls that a signal ends, and input read ahead, which the reader of records never does
-    30  csv: fields that are trimmed, titles that are kept, and reading on behind the end
+    30  csv: fields that are trimmed, titles that are kept, and reading on after the end
 """
 import concurrent.futures
 import itertools
@@ -35,7 +35,7 @@ sys.path.insert(0, str(TOP / "tests"))
 import runs
 
 ENDS = re.compile("jmp|ret|ud2")
-# A function, what stands in a piece of it or leads there (`>` is where the piece begins), and why no run reaches it.
+# A function, what is in a part of it or leads there (`>` marks where the part begins), and why no run reaches it.
 RULES = [
     ("", r"ud2$", "excluded"),
     ("", r"SubCommand|subcommand|fill_in_global|build_levels", "clap"),
@@ -67,7 +67,7 @@ REFUSED = [([], SMALL), (["--budget=7", "--weight", "3"], HEADER), (["--budget=x
 
 
 def own_functions(program):
-    """The own functions: name, first address, end."""
+    """The program's own functions: name, first address, end."""
     crates = tuple(path.name + "::" for path in (TOP / "crates").iterdir())
     listed = subprocess.run(["nm", "-S", program], capture_output=True, text=True, check=True).stdout
     for line in listed.splitlines():
@@ -77,7 +77,7 @@ def own_functions(program):
 
 
 def instructions(program):
-    """Each instruction's address with its text, in order, but for those that only fill."""
+    """Each instruction's address with its text, in order, except padding."""
     constants = pathlib.Path(program).read_bytes()
     listed = subprocess.run(["objdump", "-d", "--no-show-raw-insn", program], capture_output=True, text=True, check=True).stdout
     pairs = ((int(at, 16), text.strip()) for at, text in re.findall(r"^ +([0-9a-f]+):\t(.*)$", listed, re.M))
@@ -85,14 +85,15 @@ def instructions(program):
 
 
 def named(text, constants):
-    """The text of an instruction, with the letters of the constant that it names: constants lie in the file where they are loaded."""
+    """The text of an instruction, with the letters of the constant that it names: constants are in the file at the address to
+    which they are loaded."""
     where = re.search(r"(.*)# ([0-9a-f]+) <", text)
     letters = re.match(rb"[ -~]*", constants[int(where[2], 16):][:24])[0].decode() if where else ""
     return '%s# "%s"' % (where[1], letters) if where else re.sub(r"::<#\w+>", "", text)
 
 
 def places_of(out, program):
-    """The program's addresses in what callgrind wrote."""
+    """The program's addresses in callgrind's output."""
     places, is_own = set(), False
     for line in out.read_text(errors="replace").splitlines():
         if line.startswith("ob="):
@@ -103,7 +104,7 @@ def places_of(out, program):
 
 
 class Runs:
-    """Runs of the program under callgrind, side by side."""
+    """Concurrent runs of the program under callgrind."""
 
     def __init__(self, program, folder):
         self.program, self.folder = program, pathlib.Path(folder)
@@ -113,7 +114,7 @@ class Runs:
         subprocess.run(["cc", "-O1", "-shared", "-fPIC", "-o", self.refuse, TOP / "bench/refuse.c", "-ldl"], check=True)
 
     def play(self, words, text, refused=None):
-        """The addresses that a run reaches, and whether a call was refused."""
+        """The addresses that a run reaches, and whether a call failed."""
         with tempfile.TemporaryDirectory(dir=self.folder) as room:
             out, mark = pathlib.Path(room) / "out", pathlib.Path(room) / "mark"
             more = {refused[0]: str(refused[1]), "LD_PRELOAD": self.refuse, "REFUSED": str(mark)} if refused else {}
@@ -126,7 +127,7 @@ class Runs:
         return set().union(*(places for places, _ in self.pool.map(lambda play: self.play(*play), plays)))
 
     def refusals(self):
-        """What is reached while each call of a kind is refused in turn, until there is none with that number."""
+        """What is reached while each call of a kind fails in turn, until there is none with that number."""
         found = set()
         for (words, text), kind in itertools.product(REFUSED, ("REFUSE_MEMORY", "REFUSE_READ", "REFUSE_WRITE")):
             for first in itertools.count(1, 8):
@@ -169,7 +170,7 @@ class Left:
             self.ways[piece].append(at)
 
     def texts(self, piece):
-        """The piece's text, once behind each reached way into it: what that compares, and `>`."""
+        """The piece's text, once after each reached way into it: what that compares, and `>`."""
         body = "; ".join(self.known[at] for at in piece)
         reached = [self.order[at] for at in self.ways[piece] if at in self.places]
         return ["; ".join(self.known[at] for at in self.own[max(0, way - 7):way + 1]) + " > " + body for way in reached] or ["> " + body]

@@ -1,8 +1,8 @@
 #!/bin/sh
-# Times polls of a receive ring for the weights 1, 16 and 64 beside a plain loop over the `pop` of `rtrb`: the program of
-# crates/bench_receive, nine runs. All four have to count the same packets; the best time of each is shown.
+# Times polls of a receive ring for the weights 1, 16 and 64, compared with a plain loop over the `pop` of `rtrb`: the program
+# of crates/bench_receive, nine runs. All four have to count the same packets; the best time of each is printed.
 #
-# usage: bench/receive.sh [ROUNDS]     (1000 rounds of 4096 packets where none are given)
+# usage: bench/receive.sh [ROUNDS]     (1000 rounds of 4096 packets by default)
 set -eu
 
 unset CDPATH

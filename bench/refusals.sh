@@ -1,8 +1,8 @@
 #!/bin/sh
-# Refuses each allocation, each read, each write and each start of a thread of the replay program in turn, in each of its
-# modes, or in those that are named. Each refusal has to give its line, its exit status and no report. The modes `machine` and
-# `queues` are for `napi_machine`, and `calls` for `memory_tests`, where each call that was refused has to go through when it is made
-# again.
+# Makes each allocation, each read, each write and each start of a thread of the replay program fail in turn, in each of its
+# modes, or in those that are named. Each failure has to have its message, its exit status and no report. The modes `machine`
+# and `queues` are for `napi_machine`, and `calls` for `memory_tests`, in which each call that failed has to succeed when it is
+# repeated.
 # bench/refusals.sh [PROGRAM [MODE ..]]
 set -eu
 unset CDPATH
@@ -20,7 +20,8 @@ trap 'rm -rf "$folder"' EXIT
 
 cc -O1 -shared -fPIC -o "$folder/refuse.so" "$top/bench/refuse.c" -ldl
 
-# A trace that takes memory in every way: several devices, both kinds of polling, transmit lines, more than one read.
+# A trace for which the program allocates in every way: several devices, both kinds of polling, transmit lines, more than one
+# read.
 {
     echo 'moment,device,event,value'
     for device in 3 1 16; do echo "0,$device,open,65536"; done
@@ -31,13 +32,13 @@ cc -O1 -shared -fPIC -o "$folder/refuse.so" "$top/bench/refuse.c" -ldl
     awk 'BEGIN { for (row = 13; row < 20000; row++) print row (row % 100 ? ",1,done,0" : ",0,softirq,0") }'
 } > "$folder/trace.csv"
 
-# Arrivals that take memory for several devices on two processors, and more than one read.
+# Arrivals for which it allocates for several devices on two processors, and more than one read.
 awk 'BEGIN { print "moment,device,bytes"; for (row = 0; row < 20000; row++) print row * 900 "," row % 5 + 1 ",100" }' > "$folder/arrivals.csv"
 
 # The same in three flows of each device.
 awk 'BEGIN { print "moment,device,bytes,flow"; for (row = 0; row < 20000; row++) print row * 900 "," row % 5 + 1 ",100," row % 3 }' > "$folder/flows.csv"
 
-# What a mode reads, the words that it is asked for by, and what its faults speak of.
+# The input of a mode, its options, and what its errors name.
 set_mode() {
     case $mode in
         machine) input=arrivals.csv words='--processors 2' told=arrivals ;;
@@ -48,7 +49,7 @@ set_mode() {
 
 fail() { echo "refusals: $*" >&2; exit 1; }
 
-# One run with the call of that number refused: refuse KIND NUMBER. Leaves its status in `status`; 124 is a run that hangs.
+# One run in which the call with that number fails: refuse KIND NUMBER. Leaves its status in `status`; 124 is a run that hangs.
 refuse() {
     status=0
     rm -f "$folder/refused"
@@ -56,12 +57,12 @@ refuse() {
         "$program" $words < "$folder/$input" > "$folder/out" 2> "$folder/err" || status=$?
 }
 
-# Whether the run was as one without a refusal.
+# Whether the run was like one without a failed call.
 is_whole() { [ "$status" = 0 ] && cmp -s "$folder/out" "$folder/report" && [ ! -s "$folder/err" ]; }
 
-# refuse_each KIND STATUS LINE: until the program makes no call with that number. A refused call has to end it with that
-# status and that line, and without a report; or, where memory is asked for again, to change nothing. Leaves the calls refused
-# in `count`, and those that changed nothing in `idle`.
+# refuse_each KIND STATUS LINE: until the program makes no call with that number. A failed call has to end it with that status
+# and that message, and without a report; or, if it retries the allocation, to change nothing. Leaves the number of failed calls
+# in `count`, and of those that changed nothing in `idle`.
 refuse_each() {
     count=0
     idle=0
@@ -80,17 +81,17 @@ refuse_each() {
         [ "$status" = "$2" ] || fail "$mode $1=$count: status $status"
         [ ! -s "$folder/out" ] || fail "$mode $1=$count: a report was written"
         line=$(cat "$folder/err")
-        # Memory that the start of a thread asks for: the thread could not be started.
+        # An allocation of the start of a thread: the thread couldn't be started.
         if [ "$1 $line" = 'REFUSE_MEMORY worker fault 16 SpawnFailed' ] && grep -qx "$count" "$folder/starts"; then line=$3; fi
         [ "$line" = "$3" ] || fail "$mode $1=$count: another line: $line"
     done
     is_whole || fail "$mode $1: nothing was refused, and another report was written"
 }
 
-# some_refused WHAT: at least one call was refused that ended the program.
+# some_refused WHAT: at least one failed call ended the program.
 some_refused() { [ "$count" -gt "$idle" ] || fail "$mode: no $1 was refused"; }
 
-# Devices 1, 3 and 16 have one poller, or two of three: one thread more is started then.
+# Devices 1, 3 and 16 have one poller, or two of three: then one more thread is started.
 each_poller_is_started() {
     words="--mode $mode --pollers 3"
     refuse_each REFUSE_MEMORY 4 'memory fault 11 OutOfMemory'
@@ -126,8 +127,9 @@ refuse_ends() {
     [ "$status" = 4 ] && [ "$(cat "$folder/err")" = 'output fault 15 OutputFailed' ] || fail "$mode: a device that is full is written"
 }
 
-# refuse_until KIND: until the program makes no call with that number. The report has to be as ever, but for the line of the
-# library's call that was refused, which says what was: memory, or the start of a thread. Leaves the calls refused in `count`.
+# refuse_until KIND: until the program makes no call with that number. The report has to be the same, except for the line of the
+# library's call that failed, which says what failed: an allocation, or the start of a thread. Leaves the number of failed calls
+# in `count`.
 refuse_until() {
     count=0
     rm -f "$folder/starts"
@@ -138,7 +140,7 @@ refuse_until() {
     while [ -e "$folder/refused" ]; do
         count=$((count + 1))
         what='refused once'
-        # Memory that the start of a thread asks for: the thread could not be started.
+        # An allocation of the start of a thread: the thread couldn't be started.
         if [ "$1" = REFUSE_THREAD ] || grep -qx "$count" "$folder/starts"; then what='a start refused once'; fi
         [ "$status" = 0 ] && [ ! -s "$folder/err" ] && sed "s/, $what\$//" "$folder/out" | cmp -s - "$folder/report" || {
             cat "$folder/out" "$folder/err" >&2

@@ -1,5 +1,5 @@
-// Refuses the call whose number, counted from 1, is in REFUSE_MEMORY, REFUSE_READ, REFUSE_WRITE or REFUSE_THREAD. The file
-// STARTS gets the numbers of the allocations that starts of threads ask for: each is the same thread's last one before its start.
+// Makes the call fail whose number, counted from 1, is in REFUSE_MEMORY, REFUSE_READ, REFUSE_WRITE or REFUSE_THREAD. The file
+// STARTS gets the numbers of the allocations that starts of threads make: each is the same thread's last one before its start.
 #define _GNU_SOURCE
 #include <dlfcn.h>
 #include <errno.h>
@@ -18,7 +18,7 @@ static long left = 0;
 // The number of this thread's last allocation.
 static __thread long last = 0;
 
-// The file REFUSED is there once a call was refused.
+// The file REFUSED exists after a call failed.
 static int refuses(struct calls *calls) {
     const char *text = getenv(calls->name);
     if (!text) return 0;

@@ -1,9 +1,9 @@
 #!/usr/bin/env bash
-# Whole runs of the serial replay, reading and writing included, in turn with another program that reads the same traces (PEER), on
-# one machine: on the traces of traces.sh, on each .csv file of the folder TRACES where one is named, and, to see the growth
-# in rows, on the trace of sixteen devices at 10000, 30000 and 100000 rows. Prints for each the least time and the greatest
-# size in memory of both, the ratio of the times, and whether the bytes and the exit status agree. The exit status is 1 where
-# they don't.
+# Whole runs of the serial replay, including reading and writing, in turn with another program that reads the same traces
+# (PEER), on one machine: on the traces of traces.sh, on each .csv file of the folder TRACES if one is named, and, to see the
+# growth in rows, on the trace of sixteen devices with 10000, 30000 and 100000 rows. Prints for each the shortest time and the
+# peak memory of both, the ratio of the times, and whether the bytes and the exit status agree. The exit status is 1 if they
+# don't.
 # [TRACES=FOLDER] [PROGRAM=PROGRAM] bench/replay.sh [PEER [TURNS]]
 set -euo pipefail
 unset CDPATH

@@ -1,6 +1,6 @@
 #!/usr/bin/env bash
-# Whole runs in shared mode, reading and writing included, in turn with serial mode of the same program, on the traces of
-# traces.sh with 100000 rows. Prints for each the least time of both modes and their ratio. The exit status is 1 where the bytes
+# Whole runs in shared mode, including reading and writing, in turn with serial mode of the same program, on the traces of
+# traces.sh with 100000 rows. Prints for each the shortest time of both modes and their ratio. The exit status is 1 if the bytes
 # differ.
 # [PROGRAM=PROGRAM] bench/shared.sh [TURNS]
 set -euo pipefail

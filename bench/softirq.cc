@@ -1,4 +1,4 @@
-// Runs of the softirq over 16 devices, written by hand for comparison with crates/bench_softirq: the same rounds of the same
+// Runs of the softirq over 16 devices, in plain C++ for comparison with crates/bench_softirq: the same rounds of the same
 // packets, and the same counts on standard output; the times on standard error.
 //
 // usage: softirq ROUNDS
@@ -25,7 +25,7 @@ struct Packet {
   u32 bytes;
 };
 
-// A ring, and what its instance remembers: whether a poll is asked for, and whether another one was since.
+// A ring, and the state of its instance: whether a poll is requested, and whether another one was since.
 struct Card {
   std::array<Packet, PLACES> places{};
   std::size_t head = 0, tail = 0;
@@ -52,7 +52,7 @@ struct Card {
     return count;
   }
 
-  // Whether another poll follows, since a request was missed.
+  // Whether another poll follows, because a request was missed.
   bool complete() {
     scheduled = std::exchange(missed, false);
     return scheduled;

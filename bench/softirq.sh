@@ -1,9 +1,9 @@
 #!/bin/sh
 # Times runs of the softirq over 16 devices, for 1, 8, 64 and 256 packets in the ring of each: the program of
-# crates/bench_softirq beside the same runs by hand in C++ (bench/softirq.cc, g++ -O2). Only the runs are timed, not the
-# interrupts that fill the rings. Both have to count the same; nine rounds of both in turn, the best time of each is shown.
+# crates/bench_softirq, compared with the same runs in plain C++ (bench/softirq.cc, g++ -O2). Only the runs are timed, not the
+# interrupts that fill the rings. Both have to count the same; nine rounds of both in turn, the best time of each is printed.
 #
-# usage: bench/softirq.sh [ROUNDS]     (2000 rounds where none are given)
+# usage: bench/softirq.sh [ROUNDS]     (2000 rounds by default)
 set -eu
 
 unset CDPATH

@@ -1,9 +1,9 @@
 #!/usr/bin/env bash
-# Whole runs in threads mode, reading and writing included, in turn with another program that has that mode (PEER), on one
-# machine: 100000 rows on 1, 4 and 16 devices, each with 1, 2, 4 and 8 pollers. Prints for each the least time and the greatest
-# size in memory of both, the ratio of the times, and whether the bytes and the exit status agree. Then 200 random traces, or
-# RANDOM_TRACES of them, each with 1, 2 and 8 pollers and twice: every run has to give the peer's bytes. The exit status is 1
-# where bytes differ.
+# Whole runs in threads mode, including reading and writing, in turn with another program that has that mode (PEER), on one
+# machine: 100000 rows on 1, 4 and 16 devices, each with 1, 2, 4 and 8 pollers. Prints for each the shortest time and the peak
+# memory of both, the ratio of the times, and whether the bytes and the exit status agree. Then 200 random traces, or
+# RANDOM_TRACES of them, each with 1, 2 and 8 pollers and twice: every run has to write the peer's bytes. The exit status is 1
+# if bytes differ.
 # [PROGRAM=PROGRAM] [RANDOM_TRACES=N] bench/threads.sh PEER [TURNS]
 set -euo pipefail
 unset CDPATH
@@ -17,8 +17,8 @@ is_count RANDOM_TRACES "$random"
 is_tool python3
 begin PROGRAM napi_replay
 
-# Rows in turn over so many devices: of five, three are packets that arrive, one is sent and one completed. Each ring has a
-# place for each packet, as threads mode wants it.
+# Rows over this many devices in turn: of five, three are packets that arrive, one is sent and one completed. Each ring has room
+# for all packets, as threads mode requires.
 spread() {
     awk -v devices="$1" -v rows=100000 'BEGIN {
         print "moment,device,event,value"
@@ -62,7 +62,7 @@ for devices in 1 4 16; do
     done
 done
 
-# agree SEED: the same bytes, line and status in all runs of this random trace.
+# agree SEED: the same bytes, message and status in all runs of this random trace.
 agree() {
     python3 "$bench/random_trace.py" "$1" > "$scratch/random.csv"
     for pollers in 1 2 8; do

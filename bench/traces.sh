@@ -1,7 +1,7 @@
 #!/bin/sh
-# Writes the traces that replay.sh plays, each the same at every call: bursts of one device, a transmit ring, and sixteen
-# devices with every event.
-# bench/traces.sh FOLDER [ROWS]     (100000 rows where none are given)
+# Writes the traces that replay.sh replays, the same at every call: bursts of one device, a transmit ring, and sixteen devices
+# with every event.
+# bench/traces.sh FOLDER [ROWS]     (100000 rows by default)
 set -eu
 . "$(dirname "$0")/../scripts/arguments.sh"
 at_most 2 "$@"
@@ -29,8 +29,8 @@ awk -v rows="$rows" 'BEGIN {
         else print row ",1,done," row % 3
 }' > "$folder/sends.csv"
 
-# Rows of all kinds by a generator of numbers (Lehmer, 16807). A device that is disabled is enabled again by a block of
-# rows that first lets the poll list and its thread let it go, so no enable meets a pending disable.
+# Rows of all kinds by a generator of random numbers (Lehmer, 16807). A device that is disabled is enabled again by a block of
+# rows that first makes the poll list and its thread release it, so no enable meets a pending disable.
 awk -v rows="$rows" '
     function number(below) { seed = seed * 16807 % 2147483647; return seed % below }
     function put(device, event, value) { if (row < rows) print ++row "," device "," event "," value }

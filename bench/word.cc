@@ -27,7 +27,7 @@ using std::memory_order;
 
 constexpr u64 SCHED = 1, MISSED = 2, DISABLE = 4, SCHED_THREADED = 512, QUEUED = u64{1} << 32;
 
-// How many schedules the second thread makes at most for each turn of the first.
+// How many schedules the second thread makes at most for each cycle of the first.
 constexpr u64 SCHEDULES = 1000;
 
 struct SeqCst {
@@ -45,7 +45,7 @@ struct Kernel {
   static constexpr bool loops = false;
 };
 
-// What a poll needs: the end of its ring, and what is counted. As large as what a context of crates/rx_ring leads to.
+// What a poll needs: the end of its ring, and the counts. As large as the contents of a context of crates/rx_ring.
 struct Context {
   void* ring = nullptr;
   std::size_t capacity = 4, head = 0, tail = 0;
@@ -74,7 +74,7 @@ struct Instance {
   alignas(128) std::atomic<u64> word{0};
   alignas(128) typename Slot::Held slot = Slot::make();
 
-  // Makes of the word what `change` says, and gives what it was before.
+  // Replaces the word by `change` of it, and returns the old one.
   template <class Change>
   u64 exchange(Change change) {
     u64 seen = word.load();

@@ -1,13 +1,13 @@
 #!/bin/sh
-# Times turns of an instance by its state word: the program of crates/bench_word beside the same turns by hand in C++
-# (bench/word.cc, g++ -O2), with every step sequentially consistent, the same with the loops of
-# compare-exchanges that the toolchain makes of each or and and, and with the kernel's orders; and with the context
-# itself in the slot or a pointer to it. Once by one thread, once while a second thread schedules all the time. Then the
-# turns of one thread by the typed calls of crates/napi_calls, beside the steps below them, and turns of busy polling
-# (taken, a completion that is held, stopped, completed), beside those of the same calls by the list.
-# All keep to two processors. Nine rounds of all programs in turn; the best time of each is shown, and how the program's compares with it.
+# Times cycles of an instance by its state word: the program of crates/bench_word, compared with the same cycles in plain C++
+# (bench/word.cc, g++ -O2), with every step sequentially consistent, the same with the loops of compare-exchanges that the
+# toolchain makes from each or and and, and with the kernel's memory orders; and with the context itself in the slot or a
+# pointer to it. Once by one thread, once while a second thread schedules all the time. Then the cycles of one thread by the
+# typed calls of crates/napi_calls, compared with the steps that they use, and cycles of busy polling (take, a held completion,
+# stop, complete), compared with those of the same calls by the list. All keep to two processors. Nine rounds of all programs in
+# turn; the best time of each is printed, with the ratio to the program's.
 #
-# usage: bench/word.sh [TURNS]     (1000000 where none are given)
+# usage: bench/word.sh [TURNS]     (1000000 by default)
 set -eu
 
 unset CDPATH
@@ -46,8 +46,8 @@ for round in 1 2 3 4 5 6 7 8 9; do
 done
 
 cat "$work/all.counts"
-# The best time of a program for one thread, for the typed calls or busy polling, or for two threads: there of the rounds in which the second
-# thread took part, so that nine polls in ten were answered that another follows.
+# The best time of a program for one thread, for the typed calls or busy polling, or for two threads: of the rounds in which the
+# second thread took part, so that nine polls in ten were followed by another.
 least() {
     awk -v threads="$2" '$1 == threads && ($1 != "two" || 10 * $7 >= 9 * $5) && (!least || $2 < least) { least = $2 }
         END { print least + 0 }' "$work/$1.times"
@@ -66,7 +66,7 @@ awk -v turns="$turns" -v spent="$(least napi_word typed)" -v steps="$(least napi
     'BEGIN { printf "one typed calls     %6.1f ns a turn, %4.2f of the steps below them\n", spent / turns, spent / steps }'
 awk -v turns="$turns" -v spent="$(least napi_word busy)" -v listed="$(least napi_word typed)" \
     'BEGIN { printf "one busy polling    %6.1f ns a turn, %4.2f of one by the list\n", spent / turns, spent / listed }'
-# What the second thread did to the turns, in the last round.
+# What the second thread did to the cycles, in the last round.
 for program in $programs; do
     awk -v name="$program" '$1 == "two" { line = $0 } END { sub(/.* ns /, "", line); printf "two %-15s %s\n", name, line }' "$work/$program.times"
 done

@@ -1,9 +1,9 @@
 #!/usr/bin/env bash
-# Runs packets through sixteen devices with 1, 2, 4 and 8 pollers, each a thread of its own beside the devices' workers: the
-# program of crates/bench_workers, three runs each, or RUNS. None may be lost or doubled; the best time of each is shown. Then
-# the processor time of a run in which everybody waits for a worker that is held at its gate for a second: at most 50 ms.
+# Runs packets through sixteen devices with 1, 2, 4 and 8 pollers, each in its own thread as are the devices' workers: the
+# program of crates/bench_workers, three runs each, or RUNS. None may be lost or doubled; the best time of each is printed. Then
+# the processor time of a run in which all threads wait for a worker that its gate delays for a second: at most 50 ms.
 #
-# usage: bench/workers.sh [PACKETS [RUNS]]     (1000000 where none are given, at most 1048576)
+# usage: bench/workers.sh [PACKETS [RUNS]]     (1000000 by default, at most 1048576)
 #
 # A billion packets go through by `bench/workers.sh 1000000 250`.
 set -euo pipefail
@@ -23,7 +23,7 @@ trap 'rm -rf "$work"' EXIT
 "$top/scripts/build.sh" bench_workers
 program=$top/crates/bench_workers/out/bench_workers
 
-# run WORD ..: one run, whose packets all have to be there once.
+# run OPTION ..: one run, in which each packet has to be counted once.
 run() {
     "$program" "$@" > "$work/counts" 2>> "$work/times"
     if [ "$(cat "$work/counts")" != "packets $3 lost 0 doubled 0" ]; then

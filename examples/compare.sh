@@ -1,7 +1,7 @@
 #!/bin/sh
 # Replays the traces that were recorded from a running Linux, and compares with what the kernel did there: the work of each
-# softirq and kthread row, the squeezes that it counted, its answers to all requests, its queue limits. Each difference is
-# shown. The exit status is 0 only where all agree.
+# softirq and kthread row, the squeezes that it counted, the results of all requests, its queue limits. Each difference is
+# printed. The exit status is 0 only if all agree.
 # examples/compare.sh [PROGRAM [SERIES]]   other builds of napi_serial and napi_series
 set -eu
 unset CDPATH
@@ -18,9 +18,9 @@ folder=$(mktemp -d)
 trap 'rm -rf "$folder"' EXIT
 differs=0
 
-# compare NAME SQUEEZES [WORD ..]: replays the trace of that name with these words. No squeezes are compared where a `-` is
-# given. Where the recording has the kernel's answers for each device, these, its word and what is left in its ring have to
-# agree too, and the polls of each row.
+# compare NAME SQUEEZES [OPTION ..]: replays the trace with that name, with these options. Squeezes aren't compared if a `-` is
+# given. If the recording has the kernel's results for each device, these, its word and what is left in its ring have to agree
+# too, and the polls of each row.
 compare() {
     name=$1
     squeezes=$2
@@ -61,7 +61,7 @@ compare() {
         }' "$examples/$name.work" "$folder/report" || differs=1
 }
 
-# compare_limits NAME: compares the series with the kernel's limit, its room and, where it is known, whether the queue was stopped
+# compare_limits NAME: compares the series with the kernel's limit, its room and, if it is known, whether the queue was stopped
 # before and after, at every completion.
 compare_limits() {
     name=$1

@@ -1,8 +1,8 @@
 /*
  * Fintaqush for C: the packet polling core of Linux 6.6 (NAPI) and byte queue limits, in user space. docs/C.md is the guide.
  *
- * A call whose type is uint32_t, and whose comment names FQ_.., returns a number of enum fq_status; of several that hold, the first that
- * is named with the call. The other calls return a value, the length of a text, a struct or nothing, as their comments say. A call
+ * A call of the type enum fq_status returns one of the statuses that its comment names; of several that hold, the first that is
+ * named. The other calls return a value, the length of a text, a struct or nothing, as their comments say. A call
  * that the object's state doesn't have returns FQ_NOT_ALLOWED and changes nothing.
  *
  * What the caller owes, since nothing here can test it:
@@ -14,8 +14,8 @@
  * - A struct fq_handle or fq_dql isn't copied, and only calls write its fields. A handle that isn't set is all zero.
  * - No call from a signal handler, nor from the forked child of a process with threads.
  *
- * No call blocks, sleeps, locks or starts a thread. fq_seat_interrupt, fq_seat_interrupt_masked, fq_seat_end, fq_seat_end_watched,
- * fq_seat_end_unmasked and fq_control_step call again as long as a try returns FQ_CHANGED, because another thread changed the instance:
+ * No call blocks, sleeps, locks or starts a thread. fq_seat_interrupt, fq_seat_interrupt_masked, fq_seat_request, fq_seat_end,
+ * fq_seat_end_watched, fq_seat_end_unmasked, fq_control_step and fq_control_open call again as long as a try returns FQ_CHANGED, because another thread changed the instance:
  * some thread always gets on, but the number of tries has no bound. fq_ring_new, fq_ring_split, fq_tx_new, fq_list_new, fq_shared_new, fq_shared_bare and
  * fq_replay take memory, where all else is as they want it; refused any, they give back what they took, and nothing has changed.
  * fq_free, fq_abandon and fq_ring_finish give memory back. No other call does either.
@@ -32,6 +32,11 @@
 #include <stdint.h>
 
 #define FQ_VERSION "1.0.0"
+/* The same in numbers, as for #if FQ_VERSION_NUMBER >= 10100, which is 1.1.0. */
+#define FQ_VERSION_MAJOR 1
+#define FQ_VERSION_MINOR 0
+#define FQ_VERSION_PATCH 0
+#define FQ_VERSION_NUMBER (FQ_VERSION_MAJOR * 10000 + FQ_VERSION_MINOR * 100 + FQ_VERSION_PATCH)
 
 #if defined(__GNUC__)
 #define FQ_NONNULL __attribute__((nonnull))
@@ -43,13 +48,20 @@
 #define FQ_RESTRICT
 #endif
 
+/* An enum is a uint32_t, also in C++, so that it holds what a later library answers and this header doesn't name. */
+#ifdef __cplusplus
+#define FQ_NUMBER : uint32_t
+#else
+#define FQ_NUMBER
+#endif
+
 #ifdef __cplusplus
 extern "C" {
 #endif
 
 /* What calls answer: 0 made; 1 to 15 the faults of a queue limit, not made; 16 to 99 what a call found, where FQ_NOT_THERE, FQ_BUSY,
  * FQ_CHANGED, FQ_STOPPED, FQ_MORE_THAN_SENT, and FQ_FULL but for a burst, are of calls that changed nothing; from 100 on not made. */
-enum fq_status {
+enum fq_status FQ_NUMBER {
     FQ_OK = 0,
     FQ_BAD_BOUNDS = 1,         /* limit: min above max, or max above 1879048192 */
     FQ_TOO_LARGE = 2,          /* limit, send: an object above 268435455 */
@@ -86,10 +98,13 @@ enum fq_status {
     FQ_BAD_TRACE = 120      /* replay: the bytes are no trace, or a row of it can't be played */
 };
 
-/* The library's FQ_VERSION, the name of a status, and that of a trace's fault, for callers without this header's inline functions: into
- * an array of room bytes, with a 0 behind. Each answers the text's length; the array stays as it is where that isn't below room. */
+/* Texts, into an array of room bytes, with a 0 behind: the library's FQ_VERSION; the name of a status, and what it says in words ("?" of a
+ * number that is none); the name of a trace's fault. Each answers the text's length; the array stays as it is where that isn't below
+ * room. FQ_MESSAGE_ROOM bytes are room for each of them. */
+#define FQ_MESSAGE_ROOM 96
 FQ_NONNULL size_t fq_version(char *to, size_t room);
 FQ_NONNULL size_t fq_status_text(uint32_t status, char *to, size_t room);
+FQ_NONNULL size_t fq_status_message(uint32_t status, char *to, size_t room);
 FQ_NONNULL size_t fq_fault_text(uint32_t fault, char *to, size_t room);
 
 /* The structs that calls read and write, but for those of fq_replay, and the bytes of each, for bindings to check theirs: 0 of any other
@@ -139,7 +154,7 @@ static inline const char *fq_status_name(uint32_t status) {
     return "?";
 }
 
-/* To whom an instance is handed: a poll list, or a thread of its own. */
+/* To whom an instance is handed: a poll list, or a thread of its own. Where calls read it from the state word they say so. */
 enum fq_kind { FQ_LIST = 0, FQ_THREAD = 1 };
 
 /* How a poll ended: its device isn't on the list any more, is to be listed again, or handed to its thread; gave its whole weight,
@@ -177,24 +192,26 @@ struct fq_dql_made {
 struct fq_dql_made fq_dql_new(uint32_t min, uint32_t max, uint64_t hold_ms, uint64_t now_ms);
 
 /* The same, into the caller's struct. */
-FQ_CHECKED static inline uint32_t fq_dql_init(struct fq_dql *dql, uint32_t min, uint32_t max, uint64_t hold_ms, uint64_t now_ms) {
+FQ_CHECKED static inline enum fq_status fq_dql_init(struct fq_dql *dql, uint32_t min, uint32_t max, uint64_t hold_ms, uint64_t now_ms) {
     struct fq_dql_made made = fq_dql_new(min, max, hold_ms, now_ms);
     *dql = made.dql;
-    return made.status;
+    return (enum fq_status)made.status;
 }
 
 /* The same for callers without struct results, of a struct that is all 0 or a limit: that stays where it answers FQ_BAD_BOUNDS. */
-FQ_CHECKED uint32_t fq_dql_renew(struct fq_dql *dql, uint32_t min, uint32_t max, uint64_t hold_ms, uint64_t now_ms);
+FQ_CHECKED enum fq_status fq_dql_renew(struct fq_dql *dql, uint32_t min, uint32_t max, uint64_t hold_ms, uint64_t now_ms);
 
 /* An object was given to the device (dql_queued): FQ_OK, FQ_TOO_LARGE, FQ_TOO_MUCH_IN_FLIGHT. */
-FQ_CHECKED uint32_t fq_dql_queued(struct fq_dql *dql, uint32_t count);
+FQ_CHECKED enum fq_status fq_dql_queued(struct fq_dql *dql, uint32_t count);
 /* The device is done with so many (dql_completed), and the limit adapts: FQ_OK, FQ_MORE_THAN_QUEUED. */
-FQ_CHECKED uint32_t fq_dql_completed(struct fq_dql *dql, uint32_t count, uint64_t now_ms);
+FQ_CHECKED enum fq_status fq_dql_completed(struct fq_dql *dql, uint32_t count, uint64_t now_ms);
 /* Forgets what is in flight, and starts over (dql_reset). */
 FQ_NONNULL void fq_dql_reset(struct fq_dql *dql, uint64_t now_ms);
+/* The limit, in bytes. */
 FQ_NONNULL uint32_t fq_dql_limit(const struct fq_dql *dql);
 /* What may still be given to the device (dql_avail); negative: the queue is to be stopped. */
 FQ_NONNULL int64_t fq_dql_avail(const struct fq_dql *dql);
+/* The bytes that were queued and aren't complete. */
 FQ_NONNULL uint32_t fq_dql_in_flight(const struct fq_dql *dql);
 
 /* The same three, read in place without a call: the struct's first four numbers are the bytes queued and completed, the last
@@ -219,25 +236,32 @@ struct fq_napi fq_napi_new(uint32_t controller);
 /* The same, into the caller's struct. */
 FQ_NONNULL void fq_napi_init(struct fq_napi *napi, uint32_t controller);
 /* Asks for a poll (napi_schedule_prep): FQ_GRANTED, FQ_MISSED, FQ_DISABLED. */
-FQ_CHECKED uint32_t fq_napi_schedule(struct fq_napi *napi, uint32_t who);
+FQ_CHECKED enum fq_status fq_napi_schedule(struct fq_napi *napi, uint32_t who);
 /* Hands a granted instance over (____napi_schedule), or a polled one to the list again: FQ_OK, FQ_BAD_KIND; FQ_NOT_ALLOWED, also of a
  * polled one to its thread. */
-FQ_CHECKED uint32_t fq_napi_hand(struct fq_napi *napi, uint32_t who, uint32_t kind);
+FQ_CHECKED enum fq_status fq_napi_hand(struct fq_napi *napi, uint32_t who, uint32_t kind);
 /* Takes it from the list or as its thread: FQ_TAKEN, FQ_BAD_KIND, FQ_NOT_THERE. */
-FQ_CHECKED uint32_t fq_napi_take(struct fq_napi *napi, uint32_t who, uint32_t kind);
+FQ_CHECKED enum fq_status fq_napi_take(struct fq_napi *napi, uint32_t who, uint32_t kind);
 /* Ends a poll (napi_complete_done): FQ_RELEASED, FQ_AGAIN, FQ_HELD, FQ_NOT_ALLOWED. */
-FQ_CHECKED uint32_t fq_napi_complete(struct fq_napi *napi, uint32_t who);
+FQ_CHECKED enum fq_status fq_napi_complete(struct fq_napi *napi, uint32_t who);
+/* The end of a poll of the caller's, as the kernel ends it (__napi_poll); after a full one, which gave its whole weight, the instance is
+ * on the list again, or stays with its thread (FQ_HELD: poll on), unless a disable is pending. After any other, and under a disable, it
+ * is completed, and handed over again where a request was missed: to its thread where FQ_BIT_THREADED is set. *next tells fq_run_polled
+ * how the poll ended; after FQ_NEXT_AGAIN_THREAD the thread is to be woken. FQ_OK; FQ_HELD, also of a busy poller; FQ_NOT_ALLOWED. *next
+ * is FQ_NEXT_GONE on all but FQ_OK. */
+FQ_CHECKED enum fq_status fq_napi_end(struct fq_napi *FQ_RESTRICT napi, uint32_t who, bool full, uint32_t *FQ_RESTRICT next);
 /* Takes an idle instance to busy poll it (napi_busy_loop): FQ_TAKEN, FQ_BUSY. */
-FQ_CHECKED uint32_t fq_napi_busy_take(struct fq_napi *napi, uint32_t who);
+FQ_CHECKED enum fq_status fq_napi_busy_take(struct fq_napi *napi, uint32_t who);
 /* Stops that (busy_poll_stop), and one poll has to follow: FQ_OK, FQ_NOT_ALLOWED. */
-FQ_CHECKED uint32_t fq_napi_busy_stop(struct fq_napi *napi, uint32_t who);
+FQ_CHECKED enum fq_status fq_napi_busy_stop(struct fq_napi *napi, uint32_t who);
 /* Whether polls are handed to the instance's own thread (dev_set_threaded). */
 FQ_NONNULL void fq_napi_set_threaded(struct fq_napi *napi, uint32_t who, bool threaded);
-/* The controller's: napi_disable is mark, take until FQ_TAKEN, unmark; napi_enable. FQ_NOT_ALLOWED by anyone else. */
-FQ_CHECKED uint32_t fq_napi_mark_disable(struct fq_napi *napi, uint32_t who);
-FQ_CHECKED uint32_t fq_napi_take_disable(struct fq_napi *napi, uint32_t who);
-FQ_CHECKED uint32_t fq_napi_unmark(struct fq_napi *napi, uint32_t who);
-FQ_CHECKED uint32_t fq_napi_enable(struct fq_napi *napi, uint32_t who, bool threaded);
+/* The controller's: napi_disable is mark, take until FQ_TAKEN, unmark; napi_enable. FQ_NOT_ALLOWED by anyone else. Ask once after each
+ * enable (fq_napi_schedule): what was asked before isn't polled, and a card that is masked interrupts nobody. */
+FQ_CHECKED enum fq_status fq_napi_mark_disable(struct fq_napi *napi, uint32_t who);
+FQ_CHECKED enum fq_status fq_napi_take_disable(struct fq_napi *napi, uint32_t who);
+FQ_CHECKED enum fq_status fq_napi_unmark(struct fq_napi *napi, uint32_t who);
+FQ_CHECKED enum fq_status fq_napi_enable(struct fq_napi *napi, uint32_t who, bool threaded);
 /* The state word, of the FQ_BIT_.. that are set. */
 FQ_NONNULL uint64_t fq_napi_word(const struct fq_napi *napi);
 
@@ -253,12 +277,13 @@ struct fq_handle {
 
 /* Frees what a handle leads to, which then leads to nothing: FQ_OK, FQ_BAD_HANDLE; FQ_NOT_ALLOWED, and all stays, of a seat that
  * doesn't rest, of a controller that isn't off, and of a list in a run. Packets that lie in a ring are the caller's loss: poll
- * them out before. */
-FQ_CHECKED uint32_t fq_free(struct fq_handle *handle);
-/* Frees it whatever its state is: FQ_OK, FQ_BAD_HANDLE. An instance whose poller was given up is polled no more. */
-FQ_CHECKED uint32_t fq_abandon(struct fq_handle *handle);
+ * them out before. Its answer needn't be read. */
+FQ_NONNULL enum fq_status fq_free(struct fq_handle *handle);
+/* Frees it whatever its state is: FQ_OK, FQ_BAD_HANDLE. An instance whose poller was given up is polled no more.
+ * Its answer needn't be read. */
+FQ_NONNULL enum fq_status fq_abandon(struct fq_handle *handle);
 /* Lets `to` lead to what `from` leads to, which then leads to nothing: FQ_OK; FQ_IN_USE where `to` is set; FQ_BAD_HANDLE. */
-FQ_CHECKED uint32_t fq_move(struct fq_handle *FQ_RESTRICT from, struct fq_handle *FQ_RESTRICT to);
+FQ_CHECKED enum fq_status fq_move(struct fq_handle *FQ_RESTRICT from, struct fq_handle *FQ_RESTRICT to);
 
 /* ---- Receive rings. A packet's number is the caller's own: an index, a pointer. */
 
@@ -268,16 +293,16 @@ struct fq_packet {
 };
 
 /* A ring of 1 to 65536 places: FQ_OK, FQ_IN_USE, FQ_BAD_CAPACITY, FQ_OUT_OF_MEMORY. */
-FQ_CHECKED uint32_t fq_ring_new(struct fq_handle *ring, size_t capacity);
+FQ_CHECKED enum fq_status fq_ring_new(struct fq_handle *ring, size_t capacity);
 /* Puts a packet in, behind all others: FQ_OK, FQ_FULL, FQ_BAD_HANDLE. */
-FQ_CHECKED uint32_t fq_ring_put(struct fq_handle *ring, uint64_t number, uint32_t bytes);
+FQ_CHECKED enum fq_status fq_ring_put(struct fq_handle *ring, uint64_t number, uint32_t bytes);
 /* Puts the packets of an array in, behind all others and in their order: as many of the first ones as fit, and *count tells how
  * many. FQ_OK where these are all, FQ_FULL where not; FQ_BAD_HANDLE, and a count of 0. A poll sees all of them at once. Buffers used in
  * turn are as many as the ring's places, 64 for a poll, and the longest burst, which is 1 of single puts. */
-FQ_CHECKED uint32_t fq_ring_put_all(struct fq_handle *FQ_RESTRICT ring, const struct fq_packet *FQ_RESTRICT packets, size_t len, size_t *FQ_RESTRICT count);
+FQ_CHECKED enum fq_status fq_ring_put_all(struct fq_handle *FQ_RESTRICT ring, const struct fq_packet *FQ_RESTRICT packets, size_t len, size_t *FQ_RESTRICT count);
 /* Takes the first packets out, at most weight (1 to 64), into an array of len places, at least the weight: FQ_OK and their
  * count, else a count of 0: FQ_BAD_WEIGHT, FQ_NO_ROOM, FQ_BAD_HANDLE, as of a ring whose other end an instance has, or another handle. */
-FQ_CHECKED uint32_t fq_ring_poll(struct fq_handle *FQ_RESTRICT ring, size_t weight, struct fq_packet *FQ_RESTRICT out, size_t len, size_t *FQ_RESTRICT count);
+FQ_CHECKED enum fq_status fq_ring_poll(struct fq_handle *FQ_RESTRICT ring, size_t weight, struct fq_packet *FQ_RESTRICT out, size_t len, size_t *FQ_RESTRICT count);
 
 struct fq_counts {
     uint64_t polls, packets, bytes; /* each stays at its greatest value */
@@ -289,20 +314,20 @@ struct fq_totals {
 
 /* What is counted of a ring's polls, of whoever has its poll end: a ring, or that end; a seat that polls; the controller of a
  * disabled instance: FQ_OK, FQ_BAD_HANDLE; FQ_NOT_ALLOWED of any other, and *counts stays. */
-FQ_CHECKED uint32_t fq_count(struct fq_handle *FQ_RESTRICT handle, struct fq_counts *FQ_RESTRICT counts);
+FQ_CHECKED enum fq_status fq_count(struct fq_handle *FQ_RESTRICT handle, struct fq_counts *FQ_RESTRICT counts);
 struct fq_ring_shown {
     uint64_t put;  /* the packets put so far, which stays at its greatest value: less fq_count's packets, those that lie in it */
     size_t places; /* the packets that it can hold */
 };
 
 /* What a ring shows, or its input alone: FQ_OK; FQ_BAD_HANDLE, and *shown stays. */
-FQ_CHECKED uint32_t fq_ring_show(struct fq_handle *FQ_RESTRICT ring, struct fq_ring_shown *FQ_RESTRICT shown);
+FQ_CHECKED enum fq_status fq_ring_show(struct fq_handle *FQ_RESTRICT ring, struct fq_ring_shown *FQ_RESTRICT shown);
 /* A ring of two threads, without an instance: `ring` is its input from then on, which takes puts, and `out` its poll end, which
  * takes polls: FQ_OK, FQ_IN_USE, FQ_BAD_HANDLE, FQ_OUT_OF_MEMORY. Each is freed by itself. */
-FQ_CHECKED uint32_t fq_ring_split(struct fq_handle *FQ_RESTRICT ring, struct fq_handle *FQ_RESTRICT out);
+FQ_CHECKED enum fq_status fq_ring_split(struct fq_handle *FQ_RESTRICT ring, struct fq_handle *FQ_RESTRICT out);
 /* The end of a ring that was never split, with its totals; the handle leads to nothing then: FQ_OK; FQ_BAD_HANDLE, and all
  * stays. */
-FQ_CHECKED uint32_t fq_ring_finish(struct fq_handle *FQ_RESTRICT ring, struct fq_totals *FQ_RESTRICT totals);
+FQ_CHECKED enum fq_status fq_ring_finish(struct fq_handle *FQ_RESTRICT ring, struct fq_totals *FQ_RESTRICT totals);
 
 /* ---- Transmit rings under a byte queue limit (netdev_tx_sent_queue, netdev_tx_completed_queue). The ring keeps the sizes of the
  * packets that were sent and aren't complete, in order; the packets themselves are the caller's. Moments are milliseconds. */
@@ -317,15 +342,15 @@ struct fq_tx_shown {
 
 /* A ring of 1 to 65536 packets, not stopped, over a new limit between min and max, which keeps slack for hold_ms (dql_init):
  * FQ_OK, FQ_IN_USE, FQ_BAD_BOUNDS, FQ_BAD_CAPACITY, FQ_OUT_OF_MEMORY. fq_free frees it, whatever it holds. */
-FQ_CHECKED uint32_t fq_tx_new(struct fq_handle *tx, size_t capacity, uint32_t min, uint32_t max, uint64_t hold_ms, uint64_t now_ms);
+FQ_CHECKED enum fq_status fq_tx_new(struct fq_handle *tx, size_t capacity, uint32_t min, uint32_t max, uint64_t hold_ms, uint64_t now_ms);
 /* A packet of so many bytes is given to the device; the queue is stopped where less than nothing is available then: FQ_OK;
  * nothing is sent: FQ_STOPPED, else FQ_FULL, else FQ_TOO_LARGE, else FQ_TOO_MUCH_IN_FLIGHT; FQ_BAD_HANDLE. */
-FQ_CHECKED uint32_t fq_tx_send(struct fq_handle *tx, uint32_t bytes);
+FQ_CHECKED enum fq_status fq_tx_send(struct fq_handle *tx, uint32_t bytes);
 /* The device is done with the count oldest packets. If these have any bytes the limit adapts, and where it has room again the
  * queue is started: FQ_OK, FQ_MORE_THAN_SENT (nothing is done), FQ_BAD_HANDLE. */
-FQ_CHECKED uint32_t fq_tx_done(struct fq_handle *tx, uint32_t count, uint64_t now_ms);
+FQ_CHECKED enum fq_status fq_tx_done(struct fq_handle *tx, uint32_t count, uint64_t now_ms);
 /* What the ring shows: FQ_OK; FQ_BAD_HANDLE, and *state stays. */
-FQ_CHECKED uint32_t fq_tx_state(struct fq_handle *FQ_RESTRICT tx, struct fq_tx_shown *FQ_RESTRICT state);
+FQ_CHECKED enum fq_status fq_tx_state(struct fq_handle *FQ_RESTRICT tx, struct fq_tx_shown *FQ_RESTRICT state);
 
 /* What a driver's timer keeps of a transmit ring (dev_watchdog): all 0 at first. */
 struct fq_tx_watchdog {
@@ -336,10 +361,10 @@ struct fq_tx_watchdog {
 
 /* Looks at a ring in each tick of that timer: *stuck tells whether it has been stopped, with no byte completed, for limit_ms since
  * the first look that found it so, none of them by a clock that went back: FQ_OK; FQ_BAD_HANDLE, and not stuck. */
-FQ_CHECKED static inline uint32_t fq_tx_watch(struct fq_handle *FQ_RESTRICT tx, struct fq_tx_watchdog *FQ_RESTRICT watchdog, uint64_t limit_ms, uint64_t now_ms, bool *FQ_RESTRICT stuck) {
+FQ_CHECKED static inline enum fq_status fq_tx_watch(struct fq_handle *FQ_RESTRICT tx, struct fq_tx_watchdog *FQ_RESTRICT watchdog, uint64_t limit_ms, uint64_t now_ms, bool *FQ_RESTRICT stuck) {
     struct fq_tx_shown state;
     *stuck = false;
-    const uint32_t said = fq_tx_state(tx, &state);
+    const enum fq_status said = fq_tx_state(tx, &state);
     if (said != FQ_OK) return said;
     if (!state.stopped || !watchdog->private_stopped || state.completed != watchdog->private_completed) {
         watchdog->private_stopped = state.stopped;
@@ -354,28 +379,28 @@ FQ_CHECKED static inline uint32_t fq_tx_watch(struct fq_handle *FQ_RESTRICT tx, 
 
 /* An instance over the ring's poll end, with its controller and 2 to 8 seats, its callers: FQ_OK, FQ_IN_USE, FQ_BAD_COUNT,
  * FQ_BAD_HANDLE, FQ_OUT_OF_MEMORY. It is disabled. `ring` is its input from then on. */
-FQ_CHECKED uint32_t fq_shared_new(struct fq_handle *FQ_RESTRICT ring, struct fq_handle *FQ_RESTRICT control, struct fq_handle *FQ_RESTRICT seats, size_t count);
+FQ_CHECKED enum fq_status fq_shared_new(struct fq_handle *FQ_RESTRICT ring, struct fq_handle *FQ_RESTRICT control, struct fq_handle *FQ_RESTRICT seats, size_t count);
 
 /* An instance without a ring of the caller's, whose polls read what they will; fq_seat_poll gives nothing there: FQ_OK, FQ_IN_USE,
  * FQ_BAD_COUNT, FQ_OUT_OF_MEMORY. All else is as for fq_shared_new. */
-FQ_CHECKED uint32_t fq_shared_bare(struct fq_handle *FQ_RESTRICT control, struct fq_handle *FQ_RESTRICT seats, size_t count);
+FQ_CHECKED enum fq_status fq_shared_bare(struct fq_handle *FQ_RESTRICT control, struct fq_handle *FQ_RESTRICT seats, size_t count);
 
 /* The calls of a seat, behind FQ_BAD_KIND, FQ_BAD_WEIGHT, FQ_NO_ROOM and FQ_BAD_HANDLE. Each makes one try. One that rests may schedule, take, busy take and set threaded; */
-FQ_CHECKED uint32_t fq_seat_schedule(struct fq_handle *seat); /* FQ_GRANTED, FQ_MISSED, FQ_DISABLED, FQ_CHANGED */
-FQ_CHECKED uint32_t fq_seat_take(struct fq_handle *seat, uint32_t kind); /* FQ_TAKEN, FQ_NOT_THERE */
-FQ_CHECKED uint32_t fq_seat_busy_take(struct fq_handle *seat); /* FQ_TAKEN, FQ_BUSY, FQ_CHANGED */
-FQ_CHECKED uint32_t fq_seat_set_threaded(struct fq_handle *seat, bool threaded); /* FQ_OK */
+FQ_CHECKED enum fq_status fq_seat_schedule(struct fq_handle *seat); /* FQ_GRANTED, FQ_MISSED, FQ_DISABLED, FQ_CHANGED */
+FQ_CHECKED enum fq_status fq_seat_take(struct fq_handle *seat, uint32_t kind); /* FQ_TAKEN, FQ_NOT_THERE */
+FQ_CHECKED enum fq_status fq_seat_busy_take(struct fq_handle *seat); /* FQ_TAKEN, FQ_BUSY, FQ_CHANGED */
+FQ_CHECKED enum fq_status fq_seat_set_threaded(struct fq_handle *seat, bool threaded); /* FQ_OK */
 /* one that was granted the instance has to hand it over; */
-FQ_CHECKED uint32_t fq_seat_hand(struct fq_handle *seat, uint32_t kind); /* FQ_OK */
+FQ_CHECKED enum fq_status fq_seat_hand(struct fq_handle *seat, uint32_t kind); /* FQ_OK */
 /* one that polls may poll, and then completes or requeues. */
-FQ_CHECKED uint32_t fq_seat_poll(struct fq_handle *FQ_RESTRICT seat, size_t weight, struct fq_packet *FQ_RESTRICT out, size_t len, size_t *FQ_RESTRICT count);
-FQ_CHECKED uint32_t fq_seat_requeue(struct fq_handle *seat);  /* FQ_OK: it is on the list again */
-FQ_CHECKED uint32_t fq_seat_complete(struct fq_handle *seat); /* FQ_RELEASED, FQ_AGAIN, FQ_CHANGED; FQ_HELD of a busy poller */
+FQ_CHECKED enum fq_status fq_seat_poll(struct fq_handle *FQ_RESTRICT seat, size_t weight, struct fq_packet *FQ_RESTRICT out, size_t len, size_t *FQ_RESTRICT count);
+FQ_CHECKED enum fq_status fq_seat_requeue(struct fq_handle *seat);  /* FQ_OK: it is on the list again */
+FQ_CHECKED enum fq_status fq_seat_complete(struct fq_handle *seat); /* FQ_RELEASED, FQ_AGAIN, FQ_CHANGED; FQ_HELD of a busy poller */
 /* One that busy polls may poll and complete, and stops: it then polls once more. */
-FQ_CHECKED uint32_t fq_seat_busy_stop(struct fq_handle *seat); /* FQ_OK, FQ_CHANGED */
+FQ_CHECKED enum fq_status fq_seat_busy_stop(struct fq_handle *seat); /* FQ_OK, FQ_CHANGED */
 
 /* Whatever the seat is, what the state word tells, of the FQ_BIT_..: FQ_OK, FQ_BAD_HANDLE. */
-FQ_CHECKED uint32_t fq_seat_look(struct fq_handle *FQ_RESTRICT seat, uint64_t *FQ_RESTRICT word);
+FQ_CHECKED enum fq_status fq_seat_look(struct fq_handle *FQ_RESTRICT seat, uint64_t *FQ_RESTRICT word);
 
 struct fq_answers { /* each stays at its greatest value */
     uint64_t granted, missed, disabled; /* requests (FQ_GRANTED ..) */
@@ -384,7 +409,7 @@ struct fq_answers { /* each stays at its greatest value */
 };
 
 /* How often the calls of a seat were answered what since it was made: FQ_OK; FQ_BAD_HANDLE, and *answers stays. */
-FQ_CHECKED uint32_t fq_seat_count(struct fq_handle *FQ_RESTRICT seat, struct fq_answers *FQ_RESTRICT answers);
+FQ_CHECKED enum fq_status fq_seat_count(struct fq_handle *FQ_RESTRICT seat, struct fq_answers *FQ_RESTRICT answers);
 
 /* What a driver does with its card, each with `at`. A call that isn't made may be null. */
 struct fq_card {
@@ -398,43 +423,59 @@ struct fq_card {
 /* An interrupt: schedules, try after try until one decides, and where it was granted masks and hands over, in the kernel's order:
  * masked behind the hand-over the card stays masked where the poller is faster. The kind goes by FQ_BIT_THREADED. FQ_GRANTED (and it
  * was handed over), FQ_MISSED, FQ_DISABLED; FQ_BAD_KIND, FQ_BAD_HANDLE, FQ_NOT_ALLOWED. */
-FQ_CHECKED static inline uint32_t fq_seat_interrupt_masked(struct fq_handle *seat, uint32_t kind, const struct fq_card *card) {
-    uint32_t said;
+FQ_CHECKED static inline enum fq_status fq_seat_interrupt_masked(struct fq_handle *seat, uint32_t kind, const struct fq_card *card) {
+    enum fq_status said;
     if (kind > FQ_THREAD) return FQ_BAD_KIND;
     do said = fq_seat_schedule(seat);
     while (said == FQ_CHANGED);
     if (said != FQ_GRANTED) return said;
     if (card->mask != NULL) card->mask(card->at);
-    const uint32_t handed = fq_seat_hand(seat, kind);
+    const enum fq_status handed = fq_seat_hand(seat, kind);
     return handed == FQ_OK ? said : handed;
 }
 
 /* The same of a card that is masked already, or never. */
-FQ_CHECKED static inline uint32_t fq_seat_interrupt(struct fq_handle *seat, uint32_t kind) {
+FQ_CHECKED static inline enum fq_status fq_seat_interrupt(struct fq_handle *seat, uint32_t kind) {
     const struct fq_card none = {NULL, NULL, NULL, NULL, NULL};
     return fq_seat_interrupt_masked(seat, kind, &none);
 }
 
 /* Hands an instance that was granted over as the kernel does (____napi_schedule): to its thread where FQ_BIT_THREADED is set. *next
  * is FQ_NEXT_AGAIN or FQ_NEXT_AGAIN_THREAD: FQ_OK, FQ_BAD_HANDLE, FQ_NOT_ALLOWED. */
-FQ_CHECKED static inline uint32_t fq_seat_hand_again(struct fq_handle *FQ_RESTRICT seat, uint32_t *FQ_RESTRICT next) {
+FQ_CHECKED static inline enum fq_status fq_seat_hand_again(struct fq_handle *FQ_RESTRICT seat, uint32_t *FQ_RESTRICT next) {
     uint64_t word;
-    const uint32_t said = fq_seat_look(seat, &word);
+    const enum fq_status said = fq_seat_look(seat, &word);
     *next = said == FQ_OK && word & FQ_BIT_THREADED ? FQ_NEXT_AGAIN_THREAD : FQ_NEXT_AGAIN;
     return said == FQ_OK ? fq_seat_hand(seat, *next == FQ_NEXT_AGAIN ? FQ_LIST : FQ_THREAD) : said;
+}
+
+/* A request for a poll (napi_schedule), whoever makes it: an interrupt, a timer, a driver's open. As fq_seat_interrupt_masked, and the
+ * kind is read from the state word. *next tells where it was handed: FQ_NEXT_AGAIN, and the number is to be listed, FQ_NEXT_AGAIN_THREAD,
+ * and the thread is to be woken; FQ_NEXT_GONE on all but FQ_GRANTED. FQ_GRANTED, FQ_MISSED, FQ_DISABLED; FQ_BAD_HANDLE, FQ_NOT_ALLOWED. */
+FQ_CHECKED static inline enum fq_status fq_seat_request(struct fq_handle *FQ_RESTRICT seat, const struct fq_card *FQ_RESTRICT card, uint32_t *FQ_RESTRICT next) {
+    enum fq_status said;
+    *next = FQ_NEXT_GONE;
+    do said = fq_seat_schedule(seat);
+    while (said == FQ_CHANGED);
+    if (said != FQ_GRANTED) return said;
+    if (card->mask != NULL) card->mask(card->at);
+    const enum fq_status handed = fq_seat_hand_again(seat, next);
+    if (handed == FQ_OK) return said;
+    *next = FQ_NEXT_GONE;
+    return handed;
 }
 
 /* The end of a poll, as the kernel ends it (__napi_poll). After a full one, which gave its whole weight, where no disable is pending:
  * who took the instance from the list has it on the list again, and who took it as its thread polls on, at once (FQ_HELD). After any
  * other it is completed, try after try until one decides, and handed over again where a request was missed. *next tells fq_run_polled
  * how the poll ended: FQ_NEXT_GONE, FQ_NEXT_AGAIN, FQ_NEXT_AGAIN_THREAD, FQ_NEXT_REPOLL; of FQ_NEXT_AGAIN and FQ_NEXT_REPOLL the number
- * is still to be listed. FQ_OK; FQ_HELD: the seat polls on, as does a busy poller; FQ_NOT_ALLOWED where it doesn't poll, and
+ * is still to be listed, and of FQ_NEXT_AGAIN_THREAD the thread is still to be woken: it may follow a poll from the list too. FQ_OK; FQ_HELD: the seat polls on, as does a busy poller; FQ_NOT_ALLOWED where it doesn't poll, and
  * FQ_BAD_HANDLE. *next is FQ_NEXT_GONE on all but FQ_OK. A seat polls as thread while FQ_BIT_SCHED_THREADED is set, which stays through
  * an fq_seat_requeue. */
-FQ_CHECKED static inline uint32_t fq_seat_end(struct fq_handle *FQ_RESTRICT seat, bool full, uint32_t *FQ_RESTRICT next) {
+FQ_CHECKED static inline enum fq_status fq_seat_end(struct fq_handle *FQ_RESTRICT seat, bool full, uint32_t *FQ_RESTRICT next) {
     uint64_t word;
     *next = FQ_NEXT_GONE;
-    uint32_t said = fq_seat_look(seat, &word);
+    enum fq_status said = fq_seat_look(seat, &word);
     if (said != FQ_OK) return said;
     if (full && !(word & (FQ_BIT_DISABLE | FQ_BIT_IN_BUSY_POLL | FQ_BIT_SCHED_THREADED))) {
         said = fq_seat_requeue(seat);
@@ -444,7 +485,7 @@ FQ_CHECKED static inline uint32_t fq_seat_end(struct fq_handle *FQ_RESTRICT seat
     if (full && !(word & (FQ_BIT_DISABLE | FQ_BIT_IN_BUSY_POLL))) {
         struct fq_counts counts; /* of a seat that polls alone */
         said = fq_count(seat, &counts);
-        return said == FQ_OK ? (uint32_t)FQ_HELD : said;
+        return said == FQ_OK ? FQ_HELD : said;
     }
     do said = fq_seat_complete(seat);
     while (said == FQ_CHANGED);
@@ -457,10 +498,11 @@ FQ_CHECKED static inline uint32_t fq_seat_end(struct fq_handle *FQ_RESTRICT seat
 
 #if defined(__GNUC__)
 /* The end of a poll of a card that can be looked at: as fq_seat_end, and where the instance was released it unmasks, looks behind a
- * fence, and if something is there asks for a poll itself, masks and hands over. An interrupt of an edge is lost without this look. All
- * answers are those of fq_seat_end. */
-FQ_CHECKED static inline uint32_t fq_seat_end_watched(struct fq_handle *FQ_RESTRICT seat, bool full, const struct fq_card *FQ_RESTRICT card, uint32_t *FQ_RESTRICT next) {
-    uint32_t said = fq_seat_end(seat, full, next);
+ * fence, and if something is there asks for a poll itself, masks and hands over. An interrupt of an edge is lost without this look. Where
+ * FQ_BIT_THREADED was set meanwhile that hands over to the thread: wake it after FQ_NEXT_AGAIN_THREAD. All answers are those of
+ * fq_seat_end. */
+FQ_CHECKED static inline enum fq_status fq_seat_end_watched(struct fq_handle *FQ_RESTRICT seat, bool full, const struct fq_card *FQ_RESTRICT card, uint32_t *FQ_RESTRICT next) {
+    enum fq_status said = fq_seat_end(seat, full, next);
     if (said != FQ_OK || *next != FQ_NEXT_GONE) return said;
     card->unmask(card->at);
     __sync_synchronize();
@@ -477,12 +519,12 @@ FQ_CHECKED static inline uint32_t fq_seat_end_watched(struct fq_handle *FQ_RESTR
  * still, polls the rest of the weight, which *work then counts too, and ends as fq_seat_end, full or not. An interrupt meanwhile is
  * missed, so that one more poll follows; the card is masked for that, as it is where the poll was full. All answers are those of
  * fq_seat_end, behind FQ_BAD_WEIGHT, and nothing is done, of a weight that isn't 1 to 64. */
-FQ_CHECKED static inline uint32_t fq_seat_end_unmasked(struct fq_handle *FQ_RESTRICT seat, const struct fq_card *FQ_RESTRICT card, size_t weight, size_t *FQ_RESTRICT work, uint32_t *FQ_RESTRICT next) {
+FQ_CHECKED static inline enum fq_status fq_seat_end_unmasked(struct fq_handle *FQ_RESTRICT seat, const struct fq_card *FQ_RESTRICT card, size_t weight, size_t *FQ_RESTRICT work, uint32_t *FQ_RESTRICT next) {
     struct fq_counts counts; /* of a seat that polls alone */
     uint64_t word;
     *next = FQ_NEXT_GONE;
     if (weight < 1 || weight > 64) return FQ_BAD_WEIGHT;
-    uint32_t said = fq_seat_look(seat, &word);
+    enum fq_status said = fq_seat_look(seat, &word);
     if (said == FQ_OK && word & FQ_BIT_IN_BUSY_POLL) return fq_seat_end(seat, false, next);
     if (said == FQ_OK) said = fq_count(seat, &counts);
     if (said != FQ_OK) return said;
@@ -500,26 +542,39 @@ FQ_CHECKED static inline uint32_t fq_seat_end_unmasked(struct fq_handle *FQ_REST
     return fq_seat_hand_again(seat, next);
 }
 
-/* The controller's. Off: enable. On: mark. Marked: try to take, until FQ_TAKEN, which is off again (napi_disable). */
-FQ_CHECKED uint32_t fq_control_enable(struct fq_handle *control, bool threaded); /* FQ_OK, FQ_CHANGED */
-FQ_CHECKED uint32_t fq_control_mark(struct fq_handle *control);                  /* FQ_OK */
-FQ_CHECKED uint32_t fq_control_try_take(struct fq_handle *control);              /* FQ_TAKEN, FQ_BUSY, FQ_CHANGED */
+/* The controller's. Off: enable. On: mark. Marked: try to take, until FQ_TAKEN, which is off again (napi_disable). Ask once after each
+ * enable, by a seat (fq_seat_request), or enable by fq_control_open, which asks: a request that came before was missed and isn't polled,
+ * so that a card that is masked, with a full ring, would stand still for ever. */
+FQ_CHECKED enum fq_status fq_control_enable(struct fq_handle *control, bool threaded); /* FQ_OK, FQ_CHANGED */
+FQ_CHECKED enum fq_status fq_control_mark(struct fq_handle *control);                  /* FQ_OK */
+FQ_CHECKED enum fq_status fq_control_try_take(struct fq_handle *control);              /* FQ_TAKEN, FQ_BUSY, FQ_CHANGED */
 
-/* One step of a driver's open (on) or stop, to be made between its polls until it answers FQ_OK: it is enabled, or off. FQ_BUSY: a
+/* One step of a driver's open (on) or stop, to be made between its polls until it answers FQ_OK: it is enabled, and somebody still has to
+ * ask once (fq_control_open does); or it is off. FQ_BUSY: a
  * disable is pending, and who has the instance has to complete it first; then step again. FQ_NOT_ALLOWED to open what isn't off;
  * FQ_BAD_HANDLE. What is off already stays so, by FQ_OK. */
-FQ_CHECKED static inline uint32_t fq_control_step(struct fq_handle *control, bool on, bool threaded) {
-    uint32_t said;
+FQ_CHECKED static inline enum fq_status fq_control_step(struct fq_handle *control, bool on, bool threaded) {
+    enum fq_status said;
     if (on) {
         do said = fq_control_enable(control, threaded);
         while (said == FQ_CHANGED);
         return said;
     }
-    const uint32_t marked = fq_control_mark(control); /* not allowed of one that is marked, or off */
+    const enum fq_status marked = fq_control_mark(control); /* not allowed of one that is marked, or off */
     if (marked != FQ_OK && marked != FQ_NOT_ALLOWED) return marked;
     do said = fq_control_try_take(control);
     while (said == FQ_CHANGED);
-    return said == FQ_BUSY || said == FQ_BAD_HANDLE ? said : (uint32_t)FQ_OK;
+    return said == FQ_BUSY || said == FQ_BAD_HANDLE ? said : FQ_OK;
+}
+
+/* A driver's open: enables, and asks once by a seat that rests (as virtnet_napi_enable does), so that what came while it was off is
+ * polled. Answers and *next are those of fq_seat_request: FQ_GRANTED, and the number is to be listed or the thread to be woken; FQ_MISSED:
+ * another seat has asked meanwhile. FQ_NOT_ALLOWED, and nothing is done, of a controller that isn't off; of a seat that doesn't rest it is
+ * enabled, and still to be asked for. FQ_BAD_HANDLE. */
+FQ_CHECKED static inline enum fq_status fq_control_open(struct fq_handle *FQ_RESTRICT control, bool threaded, struct fq_handle *FQ_RESTRICT seat, const struct fq_card *FQ_RESTRICT card, uint32_t *FQ_RESTRICT next) {
+    *next = FQ_NEXT_GONE;
+    const enum fq_status said = fq_control_step(control, true, threaded);
+    return said == FQ_OK ? fq_seat_request(seat, card, next) : said;
 }
 
 /* ---- Polling runs (net_rx_action), which the caller drives: begin; while next is FQ_OK, poll that device and tell; end. All other
@@ -530,23 +585,24 @@ struct fq_run_report {
     bool squeezed; /* the run stopped because its budget or its window was used up, whether or not anything was left */
 };
 
-/* A list, with room for 64 numbers: more devices want more lists, as of one for each processor. */
-FQ_CHECKED uint32_t fq_list_new(struct fq_handle *list);
+/* A list, with room for 64 numbers: more devices want more lists, as of one for each processor. A number leaves it by the end of its
+ * poll, FQ_NEXT_GONE. FQ_OK, FQ_IN_USE, FQ_OUT_OF_MEMORY. */
+FQ_CHECKED enum fq_status fq_list_new(struct fq_handle *list);
 /* Puts a number at the list's tail: FQ_OK; FQ_IN_USE where it is on the list, or waits in the run over it; FQ_FULL where list and
  * run hold 64, the one that is being polled among them: so of 64 numbers, end that poll by FQ_NEXT_AGAIN in place of a push. */
-FQ_CHECKED uint32_t fq_list_push(struct fq_handle *list, uint32_t id);
+FQ_CHECKED enum fq_status fq_list_push(struct fq_handle *list, uint32_t id);
 /* How many numbers list and run hold, with the one that is being polled: FQ_OK, FQ_BAD_HANDLE. */
-FQ_CHECKED uint32_t fq_list_len(struct fq_handle *FQ_RESTRICT list, uint32_t *FQ_RESTRICT len);
+FQ_CHECKED enum fq_status fq_list_len(struct fq_handle *FQ_RESTRICT list, uint32_t *FQ_RESTRICT len);
 /* Begins a run: FQ_OK; FQ_NOT_ALLOWED where one is under way; FQ_BAD_WEIGHT, FQ_BAD_BUDGET. */
-FQ_CHECKED uint32_t fq_run_begin(struct fq_handle *list, uint32_t budget, uint32_t weight, uint32_t window);
+FQ_CHECKED enum fq_status fq_run_begin(struct fq_handle *list, uint32_t budget, uint32_t weight, uint32_t window);
 /* The number to be polled next: FQ_OK; FQ_NOT_ALLOWED without a run, and before the last poll was told; FQ_DONE. */
-FQ_CHECKED uint32_t fq_run_next(struct fq_handle *FQ_RESTRICT list, uint32_t *FQ_RESTRICT id);
+FQ_CHECKED enum fq_status fq_run_next(struct fq_handle *FQ_RESTRICT list, uint32_t *FQ_RESTRICT id);
 /* What its poll did: FQ_OK, FQ_NOT_ALLOWED, FQ_BAD_WORK above the weight, FQ_BAD_NEXT; FQ_IN_USE where it would be listed a second
  * time, and it is still to be told. That FQ_NEXT_REPOLL is of a whole weight isn't tested: a device may have a weight of its own, below
  * the run's. Nor is it that FQ_NEXT_ABSENT is of no packet. */
-FQ_CHECKED uint32_t fq_run_polled(struct fq_handle *list, uint32_t work, uint32_t next);
+FQ_CHECKED enum fq_status fq_run_polled(struct fq_handle *list, uint32_t work, uint32_t next);
 /* Ends it; what wasn't polled, and what is to be polled again, is on the list: FQ_OK, FQ_NOT_ALLOWED. */
-FQ_CHECKED uint32_t fq_run_end(struct fq_handle *FQ_RESTRICT list, struct fq_run_report *FQ_RESTRICT report);
+FQ_CHECKED enum fq_status fq_run_end(struct fq_handle *FQ_RESTRICT list, struct fq_run_report *FQ_RESTRICT report);
 
 /* ---- A word of pending bits. A list is its poller's own: another thread raises the bit of a device in such a word, and wakes the
  * poller, who takes all bits and pushes their numbers. It is sequentially consistent. */
@@ -586,11 +642,11 @@ struct fq_replayed {
     uint32_t row;   /* the row that the fault names, counted from 1; 0 where it names none */
 };
 
-/* Replays a trace of len bytes into an array of room bytes: FQ_OK, and its first replayed->length bytes are the report, with no 0
- * behind them. FQ_NO_ROOM: replayed->length is the room that it takes. FQ_BAD_TRACE: replayed->fault and replayed->row tell why.
- * FQ_BAD_WEIGHT, else FQ_BAD_BUDGET of the settings; FQ_OUT_OF_MEMORY. The array is as it was on all but FQ_OK. Of an empty trace or
+/* Replays a trace of len bytes into an array of room bytes: FQ_BAD_WEIGHT, FQ_BAD_BUDGET of the settings; FQ_OUT_OF_MEMORY; FQ_BAD_TRACE:
+ * replayed->fault and replayed->row tell why; FQ_NO_ROOM: replayed->length is the room that it takes; FQ_OK, and the first
+ * replayed->length bytes of the array are the report, with no 0 behind them. The array is as it was on all but FQ_OK. Of an empty trace or
  * array the pointer leads to some byte. An instance's thread polls at most 131072 times at a time, which no trace of 100000 rows meets. */
-FQ_CHECKED uint32_t fq_replay(const struct fq_settings *FQ_RESTRICT settings, const uint8_t *FQ_RESTRICT trace, size_t len, uint8_t *FQ_RESTRICT report, size_t room, struct fq_replayed *FQ_RESTRICT replayed);
+FQ_CHECKED enum fq_status fq_replay(const struct fq_settings *FQ_RESTRICT settings, const uint8_t *FQ_RESTRICT trace, size_t len, uint8_t *FQ_RESTRICT report, size_t room, struct fq_replayed *FQ_RESTRICT replayed);
 
 /* The name of a trace's fault, as "BadHeader"; "?" of a number that is none. */
 static inline const char *fq_fault_name(uint32_t fault) {

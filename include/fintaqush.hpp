@@ -30,6 +30,13 @@ using Totals = fq_totals;
 using RingShown = fq_ring_shown;
 using Answers = fq_answers;
 
+// What a status says in words; "?" of a number that is none.
+[[nodiscard]] inline std::string message(std::uint32_t status) {
+    std::string text(FQ_MESSAGE_ROOM, '\0');
+    text.resize(fq_status_message(status, text.data(), text.size()));
+    return text;
+}
+
 namespace detail {
 // A call that the type allows is made: its number has nothing else to say.
 inline void made(std::uint32_t) noexcept {}
@@ -176,17 +183,33 @@ public:
     [[nodiscard]] Status hand(std::uint32_t who, Kind kind) { return Status(fq_napi_hand(&raw_, who, kind)); }
     [[nodiscard]] Status take(std::uint32_t who, Kind kind) { return Status(fq_napi_take(&raw_, who, kind)); }
     [[nodiscard]] Status complete(std::uint32_t who) { return Status(fq_napi_complete(&raw_, who)); }
+    // The end of a poll as the kernel ends it, full or not (fq_napi_end): FQ_OK, and next is what a run is told, after FQ_NEXT_AGAIN_THREAD
+    // the thread is to be woken; FQ_HELD: the caller polls on; FQ_NOT_ALLOWED.
+    [[nodiscard]] Status end(std::uint32_t who, bool full, fq_next &next) {
+        std::uint32_t number = FQ_NEXT_GONE;
+        const Status said = fq_napi_end(&raw_, who, full, &number);
+        next = fq_next(number);
+        return said;
+    }
     [[nodiscard]] Status busy_take(std::uint32_t who) { return Status(fq_napi_busy_take(&raw_, who)); }
     [[nodiscard]] Status busy_stop(std::uint32_t who) { return Status(fq_napi_busy_stop(&raw_, who)); }
     void set_threaded(std::uint32_t who, bool threaded) { fq_napi_set_threaded(&raw_, who, threaded); }
     [[nodiscard]] Status mark_disable(std::uint32_t who) { return Status(fq_napi_mark_disable(&raw_, who)); }
     [[nodiscard]] Status take_disable(std::uint32_t who) { return Status(fq_napi_take_disable(&raw_, who)); }
     [[nodiscard]] Status unmark(std::uint32_t who) { return Status(fq_napi_unmark(&raw_, who)); }
+    // Ask once after it (schedule): what was asked before isn't polled.
     [[nodiscard]] Status enable(std::uint32_t who, bool threaded) { return Status(fq_napi_enable(&raw_, who, threaded)); }
     [[nodiscard]] std::uint64_t word() const { return fq_napi_word(&raw_); }
 
 private:
     fq_napi raw_;
+};
+
+// A request that was made and, where it was granted, handed over (fq_seat_request): FQ_GRANTED, FQ_MISSED, FQ_DISABLED. Of FQ_GRANTED, next
+// is FQ_NEXT_AGAIN, and the number is to be listed, or FQ_NEXT_AGAIN_THREAD, and the thread is to be woken.
+struct [[nodiscard]] Requested {
+    Status status;
+    fq_next next;
 };
 
 class Caller;
@@ -267,6 +290,11 @@ public:
         const fq_card calls = {&card, detail::mask<Card>, nullptr, nullptr, nullptr};
         return Status(fq_seat_interrupt_masked(at_.raw(), kind, &calls));
     }
+    // The same, and the kind is read from the state word: of an interrupt, a timer, a driver's open (fq_seat_request).
+    template <class Card>
+    Requested request(Card &card) { return request_by({&card, detail::mask<Card>, nullptr, nullptr, nullptr}); }
+    // The same of a card that is masked already, or never.
+    Requested request() { return request_by({nullptr, nullptr, nullptr, nullptr, nullptr}); }
     // Whether polls are handed to the instance's own thread (dev_set_threaded).
     void set_threaded(bool threaded) { detail::made(fq_seat_set_threaded(at_.raw(), threaded)); }
 
@@ -276,6 +304,11 @@ private:
     friend struct Shared;
     friend struct Bare;
     using Seat::Seat;
+    Requested request_by(const fq_card &calls) {
+        std::uint32_t next = FQ_NEXT_GONE;
+        const Status said = fq_seat_request(at_.raw(), &calls, &next);
+        return {said, fq_next(next)};
+    }
 };
 
 // A caller to whom the instance was granted, and who has to hand it over.
@@ -301,7 +334,8 @@ public:
     }
     // Ends the poll as the kernel does (fq_seat_end), after a full one or one that wasn't full.
     [[nodiscard]] End end(bool full) && noexcept;
-    // The same of a card that can be looked at (fq_seat_end_watched): card.unmask(), look() and mask() are called, and don't throw.
+    // The same of a card that can be looked at (fq_seat_end_watched): card.unmask(), look() and mask() are called, and don't throw. It may
+    // hand over to the thread, which is to be woken after FQ_NEXT_AGAIN_THREAD.
     template <class Card>
     [[nodiscard]] End end_watched(bool full, Card &card) && noexcept;
     // The same of one that can't (fq_seat_end_unmasked), of which work packets were polled: card.unmask(), poll(most) and mask().
@@ -424,10 +458,18 @@ private:
 template <>
 class [[nodiscard]] Control<Off> {
 public:
+    // Ask once after it (Caller::request), or enable by open: what was asked before isn't polled.
     [[nodiscard]] Control<On> enable(bool threaded) && noexcept {
         while (fq_control_enable(at_.raw(), threaded) == FQ_CHANGED) {
         }
         return Control<On>(std::move(at_));
+    }
+    // A driver's open (fq_control_open): enables, and asks once by this caller, with card.mask() where that is granted.
+    template <class Card>
+    [[nodiscard]] std::pair<Control<On>, Requested> open(bool threaded, Caller &caller, Card &card) && noexcept {
+        auto on = std::move(*this).enable(threaded);
+        const Requested asked = caller.request(card);
+        return {std::move(on), asked};
     }
     // What is counted of the ring's polls.
     [[nodiscard]] Counts counts() {
@@ -621,17 +663,37 @@ struct [[nodiscard]] Bare {
     }
 };
 
-// A poll list of one thread.
+// The answer to a push: FQ_OK; FQ_IN_USE, FQ_FULL.
+struct [[nodiscard]] Pushed {
+    Status status;
+    // Whether it was listed.
+    operator bool() const noexcept { return status == FQ_OK; }
+};
+
+// What a run did, and how it ended: FQ_OK, else why not, with what it did until then.
+struct [[nodiscard]] Ran {
+    Status status;
+    fq_run_report report;
+    // Whether it ended by itself.
+    explicit operator bool() const noexcept { return status == FQ_OK; }
+    [[nodiscard]] bool has_value() const noexcept { return status == FQ_OK; }
+    const fq_run_report &operator*() const noexcept { return report; }
+    const fq_run_report *operator->() const noexcept { return &report; }
+    operator std::optional<fq_run_report>() const noexcept { return status == FQ_OK ? std::optional(report) : std::nullopt; }
+};
+
+// A poll list of one thread. A number leaves it by the end of its poll, FQ_NEXT_GONE.
 class [[nodiscard]] List {
 public:
+    // None where memory is out.
     [[nodiscard]] static std::optional<List> make() {
         Handle at;
         if (fq_list_new(at.raw()) != FQ_OK) return std::nullopt;
         return std::optional<List>(List(std::move(at)));
     }
 
-    // False where the number is listed already, or list and run hold 64.
-    [[nodiscard]] bool push(std::uint32_t id) { return fq_list_push(at_.raw(), id) == FQ_OK; }
+    // Puts a number at the list's tail: FQ_IN_USE where it is listed already, FQ_FULL where list and run hold 64.
+    Pushed push(std::uint32_t id) { return {fq_list_push(at_.raw(), id)}; }
     // How many numbers list and run hold.
     [[nodiscard]] std::uint32_t size() {
         std::uint32_t len = 0;
@@ -639,20 +701,22 @@ public:
         return len;
     }
 
-    // A run (net_rx_action): poll(id, weight) answers the packets that it gave, and how the poll ended. None where the weight isn't
-    // 1 to 64, budget or window not 1 to 65535, or poll answers more than its weight. poll may push to this list, and not move it;
-    // where it throws the run ends too: its device is listed no more, all others are.
+    // A run (net_rx_action): poll(id, weight) answers the packets that it gave, and how the poll ended. FQ_BAD_WEIGHT, FQ_BAD_BUDGET of the
+    // settings; FQ_NOT_ALLOWED in a run of this list. Of what a poll answered: FQ_BAD_WORK, more packets than the weight; FQ_BAD_NEXT;
+    // FQ_IN_USE, to be listed though it has listed itself. The run ends with these, and where poll throws: its device is listed no more,
+    // all others are. poll may push to this list, and not move it.
     template <class Poll>
-    [[nodiscard]] std::optional<fq_run_report> run(std::uint32_t budget, std::uint32_t weight, std::uint32_t window, Poll poll) {
-        if (fq_run_begin(at_.raw(), budget, weight, window) != FQ_OK) return std::nullopt;
+    Ran run(std::uint32_t budget, std::uint32_t weight, std::uint32_t window, Poll poll) {
+        if (const Status began = fq_run_begin(at_.raw(), budget, weight, window); began != FQ_OK) return {began, {}};
         Run run{at_.raw(), {}};
+        Status said = FQ_OK;
         std::uint32_t id = 0;
-        while (fq_run_next(at_.raw(), &id) == FQ_OK) {
+        while (said == FQ_OK && fq_run_next(at_.raw(), &id) == FQ_OK) {
             const std::pair<std::uint32_t, fq_next> did = poll(id, weight);
-            if (fq_run_polled(at_.raw(), did.first, did.second) != FQ_OK) return std::nullopt;
+            said = fq_run_polled(at_.raw(), did.first, did.second);
         }
-        if (!run.end()) return std::nullopt;
-        return run.report;
+        run.end();
+        return {said, run.report};
     }
 
 private:
@@ -664,11 +728,12 @@ private:
         Run(fq_handle *list, fq_run_report none) noexcept : at(list), report(none) {}
         Run(const Run &) = delete;
         Run &operator=(const Run &) = delete;
-        bool end() noexcept { return fq_run_end(at, &report) == FQ_OK; }
-        ~Run() {
+        // A poll whose answer was refused is still open: it is told as none.
+        void end() noexcept {
             detail::made(fq_run_polled(at, 0, FQ_NEXT_ABSENT));
-            end();
+            detail::made(fq_run_end(at, &report));
         }
+        ~Run() { end(); }
     };
 
     explicit List(Handle &&at) noexcept : at_(std::move(at)) {}

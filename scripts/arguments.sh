@@ -1,12 +1,12 @@
 # shellcheck shell=sh
-# For scripts, which read this file by `.`: what their arguments have to be. Another one is refused by a line, with status 64.
+# For scripts to source: checks of their arguments. A wrong one is rejected with a message and status 64.
 
 refuse() {
     echo "$(basename "$0"): $*" >&2
     exit 64
 }
 
-# at_most COUNT "$@": no more arguments than the script knows.
+# at_most COUNT "$@": the script has at most this many arguments.
 at_most() {
     [ $(($# - 1)) -le "$1" ] || refuse "more than $1 argument(s); see the head of $0"
 }

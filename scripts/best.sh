@@ -1,10 +1,11 @@
 # shellcheck shell=bash
-# For scripts of bench/ that time runs by bench/measure.c, which read this file by `.`: how they begin, and what the lines of their
-# runs come to.
+# For scripts of bench/ to source that time runs by bench/measure.c: how they begin, and how they summarize the lines of their
+# runs.
 bench=$(cd "$(dirname "$0")" && pwd)
 . "$bench/../scripts/arguments.sh"
 
-# begin VARIABLE CRATE: `program` is the one that this variable names, or the crate's, which is built; `scratch` has measure, and goes.
+# begin VARIABLE CRATE: sets `program` to the one that this variable names, or to the crate's, which is built; `scratch` has
+# measure, and is removed at the end.
 begin() {
     is_count TURNS "$turns"
     is_tool cc
@@ -16,7 +17,7 @@ begin() {
     cc -O2 -o "$scratch/measure" "$bench/measure.c"
 }
 
-# The least of the first column and the greatest of the second one, and the last status.
+# The least of the first column, the greatest of the second one, and the last status.
 best() {
     awk 'NR == 1 || $1 < least { least = $1 } $2 > most { most = $2 } END { print least, most, $3 }' "$1"
 }

@@ -1,9 +1,15 @@
-"""What ./replay and build.sh prove and build by. Libraries stand in a folder of their own, with their statements alone as `rt ci` leaves
-them: a check over their proofs, which `rt lib` keeps, loads several times as much. So `rattle` is called as `rt ci` calls it."""
+"""How ./replay and build.sh prove and build. Libraries are in a folder of their own, with only their statements, as `rt ci`
+leaves them: a check that also loads their proofs, which `rt lib` keeps, needs several times the memory. So `rattle` is
+called as `rt ci` calls it.
+
+Next to each built file NAME is NAME.sum: checksums of the sources that it was made from, and of itself. So what was copied
+with a checkout, or was built in another one, counts as built here, whatever the times of its files."""
 import contextlib
 import ctypes
 import fcntl
 import functools
+import hashlib
+import json
 import os
 import re
 import resource
@@ -14,7 +20,7 @@ import sys
 import time
 
 TOP = os.path.dirname(os.path.dirname(os.path.realpath(__file__)))
-# Where git doesn't look, or, in what is no clone, where caches are.
+# A folder that git ignores, or outside a clone the user's cache.
 CACHE = os.environ.get("XDG_CACHE_HOME") or os.path.expanduser("~/.cache")
 BUILT = f"{TOP}/.git/built" if os.path.isdir(f"{TOP}/.git") else f"{CACHE}/fintaqush/{TOP.replace('/', '%')}"
 AT_WORK = {}  # the crates that are being built, and the process of each
@@ -25,8 +31,40 @@ NAME = os.environ.get("FINTAQUSH_NAME", "replay")  # as a subcommand of `fintaqu
 INSTALLED = not os.path.exists(f"{TOP}/crates.txt")  # by scripts/install.sh, which puts built programs there and no crates
 
 
+class Sums(dict):
+    """Checksums of files by their paths below the top, each with the times and the size of its file: while these stay the same, the file
+    isn't read again."""
+
+    def __init__(self):
+        super().__init__()
+        self.kept, self.is_changed = f"{BUILT}/sums", False
+        with contextlib.suppress(OSError, ValueError):
+            self.update(json.loads(read(self.kept)))
+
+    def of(self, path):
+        at, found = path.removeprefix(TOP), os.stat(path)
+        state = [found.st_mtime_ns, found.st_ctime_ns, found.st_size]
+        if self.get(at, [])[:3] == state:
+            return self[at][3]
+        with open(path, "rb") as file:
+            sum = hashlib.sha256(file.read()).hexdigest()
+        # A file that was changed just now may be changed again within the resolution of its times.
+        if time.time_ns() - max(state[:2]) > 10**9:
+            self[at], self.is_changed = [*state, sum], True
+        return sum
+
+    def keep(self):
+        """Keeps them for later calls, if this one may write."""
+        if self.is_changed:
+            with contextlib.suppress(OSError):
+                with open(f"{self.kept}.{os.getpid()}", "w", encoding="utf-8") as file:
+                    json.dump(self, file)
+                os.replace(file.name, self.kept)
+        self.is_changed = False
+
+
 class Stop(Exception):
-    """The end of a call: its status, and its line on standard error."""
+    """The end of a call: its status, and its message on standard error."""
 
 
 def read(path):
@@ -35,20 +73,27 @@ def read(path):
 
 
 def write(text, end=1):
-    """Writes all of it, and returns whether that went well."""
+    """Writes all of it, and returns whether that succeeded."""
     with contextlib.suppress(OSError), open(end, "wb", closefd=False) as file:
         file.write(text)
         return True
     return False
 
 
+def clear():
+    """Removes the progress line, if there is one."""
+    if AT_WORK and os.isatty(2):
+        write(CLEAR.encode(), 2)
+
+
 def say(line):
-    """In place of the line that tells how far a build is, where one stands."""
-    write(f"{CLEAR if AT_WORK and os.isatty(2) else ''}{NAME}: {line}\n".encode(errors="surrogateescape"), 2)
+    clear()
+    write(f"{NAME}: {line}\n".encode(errors="surrogateescape"), 2)
 
 
 def end_by(call):
-    """Ends this process as the call ends, by its status or by a line and a status; or by a signal's. What it began ends with it."""
+    """Ends this process as the call ends, with its status or with a message and a status; or by a signal. Its child processes
+    end with it."""
     def interrupt(number, _):
         say("interrupted" + "; each crate that was proved is kept" * bool(AT_WORK))
         os._exit(130 if number == signal.SIGINT else 143)
@@ -64,7 +109,7 @@ def end_by(call):
 
 
 def child(memory=0):
-    """What a process of this one does as it begins: it ends with this one, however that ends, and has so many MiB."""
+    """What a child process does first: it ends with its parent, however that ends, and its memory is limited to this many MiB."""
     LIBC.prctl(1, signal.SIGTERM)  # PR_SET_PDEATHSIG
     with contextlib.suppress(OSError):  # else the prover's processes wake, and stop, each other all the time
         os.sched_setscheduler(0, os.SCHED_BATCH, os.sched_param(0))
@@ -85,12 +130,21 @@ def kit():
 
 
 @functools.cache
+def sums():
+    return Sums()
+
+
+@functools.cache
 def crates():
     """The crates of crates.txt by their names, or the programs of an installation."""
     if INSTALLED:
         return {name: Installed(name) for name in os.listdir(f"{TOP}/programs")}
     rows = re.findall(r"^ *(\w+)([^#:\n]*):([^#\n]*)", read(f"{TOP}/crates.txt"), re.M)
-    return {name: Crate(name, kind, uses.split()) for name, kind, uses in rows}
+    return {name: Crate(name, kind.strip(), uses.split()) for name, kind, uses in rows}
+
+
+def sum_of(texts):
+    return hashlib.sha256("\n".join(texts).encode()).hexdigest()
 
 
 class Installed:
@@ -105,7 +159,7 @@ class Installed:
 
 class Crate:
     def __init__(self, name, kind, uses):
-        self.name, self.uses = name, uses
+        self.name, self.kind, self.uses = name, kind, uses
         self.folder, self.log = f"{TOP}/crates/{name}", f"{BUILT}/{name}.log"
         self.is_program, self.is_archive = os.path.exists(f"{self.folder}/src/main.rt"), "staticlib" in kind
         self.is_library = not self.is_program and not self.is_archive
@@ -113,28 +167,52 @@ class Crate:
 
     @functools.cached_property
     def all(self):
-        """What it stands on in this checkout, lowest first, and it."""
+        """Its dependencies in this checkout, lowest first, and itself."""
         return [*dict.fromkeys(it for name in self.uses if name in crates() for it in crates()[name].all), self]
 
     def texts(self):
-        """Its folders and files, as the system tells of them."""
-        for part in ("src", "specs", "proofs"):
-            for folder, _, names in os.walk(f"{self.folder}/{part}"):
-                yield from (os.stat(f"{folder}/{it}") for it in (".", *names))
+        """The paths of its files in its folder."""
+        return sorted(os.path.relpath(f"{at}/{name}", self.folder) for part in ("src", "specs", "proofs")
+                      for at, _, names in os.walk(f"{self.folder}/{part}") for name in names)
+
+    def times(self):
+        return {it: os.stat(f"{self.folder}/{it}").st_mtime_ns for it in self.texts()}
+
+    @functools.cached_property
+    def size(self):
+        return sum(os.path.getsize(f"{self.folder}/{it}") for it in self.texts())
+
+    def own(self):
+        """Returns a checksum of its line in crates.txt and of its files, as they are now."""
+        return sum_of([self.name, self.kind, *self.uses, *(f"{it} {sums().of(f'{self.folder}/{it}')}" for it in self.texts())])
+
+    @functools.cached_property
+    def sources(self):
+        """The same checksum, as it was at the first use."""
+        return self.own()
+
+    def sum(self):
+        """Returns a checksum of its sources, of those of the crates below it, and of what was built; of a library, which another kit can't
+        read, also of the kit."""
+        made = [sums().of(f"{self.made}/format"), read(f"{kit()}/KIT-ID")] if self.is_library else [sums().of(self.made)]
+        return sum_of([*(it.sources for it in self.all), *made])
 
     def is_built(self):
-        """Whether it stands, and nothing that it is made of is newer. Folders count too: one that has lost a file is newer."""
+        """Whether what was built was made from these sources."""
         try:
-            stands = os.stat(f"{self.made}/format" if self.is_library else self.made).st_mtime_ns
-            changed = [os.stat(f"{TOP}/crates.txt").st_mtime_ns, *(it.st_mtime_ns for crate in self.all for it in crate.texts())]
-            if self.is_library:  # one that another kit has built isn't taken
-                changed.append(os.stat(f"{kit()}/KIT-ID").st_ctime_ns)
-            return max(changed) <= stands
+            return read(f"{self.made}.sum") == self.sum()
         except OSError:
             return False
 
+    def stands(self, times):
+        """Records that what was built was made from these sources, unless one of its files, or of a library below it, has changed since
+        these times."""
+        if self.own() == self.sources and self.times() == times and all(it.is_built() for it in self.all[:-1]):
+            with open(f"{self.made}.sum", "w", encoding="utf-8") as file:
+                file.write(self.sum())
+
     def words(self, verb, jobs):
-        """The prover's command that checks or builds it by so many processes, over the libraries that stand."""
+        """The prover's command that checks or builds it by this many processes, with the libraries that are built."""
         root, at = "src/main.rt" if self.is_program else "src/lib.rt", kit()
         words = [f"{at}/bin/rattle", verb, "--crate-name", self.name, root, "--jobs", str(jobs), "-L", f"dependency={BUILT}"]
         words += ["--antt-project", f"{at}/rattle/logic/antt-project.json", "--logic-built", f"{at}/logic_built"]
@@ -142,15 +220,16 @@ class Crate:
         return [*words, "-L", f"dependency={at}/rlibs", *(word for it in uses for word in ("--extern", it))]
 
     def begin(self, jobs, place):
-        """Begins to prove and to build it, by so many processes, which yield to those of a crate before it."""
+        """Starts to prove and to build it, by this many processes, with a lower priority than those of a crate before it."""
         command = [*self.words("build", jobs), "-o", f"{self.made}.new", *["--crate-type", "staticlib"] * self.is_archive]
         command += ["--statements"] if self.is_library else ["--toolchain", f"{kit()}/toolchain", "--backend", "llvm"]
+        self.begun = self.times()
         with open(self.log, "wb") as log:
             how = {"stdin": subprocess.DEVNULL, "stdout": log, "stderr": log, "cwd": self.folder}
             return subprocess.Popen(command, preexec_fn=lambda: (os.nice(place), child()), **how)
 
-    def end(self, status, since):
-        """Puts what was built in its place, as old as the build: what was changed meanwhile is newer."""
+    def end(self, status):
+        """Moves what was built into place. If a source has changed meanwhile, the next call builds it again."""
         new = f"{self.made}.new"
         if status == 0 and self.is_program:
             os.replace(new, f"{BUILT}/{self.name}.o")
@@ -161,48 +240,48 @@ class Crate:
         if status != 0:
             why = "\n".join((re.findall(".*error.*", said := read(self.log)) or said.splitlines()[-5:])[:5])
             raise Stop(70, f"{self.name} couldn't be built, status {status}; {self.log} has all that was said:\n{why}")
-        os.utime(f"{new}/format" if self.is_library else new, ns=(since, since))
         os.rename(new, self.made)
+        self.stands(self.begun)
 
 
 def to_build(asked):
-    """Which of these crates and of those below them are to be built, that of the longest chain upwards first."""
+    """Which of these crates and of those below them have to be built, that of the longest chain upwards first."""
     every, chain = [], {}
     for crate in dict.fromkeys(it for crate in asked for it in crate.all):
         if not crate.is_built() or any(it in every for it in crate.all):
             every.append(crate)
     for crate in reversed(every):
-        chain[crate] = sum(it.st_size for it in crate.texts()) + max((chain[it] for it in chain if crate in it.all), default=0)
+        chain[crate] = crate.size + max((chain[it] for it in chain if crate in it.all), default=0)
     return sorted(every, key=chain.get, reverse=True)
 
 
 def time_left(every, left, seconds):
-    """The time that is left, by the sizes of the crates that were built, of those at work as if each were half done. Nothing before the first."""
-    sizes = {it: sum(each.st_size for each in it.texts()) or 1 for it in every}
+    """The time that is left, by the sizes of the crates that were built; those in progress count half. Nothing before the first."""
+    sizes = {it: it.size or 1 for it in every}
     at_work = sum(sizes[it] for it in AT_WORK)
     built = sum(sizes.values()) - sum(sizes[it] for it in left) - at_work
     rest = seconds * (sum(sizes.values()) - built - at_work / 2) / (built + at_work / 2) if built else 0
     return "" if not built else f", about {rest:.0f} s left" if rest < 100 else f", about {rest / 60:.0f} min left"
 
 
-def prove(asked):
-    """Proves and builds these crates, and what they stand on as far as that isn't done."""
+def prove(asked, beside):
+    """Proves and builds these crates, and those below them, if that isn't done, and calls `beside` again and again meanwhile."""
     names, since, left = " and ".join(it.name for it in asked), time.time_ns(), to_build(asked)
     every, processors = left, len(os.sched_getaffinity(0))
     lanes = min(max(int(re.search(r"MemAvailable: *(\d+)", read("/proc/meminfo"))[1]) // 2_500_000, 1), processors)  # kB of a check
     say(f"proving and building {names} and what they stand on, {len(every)} crates: on 4 cores some {len(every) // 3 + 1} minutes")
-    # No old one answers for new sources, nor does one over other libraries than those that stand.
+    # Old libraries aren't used with new sources, nor those built with other libraries than the present ones.
     old = [it.made for it in crates().values() if not {*every}.isdisjoint(it.all) and (it.is_library or it in every)]
-    subprocess.run(["rm", "-rf", *old], check=False)
+    subprocess.run(["rm", "-rf", *old, *(f"{it}.sum" for it in old)], check=False)
     while left or AT_WORK:
         for crate in [it for it, process in AT_WORK.items() if process.poll() is not None]:
             status = AT_WORK.pop(crate).returncode
             if status == -signal.SIGKILL and lanes > 1:  # most likely for memory: it is begun again, alone
                 lanes, left = 1, [crate, *left]
             else:
-                crate.end(status, since)
+                crate.end(status)
         ready = [it for it in left if {*left, *AT_WORK}.isdisjoint(it.all[:-1])][: max(lanes - len(AT_WORK), 0)]
-        # Each by several processes, as memory was counted for: what one leaves idle at its ends, the others take.
+        # Each by several processes, for which memory was counted: what one leaves idle at its end, the others use.
         jobs = 1 if lanes == 1 else min(processors, 4, max(2, 6 - len(AT_WORK) - len(ready)))
         for crate in ready:
             AT_WORK[crate] = crate.begin(jobs, every.index(crate))
@@ -213,15 +292,31 @@ def prove(asked):
             write(f"{CLEAR}{NAME}: {line}"[:82].encode() if AT_WORK else CLEAR.encode(), 2)
         elif ready:
             say(line)
+        beside()
         time.sleep(0.1)
     say(f"{names}: proved and built, in {seconds} s")
 
 
-def build(names):
-    """Sees to it that they stand. One build at a time in a checkout: a second one waits, and mostly finds all built then."""
+def lock(file, beside):
+    """Waits until no other build runs in this checkout."""
+    is_told = False
+    while True:
+        try:
+            return fcntl.flock(file, fcntl.LOCK_EX | fcntl.LOCK_NB)
+        except BlockingIOError:
+            is_told = is_told or say("another build is at work in this checkout: waiting for it") or True
+            beside()
+            time.sleep(0.1)
+
+
+def build(names, beside=lambda: None):
+    """Ensures that they are built. Only one build runs at a time in a checkout: a second one waits, and mostly finds all built then.
+    While it waits, `beside` is called again and again."""
     if unknown := [it for it in names if it not in crates()]:
         raise Stop(64, f"there is no crate {unknown[0]!r} in crates.txt")
-    if not (asked := [it for it in map(crates().get, names) if not it.is_built()]):
+    asked = [it for it in map(crates().get, names) if not it.is_built()]
+    sums().keep()
+    if not asked:
         return 0
     kit()  # is there
     try:
@@ -229,16 +324,15 @@ def build(names):
             os.makedirs(folder, exist_ok=True)
             if not os.access(folder, os.W_OK):
                 raise PermissionError(None, None, folder)
-        lock = open(f"{BUILT}/lock", "ab")
-        fcntl.flock(lock, fcntl.LOCK_EX | fcntl.LOCK_NB)
-    except BlockingIOError:
-        say("another build is at work in this checkout: waiting for it")
-        fcntl.flock(lock, fcntl.LOCK_EX)
+        file = open(f"{BUILT}/lock", "ab")
     except OSError as error:
         raise Stop(73, f"the program is to be built, and {error.filename} can't be written: build in a checkout of your own") from None
-    with lock:
-        if asked := [it for it in asked if not it.is_built()]:
-            prove(asked)
+    with file:
+        lock(file, beside)
+        crates.cache_clear()  # whose sources may have been changed while this one waited
+        if asked := [it for it in map(crates().get, names) if not it.is_built()]:
+            prove(asked, beside)
+        sums().keep()
     return 0
 
 

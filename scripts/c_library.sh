@@ -1,7 +1,7 @@
 #!/usr/bin/env bash
-# scripts/c_library.sh FOLDER: proves and builds the C library, where that isn't done yet, and puts libfintaqush.a into the folder, which
-# it makes if it isn't there: the exports of napi_c, the replay of replay_c, and the kit's heap that they call. The archive needs no
-# library but C's own. Standard output stays empty.
+# scripts/c_library.sh FOLDER: proves and builds the C library, if that isn't done yet, and puts libfintaqush.a into the folder,
+# which it makes if necessary: the exports of napi_c, the replay of replay_c, and the kit's heap that they call. The archive
+# needs only the C library, and its only global names are those of the calls. Standard output stays empty.
 set -euo pipefail
 unset CDPATH
 crates=$(dirname "$(dirname "$(readlink -f "${BASH_SOURCE[0]}")")")/crates
@@ -13,5 +13,7 @@ scratch=$(mktemp -d)
 trap 'rm -rf "$scratch"' EXIT
 cd "$scratch"
 for archive in "$crates"/{napi_c/out/libnapi_c,replay_c/out/libreplay_c}.a "$(dirname "$(rt doc)")/c/liblibc_c.a"; do ar x "$archive"; done
+ld -r -o fintaqush.o napi_c.o replay_c.o heap*.o
+objcopy --wildcard --keep-global-symbol='fq_*' fintaqush.o
 rm -f "$to/libfintaqush.a"
-ar rcs "$to/libfintaqush.a" napi_c.o replay_c.o heap*.o
+ar rcs "$to/libfintaqush.a" fintaqush.o

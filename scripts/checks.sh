@@ -1,11 +1,11 @@
 #!/usr/bin/env bash
-# For tests to source, which have a folder of their own in `scratch`, and the repository in `top`: checks are counted, and what is
-# skipped. Their sum is the last line.
+# For tests to source, which have their own folder in `scratch`, and the repository in `top`: counts checks, and skipped ones.
+# Their sum is the last line.
 passed=0
 failed=0
 skipped=0
 
-# check NAME COMMAND ..: counts its status. What it wrote is shown where it fails.
+# check NAME COMMAND ..: counts the command by its status. Its output is printed if it fails.
 check() {
     local name=$1
     shift
@@ -18,8 +18,8 @@ check() {
     fi
 }
 
-# skip WHAT NEED ..: counts what isn't tried, because these are missing, with the Debian packages that have them. Each of them is in
-# tests/needs.txt.
+# skip WHAT NEED ..: counts a skipped test, because these are missing, with the Debian packages that have them. Each of them is
+# in tests/needs.txt.
 skip() {
     local what=$1 need packages line
     shift
@@ -37,14 +37,14 @@ skip() {
     echo "$line"
 }
 
-# has PROGRAM WHAT: whether it is installed; what needs it is skipped else.
+# has PROGRAM WHAT: whether it is installed; otherwise the test that needs it is skipped.
 has() {
     command -v "$1" > /dev/null && return
     skip "$2" "$1"
     return 1
 }
 
-# sum_up: `N passed, M failed, K skipped`, and whether none failed.
+# sum_up: prints `N passed, M failed, K skipped`, and returns whether none failed.
 sum_up() {
     echo "$passed passed, $failed failed, $skipped skipped"
     [ "$failed" = 0 ]

@@ -1,7 +1,7 @@
-# For tests of examples/DRIVER to source, behind scripts/checks.sh: `driver` is its name, and `top` the repository.
+# For tests of examples/DRIVER to source, after scripts/checks.sh: `driver` is its name, and `top` the repository.
 over=0
 
-# build NAME [FLAG ..]: the driver with these flags of the compiler, in a folder of its own in `scratch`.
+# build NAME [FLAG ..]: builds the driver with these flags of the compiler, in its own folder in `scratch`.
 build() {
     local name=$1
     shift
@@ -11,7 +11,7 @@ build() {
     [ -e "$scratch/$name/$driver" ]
 }
 
-# refuses WORDS: by its usage and status 64
+# refuses OPTIONS: with its usage and status 64
 refuses() {
     local status=0
     # shellcheck disable=SC2086
@@ -19,7 +19,7 @@ refuses() {
     check "'$1' is refused" [ "$status $(grep -c '^usage: ' "$scratch/run")" = '64 1' ]
 }
 
-# way NAME [WORD ..]: a run of what was built so, with these words; each line `ok` or `WRONG` of it is a test.
+# way NAME [OPTION ..]: a run of this build, with these options; each line `ok` or `WRONG` of it is a test.
 way() {
     local name=$1 status=0
     shift
@@ -28,19 +28,20 @@ way() {
     count_run "$status" "$name with '$*'"
 }
 
-# as_printed COMMAND: runs a command of a page, in a fresh clone with an empty home folder, and with no variable that the page doesn't set.
+# as_printed COMMAND: runs a command of a page, in a fresh clone with an empty home folder, and without variables that the page
+# doesn't set.
 as_printed() {
     local fetched=.cache/fintaqush/linux-image
     if [ ! -d "$scratch/fresh" ]; then
         "$top/scripts/fresh_clone.sh" "$scratch/fresh" || return
-        # What `scripts/test-packages.sh --fetch` has fetched isn't fetched again.
+        # What `scripts/test-packages.sh --fetch` has downloaded isn't downloaded again.
         mkdir -p "$scratch/fresh/home/${fetched%/*}"
         [ ! -d ~/"$fetched" ] || ln -s ~/"$fetched" "$scratch/fresh/home/$fetched"
     fi
     (cd "$scratch/fresh/fintaqush" && env -i PATH="$PATH" TERM="${TERM:-dumb}" HOME="$scratch/fresh/home" timeout -k 20 600 bash -c "$1") > "$scratch/run" 2>&1
 }
 
-# printed COMMAND: a run of the driver as a page has it; each line `ok` or `WRONG` of it is a test.
+# printed COMMAND: runs the driver as a page has it; each line `ok` or `WRONG` of it is a test.
 printed() {
     local status=0
     [ "$over" = 0 ] || return 0
@@ -48,7 +49,8 @@ printed() {
     count_run "$status" "'$1' as printed"
 }
 
-# printed_table COMMAND COUNT PATTERN: it ends well, and so many lines that it prints are as the pattern: no row is of a load that failed.
+# printed_table COMMAND COUNT PATTERN: it succeeds, and this many lines that it prints match the pattern: no row is of a load
+# that failed.
 printed_table() {
     local status=0
     [ "$over" = 0 ] || return 0
@@ -74,8 +76,8 @@ count_run() {
     fi
 }
 
-# mistake NAME WRONG FILE OLD NEW [OLD NEW ..]: the driver with these changes of a file, in which each OLD stands once, has such a line
-# `WRONG` at last.
+# mistake NAME WRONG FILE OLD NEW [OLD NEW ..]: the driver with these changes of a file, in which each OLD occurs once, prints
+# such a line `WRONG` last.
 mistake() {
     local name=$1 wrong=$2 status=0
     [ "$over" = 0 ] || return 0
@@ -103,7 +105,7 @@ plant() {
     "$scratch/mistake/examples/$driver/build.sh" "$scratch/mistake/built" > "$scratch/run" 2>&1
 }
 
-# mistakes: of a driver, in what it shares with others
+# mistakes: of a driver, in code that it shares with others
 mistakes() {
     mistake 'a mask behind the hand-over' '3000 pings are answered' driver/driver.h 'fq_seat_interrupt_masked(seat, FQ_LIST, &device->card)' \
         'fq_seat_interrupt(seat, FQ_LIST)' '&& !one_thread) wake_poller();' \

@@ -1,5 +1,5 @@
 #!/usr/bin/env bash
-# scripts/fresh_clone.sh ROOM: makes ROOM/fintaqush, a clone of this checkout with its uncommitted changes and what it has built, and
+# scripts/fresh_clone.sh ROOM: makes ROOM/fintaqush, a clone of this checkout with its uncommitted changes and its builds, and
 # ROOM/home, an empty home folder: there tests run the commands of the pages as they are printed. Standard output stays empty.
 set -euo pipefail
 unset CDPATH
@@ -14,8 +14,8 @@ cd "$top"
 git ls-files -z --cached --others --exclude-standard | while IFS= read -r -d '' file; do [ ! -e "$file" ] || printf '%s\0' "$file"; done |
     xargs -0 cp -P --parents --preserve=mode,timestamps -t "$clone"
 git ls-files -z --deleted | (cd "$clone" && xargs -0 rm -f)
-# What is built comes last, and so is newer than the sources.
+# What is built, with the checksums of its sources.
 for built in crates/{napi_machine/out/napi_machine,napi_replay/out/napi_replay,napi_serial/out/napi_serial,napi_series/out/napi_series} \
     crates/{napi_c/out/libnapi_c,replay_c/out/libreplay_c}.a; do
-    [ ! -e "$built" ] || cp --parents "$built" "$clone"
+    [ ! -e "$built.sum" ] || cp --parents "$built"{,.sum} "$clone"
 done

@@ -1,10 +1,10 @@
 #!/usr/bin/env bash
-# scripts/gate-times.sh [COMMAND ..]: runs the gate, ./test where no command is named, at the top of the repository, and tells
-# of each crate after how many seconds its proof, its tests and its edits stood, and what processor time each took. Every
-# line of the gate goes through with the second at which it came. Lines and table also go to out/gate-times.log, or to the
-# file LOG. Processor time is read from /proc each half second, so what ended between two looks lacks its last moment; the
-# sum at the end lacks nothing. When the edits of a crate stood nobody says: it is when its last one was seen.
-# Exit status: the command's; 64 there is no such command; 73 the log can't be written; 130 or 143 interrupted.
+# scripts/gate-times.sh [COMMAND ..]: runs the gate, ./test by default, at the top of the repository, and prints for each crate
+# after how many seconds its proof, its tests and its edits were done, and how much processor time each took. Every line of the
+# gate is printed with the second at which it came. Lines and table also go to out/gate-times.log, or to the file LOG. Processor
+# time is read from /proc every half second, so a process that ends between two reads lacks its last moments; the sum at the end
+# is complete. The gate doesn't report when the edits of a crate are done: it is when the last one was seen. Exit status: the
+# command's; 64 there is no such command; 73 the log can't be written; 130 or 143 interrupted.
 set -uo pipefail
 unset CDPATH
 top=$(dirname "$(dirname "$(readlink -f "${BASH_SOURCE[0]}")")")
@@ -22,7 +22,7 @@ fi
 exec 4>> "$log"
 hertz=$(getconf CLK_TCK)
 begin=${EPOCHREALTIME/[.,]/}
-order=()            # crates, as they are first told of
+order=()            # crates, as they are first named
 sums=()             # the lines `N passed, M failed`, with their seconds
 declare -A seen=()  # of `CRATE PART`, PART proof, tests or edits: when it stood, in ms
 declare -A word=()  # what the gate says of it where that isn't `proved`
@@ -33,7 +33,7 @@ declare -A known=() # the crates of `order`
 partial=
 child=
 
-# Leaves the ms since the beginning in `now`.
+# Leaves the ms since the start in `now`.
 look_at_clock() { now=$(((${EPOCHREALTIME/[.,]/} - begin) / 1000)); }
 
 seconds() { printf '%d.%d' $(($1 / 1000)) $(($1 % 1000 / 100)); }
@@ -43,7 +43,7 @@ told() {
     known[$1]=yes
 }
 
-# stamp LINE: passes it on with its second, and notes what stands by it.
+# stamp LINE: prints it with its second, and records what it says is done.
 stamp() {
     look_at_clock
     local text
@@ -63,7 +63,7 @@ stamp() {
     fi
 }
 
-# What a process of the prover works for, as its words tell; nothing for others.
+# The crate for which a process of the prover works, by its command line; nothing for other processes.
 work_of() {
     local words name='' is_test='' at
     mapfile -d '' -t words < "/proc/$1/cmdline" || return
@@ -81,16 +81,16 @@ work_of() {
     esac
 }
 
-# A look at every process below the gate: the ticks of each count for the nearest process of the prover above it.
+# Reads every process below the gate: the ticks of each count for the nearest process of the prover above it.
 look() {
     local -A parent=() ticks=() start=() sum=()
     local file line fields pid up key
     look_at_clock
     for file in /proc/[0-9]*/stat; do
         { IFS= read -r line < "$file"; } 2> /dev/null || continue
-        # The name in brackets may hold anything.
+        # The name in brackets may contain anything.
         read -ra fields <<< "${line##*) }"
-        # A process that ends meanwhile leaves half a line, or none.
+        # Of a process that ends meanwhile there is half a line, or none.
         [ "${#fields[@]}" -gt 19 ] || continue
         pid=${line%% *}
         parent[$pid]=${fields[1]}
@@ -116,7 +116,7 @@ look() {
     done
 }
 
-# is_below PID: whether the gate began it, by `parent` of the look.
+# is_below PID: whether the gate started it, by the `parent` entries just read.
 is_below() {
     local up=$1
     while [ "${up:-0}" -gt 1 ]; do
@@ -126,7 +126,7 @@ is_below() {
     return 1
 }
 
-# The whole processor time of the gate, which has ended, in ticks, as the system counts it.
+# The whole processor time of the gate, which has ended, in ticks, by the system's count.
 whole() {
     local line fields
     IFS= read -r line < "/proc/$$/stat"
@@ -137,7 +137,7 @@ whole() {
 # tenths TICKS: in seconds.
 tenths() { seconds $(($1 * 1000 / hertz)); }
 
-# The table, the crates in the order in which they stood.
+# The table, with the crates in the order in which they were done.
 table() {
     local key crate part at line all=0
     local -A sum=()
@@ -162,7 +162,7 @@ table() {
     for line in ${sums[@]+"${sums[@]}"}; do printf '%s s: %s\n' "${line%% *}" "${line#* }"; done
 }
 
-# Ctrl-C and a signal to this process alone: the gate puts back what it set aside, and ends.
+# Ctrl-C, or a signal to this process only: the gate restores what it set aside, and ends.
 interrupted() {
     trap '' INT TERM HUP
     kill -INT -- "-$child" 2> /dev/null
@@ -172,7 +172,7 @@ interrupted() {
 }
 
 pipe=$(mktemp -u) && mkfifo -m 600 "$pipe" || exit 73
-# Not even Ctrl-C is ignored by what runs there.
+# The command doesn't ignore Ctrl-C either.
 setsid env --default-signal=INT "$@" > "$pipe" 2>&1 < /dev/null 4>&- &
 child=$!
 exec 3< "$pipe"

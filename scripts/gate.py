@@ -1,6 +1,8 @@
 """scripts/gate.py proofs ROOM [CRATE ..]: passes these crates with those below them, or all, by `rt ci` on a copy in the folder ROOM,
 which hasn't their must-fail edits; what it built scripts/build.py keeps.
-scripts/gate.py edits [CRATE ..]: tries the edits of these crates, or of all, over the libraries that stand.
+scripts/gate.py edits [CRATE ..]: tries the edits of these crates, or of all, over the libraries that stand. After `proofs` nothing is
+built again, even where `rt ci` has taken a proof from an earlier run. What a plain `rt ci` leaves in a checkout isn't used: `rt check` writes
+to the same folders, and nothing there says of which sources a library was made.
 
 A function is proved from the contracts of others, never from their bodies. So edits of the bodies of several functions are checked at
 once, and each is refused by what the prover says of its own function; `rt must-fail` checks them one by one, which takes a gate half as
@@ -15,14 +17,15 @@ import shutil
 import subprocess
 import tempfile
 
-from build import BUILT, TOP, build, child, crates, end_by, read
+from build import BUILT, TOP, build, child, crates, end_by, read, sums
 
 GONE = "has no field|is not in scope|has no `|was not admitted"  # of what an edit takes away, and a proof names
 HEAD = re.compile(r"^( *)(?:pub(?:\([a-z]+\))? )?(?:const |unsafe |extern \"C\" )*fn (\w+)", re.M)
 
 
 def block_of(text):
-    """The name that the prover has for the `impl` that this text ends in: its type, its trait, and what these are for, if no parameter."""
+    """The prover's name for the `impl` in which this text ends: its type, its trait, and the types these are for, if they
+    aren't parameters."""
     generics, head = re.findall(r"^(?:impl|(?:pub )?trait)(<.*?>)? (?=\w)(.*) \{$", text, re.M)[-1]
     known = [*re.findall(r"(?:<|, )([A-Z]\w*)", generics.replace("'", "")), "for"]
     trait, _, of = head.rpartition(" for ")
@@ -31,7 +34,7 @@ def block_of(text):
 
 
 class Function:
-    """The one that a text stands in: its lines, whether the text is in its body, and its name, by the type or the file that it is of."""
+    """The function that contains a text: its lines, whether the text is in its body, and its name, by its type or its file."""
 
     def __init__(self, path, text, at):
         head = [it for it in HEAD.finditer(text) if it.start() < at][-1]
@@ -43,7 +46,8 @@ class Function:
         self.name = head[2] if of in ("lib", "main") else f"{of}::{head[2]}"
 
     def refusal(self, said):
-        """The first line that tells that it isn't proved: one of its own, or one of its proof, which names nothing that is gone."""
+        """The first line that says that it isn't proved: one of its own, or one of its proof, which doesn't name something that
+        is gone."""
         own = f"/{self.name.replace('::', '/')}/"
         for line in re.findall(r"^(?:note: )?(?:\./)?(?:src|proofs)/\S+?:\d+:\d+: .*", said, re.M):
             file, number = re.match(r"(?:note: )?(?:\./)?(\S+?):(\d+)", line).groups()
@@ -54,7 +58,7 @@ class Function:
 
 
 def function_of(path, text, part):
-    """The function that has this part of the file, and nothing else has, if one has."""
+    """The function that has this part of the file, and nothing else, if there is one."""
     at = text.find(part)
     if text.count(part) != 1 or not HEAD.search(text, 0, at):
         return None
@@ -75,7 +79,7 @@ class Edit:
                 self.pairs.append((path, old, text))
 
     def apply(self, texts):
-        """The texts of the crate's files, by their paths, with this edit; None if one of its `old:` doesn't stand there once."""
+        """The texts of the crate's files, by path, with this edit; None if one of its `old:` doesn't occur there exactly once."""
         texts = {**texts}
         for path, old, new in self.pairs:
             if texts.get(path, "").count(old) != 1:
@@ -84,14 +88,14 @@ class Edit:
         return texts
 
     def function(self, texts):
-        """The function that it changes, if it does no more than that."""
+        """The function that it changes, if it changes nothing else."""
         functions = [function_of(path, texts.get(path, ""), old) for path, old, _ in self.pairs]
         if None in functions or len({(it.path, it.first) for it in functions}) > 1:
             return None
         return min(functions, key=lambda it: it.in_body)
 
     def alone(self, texts):
-        """Whether its function, or, if there is none, the crate is refused with this edit alone, and what to say."""
+        """Whether its function or, if there is none, the crate is rejected with only this edit, and what to print."""
         changed, function = self.apply(texts), self.function(texts)
         names = [function.name] if function else []
         said, proved = check(self.crate, changed, names) if changed else ("its old text doesn't stand once in its file", None)
@@ -102,7 +106,7 @@ class Edit:
 
 
 class Round:
-    """Edits that are checked at once, each with its function, and the crate's texts with them."""
+    """Edits that are checked together, each with its function, and the crate's texts with them."""
 
     def __init__(self, texts):
         self.texts, self.edits = texts, []
@@ -116,7 +120,8 @@ class Round:
 
 
 def check(crate, texts, names):
-    """What the prover says of these functions of the crate, or of all, with these texts; and whether it proves them, if it tells."""
+    """What the prover says about these functions of the crate, or about all, with these texts; and whether it proves them, if
+    it says so."""
     with tempfile.TemporaryDirectory(prefix="must-fail-") as room:
         for path, text in texts.items():
             os.makedirs(os.path.dirname(f"{room}/{path}"), exist_ok=True)
@@ -132,7 +137,7 @@ def check(crate, texts, names):
 
 
 def try_edits(crate):
-    """Of each edit of the crate: its name, whether all is well, and what to say."""
+    """For each edit of the crate: its name, whether it passed, and what to print."""
     files = [f"{at}/{name}" for part in ("src", "specs", "proofs") for at, _, names in os.walk(f"{crate.folder}/{part}") for name in names]
     texts = {os.path.relpath(it, crate.folder): read(it) for it in files}
     folder = f"{crate.folder}/must-fail"
@@ -162,9 +167,10 @@ def try_edits(crate):
 
 
 def try_all(asked):
-    """Tries the edits of these crates, up to four at a time, with a line for each; returns how many are refused, and how many not."""
+    """Tries the edits of these crates, up to four at a time, with a line for each; returns how many are rejected, and how many
+    aren't."""
     asked = [it for it in asked if os.path.isdir(f"{it.folder}/must-fail")]
-    asked.sort(key=lambda it: -sum(text.st_size for text in it.texts()))
+    asked.sort(key=lambda it: -it.size)
     build(list(dict.fromkeys(below.name for it in asked for below in it.all[:-1])))
     tried = []
     with concurrent.futures.ThreadPoolExecutor(min(len(os.sched_getaffinity(0)), 4)) as pool:
@@ -179,9 +185,10 @@ def prove_all(room, names):
     """Runs `rt ci` on a copy of these crates with those below them, or of all that it reads, and keeps what it has built."""
     asked = [*dict.fromkeys(below for name in names or crates() for below in crates()[name].all)]
     listed = {crate.name for crate in asked}
+    times = {crate: (crate.sources, crate.times())[1] for crate in asked}
 
     def left_out(folder, files):
-        """No more than that of all: `rt ci` is to see links, and what no crate reads."""
+        """Files and folders not to copy. Everything else is copied: `rt ci` has to see links, and files that no crate reads."""
         others = {*files} - (listed if folder == f"{TOP}/crates" else {"crates", "crates.txt", "HANDLES"})
         is_other = names and folder in (TOP, f"{TOP}/crates")
         return {"out", "must-fail", *([".git"] if folder == TOP else []), *(others if is_other else [])}
@@ -201,6 +208,8 @@ def prove_all(room, names):
             subprocess.run(["rm", "-rf", crate.made], check=True)
             os.makedirs(os.path.dirname(crate.made), exist_ok=True)
             shutil.move(built, crate.made)
+            crate.stands(times[crate])
+    sums().keep()
     told = re.match(r"(\d+) passed, (\d+) failed", last)
     passed, failed = map(int, told.groups()) if told else (0, 1)
     return passed, failed or int(ran.returncode != 0)
@@ -210,7 +219,7 @@ def gate(words):
     if words[0] == "proofs":
         passed, failed = prove_all(words[1], words[2:])
     else:
-        os.nice(5)  # the tests beside them mostly wait, and have their times
+        os.nice(5)  # the tests that run at the same time mostly wait, and have their times
         passed, failed = try_all([crates()[name] for name in words[1:] or crates()])
     print(f"{passed} passed, {failed} failed", flush=True)
     return 1 if failed else 0

@@ -1,7 +1,8 @@
-"""The crates in numbers, and whether they keep the house's measures.
+"""The crates in numbers, and whether they keep to the limits.
 
-Every line that isn't blank counts once: of a crate's `src` as code, contract (a clause, or another ghost item) or test, a
-comment as none of them; of its `specs`, `proofs` and `must-fail` as they are. A function is as long as the code of its body.
+Every line that isn't blank counts once: in a crate's `src` as code, contract (a clause, or another ghost item) or test, and
+comments as none of them; in its `specs`, `proofs` and `must-fail` as they are. The length of a function is that of its body's
+code.
 """
 import pathlib
 import re
@@ -19,7 +20,7 @@ LITERAL = re.compile(r"""//.*|b?"(?:[^"\\]|\\.)*"|b?'(?:[^'\\]|\\.[^']*)'""")
 
 
 class Crate:
-    """The numbers of a crate, and each place that is over a measure."""
+    """The numbers of a crate, and each place that exceeds a limit."""
 
     def __init__(self, name):
         self.name = name
@@ -37,7 +38,7 @@ class Crate:
 
 
 class Function:
-    """A function that is being read: where it begins, how deep, and what of it was counted."""
+    """A function that is being read: where it begins, its nesting depth, and what was counted of it."""
 
     def __init__(self, name, place, depth):
         self.name = name
@@ -58,7 +59,7 @@ def lines_of(path):
 
 
 def bare(line):
-    """The line without texts, characters and comments."""
+    """The line without string literals, characters and comments."""
     return LITERAL.sub("", line)
 
 
@@ -72,7 +73,7 @@ class Source:
     def __init__(self, crate, path):
         self.crate = crate
         self.path = path
-        self.is_test = crate.name.startswith("uses_") or any(part.endswith("tests") for part in (crate.name, path.stem, path.parent.name))
+        self.is_test = crate.name.startswith(("test_", "uses_")) or any(part.endswith("tests") for part in (crate.name, path.stem, path.parent.name))
         self.depth = 0
         self.functions = []
         self.ghost = 0       # how many brackets of a clause or of a ghost item are open
@@ -96,7 +97,7 @@ class Source:
         self.crate.count("tests" if self.is_test else "contracts")
         if clause:
             self.in_clause = True
-            # A closure's clauses stand within the body.
+            # A closure's clauses are within the body.
             if self.functions and not self.functions[-1].has_body:
                 self.functions[-1].clauses[clause[1]].append(clause[2])
         if self.in_clause:
@@ -128,7 +129,7 @@ class Source:
         if self.is_test:
             return
         self.crate.count("functions")
-        # The line that closes the body is none of it.
+        # The line that closes the body isn't counted.
         function.lines = max(function.lines - 1, 0)
         self.crate.reach("function", function.lines)
         if function.lines >= LONGEST_FUNCTION:
@@ -165,7 +166,7 @@ def crates():
 
 
 def show(all_crates):
-    """The table, and what the proofs come to beside what they prove."""
+    """Prints the table, and the ratio of the proofs to what they prove."""
     whole = Crate("all")
     for crate in all_crates:
         for column in COLUMNS[:-2]:
@@ -178,7 +179,7 @@ def show(all_crates):
 
 
 def check(all_crates):
-    """Each crate is a test."""
+    """Checks the limits; each crate is a test."""
     for crate in all_crates:
         for line in crate.over:
             print(line)

@@ -1,11 +1,13 @@
 #!/usr/bin/env bash
-# scripts/install.sh [--library] [--python] [--uninstall] PREFIX: installs the C library, static and shared, with its headers, its
-# pkg-config and CMake files and its manual page, and the command `fintaqush` and the proved programs with theirs, and completions for bash,
-# zsh and fish. What only `fintaqush` runs goes to PREFIX/lib/fintaqush. What isn't built yet is proved and built first.
-# --library leaves the command and the programs out, which take most of the time. --python puts bindings/python where python3 looks below
-# PREFIX, else into lib/python3/dist-packages. With DESTDIR set, all goes below that folder, for PREFIX.
-# --uninstall removes what an install put there, and nothing else. --programs tells the programs' names, and does nothing.
-# Exit status: 0 done; 64 the words are wrong; 69 a program is missing; 70 something couldn't be built; 73 it can't be written there.
+# scripts/install.sh [--library] [--python] [--libdir=FOLDER] [--uninstall] PREFIX: installs the C library, static and shared,
+# with its headers, its pkg-config and CMake files, its manual pages, its guide and its examples, and the command `fintaqush` and
+# the proved programs with theirs, and completions for bash, zsh and fish. What only `fintaqush` runs goes to
+# PREFIX/lib/fintaqush. What isn't built yet is proved and built first. --library leaves the command and the programs out, which
+# take most of the time. --python puts bindings/python where python3 looks below PREFIX, else into lib/python3/dist-packages.
+# With DESTDIR set, all goes below that folder, for PREFIX. --libdir names the folder of libraries below PREFIX (the default is
+# lib; Debian's is lib/x86_64-linux-gnu). --uninstall removes what an install put there, and nothing else. --programs only
+# prints the programs' names. Exit status: 0 done; 64 the arguments are wrong; 69 a program is missing; 70 something couldn't
+# be built; 73 it can't be written there.
 set -euo pipefail
 unset CDPATH
 top=$(dirname "$(dirname "$(readlink -f "${BASH_SOURCE[0]}")")")
@@ -15,6 +17,8 @@ prefix=
 is_library=
 is_python=
 is_uninstall=
+libdir=lib
+usage='usage: scripts/install.sh [--library] [--python] [--libdir=FOLDER] [--uninstall] PREFIX'
 
 stop() {
     local status=$1
@@ -29,19 +33,25 @@ for word in "$@"; do
         --library) is_library=yes ;;
         --python) is_python=yes ;;
         --uninstall) is_uninstall=yes ;;
+        --libdir=[!/]*) libdir=${word#--libdir=}
+            libdir=${libdir%/} ;;
         /*) [ -z "$prefix" ] || stop 64 'one PREFIX only'
             prefix=${word%/} ;;
-        *) stop 64 "usage: scripts/install.sh [--library] [--python] [--uninstall] PREFIX, which begins with /" ;;
+        *) stop 64 "$usage, which begins with /" ;;
     esac
 done
-[ -n "$prefix" ] || stop 64 'usage: scripts/install.sh [--library] [--python] [--uninstall] PREFIX'
+[ -n "$prefix" ] || stop 64 "$usage"
 to=${DESTDIR:-}$prefix
 version=$(sed -n 's/^#define FQ_VERSION "\([0-9.]*\)"$/\1/p' "$top/include/fintaqush.h")
 major=${version%%.*}
 
-library_files=(lib/libfintaqush.a "lib/libfintaqush.so.$version" "lib/libfintaqush.so.$major" lib/libfintaqush.so
-    include/fintaqush.h include/fintaqush.hpp include/fintaqush_tsan.h lib/pkgconfig/fintaqush.pc
-    lib/cmake/Fintaqush/FintaqushConfig.cmake lib/cmake/Fintaqush/FintaqushConfigVersion.cmake share/man/man3/fintaqush.3)
+mapfile -t calls < <(python3 -EsSB "$top/scripts/header.py" --names) # a page for each group of calls, and one for each call, which leads there
+guide=share/doc/fintaqush # the pages for users of the library, and the examples
+pages=(C.md GUIDE.md LIMITS.md)
+examples=("$top"/examples/c/*)
+library_files=("$libdir"/{libfintaqush.a,"libfintaqush.so.$version","libfintaqush.so.$major",libfintaqush.so,pkgconfig/fintaqush.pc}
+    "$libdir"/cmake/Fintaqush/{FintaqushConfig,FintaqushConfigVersion}.cmake include/{fintaqush.h,fintaqush.hpp,fintaqush_tsan.h}
+    share/man/man3/fintaqush.3 "${calls[@]/#/share/man/man3/}" "${pages[@]/#/$guide/}" "${examples[@]/#"$top"/$guide}")
 home=lib/fintaqush # where what `fintaqush` runs lies, as in a checkout
 parts=(fintaqush scripts/{build,replay,subcommands,words}.py docs/usage.txt examples/{linux-veth-bursts,busy-poll}.csv examples/veth-backlog.rec)
 for file in "$top"/tools/*; do
@@ -69,7 +79,7 @@ if [ -n "$is_uninstall" ]; then
         rmdir "$package" 2> /dev/null || true
     done
     rm -rf "$to/$home"/{tools,scripts}/__pycache__ # Python's, of these files
-    rmdir "$to/lib/cmake/Fintaqush" "$to/$home"/{tools,scripts,programs,docs,examples} "$to/$home" 2> /dev/null || true
+    rmdir "$to/$libdir/cmake/Fintaqush" "$to/$guide"/{examples/c,examples,} "$to/$home"/{tools,scripts,programs,docs,examples} "$to/$home" 2> /dev/null || true
     exit 0
 fi
 
@@ -80,35 +90,39 @@ command -v "$cc" > /dev/null || stop 69 "there is no $cc, which makes the shared
 [ -n "$is_library" ] && [ -z "$is_python" ] || command -v python3 > /dev/null ||
     stop 69 "there is no python3, which the command and the package are written in"
 "$top/scripts/c_library.sh" "$scratch" || stop 70 "the C library couldn't be built"
-# the exports alone, of all that the archive has, each of this version
-echo "FINTAQUSH_$major { global: fq_*; local: *; };" > "$scratch/exports"
-"$cc" -shared -Wl,-soname,"libfintaqush.so.$major" -Wl,--version-script="$scratch/exports" -Wl,--whole-archive \
-    "$scratch/libfintaqush.a" -Wl,--no-whole-archive -o "$scratch/libfintaqush.so.$version" || stop 70 "the shared library couldn't be made"
+# The exports alone, each of the version that it came with; what it writes once, as it is loaded, is read only then.
+"$cc" -shared -s -Wl,-soname,"libfintaqush.so.$major" -Wl,--version-script="$top/scripts/exports.map" -Wl,-z,relro,-z,now \
+    -Wl,--whole-archive "$scratch/libfintaqush.a" -Wl,--no-whole-archive -o "$scratch/libfintaqush.so.$version" ||
+    stop 70 "the shared library couldn't be made"
 [ -n "$is_library" ] || "$top/scripts/build.sh" "${programs[@]}" || stop 70 "the programs couldn't be built"
 
-sed -e "s|@PREFIX@|$prefix|" -e "s|@VERSION@|$version|" > "$scratch/fintaqush.pc" << 'END'
+# for_sed TEXT: as sed takes it in the place of another.
+for_sed() { printf '%s' "$1" | sed 's/[&|\\]/\\&/g'; }
+
+# In quotes, since a prefix may have spaces.
+sed -e "s|@PREFIX@|$(for_sed "$prefix")|" -e "s|@LIBDIR@|$(for_sed "$libdir")|" -e "s|@VERSION@|$version|" > "$scratch/fintaqush.pc" << 'END'
 prefix=@PREFIX@
-libdir=${prefix}/lib
+libdir=${prefix}/@LIBDIR@
 includedir=${prefix}/include
 
 Name: fintaqush
 Description: The packet polling core of Linux (NAPI) with byte queue limits, in user space
 Version: @VERSION@
-Libs: -L${libdir} -lfintaqush
-Cflags: -I${includedir}
+Libs: "-L${libdir}" -lfintaqush
+Cflags: "-I${includedir}"
 END
 
-cat > "$scratch/FintaqushConfig.cmake" << 'END'
+sed -e "s|@UP@|$(realpath -sm --relative-to="/$libdir/cmake/Fintaqush" /)|" -e "s|@LIBDIR@|$(for_sed "$libdir")|g" > "$scratch/FintaqushConfig.cmake" << 'END'
 # Fintaqush::fintaqush, the shared library, and Fintaqush::static. Paths are told from where this file lies.
-get_filename_component(fintaqush_prefix "${CMAKE_CURRENT_LIST_DIR}/../../.." ABSOLUTE)
+get_filename_component(fintaqush_prefix "${CMAKE_CURRENT_LIST_DIR}/@UP@" ABSOLUTE)
 if(NOT TARGET Fintaqush::fintaqush)
   add_library(Fintaqush::fintaqush SHARED IMPORTED)
   set_target_properties(Fintaqush::fintaqush PROPERTIES
-    IMPORTED_LOCATION "${fintaqush_prefix}/lib/libfintaqush.so"
+    IMPORTED_LOCATION "${fintaqush_prefix}/@LIBDIR@/libfintaqush.so"
     INTERFACE_INCLUDE_DIRECTORIES "${fintaqush_prefix}/include")
   add_library(Fintaqush::static STATIC IMPORTED)
   set_target_properties(Fintaqush::static PROPERTIES
-    IMPORTED_LOCATION "${fintaqush_prefix}/lib/libfintaqush.a"
+    IMPORTED_LOCATION "${fintaqush_prefix}/@LIBDIR@/libfintaqush.a"
     INTERFACE_INCLUDE_DIRECTORIES "${fintaqush_prefix}/include")
 endif()
 unset(fintaqush_prefix)
@@ -126,7 +140,7 @@ else()
 endif()
 END
 
-# The program itself refuses these words.
+# The program itself rejects these arguments.
 cat > "$scratch/program" << 'END'
 #!/bin/sh
 case "$# ${1:-}" in
@@ -141,17 +155,43 @@ put() {
     install -D -m "$1" "$2" "$to/$3" || stop 73 "$to/$3 can't be written"
 }
 
-put 644 "$scratch/libfintaqush.a" lib/libfintaqush.a
-put 755 "$scratch/libfintaqush.so.$version" "lib/libfintaqush.so.$version"
-ln -sf "libfintaqush.so.$version" "$to/lib/libfintaqush.so.$major"
-ln -sf "libfintaqush.so.$major" "$to/lib/libfintaqush.so"
+# A page as it is installed: a link to what isn't installed with it is its text alone.
+page_of() {
+    awk -v pages=" ${pages[*]} " '{
+        while (match($0, /\[[^][]*\]\([^)]*\)/)) {
+            link = substr($0, RSTART, RLENGTH); split(link, part, /\]\(/)
+            to = part[2]; sub(/\)$/, "", to); name = to; sub(/#.*/, "", name)
+            stays = to ~ /^(#|https?:)/ || index(pages, " " name " ")
+            printf "%s%s", substr($0, 1, RSTART - 1), stays ? link : substr(part[1], 2)
+            $0 = substr($0, RSTART + RLENGTH)
+        }
+        print
+    }' "$1"
+}
+
+put 644 "$scratch/libfintaqush.a" "$libdir/libfintaqush.a"
+put 644 "$scratch/libfintaqush.so.$version" "$libdir/libfintaqush.so.$version"
+ln -sf "libfintaqush.so.$version" "$to/$libdir/libfintaqush.so.$major"
+ln -sf "libfintaqush.so.$major" "$to/$libdir/libfintaqush.so"
 put 644 "$top/include/fintaqush.h" include/fintaqush.h
 put 644 "$top/include/fintaqush.hpp" include/fintaqush.hpp
 put 644 "$top/include/fintaqush_tsan.h" include/fintaqush_tsan.h
-put 644 "$scratch/fintaqush.pc" lib/pkgconfig/fintaqush.pc
-put 644 "$scratch/FintaqushConfig.cmake" lib/cmake/Fintaqush/FintaqushConfig.cmake
-put 644 "$scratch/FintaqushConfigVersion.cmake" lib/cmake/Fintaqush/FintaqushConfigVersion.cmake
+put 644 "$scratch/fintaqush.pc" "$libdir/pkgconfig/fintaqush.pc"
+put 644 "$scratch/FintaqushConfig.cmake" "$libdir/cmake/Fintaqush/FintaqushConfig.cmake"
+put 644 "$scratch/FintaqushConfigVersion.cmake" "$libdir/cmake/Fintaqush/FintaqushConfigVersion.cmake"
 put 644 "$top/docs/man/fintaqush.3" share/man/man3/fintaqush.3
+mkdir "$scratch/man3"
+python3 -EsSB "$top/scripts/header.py" "$scratch/man3" || stop 70 "the manual pages of the library couldn't be made"
+for name in "${calls[@]}"; do
+    put 644 "$scratch/man3/$name" "share/man/man3/$name"
+done
+for name in "${pages[@]}"; do
+    page_of "$top/docs/$name" > "$scratch/page"
+    put 644 "$scratch/page" "$guide/$name"
+done
+for file in "${examples[@]}"; do
+    put 644 "$file" "$guide${file#"$top"}"
+done
 if [ -z "$is_library" ]; then
     for name in "${programs[@]}"; do
         page=$top/docs/man/$name.1

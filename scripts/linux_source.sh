@@ -1,9 +1,9 @@
 #!/usr/bin/env bash
-# scripts/linux_source.sh VERSION FOLDER FILE ..: puts these files of Linux's sources into FOLDER: out of the folder LINUX, if
-# that is set, else out of Debian's package linux-source-VERSION by apt-get: of the release that apt is set up for, or of its newest
-# backports, with settings of apt of its own. What was taken from a package is kept in out/, where git doesn't look, so that it is
-# fetched once; nothing of it belongs to the repository.
-# Exit status: 0; 64 LINUX has no such file; 69 there is no package, and LINUX isn't set.
+# scripts/linux_source.sh VERSION FOLDER FILE ..: puts these files of Linux's sources into FOLDER: from the folder LINUX, if
+# that is set, otherwise from Debian's package linux-source-VERSION by apt-get: of the release that apt is set up for, or of its
+# newest backports, with its own settings of apt. What was taken from a package is kept in out/, which git ignores, so that it
+# is downloaded once; nothing of it belongs to the repository. Exit status: 0; 64 LINUX has no such file; 69 there is no
+# package, and LINUX isn't set.
 set -euo pipefail
 unset CDPATH
 top=$(dirname "$(dirname "$(readlink -f "${BASH_SOURCE[0]}")")")
@@ -34,7 +34,7 @@ fetch() {
     (cd "$work" && download) || return 1
     dpkg-deb --fsys-tarfile "$work"/linux-source-*.deb | tar -x -C "$work" "./usr/src/linux-source-$version.tar.xz"
     mkdir -p "$work/files"
-    # Where nothing can be kept, they go to FOLDER alone.
+    # If nothing can be kept, they only go to FOLDER.
     mkdir -p "$kept" 2> /dev/null && [ -w "$kept" ] || from=$folder
     tar -x -J -f "$work/usr/src/linux-source-$version.tar.xz" -C "$work/files" --strip-components=1 --occurrence "${@/#/linux-source-$version/}"
     cp -r "$work/files/." "$from"

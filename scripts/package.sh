@@ -1,7 +1,12 @@
 #!/usr/bin/env bash
-# scripts/package.sh FOLDER: makes FOLDER/fintaqush_VERSION_ARCHITECTURE.deb, a Debian package of what scripts/install.sh installs, for
-# machines without the kit; by dpkg-deb. What isn't built yet is proved and built first.
-# Exit status: 0 done; 64 the words are wrong; 69 a program is missing; 70 something couldn't be built; 73 it can't be written there.
+# scripts/package.sh FOLDER: makes the Debian packages of what scripts/install.sh installs, for machines without the kit, by dpkg-deb:
+#   libfintaqush1_VERSION_ARCHITECTURE.deb     the shared library
+#   libfintaqush-dev_VERSION_ARCHITECTURE.deb  headers, static library, files for pkg-config and CMake, manual pages, the guide, examples
+#   python3-fintaqush_VERSION_all.deb          the package for Python
+#   fintaqush_VERSION_ARCHITECTURE.deb         the command, the programs and the tools
+# The maintainer is that of DEBFULLNAME and DEBEMAIL, if these are set; the date is SOURCE_DATE_EPOCH, else that of the last commit.
+# What isn't built yet is proved and built first.
+# Exit status: 0 done; 64 the arguments are wrong; 69 a program is missing; 70 something couldn't be built; 73 it can't be written there.
 set -euo pipefail
 unset CDPATH
 top=$(dirname "$(dirname "$(readlink -f "${BASH_SOURCE[0]}")")")
@@ -16,44 +21,124 @@ stop() {
 [ "$#" = 1 ] && [ -n "$1" ] || stop 64 'usage: scripts/package.sh FOLDER'
 [ -d "$1" ] && [ -w "$1" ] || stop 73 "$1: no folder that can be written to"
 folder=$(cd -- "$1" && pwd)
-command -v dpkg-deb > /dev/null || stop 69 "there is no dpkg-deb, which makes the package"
+for program in dpkg-deb strip; do
+    command -v "$program" > /dev/null || stop 69 "there is no $program, which the packages are made by"
+done
 scratch=$(mktemp -d)
-new=$folder/.new-$$.deb
-trap 'rm -rf "$scratch" "$new"' EXIT
+trap 'rm -rf "$scratch" "$folder"/.new-$$-*.deb' EXIT
 trap 'exit 130' INT
 trap 'exit 143' TERM
-stage=$scratch/stage
-DESTDIR=$stage "$top/scripts/install.sh" --python /usr
-chmod -R u=rwX,go=rX "$stage"
-
-# the newest C library that any of it asks for
-glibc=$(find "$stage/usr" -type f \( -perm -100 -o -name '*.so.*' \) -exec readelf -V {} + 2> /dev/null |
-    grep -o 'GLIBC_[0-9.]*[0-9]' | sort -uV | tail -n 1) || true
-version=$(sed -n 's/^#define FQ_VERSION "\([0-9.]*\)"$/\1/p' "$top/include/fintaqush.h")
 architecture=$(dpkg --print-architecture)
-mkdir -m 755 "$stage/DEBIAN"
-cat > "$stage/DEBIAN/control" << END
-Package: fintaqush
+libdir=lib/$(dpkg-architecture -a"$architecture" -qDEB_HOST_MULTIARCH 2> /dev/null || cc -print-multiarch 2> /dev/null || echo "$(uname -m)-linux-gnu")
+version=$(sed -n 's/^#define FQ_VERSION "\([0-9.]*\)"$/\1/p' "$top/include/fintaqush.h")
+major=${version%%.*}
+maintainer="${DEBFULLNAME:-Fintaqush} <${DEBEMAIL:-fintaqush@fintaqush.invalid}>"
+date=$(date -R -u -d "@${SOURCE_DATE_EPOCH:-$(git -C "$top" log -1 --format=%ct 2> /dev/null || date +%s)}")
+stage=$scratch/stage
+DESTDIR=$stage "$top/scripts/install.sh" --python --libdir="$libdir" /usr
+chmod -R u=rwX,go=rX "$stage"
+find "$stage/usr/share/man" -type f -exec gzip -9n {} +
+strip --strip-unneeded "$stage"/usr/lib/fintaqush/programs/*
+# Debian's python3, and no other that stands before it on PATH
+find "$stage/usr/lib/fintaqush" -type f -exec sed -i '1s|^#!/usr/bin/env \(-S \)\{0,1\}python3|#!/usr/bin/python3|' {} +
+
+# move PACKAGE PATH ..: gives these files to a package, where they have the same place.
+move() {
+    local to=$scratch/$1 path
+    shift
+    for path in "$@"; do
+        mkdir -p "$to/usr/$(dirname "$path")"
+        mv "$stage/usr/$path" "$to/usr/$path"
+    done
+}
+
+move "libfintaqush$major" "$libdir/libfintaqush.so.$version" "$libdir/libfintaqush.so.$major"
+move libfintaqush-dev include "$libdir"/libfintaqush.{a,so} "$libdir"/{pkgconfig,cmake} share/man/man3
+mkdir -p "$scratch/libfintaqush-dev/usr/share/doc"
+mv "$stage/usr/share/doc/fintaqush" "$scratch/libfintaqush-dev/usr/share/doc/libfintaqush-dev"
+move python3-fintaqush lib/python3
+mkdir "$scratch/fintaqush"
+mv "$stage/usr" "$scratch/fintaqush/usr"
+rmdir "$scratch/fintaqush/usr/$libdir" "$scratch/fintaqush/usr/share/doc" 2> /dev/null || true
+
+# glibc_of FOLDER: the newest C library that any of its programs and libraries asks for.
+glibc_of() {
+    find "$1/usr" -type f \( -perm -100 -o -name '*.so.*' \) -exec readelf -V {} + 2> /dev/null |
+        grep -o 'GLIBC_[0-9.]*[0-9]' | sort -uV | tail -n 1 | sed 's/GLIBC_//'
+}
+
+# about PACKAGE: the changelog, which Debian wants with each package, and the checksums.
+about() {
+    local root=$scratch/$1
+    mkdir -p "$root/usr/share/doc/$1"
+    printf '%s (%s) unstable; urgency=medium\n\n  * %s\n\n -- %s  %s\n' "$1" "$version" \
+        "Version $version; CHANGELOG.md of the sources has its changes." "$maintainer" "$date" | gzip -9n > "$root/usr/share/doc/$1/changelog.gz"
+    find "$root" -exec touch -h -d "$date" {} +
+    (cd "$root" && find usr -type f -exec md5sum {} + | LC_ALL=C sort -k 2 > DEBIAN/md5sums)
+}
+
+# package PACKAGE ARCHITECTURE SECTION: makes it, with the rest of its control file from standard input.
+package() {
+    local root=$scratch/$1 rest
+    rest=$(cat)
+    mkdir -p "$root/DEBIAN" && chmod 755 "$root/DEBIAN"
+    cat > "$root/DEBIAN/control" << END
+Package: $1
+Source: fintaqush
 Version: $version
-Architecture: $architecture
-Maintainer: Fintaqush <fintaqush@localhost>
-Section: net
+Architecture: $2
+Maintainer: $maintainer
+Section: $3
 Priority: optional
-Installed-Size: $(du -sk "$stage/usr" | cut -f 1)
-Depends: libc6 (>= ${glibc#GLIBC_}), python3 (>= 3.9)
-Suggests: gnuplot-nox, tcpdump, parallel, ethtool, iproute2
-Description: packet polling core of Linux (NAPI) with byte queue limits, proved
- The replay of traces of network devices by the rules of NAPI and byte queue
- limits of Linux 6.6, its series, tools for traces and reports, and the library
- for C, C++ and Python. What the programs and the library compute is proved.
+Installed-Size: $(du -sk --apparent-size "$root/usr" | cut -f 1)
+$rest
 END
-cat > "$stage/DEBIAN/prerm" << 'END'
+    about "$1"
+    SOURCE_DATE_EPOCH=$(date -d "$date" +%s) dpkg-deb --root-owner-group --build "$root" "$folder/.new-$$-$1.deb" > "$scratch/log" 2>&1 ||
+        stop 73 "$folder: the package $1 couldn't be written: $(tail -n 1 "$scratch/log")"
+    mv -- "$folder/.new-$$-$1.deb" "$folder/${1}_${version}_$2.deb" || stop 73 "$folder can't be written to"
+}
+
+mkdir -m 755 "$scratch/libfintaqush$major/DEBIAN" "$scratch/python3-fintaqush/DEBIAN"
+echo "libfintaqush $major libfintaqush$major (>= $version)" > "$scratch/libfintaqush$major/DEBIAN/shlibs"
+echo 'activate-noawait ldconfig' > "$scratch/libfintaqush$major/DEBIAN/triggers"
+package "libfintaqush$major" "$architecture" libs << END
+Multi-Arch: same
+Depends: libc6 (>= $(glibc_of "$scratch/libfintaqush$major"))
+Description: packet polling core of Linux (NAPI) with byte queue limits, proved
+ The rules of NAPI and of byte queue limits of Linux 6.6 as a library for
+ drivers and simulators in user space. What its calls compute is proved.
+ .
+ This is the shared library.
+END
+package libfintaqush-dev "$architecture" libdevel << END
+Multi-Arch: same
+Depends: libfintaqush$major (= $version)
+Suggests: pkg-config
+Description: packet polling core of Linux (NAPI), files to build with it
+ The rules of NAPI and of byte queue limits of Linux 6.6 as a library for
+ drivers and simulators in user space. What its calls compute is proved.
+ .
+ These are the headers for C and C++, the static library, manual pages, a
+ guide to drivers and simulators, and the programs of that guide.
+END
+cat > "$scratch/python3-fintaqush/DEBIAN/prerm" << 'END'
 #!/bin/sh
+set -e
 rm -rf "$DPKG_ROOT/usr/lib/python3/dist-packages/fintaqush/__pycache__"
 END
-chmod 755 "$stage/DEBIAN/prerm"
-(cd "$stage" && find usr -type f -exec md5sum {} + | LC_ALL=C sort -k 2 > DEBIAN/md5sums)
-if ! dpkg-deb --root-owner-group --build "$stage" "$new" > "$scratch/log" 2>&1; then
-    stop 73 "$folder: the package couldn't be written: $(tail -n 1 "$scratch/log")"
-fi
-mv -- "$new" "$folder/fintaqush_${version}_$architecture.deb" || stop 73 "$folder can't be written to"
+chmod 755 "$scratch/python3-fintaqush/DEBIAN/prerm"
+package python3-fintaqush all python << END
+Depends: python3 (>= 3.9), libfintaqush$major (>= $version)
+Description: packet polling core of Linux (NAPI) for Python
+ The rules of NAPI and of byte queue limits of Linux 6.6 as objects for
+ simulations in Python, over the library that computes them.
+END
+package fintaqush "$architecture" net << END
+Depends: libc6 (>= $(glibc_of "$scratch/fintaqush")), python3 (>= 3.9)
+Suggests: python3-matplotlib, libjs-dygraphs, tcpdump, parallel, ethtool, iproute2
+Description: replay and prediction of what a receiving Linux machine does
+ Programs that replay traces of network devices by the rules of NAPI and byte
+ queue limits of Linux 6.6, and tools that record a running machine, predict
+ other settings and advise. What the programs compute is proved.
+END

@@ -1,7 +1,7 @@
 #!/usr/bin/env bash
-# scripts/pictures.sh [--check]: draws docs/pictures/*.dot anew, as .svg beside them, by Graphviz's dot (Debian: apt install
-# graphviz). Each picture keeps the checksum of the text that it was drawn from. With --check nothing is drawn, and no dot is
-# needed: each picture that is missing, older than its text or without one is named, and the status is then 1.
+# scripts/pictures.sh [--check]: draws docs/pictures/*.dot again, as .svg in the same folder, by Graphviz's dot (Debian: apt
+# install graphviz). Each picture contains the checksum of the text that it was drawn from. With --check nothing is drawn, and
+# dot isn't needed: each picture that is missing, older than its text or without a text is printed, and the status is then 1.
 set -euo pipefail
 unset CDPATH
 cd "$(dirname "$(dirname "$(readlink -f "${BASH_SOURCE[0]}")")")/docs/pictures"

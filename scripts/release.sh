@@ -1,5 +1,5 @@
 #!/usr/bin/env bash
-# scripts/release.sh FOLDER: makes what a release has: the Debian package; a tarball with libraries, headers, programs, tools, manual
+# scripts/release.sh FOLDER: makes what a release has: the Debian packages; a tarball with libraries, headers, programs, tools, manual
 # pages and, if pandoc is installed, the HTML pages; the changelog's part; checksums of all of them. What isn't built yet is proved
 # and built first. The folder isn't there yet, or is empty. It is made beside itself and renamed at the end.
 # Exit status: 0 done; 64 no folder, or more arguments; 69 a program is missing; 70 a part couldn't be built; 73 it can't be written.
@@ -15,7 +15,7 @@ stop() {
 }
 
 [ "$#" = 1 ] && [ -n "$1" ] || stop 64 'usage: scripts/release.sh FOLDER'
-command -v dpkg-deb > /dev/null || stop 69 "there is no dpkg-deb, which makes the package"
+command -v dpkg-deb > /dev/null || stop 69 "there is no dpkg-deb, which makes the packages"
 folder=$(realpath -m -- "$1")
 [ ! -e "$folder" ] || [ -d "$folder" ] || stop 73 "$folder is no folder"
 [ ! -d "$folder" ] || [ -z "$(ls -A -- "$folder")" ] || stop 73 "$folder isn't empty"
@@ -29,10 +29,10 @@ trap 'exit 143' TERM
 version=$(sed -n 's/^#define FQ_VERSION "\([0-9.]*\)"$/\1/p' "$top/include/fintaqush.h")
 name=fintaqush-$version-$(uname -m)
 
-"$top/scripts/package.sh" "$new" || stop 70 "the package couldn't be made"
-echo 'release.sh: the package is made' >&2
+"$top/scripts/package.sh" "$new" || stop 70 "the packages couldn't be made"
+echo 'release.sh: the packages are made' >&2
 
-# The tarball: the same files below one folder, for /usr/local. Programs and tools find each other wherever it lies.
+# The tarball: the same files below one folder, for /usr/local. Programs and tools find each other wherever it is unpacked.
 DESTDIR=$scratch/stage "$top/scripts/install.sh" --python /usr/local > /dev/null || stop 70 "the files of the tarball couldn't be made"
 mv "$scratch/stage/usr/local" "$scratch/$name"
 if command -v pandoc > /dev/null; then

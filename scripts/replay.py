@@ -1,7 +1,7 @@
-"""The launcher, which ./replay begins: its words, the trace, the runs, and what is said of them."""
+"""The launcher, which ./replay starts: its options, the trace, the runs, and what it prints about them."""
 import sys
 
-# Until `end_by` takes signals and errors: they end in a line.
+# Until `end_by` handles signals and errors: they end the program with a message.
 sys.excepthook = lambda kind, error, _: sys.stderr.write(
     f"replay: {'interrupted' if kind is KeyboardInterrupt else 'out of memory' if kind is MemoryError else error or kind.__name__}\n")
 
@@ -13,7 +13,7 @@ import shlex
 import subprocess
 import threading
 
-from build import INSTALLED, TOP, Stop, build, child, crates, end_by, kit, read, say, write
+from build import INSTALLED, TOP, Stop, build, child, clear, crates, end_by, kit, read, say, write
 from words import RANGES, judge, quoted
 
 CALLED = os.environ.get("FINTAQUSH_NAME", "./replay")  # as a subcommand of `fintaqush` was asked for it
@@ -29,7 +29,7 @@ PACKED = {  # by what the file begins with
     rb"\xff\xfe|m\x00": "in UTF-16: iconv -f UTF-16LE -t UTF-8",
     rb"\xfe\xff|\x00m": "in UTF-16: iconv -f UTF-16BE -t UTF-8",
 }
-CAUSES = {  # by the fault's number and the line behind it: the first that fits
+CAUSES = {  # by the error's number and the line after it: the first that fits
     "1 .*[;\t]": "the fields have {others} between them, and need commas",
     "1 ": f"the first line has to be {HEADER}, in lower case and without spaces, or {HEADER},2 for version 2",
     "2 [ \t]+$": "a line of spaces is a row; an empty line is none",
@@ -56,7 +56,7 @@ CAUSES = {  # by the fault's number and the line behind it: the first that fits
 
 
 def shown(name):
-    """As it is where it can be printed, else as a word of bash, so that no terminal acts on it."""
+    """The name itself if it is printable, otherwise quoted for bash, so that a terminal doesn't interpret it."""
     return name if name.isprintable() else "$'%s'" % re.sub(rb"[^ -~]|['\\]", lambda it: b"\\%03o" % ord(it[0]), os.fsencode(name)).decode()
 
 
@@ -71,8 +71,59 @@ def version():
             f"program of serial mode: {serial}\nprogram of every mode: {every}\nkit: {of_kit or 'no rt on PATH'}\n")
 
 
+class Run:
+    """A program that runs over the trace of a call, with this many MiB: its status, its output if that is kept, and its messages."""
+
+    def __init__(self, call, command, memory=0, is_kept=True, **where):
+        self.call, self.told = call, (None, "")
+        self.process = subprocess.Popen(command, stdin=subprocess.PIPE, stdout=subprocess.PIPE if is_kept else None, stderr=subprocess.PIPE,
+                                        preexec_fn=lambda: child(memory=memory), restore_signals=False, **where)
+        to, self.process.stdin = self.process.stdin, None
+        threading.Thread(target=call.pass_on, args=(to, self.process), daemon=True).start()
+        self.reader = threading.Thread(target=self.read, daemon=True)
+        self.reader.start()
+
+    def read(self):
+        self.told = self.process.communicate()
+
+    def is_over(self):
+        return not self.reader.is_alive()
+
+    def result(self):
+        self.reader.join()
+        if self.call.failed:
+            raise self.call.failed
+        output, said = self.told
+        return 128 - status if (status := self.process.returncode) < 0 else status, output, said.decode(errors="replace")
+
+
+class First:
+    """The report of an unproved run, while the program is proved and built: it is printed once, as soon as it is complete."""
+
+    def __init__(self, call):
+        self.call, self.run, self.answer = call, call.begin_unproved(), None
+
+    def tell(self):
+        """Waits for it, unless it was printed."""
+        if not self.answer:
+            result = self.run.result()
+            clear()
+            self.answer = self.call.end_unproved(result, "this was an UNPROVED run; the proof goes on. Ctrl-C leaves what is proved by "
+                                                         "then, and the next call goes on from there")
+
+    def look(self):
+        if self.run.is_over():
+            self.tell()
+
+    def end(self):
+        """What was printed; a run that isn't over yet isn't needed any more."""
+        if not self.answer:
+            self.run.process.terminate()
+        return self.answer
+
+
 class Call:
-    """A call of the launcher. What is none of its own words and no file is the program's to refuse."""
+    """A call of the launcher. What is neither one of its own options nor a file is left to the program to reject."""
 
     def __init__(self, given):
         self.words, self.files, self.own, rest = [], [], set(), iter(given)
@@ -112,15 +163,21 @@ class Call:
             raise Stop(64, "--unproved runs the sources of a checkout, and this is an installed program, which is proved")
         if is_unproved:
             say("an unproved run: the program is made anew each time and nothing is checked (up to a minute)")
-            return self.unproved("this was an UNPROVED run")[0]
-        # On a terminal an answer comes at once, and the proof of it behind.
+            return self.end_unproved(self.begin_unproved().result(), "this was an UNPROVED run")[0]
+        # On a terminal an answer comes while the proof of it is made.
         if not is_ready and os.isatty(1) and kit() and all(len(self.kept) <= MOST_KEPT for _ in self.parts()):
-            say("the program is to be proved and built first: meanwhile the answer of an UNPROVED run, in up to a minute")
-            first = self.unproved("this was an UNPROVED run; now it is proved. Ctrl-C leaves what is proved by then, "
-                                  "and the next call goes on from there")
-        build([self.crate.name])
+            say("the program is to be proved and built: meanwhile the answer of an UNPROVED run, in up to a minute")
+            beside = First(self)
+            try:
+                build([self.crate.name], beside.look)
+            except Stop:
+                beside.tell()
+                raise
+            first = beside.end()
+        else:
+            build([self.crate.name])
         memory = 0 if self.memory == "unlimited" else int(self.memory)
-        last = self.run([self.crate.made, *self.words], memory, first or "--json" in self.own)
+        last = Run(self, [self.crate.made, *self.words], memory, first or "--json" in self.own).result()
         if first and first[:2] == last[:2] and last[2] in first[2]:
             say("the proved program gives the same bytes")
             return last[0]
@@ -129,13 +186,14 @@ class Call:
         return self.finish(*last)
 
     def open(self):
-        """Opens the trace, or returns why it can't. It goes to the program through here, since not every one can be read twice."""
+        """Opens the trace, or returns why it can't. It is passed to the program through here, because not every input can be
+        read twice."""
         if len(self.files) > 1:
             return f"two traces are named, {self.name} and {shown(self.files[1])}: replay one at a time"
         if not self.files and os.isatty(0):
             return "no trace: name a file, or give one on standard input"
         try:
-            # `/proc/kmsg` is a file too, and waits for more.
+            # `/proc/kmsg` is a file too, and reading it waits for more.
             end = os.open(self.files[0], os.O_RDONLY | (os.O_NONBLOCK if os.path.isfile(self.files[0]) else 0)) if self.name else 0
             os.read(end, 0)  # a folder can be opened too
         except OSError as error:
@@ -144,7 +202,7 @@ class Call:
         return ""
 
     def parts(self):
-        """All of the trace: what is kept of it, and what comes then, which is kept as long as that isn't too much."""
+        """All of the trace: what is kept of it, and what arrives then, which is kept while it isn't too much."""
         yield bytes(self.kept)
         try:
             for text in self.rest:
@@ -154,7 +212,8 @@ class Call:
             raise Stop(66, f"{self.which}: a read of it failed") from None
 
     def pass_on(self, to, process):
-        """Half a trace is none: where a read fails the program ends before it could take it for one."""
+        """Passes the trace to a program. Half a trace isn't a trace: if a read fails, the program is ended before it could
+        accept it as one."""
         try:
             all(write(text, to.fileno()) for text in self.parts())
         except Stop as stop:
@@ -162,21 +221,14 @@ class Call:
             process.kill()
         to.close()
 
-    def run(self, command, memory=0, is_kept=True, **where):
-        """Runs a program over the trace, in so many MiB: its status, its output where that is kept, and what it said."""
-        process = subprocess.Popen(command, stdin=subprocess.PIPE, stdout=subprocess.PIPE if is_kept else None, stderr=subprocess.PIPE,
-                                   preexec_fn=lambda: child(memory=memory), restore_signals=False, **where)
-        to, process.stdin = process.stdin, None
-        threading.Thread(target=self.pass_on, args=(to, process), daemon=True).start()
-        output, said = process.communicate()
-        if self.failed:
-            raise self.failed
-        return 128 - status if (status := process.returncode) < 0 else status, output, said.decode(errors="replace")
-
-    def unproved(self, line):
-        """`rt try` runs the sources without their proofs, and leaves no program. Its own lines on that are left out."""
+    def begin_unproved(self):
+        """`rt try` runs the sources without their proofs, and leaves no program."""
         command = [f"{kit()}/bin/rt", "try", "--steps", "4000000000", "--seconds", "600", "--", *self.words]
-        status, output, said = self.run(command, cwd=self.crate.folder)
+        return Run(self, command, cwd=self.crate.folder)
+
+    def end_unproved(self, result, line):
+        """Prints the output of such a run, without rt's own lines about it."""
+        status, output, said = result
         status = status if re.search("^run=ended ", said, re.M) else 70
         said = re.sub("^(checked: |races: |run=).*\n", "", said, flags=re.M)
         self.finish(status, output, said)
@@ -184,7 +236,7 @@ class Call:
         return status, output, said
 
     def finish(self, status, output, said):
-        """Prints the output, if it was kept, and what was said; then one line for people behind it, where there is more to say."""
+        """Prints the output, if it was kept, and the messages; then one line of explanation, if there is more to say."""
         is_json, to_json = "--json" in self.own and status == 0, [f"{TOP}/tools/report2json"]
         if output and (subprocess.run(to_json, input=output, preexec_fn=child, check=False).returncode if is_json else not write(output)):
             raise Stop(4, f"the report couldn't be written{' as JSON' * is_json}")
@@ -201,7 +253,7 @@ class Call:
         return status
 
     def explain(self, fault, row):
-        """The line, its text and the likely cause. A row counts records: nothing is told where its line isn't known for sure."""
+        """The line, its text and the likely cause. A row counts records: nothing is printed if its line isn't known for sure."""
         data = bytes(self.kept)
         if packed := next((packed for first, packed in PACKED.items() if fault == 1 and re.match(first, data)), ""):
             return f": the file is {packed}{' ' + shlex.quote(self.name) if self.name else ''} | {CALLED}"

@@ -44,7 +44,7 @@ FILES = dict((name, file) for _, group in GROUPS for name, file, _ in group)
 
 
 def end(status, line):
-    """Ends with a line on standard error."""
+    """Ends with a message on standard error."""
     try:
         sys.stderr.write("fintaqush: %s\n" % line)
         sys.stderr.flush()
@@ -64,7 +64,7 @@ def usage():
 
 
 def unknown(name):
-    """What is said of a subcommand that doesn't exist, with the nearest ones."""
+    """The message for a subcommand that doesn't exist, with the nearest ones."""
     import difflib
     name = "".join(letter if " " <= letter <= "~" else "?" for letter in name)
     begun = [each for each in sorted(FILES) if len(name) > 1 and each.startswith(name)]

@@ -1,5 +1,5 @@
-"""What a door gives its users, from the sources: each public item that it passes on, its methods and the traits that it has, with
-`///`, signatures and clauses. scripts/surface.sh begins it.
+"""The public items of a facade crate, from the sources: each item that it re-exports, its methods and the traits that it implements,
+with `///`, signatures and clauses. scripts/surface.sh prints them; scripts/reference.py makes pages of them.
 """
 import pathlib
 import re
@@ -10,7 +10,7 @@ ITEM = re.compile(r"pub (?:const |unsafe )*(fn|struct|enum|trait|type|const) (\w
 
 
 def passed_on(crate):
-    """Pairs of a crate and the names that this one passes on of it, in the order of its `pub use`; its own names as one."""
+    """Pairs of a crate and the names that this one re-exports from it, in the order of its `pub use`; its own names as one."""
     text, found = (CRATES / crate / "src/lib.rt").read_text(), {}
     for place, names in re.findall(r"^pub use (?:crate::)?(\w+)::((?:\w|::|[{},\s])+);", text, re.M):
         of = place if (CRATES / place / "src").is_dir() else crate
@@ -19,7 +19,7 @@ def passed_on(crate):
 
 
 def parts(lines):
-    """Each line that isn't a `///` or an attribute, by its place, with the `///` above it."""
+    """Each line that isn't a `///` or an attribute, by its index, with the `///` above it."""
     doc = []
     for at, line in enumerate(lines):
         if line.lstrip().startswith("///"):
@@ -43,7 +43,7 @@ def to_body(lines, at):
 
 
 def to_brace(lines, at):
-    """The lines of a struct, an enum or a trait, without a struct's private fields and what is said of these."""
+    """The lines of a struct, an enum or a trait, without a struct's private fields and their comments."""
     shown, doc, is_private, is_struct = [], [], False, " struct " in lines[at]
     for line in lines[at:]:
         is_field = is_struct and re.match(r"    [a-z_]+: ", line)
@@ -59,7 +59,7 @@ def to_brace(lines, at):
 
 
 def block(lines, at):
-    """The lines of an `impl` without what is private: its head, what a trait's relations are, and each public call."""
+    """The lines of an `impl` without what is private: its head, a trait's relations, and each public call."""
     head = re.sub(r" \{.*$", "", " ".join(it.strip() for it in lines[at : next(n for n in range(at, len(lines)) if "{" in lines[n]) + 1]))
     end = at if lines[at].endswith("{}") else next(n for n in range(at, len(lines)) if lines[n].startswith("}"))
     shown = [head, ""]
@@ -82,22 +82,20 @@ def type_of(line):
 
 
 def items(crate, names):
-    """These items of a crate, each with its methods."""
-    found = []
+    """These items of a crate, and the `impl`s of these types: pairs of a file and the lines of an item."""
     for path in sorted((CRATES / crate / "src").glob("*.rt")):
         lines = path.read_text().splitlines()
         for at, doc, line in parts(lines):
             item = ITEM.match(line)
             if item and item[2] in names:
                 shown = to_brace(lines, at) if item[1] in ("struct", "enum", "trait") else to_body(lines, at)
-                found.append([*doc, *shown, ""])
+                yield path, [*doc, *shown, ""]
             elif line.startswith("impl") and type_of(line) in names:
-                found.append(block(lines, at))
-    return [line for part in found for line in part]
+                yield path, block(lines, at)
 
 
 def aliased(crate, name):
-    """The type that an alias stands for, with the crate that has it, if the name is an alias."""
+    """The type of an alias, with the crate that has it, if the name is an alias."""
     texts = {path: path.read_text() for path in sorted(CRATES.glob("*/src/*.rt"))}
     own = "\n".join(text for path, text in texts.items() if path.parts[-3] == crate)
     if alias := re.search(rf"^pub type {name}\b(?:<[^=]*>)? =\s+(\w+)", own, re.M):
@@ -106,17 +104,22 @@ def aliased(crate, name):
     return None
 
 
-def surface(door):
-    told = set()
-    for crate, names in passed_on(door):
-        print(f"// {crate}\n")
-        print("\n".join(items(crate, names)))
+def surface(facade):
+    """The parts of a facade: each a crate, the alias under which the facade re-exports its one type (None if there is none), and its items."""
+    shown = set()
+    for crate, names in passed_on(facade):
+        yield crate, None, items(crate, names)
         for name in names:
-            if (of := aliased(crate, name)) and of not in told:
-                told.add(of)
-                print(f"// {of[0]}, whose {of[1]} {name} is\n")
-                print("\n".join(items(of[0], [of[1]])))
+            if (of := aliased(crate, name)) and of not in shown:
+                shown.add(of)
+                yield of[0], (name, of[1]), items(of[0], [of[1]])
+
+
+def show(facade):
+    for crate, alias, found in surface(facade):
+        print(f"// {crate}, whose {alias[1]} {alias[0]} is\n" if alias else f"// {crate}\n")
+        print("\n".join(line for _, lines in found for line in lines))
 
 
 if __name__ == "__main__":
-    surface(sys.argv[1])
+    show(sys.argv[1])

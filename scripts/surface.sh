@@ -1,13 +1,12 @@
 #!/usr/bin/env bash
-# scripts/surface.sh DOOR: prints what a door gives its users, from the sources: each public item and call that it passes on, also the
-# calls of a type that is passed on under another name, with their `///`, signatures and clauses. Exit status: 0; 64 there is no such
-# door.
+# scripts/surface.sh FACADE: prints the public items of a facade crate from the sources, each with its `///`, signature and clauses: what
+# the facade re-exports, also the calls of a type that has another name there. Exit status: 0; 64 there is no such facade.
 set -euo pipefail
 unset CDPATH
 cd "$(dirname "$(dirname "$(readlink -f "${BASH_SOURCE[0]}")")")"
 . scripts/arguments.sh
 
-[ $# = 1 ] || refuse 'usage: scripts/surface.sh DOOR'
-[[ $1 =~ ^[a-z_0-9]+$ && -f crates/$1/src/lib.rt ]] || refuse "there is no door '${1//[^[:print:]]/?}'"
+[ $# = 1 ] || refuse 'usage: scripts/surface.sh FACADE'
+[[ $1 =~ ^[a-z_0-9]+$ && -f crates/$1/src/lib.rt ]] || refuse "there is no facade '${1//[^[:print:]]/?}'"
 
 exec python3 -EsSB scripts/surface.py "$1"

@@ -1,9 +1,9 @@
 #!/usr/bin/env bash
-# scripts/take.sh NAME FOLDER: takes a library of crates.txt, with all of this repository's crates below it, into the repository of
-# Rattle crates at FOLDER: `src/`, `specs/` and `proofs/` of each, and its line of crates.txt. A crate or a line that stands there
-# already, just as it is here, stays; where one of these names stands there with anything else, nothing is written.
-# Standard output has the crates that were taken, lowest first. Standard error says which handles the repository has to allow.
-# Exit status: 0 done; 64 the words are wrong; 65 something else stands there; 73 it can't be written there.
+# scripts/take.sh NAME FOLDER: copies a library of crates.txt, with all of this repository's crates below it, into the
+# repository of Rattle crates at FOLDER: `src/`, `specs/` and `proofs/` of each, and its line of crates.txt. A crate or a line
+# that is there already, exactly as here, stays; if one of these names is there with anything else, nothing is written. Standard
+# output has the crates that were copied, lowest first. Standard error says which handles the repository has to allow. Exit
+# status: 0 done; 64 the arguments are wrong; 65 something else is there; 73 it can't be written there.
 set -euo pipefail
 unset CDPATH
 top=$(dirname "$(dirname "$(readlink -f "${BASH_SOURCE[0]}")")")
@@ -17,7 +17,7 @@ stop() {
     exit "$status"
 }
 
-# read_lines FILE ARRAY: of each crate that the file lists, its line.
+# read_lines FILE ARRAY: the line of each crate that the file lists.
 read_lines() {
     local -n into=$2
     local line words
@@ -30,7 +30,7 @@ read_lines() {
     done < "$1"
 }
 
-# visit NAME: appends to `all` what the crate stands on in this repository, lowest first, and then the crate.
+# visit NAME: appends to `all` the crates of this repository below this one, lowest first, and then the crate.
 visit() {
     local need
     [ -n "${here[$1]:-}" ] && [[ " ${all[*]} " != *" $1 "* ]] || return 0
@@ -38,7 +38,7 @@ visit() {
     all+=("$1")
 }
 
-# is_same NAME: whether what stands there is this crate.
+# is_same NAME: whether the crate there is this one.
 is_same() {
     local part
     for part in "${parts[@]}"; do
@@ -48,7 +48,7 @@ is_same() {
     done
 }
 
-# What was put there is taken away again, unless all of it stands.
+# What was copied is removed again, unless all of it was.
 undo() {
     local name
     rm -rf "$scratch"
@@ -66,7 +66,7 @@ if [ -z "${here[$name]:-}" ] || [ ! -e "$top/crates/$name/src/lib.rt" ] || [[ ${
     refuse "NAME is '$name', which is no library of crates.txt"
 fi
 [ ! -e "$to/crates.txt" ] || read_lines "$to/crates.txt" there
-# Where a repository has no crates/, its crates lie beside its crates.txt.
+# If a repository has no crates/, its crates are next to its crates.txt.
 home=$to/crates
 [ -d "$home" ] || [ "${#there[@]}" = 0 ] || home=$to
 
@@ -98,7 +98,7 @@ for it in "${new[@]}"; do
     done
 done
 {
-    # its last line may have no end
+    # its last line may lack a line end
     [ ! -e "$to/crates.txt" ] || awk 1 "$to/crates.txt"
     for it in "${lines[@]}"; do echo "${here[$it]}"; done
 } > "$scratch/crates.txt" || stop 73 "$to can't be written to"

@@ -1,8 +1,9 @@
 #!/usr/bin/env bash
-# scripts/test-packages.sh [--list | --gives | --fetch]: installs on Debian all packages that a test of this repository needs (tests/needs.txt),
-# and fetches the kernel sources and the kernel image that tests read, into out/ and ~/.cache/fintaqush. Then ./test skips only what
-# needs no package. --list only prints the packages to install, --gives each with what it gives to tests, --fetch only fetches, which needs no root.
-# Exit status: 0; 64 other arguments; 69 no root, or no apt-get; 70 a package couldn't be installed or fetched.
+# scripts/test-packages.sh [--list | --gives | --fetch]: installs on Debian all packages that a test of this repository needs
+# (tests/needs.txt), and downloads the kernel sources and the kernel image that tests read, into out/ and ~/.cache/fintaqush.
+# Then ./test skips only what needs no package. --list only prints the packages to install, --gives also what each gives to
+# tests, --fetch only downloads, which needs no root. Exit status: 0; 64 other arguments; 69 no root, or no apt-get; 70 a
+# package couldn't be installed or downloaded.
 set -euo pipefail
 unset CDPATH
 top=$(dirname "$(dirname "$(readlink -f "${BASH_SOURCE[0]}")")")
@@ -14,7 +15,7 @@ stop() {
     exit "$1"
 }
 
-# What is only fetched begins with linux-.
+# Names of what is only downloaded begin with linux-.
 packages() { awk '{ sub(/#.*/, "") } NF && $2 != "-" && $1 !~ /^linux-/ { for (i = 2; i <= NF; i++) print $i }' "$top/tests/needs.txt" | sort -u; }
 
 fetch() {
@@ -56,7 +57,7 @@ all)
     # shellcheck disable=SC2046 # names of packages
     apt-get update && DEBIAN_FRONTEND=noninteractive apt-get install -y --no-install-recommends $(packages) ||
         stop 70 'apt-get could not install them all; its messages are above'
-    # What is fetched belongs to the user who runs the tests.
+    # Downloads belong to the user who runs the tests.
     if [ -n "${SUDO_USER:-}" ]; then sudo -H -u "$SUDO_USER" "$0" --fetch; else fetch; fi
     echo 'All packages are there: ./test skips only what needs no package.'
     ;;

@@ -1,4 +1,4 @@
-"""The words of the replay program: their ranges, and what is wrong with some."""
+"""The options of the replay program: their ranges, and what is wrong with invalid ones."""
 import re
 
 MOST = {"--pollers": 8, "--budget": 65535, "--weight": 64, "--window": 65535}
@@ -8,20 +8,21 @@ OPTIONS = ("--mode", "--pollers", "--budget", "--weight", "--window", "--unprove
 
 
 def quoted(text, most=40):
-    """In quotes, shortened, and without what acts on a terminal."""
+    """Quoted, shortened, and without characters that a terminal interprets."""
     text = re.sub("[^ -~]", "?", text)
     return f"'{text[: most - 2]}..'" if len(text) > most else f"'{text}'"
 
 
 def nearest(word, options):
-    """The one that it begins, or is least far from, if that isn't far."""
+    """The option of which this is a prefix, or the nearest one, if that isn't far."""
     import difflib
     begun = [it for it in options if len(word) > 2 and it.startswith(word)]
     return next(iter(begun + difflib.get_close_matches(word.lower(), options, 1, 0.75)), "")
 
 
 def judge(words):
-    """What is wrong with the first bad one of these, its range and the nearest option; nothing where the program takes them all."""
+    """What is wrong with the first invalid one of these options, its range and the nearest option; nothing if the program
+    accepts them all."""
     rest, seen = iter(words), set()
     for word in rest:
         option, is_given, value = word.partition("=") if word.startswith("--") else (word, "", "")

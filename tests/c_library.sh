@@ -1,7 +1,7 @@
 #!/usr/bin/env bash
-# tests/c_library.sh [SEED]: the C library: its header against what the archive exports and against the numbers that are proved; the
-# examples, and random calls beside a model, compiled with warnings as errors by each compiler there is, run and compared, also under
-# sanitizers and valgrind; and what has to be refused by compilers. What needs clang or valgrind is skipped
+# tests/c_library.sh [SEED]: the C library: its header against what the archive exports and against the numbers that are proved;
+# the examples, and random calls compared with a model, compiled with warnings as errors by each compiler there is, run and
+# compared, also under sanitizers and valgrind; and what compilers have to reject. What needs clang or valgrind is skipped
 # without it. The last line is `N passed, M failed, K skipped`.
 set -uo pipefail
 unset CDPATH
@@ -20,7 +20,7 @@ compile() {
     "$compiler" "$standard" -Wall -Wextra -Wshadow -Werror -pthread -I "$top/include" "$@" "$source" "$scratch/libfintaqush.a" -o "$program"
 }
 
-# compared STDOUT COMMAND ..: it ends well, and prints just this.
+# compared STDOUT COMMAND ..: it succeeds, and prints exactly this.
 compared() {
     local wanted=$1
     shift
@@ -44,7 +44,7 @@ exports() { nm -g --defined-only "$scratch/libfintaqush.a" | awk 'NF == 3 { prin
 
 same_calls() { diff <(header_calls) <(exports | grep '^fq_'); }
 
-no_other_exports() { ! exports | grep -v -e '^fq_' -e '^rattle_'; }
+no_other_exports() { ! exports | grep -v '^fq_'; }
 
 asks_for_libc_alone() {
     ! nm -u "$scratch/libfintaqush.a" | awk 'NF == 2 { print $2 }' | grep -v -x -e 'rattle_.*' -e memcpy -e memset -e memmove -e malloc \
@@ -65,7 +65,7 @@ code_numbers() {
 
 each_number_once() { ! header_numbers | awk '{ print $2 }' | sort | uniq -d | grep .; }
 
-# of the faults of a queue limit the header alone has the names, and dql_core the numbers
+# of the errors of a queue limit, only the header has the names, and dql_core the numbers
 numbers_agree() { [ -s "$header" ] && [ -z "$(comm -13 <(header_numbers) <({ proved_numbers; code_numbers; } | sort -u))" ] &&
     diff <(header_numbers | awk '$2 == 0 || $2 > 15') <(code_numbers); }
 
@@ -81,7 +81,21 @@ if ! "$top/scripts/c_library.sh" "$scratch"; then
     echo '0 passed, 1 failed'
     exit 1
 fi
+# The statuses that the header names with fq_replay, which are the order that corners.c tries.
+replay_names() { awk '/^\/\* Replays a trace/ { on = 1 } on { print } /\*\// { on = 0 }' "$header" | grep -oE 'FQ_[A-Z_]+' | awk '!told[$0]++' | xargs; }
+
+order_of_a_replay() { [ "$(replay_names)" = 'FQ_BAD_WEIGHT FQ_BAD_BUDGET FQ_OUT_OF_MEMORY FQ_BAD_TRACE FQ_NO_ROOM FQ_OK' ]; }
+
+# The page tells the size of the archive, within a tenth.
+told_size() {
+    local told
+    told=$(grep -oE 'libfintaqush\.a` \(some [0-9]+ KB' "$top/docs/C.md" | grep -oE '[0-9]+')
+    awk -v told="$told" -v bytes="$(stat -c %s "$scratch/libfintaqush.a")" 'BEGIN { print told, bytes; exit !(bytes > told * 900 && bytes < told * 1100) }'
+}
+
 check 'the header declares what is exported' same_calls
+check 'it names the refusals of a replay in their order' order_of_a_replay
+check "the archive's size, as the page tells it" told_size
 check 'nothing else is exported' no_other_exports
 check 'nothing is asked for but the C library' asks_for_libc_alone
 check 'no number twice' each_number_once
@@ -105,7 +119,7 @@ done
 
 wraps=-Wl,--wrap=malloc,--wrap=realloc,--wrap=free
 kinds=(limit instance ring transmit shared list any)
-# answered CALLS SEED KIND PROGRAM ..: so many random calls of a kind
+# answered CALLS SEED KIND PROGRAM ..: this many random calls of a kind
 answered() {
     local calls=$1 seed=$2 kind=$3
     shift 3
@@ -122,7 +136,7 @@ echo 'it tells of itself what the header says' > "$scratch/told"
 check 'told.c compiles' compile gcc "$top/tests/c/told.c" "$scratch/tells" -O2
 check 'what the library tells of itself' compared "$scratch/told" "$scratch/tells"
 
-echo '10 corners, each answered as it has to be' > "$scratch/cornered"
+echo '16 corners, each answered as it has to be' > "$scratch/cornered"
 check 'corners.c compiles' compile gcc "$top/tests/c/corners.c" "$scratch/corners" -O2 "$wraps"
 check 'answers at corners' compared "$scratch/cornered" "$scratch/corners"
 
@@ -136,7 +150,7 @@ echo 'the card hangs without a look and by a late mask, and never else' > "$scra
 check 'the model card compiles' compile gcc "$top/tests/c/card.c" "$scratch/card" -O2 "$points"
 check 'the model card' compared "$scratch/hung" "$scratch/card"
 
-# ---- each allocation refused
+# ---- each allocation fails in turn
 
 echo 'the types answer as they have to' > "$scratch/typed"
 check 'types.cpp compiles' compile g++ "$top/tests/c/types.cpp" "$scratch/types" -O2 "$wraps"
@@ -145,6 +159,12 @@ echo 'each allocation was refused, and told' > "$scratch/refused_all"
 check 'refuse.c compiles' compile gcc "$top/tests/c/refuse.c" "$scratch/refuse" -O2 "$wraps"
 check 'each allocation refused in turn' compared "$scratch/refused_all" "$scratch/refuse"
 
+# ---- what each call that takes memory has made, ended in each state
+
+ends_each_box() { timeout 900 "$@" > "$scratch/printed" && grep -qx '[0-9]* cases, and nothing is left' "$scratch/printed"; }
+check 'boxes.c compiles' compile gcc "$top/tests/c/boxes.c" "$scratch/boxes" -O2 "$wraps"
+check 'no box is forgotten' ends_each_box "$scratch/boxes"
+
 # The fold of bench/limits.cc was written from the rules, apart from the library.
 as_the_fold() {
     compile gcc "$top/bench/c_library.c" "$scratch/counts" -O2 && g++ -O2 "$top/bench/limits.cc" -o "$scratch/fold" &&
@@ -152,11 +172,11 @@ as_the_fold() {
 }
 check 'a million pairs on a queue limit, as a plain fold counts them' as_the_fold
 
-# ---- the replay, beside the tool
+# ---- the replay, compared with the tool
 
 serial=$top/crates/napi_serial/out/napi_serial
 
-# as_the_tool PROGRAM TRACE BUDGET WEIGHT WINDOW: the same report, line and status as napi_serial's.
+# as_the_tool PROGRAM TRACE BUDGET WEIGHT WINDOW: the same report, message and status as napi_serial's.
 as_the_tool() {
     local program=$1 trace=$2 wanted=0 status=0
     shift 2
@@ -165,7 +185,7 @@ as_the_tool() {
     [ "$status" = "$wanted" ] && cmp "$scratch/printed" "$scratch/wanted" && diff "$scratch/line" "$scratch/wanted.line"
 }
 
-# the example's trace, cut behind each byte
+# the example's trace, cut after each byte
 each_cut_as_the_tool() {
     local bytes
     for bytes in $(seq 0 "$(wc -c < "$top/examples/two-packets.csv")"); do
@@ -174,7 +194,7 @@ each_cut_as_the_tool() {
     done
 }
 
-# of these words the settings are refused, each by its number
+# with these arguments the settings are rejected, each by its number
 refuses_settings() {
     local budget weight window wanted
     while read -r budget weight window wanted; do
@@ -232,6 +252,8 @@ sanitized() {
     done
     check "$name: refuse.c compiles" compile gcc "$top/tests/c/refuse.c" "$scratch/sanitized" -O1 -g "$flag" -fno-sanitize-recover=all "$wraps"
     check "$name: each allocation refused in turn" compared "$scratch/refused_all" "$scratch/sanitized"
+    check "$name: boxes.c compiles" compile gcc "$top/tests/c/boxes.c" "$scratch/sanitized" -O1 -g "$flag" -fno-sanitize-recover=all "$wraps"
+    check "$name: no box is forgotten" ends_each_box "$scratch/sanitized"
     check "$name: corners.c compiles" compile gcc "$top/tests/c/corners.c" "$scratch/sanitized" -O1 -g "$flag" -fno-sanitize-recover=all "$wraps"
     check "$name: answers at corners" compared "$scratch/cornered" "$scratch/sanitized"
     check "$name: types.cpp compiles" compile g++ "$top/tests/c/types.cpp" "$scratch/sanitized" -O1 -g "$flag" -fno-sanitize-recover=all "$wraps"
@@ -253,6 +275,8 @@ if has valgrind 'the examples and random calls under valgrind'; then
         check "valgrind: $name" compared "$examples/${name%.*}.stdout" \
             valgrind -q --fair-sched=yes --leak-check=full --show-leak-kinds=all --error-exitcode=9 "$scratch/watched"
     done
+    check 'boxes.c compiles for valgrind' compile gcc "$top/tests/c/boxes.c" "$scratch/watched" -O1 -g "$wraps"
+    check 'valgrind: no box is forgotten' ends_each_box valgrind -q --leak-check=full --show-leak-kinds=all --error-exitcode=9 "$scratch/watched"
     check 'compiles for valgrind' compile gcc "$top/tests/c/random.c" "$scratch/random" -O1 -g "$wraps"
     for kind in "${kinds[@]}"; do
         check "valgrind: random calls: $kind" answered 100000 1 "$kind" \
@@ -260,7 +284,7 @@ if has valgrind 'the examples and random calls under valgrind'; then
     done
 fi
 
-# ---- what compilers take, and what they refuse
+# ---- what compilers accept, and what they reject
 
 cat > "$scratch/tells.c" << 'END'
 #include <fintaqush.h>

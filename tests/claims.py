@@ -1,6 +1,6 @@
 """What pages claim, compared with the sources: each function and clause that a claim names is there, and the function is public.
 
-A claim is a bullet of a door's page under a heading of what is proved. Its last lines name the contracts that carry it, as
+A claim is a bullet of a facade's page under a heading of what is proved. Its last lines name the contracts that carry it, as
 `` `Type::call`: `clause`, `clause`; `other` ``; a function without clauses after it has one contract without a name. A program's
 functions are its own, and count as public.
 """
@@ -32,7 +32,7 @@ def clauses_of(path):
 
 
 def functions(crates):
-    """All functions of these crates by their names, each with the clauses of all that bear it."""
+    """All functions of these crates by name, each with the clauses of all functions with that name."""
     found = {}
     for crate in crates:
         for path in pathlib.Path("crates", crate, "src").rglob("*.rt"):

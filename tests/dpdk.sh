@@ -1,6 +1,6 @@
 #!/usr/bin/env bash
-# tests/dpdk.sh: as tests/xdp.sh, the driver of examples/dpdk. It is skipped if there is no DPDK, no root, no `ip`, no /dev/net/tun or no
-# right to make a namespace. The last line is `N passed, M failed, K skipped`.
+# tests/dpdk.sh: like tests/xdp.sh, for the driver of examples/dpdk. It is skipped if there is no DPDK, no root, no `ip`, no
+# /dev/net/tun or no right to make a namespace. The last line is `N passed, M failed, K skipped`.
 set -uo pipefail
 unset CDPATH
 top=$(dirname "$(dirname "$(readlink -f "$0")")")

@@ -25,7 +25,7 @@ total devices 1 runs 1 polls 2 work 2 squeezed 0
 """
 THREADS_REPORT = b"device 1 arrived 2 bytes 160\ntotal devices 1\n"
 
-# Each a name, options, the input, the status and the line.
+# Each row: a name, options, the input, the status and the message.
 WORDS = [
     ("an option that there isn't", ["--frobnicate"], TWO_PACKETS, 64, "usage fault 64"),
     ("an option that is no text", [b"--budget=\xff"], TWO_PACKETS, 64, "usage fault 64"),
@@ -67,7 +67,8 @@ def of_trace(cases):
 
 
 REPLAYED = of_trace(WORDS + INPUTS + ROWS + PENDING)
-# Each program with the options of a run that succeeds, its input, and how its output begins and ends; and the cases of its faults.
+# Each program with the options of a run that succeeds, its input, and how its output begins and ends; and the cases of its
+# errors.
 PROGRAMS = [
     ("napi_serial", [], TWO_PACKETS, REPORT, REPORT, REPLAYED),
     ("napi_replay", ["--mode", "serial"], TWO_PACKETS, REPORT, REPORT, in_mode("serial", REPLAYED)),
@@ -79,13 +80,13 @@ PROGRAMS = [
      [(name, words, text, status, line.format("arrivals")) for name, words, text, status, line in WORDS + INPUTS + MACHINE]),
 ]
 
-# How each of the two outputs may be.
+# The states of each of the two outputs.
 OPEN, SHUT, FULL, UNREAD = "open", "closed", "full", "a pipe that no program reads"
 passed = failed = 0
 
 
 def judge(name, seen, wanted):
-    """Counts whether what was seen is what is wanted, and shows both if not."""
+    """Counts whether the observed value is the expected one, and prints both if not."""
     global passed, failed
     if seen == wanted:
         passed += 1
@@ -95,7 +96,7 @@ def judge(name, seen, wanted):
 
 
 def end_of(kind, taken):
-    """The file for an output of this kind; what it takes is in `taken`."""
+    """The file for an output of this kind; what is written to it is in `taken`."""
     if kind == FULL:
         return os.open("/dev/full", os.O_WRONLY)
     if kind == UNREAD:
@@ -106,7 +107,7 @@ def end_of(kind, taken):
 
 
 def prepare(closes, is_bounded):
-    """What happens to the program's own ends before it begins. Its memory is bounded if its input has no end."""
+    """Prepares the program's standard files before it starts. Its memory is limited if its input has no end."""
     if is_bounded:
         resource.setrlimit(resource.RLIMIT_AS, (32 << 20, 32 << 20))
     for handle in closes:
@@ -114,7 +115,7 @@ def prepare(closes, is_bounded):
 
 
 def run(command, text, ends):
-    """The status of a program, and what its two outputs took."""
+    """The status of a program, and what was written to its two outputs."""
     closes = [number for number, kind in enumerate([SHUT if text is CLOSED else OPEN, *ends]) if kind == SHUT]
     with tempfile.TemporaryFile() as out, tempfile.TemporaryFile() as errors, tempfile.TemporaryFile() as given:
         if isinstance(text, bytes):
@@ -135,7 +136,7 @@ ENDS = [(OPEN, OPEN), (OPEN, SHUT), (OPEN, FULL), (OPEN, UNREAD), (SHUT, OPEN), 
 
 
 def try_faults(name, program, cases):
-    """A fault has its status by any ends, its line if standard error takes one, and nothing on standard output."""
+    """An error has its status with any outputs, its message if standard error accepts one, and nothing on standard output."""
     for case, words, text, status, line in cases:
         for ends in ENDS:
             wanted = status, b"", f"{line}\n".encode() if ends[1] == OPEN else b""
@@ -143,7 +144,7 @@ def try_faults(name, program, cases):
 
 
 def try_success(name, program, words, text, begins, last):
-    """A report has status 0 whatever standard error is, and is a fault if standard output doesn't take it."""
+    """A report has status 0 whatever standard error is, and is an error if standard output doesn't accept it."""
     for ends in ENDS:
         status, out, said = run([program, *words], text, ends)
         if ends[0] == OPEN:

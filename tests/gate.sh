@@ -1,7 +1,7 @@
 #!/usr/bin/env bash
-# scripts/gate.py on a crate of two functions and four must-fail edits: one that is refused beside one that its contract lets through,
-# one of the same function, and one that doesn't compile; on a crate of one of each and a misnamed one; and on what stops `rt ci`: a crate
-# that isn't listed, and a link. The last line is `N passed, M failed, K skipped`.
+# scripts/gate.py on a crate of two functions and four must-fail edits: one that is rejected, one that its contract accepts, one
+# of the same function, and one that doesn't compile; on a crate with one of each and a misnamed one; and on what stops `rt ci`:
+# a crate that isn't listed, and a link. The last line is `N passed, M failed, K skipped`.
 set -uo pipefail
 unset CDPATH
 top=$(dirname "$(dirname "$(readlink -f "$0")")")
@@ -50,6 +50,10 @@ check 'the crate is proved' grep -qE '^rt: low (proved$|is kept: )' "$scratch/ou
 check 'and the other, and they are counted' [ "$(tail -n 1 "$scratch/out") $status" = '2 passed, 0 failed 0' ]
 check 'without its edits' [ ! -e "$scratch/room/crates/low/must-fail" ]
 check 'the library is kept' [ -e "$(echo "$scratch"/cache/fintaqush/*/low.rlib/format)" ]
+needs_no_build() {
+    touch -d 2000-01-01 "$scratch"/cache/fintaqush/*/low.rlib/format && [ -z "$(python3 -EsSB "$scratch/low/scripts/build.py" low 2>&1)" ]
+}
+check 'and stands for later builds, however old its files are' needs_no_build
 gate edits low one || status=$?
 check 'a wrong body is refused' grep -q '^must-fail low/the-greater-one: refused: note: src/lib.rt:7:' "$scratch/out"
 check 'and a second one of its function' grep -q '^must-fail low/the-second-one: refused: note: src/lib.rt:7:' "$scratch/out"
@@ -58,7 +62,7 @@ check 'and what does not compile' grep -q '^must-fail low/unknown-name: BAD EDIT
 check 'the same words prove what is as it was' grep -qx 'must-fail one/a function as it is: proved' "$scratch/out"
 check 'and a misnamed one' grep -q '^must-fail one/misnamed: BAD EDIT' "$scratch/out"
 check 'they are counted' [ "$(tail -n 1 "$scratch/out") $status" = '4 passed, 3 failed 1' ]
-# of all, what `rt ci` stops at stands in the copy
+# in the copy, there is only what stops `rt ci`
 stops() {
     rm -rf "$scratch/room" && mkdir "$scratch/room"
     gate proofs "$scratch/room"

@@ -1,5 +1,5 @@
-"""Runs a command on half of a trace, behind which a read fails: standard input is this process's memory, up to the end of what
-is mapped of it. With --rows before the command the half ends behind a row. Its status is the command's.
+"""Runs a command on half of a trace, after which a read fails: standard input is this process's memory, up to the end of what
+is mapped of it. With --rows before the command the half ends after a row. Its status is the command's.
 """
 import ctypes
 import mmap

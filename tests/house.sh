@@ -1,6 +1,7 @@
 #!/usr/bin/env bash
 # tests/house.sh: the measures of the house, by scripts/house.sh --check; each crate is a test, and so is a line of 140 columns that
-# passes, and one of 141 that is refused. The last line is `N passed, M failed, K skipped`. Needs python3.
+# passes, and one of 141 that is refused. And where the sources answer that there is no memory, by tests/out_of_memory.py: each file that does
+# is a test, and so are planted answers. The last line is `N passed, M failed, K skipped`. Needs git and python3.
 set -uo pipefail
 top=$(dirname "$(dirname "$(readlink -f "$0")")")
 scratch=$(mktemp -d)
@@ -14,6 +15,28 @@ for columns in 140 141; do
     told=$("$scratch/scripts/house.sh" --check)
     check "$columns columns: $told" [ "${told##*$'\n'}" = "$((141 - columns)) passed, $((columns - 140)) failed" ]
 done
+# planted NUMBER LINE: a file with this line answers so often that there is no memory.
+planted() {
+    printf '//! AllocError\nuse std::alloc::AllocError;\nfn f() -> Result<(), AllocError>\n    ensures { result ≡ OutOfMemory }\n{\n    %s\n}\n' \
+        "$2" > "$scratch/crates/wide/src/lib.rt"
+    git -C "$scratch" add crates
+    python3 -B "$scratch/tests/out_of_memory.py" > "$scratch/told"
+    grep -o 'crates/wide/src/lib.rt: it answers [0-9]' "$scratch/told"
+    [ "$(sed -n 's,^crates/wide/src/lib.rt: it answers \([0-9]\) .*,\1,p' "$scratch/told")" = "$1" ]
+}
+mkdir -p "$scratch/tests" "$scratch/crates/wide/src"
+cp "$top/tests/out_of_memory.py" "$scratch/tests"
+git -C "$scratch" init -q
+check 'an answer without an allocation is seen' planted 1 'if rows > 50000 { return Err(AllocError); }'
+check 'so is one by another name' planted 1 'return Err(AllocError.into());'
+check 'and a fault' planted 2 'made.map_err(|_| Fault::OutOfMemory).or(Err(Fault::Trace(TraceFault::OutOfMemory)))'
+check 'and a status' planted 1 'status::OUT_OF_MEMORY'
+check 'a pattern, a comparison and a text are none' planted '' \
+    'match e { Err(AllocError) => 1, E::A(F::OutOfMemory) | E::OutOfMemory => 2, _ => e == F::OutOfMemory || told("F::OutOfMemory") }'
+python3 -B "$top/tests/out_of_memory.py" > "$scratch/told"
+sed '$d' "$scratch/told"
+read -r well _ wrong _ < <(tail -n 1 "$scratch/told")
+passed=$((passed + well)) failed=$((failed + wrong))
 "$top/scripts/house.sh" --check > "$scratch/told"
 sed '$d' "$scratch/told"
 read -r well _ wrong _ < <(tail -n 1 "$scratch/told")

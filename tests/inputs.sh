@@ -1,9 +1,9 @@
 #!/usr/bin/env bash
-# Tries the launcher, over the real program, on inputs that nobody ends, that fail, or that have no end. The last line is
+# Tries the launcher, with the real program, on inputs that are never closed, that fail, or that have no end. The last line is
 # `N passed, M failed`.
 set -uo pipefail
 unset CDPATH
-# A signal that whoever called this ignores can't be tried, and a shell can't take it back by itself.
+# A signal that the caller of this script ignores can't be tried, and a shell can't stop ignoring it by itself.
 if [ -z "${SIGNALS_AS_USUAL:-}" ]; then
     SIGNALS_AS_USUAL=yes exec env --default-signal=INT,TERM,HUP,PIPE bash "$0" "$@"
 fi
@@ -34,7 +34,7 @@ run() {
 
 is() { [ "$1" = "$2" ]; }
 
-# comes COMMAND ..: waits for it, 5 minutes at most.
+# comes COMMAND ..: waits for it, at most 5 minutes.
 comes() {
     local turns=15000
     until "$@"; do
@@ -51,7 +51,7 @@ still() {
     writer=$!
 }
 
-# fails FAULT CAUSE: the real program on the FIFO, whose writer doesn't end.
+# fails FAULT CAUSE: the real program on the FIFO, whose writer doesn't close it.
 fails() {
     run timeout -s KILL 300 "${as[@]}" "$top/replay" "$scratch/fifo"
     kill "$writer" 2> /dev/null
@@ -63,7 +63,7 @@ replay: fifo line $2"
 program=$top/crates/napi_serial/out/napi_serial
 is_begun() { pgrep -f "^$program" > /dev/null; }
 
-# ends_by SIGNAL STATUS: to this process alone, while a writer doesn't end.
+# ends_by SIGNAL STATUS: to this process only, while a writer doesn't close its FIFO.
 ends_by() {
     still "echo 'moment,device,event,value'"
     env --default-signal=INT "$top/replay" "$scratch/fifo" > "$scratch/out" 2> "$scratch/err" &
@@ -77,12 +77,12 @@ ends_by() {
     wait "$writer" 2> /dev/null
 }
 
-# Traces that nobody ends, and reads that fail.
+# Traces that are never closed, and reads that fail.
 inputs() {
     local as=() writer rows="printf 'moment,device,event,value\n0,1,open,4\n'" semicolons="'moment;device': the fields have semicolons between them, and need commas"
     still "echo 'moment;device'"
     fails '1 BadHeader row 0' "1, $semicolons"
-    # Behind the CR an LF is to come.
+    # After the CR, an LF may still come.
     still "printf 'moment;device\r'"
     fails '1 BadHeader row 0' "1, $semicolons"
     still "$rows; yes 0,1,rx,9 | head -n 70000; printf '0,1,Rx,9\n0,1,rx'"
@@ -104,7 +104,7 @@ replay: it: it takes more memory than the program may have'
     for how in '< /dev/zero' '/dev/zero' '< <(tr "\0" x < /dev/zero)'; do
         run timeout 60 "$BASH" -c "'$top/replay' $how"
         check "an input without end, $how" is "$status $(sed 's,^replay: [^:]*,replay: it,' "$scratch/err")" "4 $lines, 2048 MiB (REPLAY_MEMORY sets that)"
-        # What tells of it is bounded here too, as one that keeps all would end.
+        # The launcher that explains it has a memory limit here too, because one that kept all would run out.
         run env REPLAY_MEMORY=200 bash -c "ulimit -v 1500000; '$top/replay' $how"
         check "an input without end in 200 MiB, $how" is "$status $(sed 's,^replay: [^:]*,replay: it,' "$scratch/err")" "4 $lines, 200 MiB (REPLAY_MEMORY sets that)"
     done

@@ -1,7 +1,8 @@
 #!/usr/bin/env bash
-# scripts/install.sh: into a prefix and below a DESTDIR; programs that find the library by pkg-config and by CMake; each program and
-# subcommand as it is installed, from another folder, and the package for Python; and all of it removed again. scripts/package.sh likewise,
-# in a root of its own. What needs a program that isn't installed is skipped. The last line is `N passed, M failed, K skipped`.
+# scripts/install.sh: into a prefix, one with spaces, and below a DESTDIR; programs that find the library by pkg-config and by
+# CMake; the guide, its examples and the manual pages; each program and subcommand as it is installed, from another folder, and
+# the package for Python; and all of it removed again. The packages of scripts/package.sh likewise, in their own root, and by
+# lintian. What needs a program that isn't installed is skipped. The last line is `N passed, M failed, K skipped`.
 set -uo pipefail
 unset CDPATH
 top=$(dirname "$(dirname "$(readlink -f "$0")")")
@@ -19,9 +20,9 @@ ends_with() {
     [ "$status" = "$wanted" ]
 }
 
-# linked FLAG ..: the example, which finds the library by pkg-config alone, prints what it has to.
+# linked FLAG ..: the example, which finds the library by pkg-config only, prints what it has to.
 linked() {
-    # shellcheck disable=SC2046 # the words that pkg-config gives
+    # shellcheck disable=SC2046 # the flags of pkg-config
     cc -Wall -Wextra -Werror -pthread "$top/examples/c/threads.c" $(pkg-config --cflags --libs fintaqush) "$@" -o "$scratch/threads" &&
         LD_LIBRARY_PATH=$prefix/lib "$scratch/threads" | diff - "$top/examples/c/threads.stdout"
 }
@@ -30,10 +31,61 @@ needs() { readelf -d "$1" | grep -q "NEEDED.*\[$2\]"; }
 
 needs_libc_alone() { [ "$(readelf -d "$1" | grep -c NEEDED)" = 1 ] && needs "$1" libc.so.6; }
 
-# what a shared library gives is what the header declares
+# The calls that the header declares and the library has.
+header_calls() {
+    awk '/static inline/ { next } match($0, /fq_[a-z_]+\(/) && /^(FQ_|struct |uint|size_t)/ {
+        print substr($0, RSTART, RLENGTH - 1) }' "$top/include/fintaqush.h" | sort
+}
+
+# a shared library exports what the header declares, each call with the version that introduced it, which isn't later than this one
 exports_calls_alone() {
     nm -D --defined-only "$1" | awk '$2 != "A" { print $3 }' > "$scratch/exported"
-    ! grep -v "^fq_[a-z_]*@@FINTAQUSH_${version%%.*}$" "$scratch/exported" && grep -q '^fq_seat_poll@' "$scratch/exported"
+    sed 's/@.*//' "$scratch/exported" | sort | diff - <(header_calls) &&
+        awk -F '@@FINTAQUSH_|[.]' -v version="$version" 'BEGIN { split(version, now, ".") }
+            NF != 3 || $2 != now[1] || $3 + 0 > now[2] + 0 { print; wrong = 1 } END { exit wrong }' "$scratch/exported"
+}
+
+# What came with 1.0 stays there: a program that was linked then asks for it by that version.
+stays_in_its_version() { [ "$(grep -c '@@FINTAQUSH_1\.0$' "$scratch/exported")" -ge 66 ] && grep -q '^fq_seat_poll@@FINTAQUSH_1\.0$' "$scratch/exported"; }
+
+# by_a_prefix_with_spaces: pkg-config tells it so that a shell reads it.
+by_a_prefix_with_spaces() {
+    local spaced="$scratch/a prefix & more" words
+    "$top/scripts/install.sh" --library --libdir=lib/here "$spaced" &&
+        words=$(PKG_CONFIG_PATH=$spaced/lib/here/pkgconfig pkg-config --cflags --libs fintaqush) &&
+        eval "cc '$spaced/share/doc/fintaqush/examples/c/limit.c' $words -o '$scratch/limit'" &&
+        LD_LIBRARY_PATH=$spaced/lib/here "$scratch/limit" | diff - "$top/examples/c/limit.stdout" &&
+        "$top/scripts/install.sh" --libdir=lib/here --uninstall "$spaced" && is_empty_of_files "$spaced"
+}
+
+# links_lead_somewhere FOLDER: the links of its pages are files there.
+links_lead_somewhere() {
+    local page link
+    for page in "$1"/*.md; do
+        grep -q '^# ' "$page" || return
+        for link in $(grep -oE '\]\([^)#]+' "$page" | cut -c 3-); do
+            case $link in http*) ;; *) [ -e "$1/$link" ] || { echo "$page: $link"; return 1; } ;; esac
+        done
+    done
+}
+
+# guide_programs_run FOLDER: the programs that the installed guide shows are beside it, and print what it says.
+guide_programs_run() {
+    local name
+    for name in $(grep -oE '^ +\$ cat examples/c/\w+\.stdout' "$1/GUIDE.md" "$1/C.md" | sed 's|.*/c/||; s|\.stdout||' | sort -u); do
+        # shellcheck disable=SC2046 # the words that pkg-config gives
+        cc -pthread "$1/examples/c/$name.c" $(pkg-config --cflags --libs fintaqush) -o "$scratch/guided" &&
+            LD_LIBRARY_PATH=$prefix/lib "$scratch/guided" | diff - "$1/examples/c/$name.stdout" || { echo "$name"; return 1; }
+    done
+    [ -n "$name" ]
+}
+
+# each_call_has_a_page FOLDER: also those that the header has inline.
+each_call_has_a_page() {
+    local call
+    for call in $(grep -oE '\bfq_[a-z_]+\(' "$top/include/fintaqush.h" | tr -d '(' | sort -u); do
+        [ -e "$1/share/man/man3/$call.3" ] || { echo "$call has no manual page"; return 1; }
+    done
 }
 
 by_cmake() {
@@ -59,13 +111,13 @@ is_empty_of_files() { [ -z "$(find "$1" -type f -o -type l)" ]; }
 version=$(sed -n 's/^#define FQ_VERSION "\(.*\)"$/\1/p' "$top/include/fintaqush.h")
 unset PROGRAM SERIES MACHINE
 
-# there COMMAND ..: in a folder that has nothing to do with it.
+# there COMMAND ..: in an unrelated folder.
 there() {
     rm -rf "$scratch/there"
     mkdir "$scratch/there" && cd "$scratch/there" && "$@"
 }
 
-# program_runs BIN NAME: its example gives what it has to.
+# program_runs BIN NAME: its example has the right output.
 program_runs() {
     local words=()
     [ ! -e "$top/crates/$2/args" ] || mapfile -t words < "$top/crates/$2/args"
@@ -79,7 +131,7 @@ program_starts() {
     [ "$("$1/$2" --version)" = "$2 of Fintaqush $version" ] && "$1/$2" --help | grep -q "^usage: $2 .*< $input.csv;"
 }
 
-# subcommand_starts BIN NAME: it prints its usage by this name, and refuses an option that doesn't exist.
+# subcommand_starts BIN NAME: it prints its usage by this name, and rejects an option that doesn't exist.
 subcommand_starts() {
     "$1/fintaqush" "$2" --help | grep -q "^usage: fintaqush $2" || return
     case $2 in
@@ -89,10 +141,11 @@ subcommand_starts() {
     esac
 }
 
-# names_nothing_else FOLDER: the only commands are the programs and `fintaqush`, so that no other package has one of their names.
+# names_nothing_else FOLDER: the only commands are the programs and `fintaqush`, so that no other package has one of their
+# names.
 names_nothing_else() { [ "$(ls "$1/bin" | paste -s -d ' ')" = 'fintaqush napi_machine napi_replay napi_serial napi_series' ]; }
 
-# subcommands_work BIN: what they do by the programs beside them, and what they read.
+# subcommands_work BIN: what they do with the installed programs, and what they read.
 subcommands_work() {
     local trace=$top/examples/linux-veth-bursts.csv words='--budget 16 --weight 8' f=$1/fintaqush
     # shellcheck disable=SC2086 # words
@@ -107,7 +160,8 @@ subcommands_work() {
         [ "$("$f" what-if arrivals --budget 16,64 | wc -l)" = 3 ] && { "$f" raise "$trace" --buget 3; [ "$?" = 2 ]; }
 }
 
-# programs_work BIN: subcommands that are programs print what these do, and replay explains a fault, as the launcher of a checkout.
+# programs_work BIN: subcommands that are programs print what these do, and replay explains an error, like the launcher of a
+# checkout.
 programs_work() {
     local f=$1/fintaqush bursts=$top/examples/bursts.csv
     "$f" traffic --arrivals > arrivals && cmp <("$f" replay "$bursts" --budget 64) <("$1/napi_serial" --budget 64 < "$bursts") &&
@@ -129,14 +183,14 @@ tries() {
         [ "$(ls)" = "$(printf '%s\n' few fintaqush-try.html tour)" ]
 }
 
-# python_replays FOLDER: as napi_serial, by the package there.
+# python_replays FOLDER: like napi_serial, by the package there and the installed library.
 python_replays() {
     local program='import fintaqush, sys; print(end=fintaqush.replay(sys.stdin.buffer.read()).text)'
     PYTHONDONTWRITEBYTECODE='' PYTHONPATH=$1/lib/python3/dist-packages python3 -c "$program" < "$top/crates/napi_serial/stdin" |
         diff - "$top/crates/napi_serial/stdout"
 }
 
-# pages_are_whole FOLDER: each manual page is read without a warning, and each program and subcommand has one.
+# pages_are_whole FOLDER: each manual page is formatted without a warning, and each program and subcommand has one.
 pages_are_whole() {
     local page name
     for name in "$1"/bin/* $("$top/fintaqush" --names | sed 's/^/fintaqush-/'); do
@@ -148,7 +202,7 @@ pages_are_whole() {
     done
 }
 
-# has_version FILE: it tells the header's, and no other.
+# has_version FILE: it contains the header's version, and no other.
 has_version() { [ "$(grep -oE '(Fintaqush |^version = "|^## )[0-9]+\.[0-9]+\.[0-9]+' "$1" | sed 's/.*[ "]//' | head -n 1)" = "$version" ]; }
 
 check 'the programs are built' "$top/scripts/build.sh" $("$top/scripts/install.sh" --programs)
@@ -163,10 +217,15 @@ if has pkg-config 'programs by pkg-config'; then
     check 'a program by pkg-config' linked
     check 'its library is the shared one' needs "$scratch/threads" libfintaqush.so.1
     check 'a static program by pkg-config' linked -static
+    check 'by a prefix with spaces' by_a_prefix_with_spaces
+    check 'the programs of the guide' guide_programs_run "$prefix/share/doc/fintaqush"
     check 'the version' [ "$(pkg-config --modversion fintaqush)" = "$version" ]
 fi
 check 'the shared library needs libc alone' needs_libc_alone "$prefix/lib/libfintaqush.so"
 check 'the shared library gives the calls alone, each of its version' exports_calls_alone "$prefix/lib/libfintaqush.so"
+check 'a call stays in its version' stays_in_its_version
+check 'links of the installed pages' links_lead_somewhere "$prefix/share/doc/fintaqush"
+check 'each call has a manual page' each_call_has_a_page "$prefix"
 if has cmake 'programs by CMake'; then
     check 'programs by CMake' by_cmake
 fi
@@ -195,27 +254,47 @@ check 'with paths of the prefix' grep -q '^prefix=/usr$' "$scratch/stage/usr/lib
 check 'uninstalls below DESTDIR' env DESTDIR="$scratch/stage" "$top/scripts/install.sh" --uninstall /usr
 check 'nothing is left there' is_empty_of_files "$scratch/stage"
 
-# by_dpkg WORD ..: in a root of its own, which has none of what it depends on.
+# by_dpkg ARGUMENT ..: in its own root, which has none of the dependencies.
 by_dpkg() { dpkg --root="$scratch/root" --force-not-root --force-depends --force-script-chrootless --log=/dev/null "$@"; }
 
-if has dpkg-deb 'the Debian package'; then
-    package=$scratch/fintaqush_${version}_$(dpkg --print-architecture).deb
+# has_files PACKAGE PATTERN ..: a package has a file of each pattern.
+has_files() {
+    local package=$1 pattern
+    shift
+    dpkg-deb -c "$scratch/${package}_${version}_$(dpkg --print-architecture).deb" > "$scratch/files" || return
+    for pattern in "$@"; do
+        grep -q "/$pattern$" "$scratch/files" || { echo "$package has no $pattern"; return 1; }
+    done
+}
+
+if has dpkg-deb 'the Debian packages'; then
+    architecture=$(dpkg --print-architecture)
+    major=${version%%.*}
+    packages=("$scratch"/{"libfintaqush$major","libfintaqush-dev",fintaqush}_"${version}_$architecture.deb" "$scratch/python3-fintaqush_${version}_all.deb")
     mkdir -p "$scratch/root/var/lib/dpkg"/{info,updates}
     : > "$scratch/root/var/lib/dpkg/status"
     check 'a folder that is missing is refused' ends_with 73 "$top/scripts/package.sh" "$scratch/none"
-    check 'a package' "$top/scripts/package.sh" "$scratch"
-    check 'it is installed' by_dpkg -i "$package"
+    check 'packages' "$top/scripts/package.sh" "$scratch"
+    check 'the library by itself' has_files "libfintaqush$major" "usr/lib/[^/]*-linux-gnu/libfintaqush.so.$version"
+    check 'what programs are built with' has_files libfintaqush-dev 'usr/include/fintaqush.h' 'usr/lib/[^/]*-linux-gnu/libfintaqush.a' \
+        'usr/lib/[^/]*-linux-gnu/pkgconfig/fintaqush.pc' 'usr/share/man/man3/fq_seat_end.3.gz' 'usr/share/doc/libfintaqush-dev/GUIDE.md' \
+        'usr/share/doc/libfintaqush-dev/examples/c/step4.c'
+    if has lintian 'the packages by the rules of Debian'; then
+        # but for the licence, which isn't chosen yet
+        check 'the packages by the rules of Debian' lintian --allow-root --fail-on error,warning --suppress-tags no-copyright-file "${packages[@]}"
+    fi
+    check 'they are installed' by_dpkg -i "${packages[@]}"
     for name in $("$top/scripts/install.sh" --programs); do
         check "$name of the package" there program_runs "$scratch/root/usr/bin" "$name"
     done
     check 'the commands of the package are the programs and fintaqush' names_nothing_else "$scratch/root/usr"
-    check 'it conflicts with no package' [ -z "$(dpkg-deb -f "$package" Conflicts)" ]
+    check 'it conflicts with no package' [ -z "$(dpkg-deb -f "$scratch/fintaqush_${version}_$architecture.deb" Conflicts)" ]
     check 'the subcommands of the package' there subcommands_work "$scratch/root/usr/bin"
     check 'its subcommands that are programs' there programs_work "$scratch/root/usr/bin"
-    check 'the package for Python of it' there python_replays "$scratch/root/usr"
-    check 'its files are whole' sh -c '[ -z "$(dpkg --root="$1" --verify fintaqush)" ]' sh "$scratch/root"
-    check 'it is removed' by_dpkg -r fintaqush
-    check 'nothing of it is left' is_empty_of_files "$scratch/root/usr"
+    FINTAQUSH_LIB=$(dirname "$(find "$scratch/root/usr/lib" -name "libfintaqush.so.$major")") check 'the package for Python of it' there python_replays "$scratch/root/usr"
+    check 'their files are whole' sh -c '[ -z "$(dpkg --root="$1" --verify)" ]' sh "$scratch/root"
+    check 'they are removed' by_dpkg -r fintaqush python3-fintaqush libfintaqush-dev "libfintaqush$major"
+    check 'nothing of them is left' is_empty_of_files "$scratch/root/usr"
 fi
 
 sum_up

@@ -1,15 +1,16 @@
 #!/usr/bin/env bash
-# tests/kernel.sh: Linux's own functions beside the program. They are taken by their names out of Debian's packages
-# linux-source-6.12 and, for the queue limit, linux-source-6.1 (or all of them out of the folder LINUX of sources) into a scratch
-# folder, built there over tests/kernel/, and play the same traces as napi_serial: each report has to be the same, byte by byte.
-# A report that isn't is shown with its smallest trace. Then the same with the functions of linux-source-7.3, the newest that Debian has:
-# docs/KERNELS.md says what differs. Each is skipped if its sources can't be had. Nothing of the kernel's is kept in the repository. The last line is `N passed, M failed, K skipped`. Needs python3 and a C compiler.
+# tests/kernel.sh: Linux's own functions, compared with the program. They are taken by name from Debian's packages
+# linux-source-6.12 and, for the queue limit, linux-source-6.1 (or all of them from the folder LINUX of sources) into a scratch
+# folder, built there with tests/kernel/, and replay the same traces as napi_serial: each report has to be the same, byte by
+# byte. A report that isn't is printed with its smallest trace. Then the same with the functions of linux-source-7.3, the newest
+# that Debian has: docs/KERNELS.md says what differs. Each is skipped if its sources can't be had. Nothing of the kernel's is
+# kept in the repository. The last line is `N passed, M failed, K skipped`. Needs python3 and a C compiler.
 #
 # usage: [LINUX=FOLDER] tests/kernel.sh [--fetch | [--traces N] [--small ROWS] [--seed N]]
-#   --fetch       only fetches the sources, with status 1 if they can't be had
-#   --traces N    random traces (5000)
-#   --small ROWS  all traces of up to so many rows behind the first ones (4)
-#   --seed N      the first random trace (1)
+# --fetch       only downloads the sources, with status 1 if they can't be had
+# --traces N    random traces (5000)
+# --small ROWS  all traces of up to this many rows after the first ones (4)
+# --seed N      the first random trace (1)
 # PROGRAM=FILE names another build of napi_serial.
 set -uo pipefail
 unset CDPATH
@@ -34,7 +35,7 @@ limit=(lib/dynamic_queue_limits.c include/linux/dynamic_queue_limits.h)
     [ $? = 69 ] || { echo "0 passed, 1 failed"; exit 1; }
     pass_over linux-source
 }
-# Kernels after 6.6 detect stalls of a queue; this stays off here, so a limit of theirs stands in if 6.1's can't be had.
+# Kernels after 6.6 detect stalls of a queue; this stays off here, so a later kernel's limit is used if 6.1's can't be had.
 "$top/scripts/linux_source.sh" 6.1 "$scratch/6.1" Makefile "${limit[@]}" > /dev/null || {
     [ -z "${fetch:-}" ] || exit 1
     cp -r "$scratch/6.12" "$scratch/6.1"
@@ -47,10 +48,11 @@ newest=7.3
 
 release() { sed -n 's/^\(VERSION\|PATCHLEVEL\|SUBLEVEL\) = //p' "$scratch/$1/Makefile" | paste -s -d .; }
 
-# take NAME WORD ..: what extract.py takes out of the sources of $version, as $version.d/NAME.
+# take NAME FUNCTION ..: what extract.py takes from the sources of $version, as $version.d/NAME.
 take() { python3 -B "$kernel/extract.py" "$scratch/$version" "${@:2}" > "$scratch/$version.d/$1"; }
 
-# extract VERSION: what both versions have under one name, and then polls.h, whose functions some versions name otherwise.
+# extract VERSION: the functions that have the same name in both versions, and then polls.h, whose functions have other names in
+# some.
 extract() {
     version=$1
     mkdir -p "$scratch/$version.d"
@@ -73,7 +75,7 @@ extract() {
     esac
 }
 
-# stand_in: what the headers hold that the queue limit names is in stubs.h; they themselves are empty.
+# stand_in: what the queue limit uses from the headers is in stubs.h; the headers themselves are empty.
 stand_in() {
     sed -n 's/^#include <\(.*\)>.*/\1/p' "$scratch"/{6.1,"$newest"}/{lib/*.c,include/linux/dynamic*.h} 2> /dev/null | sort -u | while read -r header; do
         [ "$header" != linux/dynamic_queue_limits.h ] || continue
@@ -88,7 +90,8 @@ build() {
         -o "$scratch/$1" "$kernel/devices.c" "$scratch/$3/lib/dynamic_queue_limits.c"
 }
 
-# differs NAME FILE FROM TO [WHAT]: the functions with one change, planted in FILE, give another report, or what is told is WHAT.
+# differs NAME FILE FROM TO [WHAT]: the functions with one change, planted in FILE, have another report, or the difference
+# reported is WHAT.
 differs() {
     local name=$1 file=$scratch/$2 what=${5:-differs; its smallest trace}
     cp "$file" "$scratch/kept"
@@ -100,7 +103,7 @@ differs() {
     return "$status"
 }
 
-# compare KERNEL WORD ..: napi_serial beside these functions.
+# compare KERNEL OPTION ..: napi_serial, compared with these functions.
 compare() { python3 -B "$kernel/compare.py" "${PROGRAM:-$top/crates/napi_serial/out/napi_serial}" "$@"; }
 
 check 'each function is found by its name' extract 6.12

@@ -1,9 +1,9 @@
 #!/usr/bin/env bash
-# Tries the launcher. What building is about is tried in a small checkout of its own, with a kit that proves nothing and makes a
-# program of a few lines; what faults are about, on the real program. The last line is `N passed, M failed, K skipped`.
+# Tries the launcher. Builds are tried in a small checkout, with a kit that proves nothing and makes a program of a few lines;
+# errors are tried with the real program. The last line is `N passed, M failed, K skipped`.
 set -u
 unset CDPATH
-# A signal that whoever called this ignores can't be tried, and a shell can't take it back by itself.
+# A signal that the caller of this script ignores can't be tried, and a shell can't stop ignoring it by itself.
 [ -n "${SIGNALS_AS_USUAL:-}" ] || SIGNALS_AS_USUAL=yes exec env --default-signal=INT,TERM,HUP,PIPE bash "$0" "$@"
 top=$(dirname "$(dirname "$(readlink -f "$0")")")
 scratch=$(mktemp -d)
@@ -15,8 +15,8 @@ launcher=$top/replay small=$scratch/small
 # is ACTUAL PATTERN
 # shellcheck disable=SC2053
 is() { echo "$1"; [[ $1 = $2 ]]; }
-# tries: each row of its input, NAME % COMMAND % PATTERN, is a check of a command of bash: of its status, and of all lines, those of
-# standard error first, with | between them.
+# tries: each row of its input, NAME % COMMAND % PATTERN, is a check of a bash command: of its status, and of all lines, those
+# of standard error first, with | between them.
 tries() {
     while IFS=% read -r -u 3 name command wanted; do
         status=0
@@ -31,17 +31,17 @@ built() { replay trace.csv "$@" > made 2>&1; }
 on_terminal() { python3 -c 'import os, pty, sys; sys.exit(os.waitstatus_to_exitcode(pty.spawn(sys.argv[1:])))' "$@" < /dev/null; }
 as_nobody() { if [ "$(id -u)" = 0 ]; then setpriv --reuid=65534 --regid=65534 --clear-groups "$@"; else "$@"; fi; }
 comes() { for _ in $(seq 3000); do "$@" > /dev/null && return; sleep 0.02; done; }
-# began: the crates that were begun since it was last asked.
+# began: the crates that were started since the last call.
 began() { sed -n 's/^begin //p' rt.log | sort | paste -s -d ' '; : > rt.log; }
-change() { touch "$small/crates/${1:-low}/src/lib.rt"; }
-# signalled SIGNAL [HOW]: to the launcher alone, while a build or a program is at work; and what goes on behind that.
+change() { echo >> "$small/crates/${1:-low}/src/lib.rt"; }
+# signalled SIGNAL [HOW]: to the launcher only, while a build or a program is at work; and what goes on afterwards.
 signalled() {
     env --default-signal=INT "$launcher" ${2:-} trace.csv > made &
     comes pgrep -f "^$scratch/slow|^/bin/sh $scratch/bin/rattle build --crate-name ${at:-low}" && sleep 0.3 # the launcher notes it
     kill -"$1" $!
     status=0
     wait $! || status=$?
-    # The stand-in for `rt` doesn't end what it began, as `rt` does.
+    # The replacement for `rt` doesn't end what it started, as `rt` does.
     [ -z "${2:-}" ] || kill "$(pgrep -f "^$scratch/slow")"
     sleep 0.3
     pgrep -f "$scratch/bin/rattle|^$scratch/slow"
@@ -50,7 +50,8 @@ signalled() {
 
 # small_checkout [ROW ..]: of crates by their rows of crates.txt; of seven where none are named, of which `wide` is only below the
 # program of all modes, and `apart` none of the replay's. Its `rattle` writes down when each begins and ends, and does what PROVES says
-# meanwhile; the program does what DOES says, first; TRIES are more words of an unproved run.
+# meanwhile; the program does what DOES says, first; TRIES are more words of an unproved run, which
+# does what LOOKS says before.
 small_checkout() {
     rm -rf "$small" bin
     mkdir -p "$small"/{.git,tools,docs,include} bin
@@ -71,7 +72,7 @@ small_checkout() {
 case \$1 in
     doc) echo "$scratch/FIRST.md" ;;
     version) echo stand-in ;;
-    try) shift 6; NAME=\$(basename "\$PWD") sh "$small/program" "\$@" \$TRIES; status=\$?
+    try) eval "\${LOOKS:-}"; shift 6; NAME=\$(basename "\$PWD") sh "$small/program" "\$@" \$TRIES; status=\$?
         printf 'races: not looked for\\nrt: a hint\\nrun=ended status=%s\\n' "\$status" >&2; exit \$status ;;
 esac
 END
@@ -94,7 +95,7 @@ echo "$header" > trace.csv
 printf '%s\n0,1,Rx,9\n' "$header" | tee bad.csv > $'bad\e[31m\u202e.csv'
 (umask 077 && cp trace.csv secret.csv && chmod 000 secret.csv)
 python3 -c 'import socket; socket.socket(socket.AF_UNIX).bind("socket")'
-# The tools that the launcher takes, and no `rt`.
+# The tools that the launcher uses, and no `rt`.
 mkdir few deep && cp "$(command -v sleep)" slow
 for tool in env sh dirname readlink cat; do ln -s "$(command -v "$tool")" "few/$tool"; done
 ln -s "$(as_nobody sh -c 'command -v python3')" few/python3
@@ -117,7 +118,7 @@ all='--mode --pollers --budget --weight --window --unproved --json --build --ver
 two=$top/examples/two-packets.csv
 version=$(sed -n 's/^#define FQ_VERSION "\(.*\)"$/\1/p' "$top/include/fintaqush.h")
 
-# The real program, on files of these bytes: its fault, and the launcher's line.
+# The real program, on files of these bytes: its error, and the launcher's message.
 check 'the real program stands, or is built' "$top/scripts/build.sh" napi_serial
 while IFS=% read -r rows wanted; do
     printf '%b' "$rows" > faulty.csv
@@ -164,14 +165,15 @@ the kernel's log ends in a line % replay /proc/kmsg % *@(trace fault 1 BadHeader
 replay: /proc/kmsg: it can't be read: operation not permitted)
 END
 
-# All else: how it is built, what it is called with, and what surrounds the call.
+# All else: how it is built, its arguments, and its environment.
 launcher=$small/replay PATH=$scratch/bin:$PATH
 fault="trace fault 4 BadEvent row 1|replay: bad.csv line 2, '0,1,Rx,9': $events"
 answer="napi_serial |$header"
 kept='; each crate that was proved is kept'
 no_rt="69 *replay: there is no rt on PATH, which proves and builds the program: see 'What it needs' in README.md"
-first='replay: the program is to be proved and built first: meanwhile the answer of an UNPROVED run, in up to a minute'
-unproved='replay: this was an UNPROVED run; now it is proved. Ctrl-C leaves what is proved by then, and the next call goes on from there'
+first='replay: the program is to be proved and built: meanwhile the answer of an UNPROVED run, in up to a minute'
+unproved='replay: this was an UNPROVED run; the proof goes on. Ctrl-C leaves what is proved by then, and the next call goes on from there'
+export slow='sleep 1' # so that the answer of an unproved run is there before the proof
 high_fails='[ $name != high ] || { echo error: not proved; exit 1; }'
 c_is_killed='[ $name != c ] || ! mkdir ../../killed || kill -9 $$'
 export fails='cat > /dev/null; echo trace fault 4 BadEvent row 1 >&2; exit 2'
@@ -184,11 +186,18 @@ replay: napi_serial: proved and built, in *|napi_serial --budget 7|$header
 libraries that need nothing begin side by side, one that needs another behind it, and the program last % head -n 2 rt.log | sort; \
 grep -e 'end low' -e 'begin high' rt.log; tail -n 1 rt.log % 0 begin low|begin side|end low|begin high|end napi_serial
 a second call builds nothing, nor where a crate changed that the program is not made of % change apart; replay trace.csv % 0 $answer
+nor where a file has another time % touch $small/crates/low/src/lib.rt; replay trace.csv % 0 $answer
+nor in a copied checkout, which takes its libraries too % : > rt.log; cp -r $small copied; copied/replay trace.csv; \
+echo >> copied/crates/napi_serial/src/main.rt; copied/replay trace.csv > made 2>&1; began; rm -r copied % 0 $answer|napi_serial
 a change of one that it is made of builds it, and those above it alone % : > rt.log; change; built; began % 0 high low napi_serial
 so does a new file % : > $small/crates/high/src/more.rt; built; began % 0 high napi_serial
 and one that is gone % rm $small/crates/high/src/more.rt; built; began % 0 high napi_serial
+what was built of another text is not taken, nor a program that stands in its place % change; built; : > $small/crates/low/src/lib.rt; \
+built; echo other > $small/crates/napi_serial/out/napi_serial; built; began % 0 high high low low napi_serial napi_serial napi_serial
+what is written while it is built is built again % change high; PROVES='[ \$name != high ] || touch src/lib.rt' built; : > rt.log; \
+built; began % 0 high napi_serial
 and a library that is gone % rm -r $small/.git/built/low.rlib; change high; built; began % 0 high low napi_serial
-one that another kit has built is built anew % sleep 0.1; chmod +w KIT-ID; change high; built; began % 0 high low napi_serial side
+one that another kit has built is built anew % echo other > KIT-ID; change high; built; began % 0 high low napi_serial side
 what is built needs no rt, and no checkout to write to % chmod -R a-w $small; as_nobody env PATH=few $launcher trace.csv % 0 $answer
 a crate at a time on each processor, the longest chain first % small_checkout a: b: c: d: one: 'two: one' 'napi_serial: a b c d two'; \
 echo longest > $small/crates/two/src/lib.rt; PROVES='sleep 1' taskset -c 0,1 $launcher trace.csv > made 2>&1; head -n 2 rt.log | grep one; \
@@ -273,16 +282,18 @@ who has enough of a report ends it % $launcher trace.csv | head -n 1 % 0 napi_se
 on a terminal without input: a usage text % on_terminal $launcher --budget 3 % 66 usage: *|replay: no trace: name a file*
 where no terminal is, only proved bytes % change; replay trace.csv 2> made; ! grep -i unproved made % 0 $answer
 on a terminal an unproved answer comes first, once, and the proof of it then; the build writes one line over and over \
-% change; PROVES='sleep 0.6' on_terminal $launcher trace.csv --weight 4 % 0 $first|napi_serial --weight 4|$header|rt: a hint|$unproved|*\
-crate 1 of 3, 0 s: low*crate 3 of 3*proved and built, in * s|replay: the proved program gives the same bytes
+% change; PROVES=\$slow on_terminal $launcher trace.csv --weight 4 % 0 $first|replay: proving and building *crate 1 of 3, 0 s: low*\
+napi_serial --weight 4|$header|*rt: a hint|*$unproved|*crate 3 of 3*proved and built, in * s|replay: the proved program gives the same bytes
+where the proof is sooner there, it alone counts % change; LOOKS='exec sleep 20' on_terminal $launcher trace.csv % 0 \
+$first|*proved and built, in * s|$answer
 the next call replays % on_terminal $launcher trace.csv % 0 $answer
-so it does for a trace through a pipe % change; on_terminal bash -c '$launcher <(cat trace.csv)' % 0 *|$answer|*gives the same bytes
+so it does for a trace through a pipe % change; PROVES=\$slow on_terminal bash -c '$launcher <(cat trace.csv)' % 0 *$answer|*gives the same bytes
 one too long to be kept is replayed once % change; DOES='wc -c; exit' on_terminal bash -c 'head -c 70000000 /dev/zero | $launcher' % \
 0 replay: proving and *proved and built, in * s|70000000
-other bytes are told of, and printed % change; TRIES=more on_terminal $launcher trace.csv % 0 *gives OTHER bytes, *|$answer
-a fault is told first and proved then % change; DOES=\$fails on_terminal $launcher bad.csv % 2 *${fault/|/|rt: a hint|}|*the same bytes
+other bytes are told of, and printed % change; PROVES=\$slow TRIES=more on_terminal $launcher trace.csv % 0 *gives OTHER bytes, *|$answer
+a fault is told first and proved then % change; PROVES=\$slow DOES=\$fails on_terminal $launcher bad.csv % 2 *${fault/|/|rt: a hint|*}|*the same bytes
 where the build fails the answer stands, and the status is its % change; PROVES='$high_fails' on_terminal $launcher trace.csv % \
-70 *|$answer|*replay: high couldn't be built, status 1*
+70 *$answer|*replay: high couldn't be built, status 1*
 END
 built
 for how in '' --unproved; do

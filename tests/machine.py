@@ -81,7 +81,7 @@ def examples(program):
 # ---- random arrivals with random options
 
 def random_options(chance):
-    """Costs that are the same, or 0, or fall on the grid of the arrivals, make ties."""
+    """Costs that are equal, or 0, or fall on the grid of the arrivals, cause ties."""
     costs = (0, 1, 500, 1000, 1000, 2000, 4000, chance.randrange(20000), chance.randrange(10**6))
     choices = {
         "processors": (1, 2, 3, chance.randint(1, 64)), "queues": (1, 1, 2, 3, 8, 64), "ring": (1, 2, 4, 16, 256), "socket": (1, 2, 8, 512),
@@ -97,7 +97,7 @@ def random_options(chance):
 
 
 def random_rows(chance, settings):
-    """Bursts and pauses, of some devices, on a grid or not; seldom of a queue that is out of range."""
+    """Bursts and pauses, at some devices, on a grid or not; rarely for a queue that is out of range."""
     highest = 64 * settings["processors"]
     last = highest if chance.random() < 0.1 else max(1, highest // settings["queues"])
     grid, most = chance.choice((1, 500, 1000)), chance.choice((1, 2, 5, 64 * settings["processors"]))
@@ -113,7 +113,7 @@ def random_rows(chance, settings):
 
 
 def counted(calls, name):
-    """The rule of the model of this name, which counts when it holds."""
+    """Counts how often the model's rule with this name applies."""
     rule = getattr(machine_model, name)
 
     def call(*arguments):
@@ -124,7 +124,7 @@ def counted(calls, name):
 
 
 def random_arrivals(program, seed="1", count="300"):
-    """The model's bytes on so many arrivals, which together reach each case of the rules."""
+    """The model's bytes for this many arrivals, which together reach each case of the rules."""
     chance, reached, calls = random.Random(int(seed)), Counter(), Counter()
     for name in ("go_on_with_rest", "wake_application", "end_interrupt_without_polling"):
         counted(calls, name)
@@ -173,7 +173,8 @@ LIMITS = "--budget", "--window", "--time-limit", "--queues"
 
 
 def one_queue(program, seed="1", count="60"):
-    """With one queue on a processor, budgets, windows and time limits change nothing of a report but its runs, squeezed and late."""
+    """With one queue per processor, budgets, windows and time limits change nothing in a report but its runs, squeezed and
+    late."""
     chance = random.Random(int(seed))
     for _ in range(int(count)):
         arguments = [each for each in random_options(chance) if "=" in each and not each.startswith(LIMITS)]
@@ -187,10 +188,10 @@ def one_queue(program, seed="1", count="60"):
     return []
 
 
-# ---- what is refused
+# ---- what is rejected
 
 def faults(program):
-    """Each fault of the rows with its line and status, and with nothing written; in a row that has several the lowest one."""
+    """Each error of the rows with its message and status, and with nothing written; in a row that has several the lowest one."""
     wrong = []
     good = "0,1,60\n"
     for rows, number, name, row in (
@@ -233,8 +234,8 @@ def not_faulty(program, arguments, text, line):
 
 
 def texts(program):
-    """Arrivals as other programs write them: other ends of lines, a byte-order mark, quotes in all rows or in one, many zeros, the ends of
-    the ranges."""
+    """Arrivals as other programs write them: other line ends, a byte-order mark, quotes in all rows or in one, many zeros, the bounds
+    of the ranges."""
     plain = f"{HEADER}\n0,1,60\n{2**62 - 1},128,65535\n"
     zeros = f"{HEADER}\n{'0' * 20},{'1'.zfill(20)},{'60'.zfill(20)}\n{2**62 - 1},128,65535\n"
     quoted = "".join(",".join(f'"{field}"' for field in line.split(",")) + "\n" for line in plain.splitlines())
@@ -246,7 +247,7 @@ def texts(program):
 
 
 def options(program):
-    """Options that are refused, before anything is read, and the ends of each range, which aren't."""
+    """Options that are rejected before anything is read, and the bounds of each range, which are accepted."""
     wrong = []
     refused = [["-h"], ["--"], ["-"], ["x"], [""], ["--budget"], ["--budget="], ["--budget=x"], ["--budget", "+1"], ["--budget", " 1"],
                ["--budg", "1"], ["-budget", "1"], ["--budget", "1", "--budget", "1"], ["--budget=1", "--budget", "2"], ["--mode", "serial"],
@@ -318,8 +319,8 @@ def poisson(rate, length, seed):
 
 
 def queue(program):
-    """M/D/1: packets of a Poisson process, each polled in a run of its own, and nothing else takes time. A packet has left when it is
-    delivered, on average its cost c and r c / (2 (1 - r)) after its arrival, at load r (Pollaczek and Khinchine)."""
+    """M/D/1: packets of a Poisson process, each polled in its own run, and nothing else takes time. A packet has left when it
+    is delivered, on average its cost c and r c / (2 (1 - r)) after its arrival, at load r (Pollaczek and Khinchine)."""
     wrong, cost = [], 1000
     given = {"budget": 1, "weight": 1, "interrupt": 0, "poll": 0, "packet": cost, "use": 0, "ring": 65536, "socket": 65536}
     for load in (0.3, 0.6, 0.8):
@@ -333,9 +334,9 @@ def queue(program):
 
 
 def livelock(program):
-    """At a load whose interrupts take all of the processor nothing is used while packets arrive, and no budget changes that, since softirqs
-    run before tasks. Coalescing does: four devices, each with an interrupt of 4 us and a poll of 1 us a period, leave the application what
-    these and 1 us for each packet don't take, and a packet's use takes 2 us."""
+    """At a load whose interrupts take all of the processor nothing is used while packets arrive, and no budget changes that,
+    because softirqs run before tasks. Coalescing does: four devices, each with an interrupt of 4 us and a poll of 1 us per
+    period, leave the application the time that these and 1 us per packet don't take, and a packet's use takes 2 us."""
     wrong, used, load, packets = [], {}, 400_000, 80_000
     rows = text_of((number * 10**9 // load, 1 + number % 4, 1000) for number in range(packets))
     slow = text_of((number * 10**9 // 100_000, 1 + number % 4, 1000) for number in range(packets))
@@ -364,9 +365,9 @@ def livelock(program):
 
 # ---- what Linux did
 
-# A recording as ftrace's text, with arrivals to a microsecond and costs that are fitted. All others take its costs: a second recording,
-# whose own `costs` rejects because a line over its polls explains nothing, and traces, with arrivals to a millisecond. Each with its
-# budget. No card interrupted, and no application used what was received.
+# A recording as ftrace's text, with arrivals to a microsecond and costs that are fitted. All others use its costs: a second
+# recording, whose own `costs` rejects because a line over its polls explains nothing, and traces, with arrivals to a
+# millisecond. Each with its budget. No card interrupted, and no application used what was received.
 RECORDED = (("tests/tools/soft-gso-23", 23), ("tests/tools/soft-tcp", 300), ("examples/linux-veth-bursts", 300),
             ("examples/linux-veth-small-budget", 64))
 
@@ -387,9 +388,9 @@ def recorded_arrivals(name, folder):
 
 
 def recorded(program):
-    """Compares runs and squeezes with those that Linux made, and prints the differences: costs vary from poll to poll, a sender that shares
-    the processor waits for the runs, which arrivals don't, and the recordings don't say which processor a packet came to. All packets are
-    polled, and runs and squeezes differ by a factor of at most three."""
+    """Compares runs and squeezes with those of Linux, and prints the differences: costs vary from poll to poll, a sender that
+    shares the processor waits for the runs, which arrivals don't, and the recordings don't say to which processor a packet
+    came. All packets are polled, and runs and squeezes differ by a factor of at most three."""
     wrong, costs = [], []
     for name, budget in RECORDED:
         with tempfile.TemporaryDirectory() as folder:

@@ -1,8 +1,9 @@
 #!/usr/bin/env bash
-# tests/machine.sh: the receiving machine. The plain model (machine_model.py), bench/machine.cc, and napi_machine
-# print the reports that were worked out by hand (machine_examples.txt), and both programs the model's bytes on random arrivals with
-# random options. Then napi_machine's faults and options, the mean of M/D/1, livelock, and its runs and squeezes compared with those of a
-# running Linux. MACHINE=FILE names another build of napi_machine. The last line is `N passed, M failed, K skipped`.
+# tests/machine.sh: the receiving machine. The plain model (machine_model.py), bench/machine.cc and napi_machine print the
+# reports that were worked out by hand (machine_examples.txt), and both programs print the model's bytes for random arrivals
+# with random options. Then napi_machine's errors and options, the mean of M/D/1, livelock, and its runs and squeezes compared
+# with those of a running Linux. MACHINE=FILE names another build of napi_machine. The last line is `N passed, M failed, K
+# skipped`.
 set -uo pipefail
 unset CDPATH
 top=$(dirname "$(dirname "$(readlink -f "$0")")")

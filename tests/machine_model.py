@@ -25,7 +25,7 @@ APPLICATION = "application"  # among the tasks, beside the numbers of devices
 
 
 class Fault(Exception):
-    """A line for standard error, and the exit status."""
+    """A message for standard error, and the exit status."""
 
     def __init__(self, line, status):
         super().__init__(line)
@@ -59,7 +59,7 @@ class Device:
 
 @dataclass
 class Work:
-    """A piece of work under way."""
+    """A piece of work in progress."""
     kind: str  # interrupt, poll or use
     began: int
     ends: int
@@ -78,7 +78,7 @@ class Run:
 
 @dataclass
 class Application:
-    """The application on a processor of its own."""
+    """The application on its own processor."""
     end: Optional[int] = None  # of its wake or use; it sleeps if unset
     hand: Optional[int] = None  # when the packet arrived that it uses
     last_end: int = 0
@@ -105,7 +105,7 @@ class Processor:
 # ---- time
 
 def advance(processor, moment):
-    """To this time: at one time work ends before timers expire, and both before a packet arrives."""
+    """Advances to this time: at one time work ends before timers expire, and both before a packet arrives."""
     while True:
         timer, work = least_timer(processor), processor.work
         if work and not (timer and timer[0] < work.ends) and work.ends <= moment:
@@ -192,7 +192,7 @@ def start(processor, kind, length, effect, packet=0):
 
 
 def end_work(processor):
-    """Its effect may begin another piece of the same work; else work is taken up."""
+    """Its effect may start another piece of the same work; otherwise new work is taken up."""
     work = processor.work
     spend(processor, work.kind, work.ends - work.began)
     processor.clock, processor.work = work.ends, None
@@ -269,7 +269,7 @@ def end_poll_of_run(processor, number, packets):
 
 
 def end_run(processor, squeezed, late):
-    """It takes no time, and what is next is taken up."""
+    """It takes no time, and the next work is taken up."""
     run, counts = processor.run, processor.counts
     processor.poll_list = deque([*run.own, *processor.poll_list, *run.again])
     processor.run = None
@@ -387,7 +387,7 @@ def end_use(processor, packet):
     processor.waits.append(processor.clock - packet)
 
 
-# ---- the application on a processor of its own
+# ---- the application on its own processor
 
 def wake_application(processor):
     its = processor.application
@@ -397,7 +397,7 @@ def wake_application(processor):
 
 
 def go_on(processor, moment):
-    """The application, to this time."""
+    """Runs the application up to this time."""
     its = processor.application
     while its.end is not None and its.end <= moment:
         its.last_end = its.end
@@ -418,7 +418,7 @@ def bucket(wait):
 
 
 def least_bucket(waits, share):
-    """The least bucket that has, with those below it, so many of 1000 of the waits."""
+    """The least bucket that, with those below it, has this many of 1000 of the waits."""
     buckets = sorted(map(bucket, waits))
     return next(each for place, each in enumerate(buckets, 1) if 1000 * place >= share * len(buckets))
 
@@ -478,7 +478,8 @@ def header(settings):
 
 
 def rows_of(text, settings):
-    """The rows of a text without quotes, each a time and the number of a queue; the first fault of the first faulty one."""
+    """The rows of a text without quotes, each a time and the number of a queue; otherwise the first error of the first faulty
+    one."""
     records = [line for line in re.split("[\r\n]", text.removeprefix("\ufeff")) if line]
     if not records or records[0] != header(settings):
         raise Fault("arrivals fault 1 BadHeader row 0", 2)

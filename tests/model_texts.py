@@ -20,7 +20,8 @@ CLAUSE = re.compile(r"^ *(requires|ensures|decreases|invariant|where|ghost|using
 
 
 def code_of(lines):
-    """The code of a function: its lines without comments, attributes and contract; clauses stand between its head and the line `{`."""
+    """The code of a function: its lines without comments, attributes and contract; clauses are between its head and the line
+    `{`."""
     indent = HEAD.match(lines[0])[1]
     ending = next((at for at, line in enumerate(lines) if line == indent + "{"), 0)
     clause = next((at for at, line in enumerate(lines[:ending]) if CLAUSE.match(line)), ending)
@@ -71,7 +72,7 @@ def places(top, kit):
 
 
 def named(top):
-    """What the models name, as pairs of a place and a name."""
+    """What the models name, as pairs of a file and a name."""
     texts = "".join(path.read_text() for path in sorted((top / "models").glob("*.pml")))
     return set(re.findall(r"/\* ((?:kit )?[a-z_]+(?:/[a-z_]+)+) ([a-z_]+) \*/", texts))
 
@@ -83,7 +84,7 @@ def fits(by, owner):
 
 
 def is_below(place, caller):
-    """Whether the crate of a place stands below that of the caller; the crates are in that order, and the toolchain's are below all."""
+    """Whether the crate of a file is below that of the caller; the crates are in that order, and the toolchain's are below all."""
     low, high = (CRATES.index(it.split("/")[0]) if not it.startswith("kit ") else -1 for it in (place, caller))
     return low <= high
 

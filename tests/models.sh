@@ -1,13 +1,14 @@
 #!/usr/bin/env bash
-# tests/models.sh: that everything ends, by the models in Promela of models/. First that each function which a line of theirs names, and
-# each that these call, down to the toolchain's parker, queue and atomics, has the code that it had when the model was last read beside
-# it (models/stands_for.txt has the checksums); changes that are planted below are found. Then, if spin is installed, each model: no
-# deadlock and no failed assertion, and what is to hold under weak fairness; and each planted fault is refused by what it breaks. They
-# are skipped without spin. The last line is `N passed, M failed, K skipped`. Needs python3; spin needs a C compiler.
+# tests/models.sh: the models in Promela of models/ show that everything ends. First, each function that a line of theirs names,
+# and each that these call, down to the toolchain's parker, queue and atomics, must have the code that it had when the model was
+# last compared with it (models/stands_for.txt has the checksums); changes that are planted below are found. Then, if spin is
+# installed, each model: no deadlock and no failed assertion, and the properties that hold under weak fairness; and each planted
+# error violates the property that it should. These are skipped without spin. The last line is `N passed, M failed, K skipped`.
+# Needs python3; spin needs a C compiler.
 #
 # usage: tests/models.sh            all of it
-#        tests/models.sh --look     only prints the functions whose text has changed, status 1 where there is one
-#        tests/models.sh --write    writes the checksums as the functions are now: once the models were read beside them
+#        tests/models.sh --look     only prints the functions whose code has changed, with status 1 if there are any
+#        tests/models.sh --write    writes the checksums of the present functions, after the models were compared with them
 set -uo pipefail
 unset CDPATH
 top=$(dirname "$(dirname "$(readlink -f "$0")")")
@@ -21,13 +22,17 @@ kit=$(dirname "$(rt doc 2> /dev/null)") # the folder of the toolchain
 # checksums [TOP [KIT]]: a line for each function that the models name, and for each that these call (model_texts.py).
 checksums() { python3 -B "$top/tests/model_texts.py" "${1:-$top}" "${2:-$kit}"; }
 
-# is_read_kit: whether the toolchain is the kit whose functions the models were read beside, which is the first line's.
-is_read_kit() { [ "$(head -n 1 "$models/stands_for.txt")" = "# $(rt version)" ]; }
+# of_kit: of these lines those of the toolchain's functions.
+of_kit() { grep '^[^ ]* kit '; }
 
-# look [TOP [KIT]]: the functions whose code isn't what it was, or that aren't there; of another kit only those of this repository.
+# is_read_kit: whether the toolchain is the kit with which the models were compared, which is the first line's, or has the same functions.
+is_read_kit() {
+    [ "$(head -n 1 "$models/stands_for.txt")" = "# $(rt version)" ] || cmp -s <(of_kit < "$models/stands_for.txt") <(checksums | of_kit)
+}
+
+# look [TOP [KIT]]: the functions whose code has changed, or that are missing; with another kit only those of this repository.
 look() {
-    local functions=.
-    is_read_kit || functions='^[^ ]* [^ /]*/'
+    [ -n "${functions:-}" ] || { is_read_kit && functions=. || functions='^[^ ]* [^ /]*/'; }
     checksums "$@" > "$scratch/all" || return
     grep -v '^#' "$models/stands_for.txt" | grep "$functions" > "$scratch/read"
     grep "$functions" "$scratch/all" > "$scratch/now"
@@ -42,7 +47,7 @@ case ${1:-} in
     '') ;;
     *) sed -n 's/^# usage/usage/p' "$0"; exit 64 ;;
 esac
-# finds PLACE NAME FILE OLD NEW: of the copy of what the models stand for, `look` tells a change of FILE, in which OLD stands.
+# finds PLACE NAME FILE OLD NEW: in the copy of what the models stand for, `look` reports a change of FILE, in which OLD occurs.
 finds() {
     local file=$scratch/copy/$3 status=0
     cp "$file" "$scratch/kept"
@@ -61,7 +66,7 @@ else
     mkdir -p "$scratch/copy/rattle" && cp -r "$top"/{crates,models} "$scratch/copy" && cp -r "$kit"/rattle/{crossbeam_utils,crossbeam_queue,atomic_table} "$scratch/copy/rattle"
     check 'a change in napi_word is found' finds napi_word/steps schedule_load crates/napi_word/src/steps.rt 'if seen.flags.disable' 'if seen.flags.sched'
     check 'a change in poll_runs is found' finds poll_runs/polling let_go crates/poll_runs/src/polling.rt 'if next == Next::Repoll' 'if next != Next::Repoll'
-    if is_read_kit; then
+    if [ "$functions" = . ]; then
         check 'a change of the parker is found' finds 'kit crossbeam_utils/sync/parker/ruled' unpark_as rattle/crossbeam_utils/src/sync/parker/ruled.rt '== PARKED' '!= PARKED'
         check 'a change of the queue is found' finds 'kit crossbeam_queue/array_queue/steps' push_from rattle/crossbeam_queue/src/array_queue/steps.rt 'tail == stamp' 'tail != stamp'
         check 'a change of the atomics is found' finds 'kit atomic_table/steps' compare_exchange rattle/atomic_table/src/steps.rt 'old, new) }' 'new, old) }'
@@ -76,8 +81,8 @@ if ! has spin 'the search of each model' || ! has cc 'the search of each model';
     exit
 fi
 
-# build NAME MODEL PROPERTIES -DWORD=N ..: the model's search, as up to two programs. Deadlocks are seen only by the one without the claims: with a claim
-# `search` looks for cycles that break it, and an end that nobody expected is no error.
+# build NAME MODEL PROPERTIES -DWORD=N ..: the model's search, as up to two programs. Only the one without the claims finds
+# deadlocks: with a claim, `search` looks for cycles that violate it, and an unexpected end is no error.
 build() {
     local folder=$scratch/$1 flags=("${speed:--O1}" -w -DCOLLAPSE -DVECTORSZ=1024)
     mkdir -p "$folder" && cd "$folder" && spin -a "${@:4}" "$models/$2" || return
@@ -85,9 +90,10 @@ build() {
     [[ $3 != *safe* ]] || cc "${flags[@]}" -DNOCLAIM -DSAFETY -o search_safe pan.c
 }
 
-# search NAME PROPERTY: prints `holds`, `broken`, or `unknown` if the search didn't end or failed in another way. `safe` is that there is
-# no deadlock and no failed assertion, and `safe=TEXT` is broken only by one with this text (`end.state` for a deadlock); any other property is
-# broken only by a cycle that breaks it, or by a state that does, which spin writes as an assertion of the property.
+# search NAME PROPERTY: prints `holds`, `broken`, or `unknown` if the search didn't end or failed in another way. `safe` means
+# no deadlock and no failed assertion, and `safe=TEXT` is broken only by one with this text (`end.state` for a deadlock); any
+# other property is broken only by a cycle that violates it, or by a state that does, which spin writes as an assertion of the
+# property.
 search() {
     local property=${2%=*} text= words log=$scratch/$1/$2.log breaks='acceptance cycle|assertion violated  !\( !\('
     words=(./search -a -f -N "$property")
@@ -105,7 +111,7 @@ search() {
     fi
 }
 
-# Each line: a name, a model, its words, and then what is to hold, or `refused` and a property that has to fail.
+# Each line: a name, a model, its options, and then what has to hold, or `refused` and a property that has to fail.
 plan() {
     cat << 'PLAN'
 four-acts wake.pml -DACTS=4 safe ends
@@ -133,7 +139,7 @@ an-enable-by-load-and-store waiting.pml -DENDLESS=0,-DDISABLES=1,-DREPOLLS=1,-DT
 PLAN
 }
 
-# try NAME MODEL WORDS [refused] PROPERTY ..: `+ CLAIM` or `- CLAIM` for each.
+# try NAME MODEL OPTIONS [refused] PROPERTY ..: prints `+ CLAIM` or `- CLAIM` for each.
 try() {
     local name=$1 model=$2 words property wanted=holds found speed=
     IFS=, read -r -a words <<< "$3"

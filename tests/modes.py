@@ -1,12 +1,14 @@
 #!/usr/bin/env python3
-"""modes.py PROGRAM SERIAL: the three modes of the replay beside one another. The last line is `N passed, M failed`.
+"""modes.py PROGRAM SERIAL: compares the three modes of the replay with one another. The last line is `N passed, M failed`.
 
-Serial mode is the judge of shared mode, and of SERIAL, which has serial mode alone: the runs of runs.txt, and random traces of
-both versions by several settings. Of a trace that is cut anywhere, the rules of docs/FORMATS.md, written down here anew, say whether it has a fault, and which."""
+Serial mode is the reference for shared mode, and for SERIAL, which has only serial mode: on the runs of runs.txt, and on random
+traces of both versions with several settings. For a trace that is cut off anywhere, the rules of docs/FORMATS.md, implemented
+here again, say whether it has an error, and which."""
 import os
 import re
 import subprocess
 import sys
+import time
 
 from runs import runs
 
@@ -27,7 +29,7 @@ SIX_DEVICES = "\n".join(
     + ["13,0,softirq,0", "14,4,enable,0", "15,4,rx,9", "16,0,softirq,0", ""]
 )
 ONE_PACKET = "moment,device,event,value\n0,1,open,4\n1,1,rx,100\n"
-# What a trace that ends so is answered.
+# The result for a trace that ends like this.
 NAMED_CUTS = [
     (ONE_PACKET + "2,0,softi", "trace fault 2 BadFields row 3"),
     (ONE_PACKET + "2,0", "trace fault 2 BadFields row 3"),
@@ -54,7 +56,7 @@ def play(text, words, program=PROGRAM):
 
 
 def row_fault(fields, states):
-    """The number and the name of a row's first fault, or None. `states` tells of each device whether it is on."""
+    """The number and the name of a row's first error, or None. `states` says for each device whether it is enabled."""
     if len(fields) != 4:
         return 2, "BadFields"
     numbers = [fields[0], fields[1], fields[3]]
@@ -79,7 +81,7 @@ def row_fault(fields, states):
 
 
 def first_fault(text):
-    """The line of the first fault of a version 1 trace without quotes, or None."""
+    """The message of the first error of a version 1 trace without quotes, or None."""
     records = [line.split(",") for line in text.split("\n") if line]
     if not records or records[0] != ["moment", "device", "event", "value"]:
         return "trace fault 1 BadHeader row 0"
@@ -92,7 +94,7 @@ def first_fault(text):
 
 
 def cut_traces():
-    """Each prefix of the trace of six devices, in each mode: its fault, or a whole report, and nothing of both."""
+    """Each prefix of the trace of six devices, in each mode: its error, or a whole report, never parts of both."""
     last = {"serial": b"total devices ", "shared": b"total devices ", "threads": b"total devices "}
     for mode in ("serial", "shared", "threads"):
         wrong = []
@@ -112,7 +114,7 @@ def cut_traces():
 
 
 def without_pollers(words):
-    """The words without `--pollers N`, which stands in two words where a run has it."""
+    """The options without `--pollers N`, which a run has as two arguments."""
     if "--pollers" not in words:
         return words
     at = words.index("--pollers")
@@ -134,7 +136,7 @@ def worked_runs():
 
 
 def random_traces(count):
-    """Random traces of both versions, by settings in turn: shared mode's bytes, line and status are serial mode's."""
+    """Random traces of both versions, with settings in turn: shared mode's bytes, message and status are serial mode's."""
     settings = [[], ["--budget", "1"], ["--budget", "64", "--weight", "1"], ["--weight", "63", "--window", "2"], ["--window", "1"]]
     for version in ("1", "2"):
         reports = 0
@@ -171,7 +173,33 @@ def version_2():
             judge("%s, %s mode" % (name, mode), status == 0 and out.decode().startswith(wanted), (out + err).decode())
 
 
+def on_one_processor(program, words, feed):
+    """The status of a run that has one processor, and what it takes of it, in seconds."""
+    one = min(os.sched_getaffinity(0))
+    run = subprocess.Popen([program] + words, stdin=subprocess.PIPE, stdout=subprocess.DEVNULL, stderr=subprocess.DEVNULL,
+                           preexec_fn=lambda: os.sched_setaffinity(0, {one}))
+    with run.stdin as trace:
+        feed(trace)
+    _, status, usage = os.wait4(run.pid, 0)
+    run.returncode = os.waitstatus_to_exitcode(status)
+    return run.returncode, usage.ru_utime + usage.ru_stime
+
+
+def waits_for_the_trace(trace):
+    trace.write(SIX_DEVICES.encode())
+    trace.flush()
+    time.sleep(3)
+
+
+def idle():
+    """Over a pipe that stays open for 3 seconds no mode spins: a run takes less than a second, which is a hundred times what it needs."""
+    for program, words in [(SERIAL, [])] + [(PROGRAM, ["--mode", mode, "--pollers", "8"]) for mode in ("serial", "shared", "threads")]:
+        status, seconds = on_one_processor(program, words, waits_for_the_trace)
+        judge("idle: %s %s" % (os.path.basename(program), " ".join(words)), status == 0 and seconds < 1, "status %d, %.2f s" % (status, seconds))
+
+
 cut_traces()
+idle()
 worked_runs()
 version_2()
 random_traces(150)

@@ -1,5 +1,6 @@
 #!/usr/bin/env bash
-# tests/modes.sh: the three modes of the built programs beside one another (modes.py). The last line is `N passed, M failed`.
+# tests/modes.sh: compares the three modes of the built programs with one another (modes.py). The last line is `N passed, M
+# failed`.
 set -u
 tests=$(cd "$(dirname "$(readlink -f "$0")")" && pwd)
 crates=$tests/../crates

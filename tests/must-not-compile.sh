@@ -1,14 +1,14 @@
 #!/usr/bin/env bash
 # What must not compile: each edit of a crate's must-not-compile/ is applied to a copy of the crate, and the check has to stop
 # at the error that its first line names, before any proof. An edit has lines 'error: NAME', 'file: PATH', 'old: TEXT' (which
-# stands once in that file) and 'new: TEXT'. It works on the libraries that the gate or `rt lib` left, on up to four edits at
-# a time. The last line is `N passed, M failed`.
+# occurs once in that file) and 'new: TEXT'. It uses the libraries that the gate or `rt lib` left, for up to four edits at a
+# time. The last line is `N passed, M failed`.
 set -uo pipefail
 cd "$(dirname "$(readlink -f "$0")")/.." || exit 1
 scratch=$(mktemp -d)
 trap 'rm -rf "$scratch"' EXIT
 
-# field NAME EDIT: the text behind `NAME: `
+# field NAME EDIT: the text after `NAME: `
 field() {
     sed -n "s/^$1: //p" "$2"
 }
@@ -26,8 +26,8 @@ file.write_text(text.replace(old, new))
 PY
 }
 
-# try EDIT: whether a copy with this edit is refused by its error and by nothing later. A file of the copy is a hard link, but
-# those of the crate's src/.
+# try EDIT: whether a copy with this edit is rejected with its error and with nothing later. The files of the copy are hard
+# links, except those of the crate's src/.
 try() {
     local copy name said
     name=$(basename "$(dirname "$(dirname "$1")")")

@@ -2,13 +2,15 @@
 As a program it prints each need that a test or a driver names and needs.txt lacks, each row that nothing names, and a difference from
 what scripts/test-packages.sh installs; the exit status is 1 if there is one.
 """
+import functools
 import pathlib
 import re
+import shutil
 import subprocess
 import sys
 
 TOP = pathlib.Path(__file__).resolve().parent.parent
-# How scripts name what they need: the words behind these, without quotes.
+# How scripts name what they need: the unquoted words after these.
 NAMED = {
     "*.sh": (r"\bskip (?:'[^']*'|\"[^\"]*\") ([\w/.+= -]+)", r"(?:if|!|\|\||&&) has ([\w.+-]+) ", r"(?:\|\||^ +) ?over ([\w/.+-]+)",
              r"this needs ([\w/.+-]+)", r"\bfor program in ([\w+ -]+); do\n +(?:command -v|has) \"\$program\"", r"^ *kernel=([\w/]+)$",
@@ -25,8 +27,18 @@ def rows():
 
 
 def packages():
-    """The Debian packages that have each need; none where no package gives it."""
+    """The Debian packages for each need; none if no package has it."""
     return {row[0]: [name for name in row[1:] if name != "-"] for row in rows()}
+
+
+@functools.lru_cache(None)
+def is_here(need):
+    """Whether a program is on PATH, or a library is where the tools look for it."""
+    ends = {"matplotlib": "x.png", "dygraphs": "x.html"}
+    if need not in ends:
+        return shutil.which(need) is not None
+    look = f"import sys; sys.path.insert(0, {str(TOP / 'tools')!r}); import drawing; drawing.check_library({ends[need]!r})"
+    return subprocess.run([sys.executable, "-BES", "-c", look], capture_output=True, check=False).returncode == 0
 
 
 def skipped(test, what, need):

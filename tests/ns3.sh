@@ -1,8 +1,7 @@
 #!/usr/bin/env bash
-# tests/ns3.sh: the simulation of examples/ns3. This library's queue limit gives the numbers of ns-3's own, call by call; each packet
-# is counted once; runs keep their budget; the plain program of the bench and napi_machine (MACHINE=FILE: another build) report the same of
-# the same arrivals. It is skipped without ns-3. The last line is
-# `N passed, M failed, K skipped`.
+# tests/ns3.sh: the simulation of examples/ns3. This library's queue limit has the numbers of ns-3's own, call by call; each
+# packet is counted once; runs keep to their budget; the plain program of the bench and napi_machine (MACHINE=FILE: another
+# build) report the same for the same arrivals. It is skipped without ns-3. The last line is `N passed, M failed, K skipped`.
 set -uo pipefail
 unset CDPATH
 top=$(dirname "$(dirname "$(readlink -f "$0")")")
@@ -56,7 +55,7 @@ done
 
 # ---- what was simulated, by the names of its columns
 
-# rows CONDITION: there are fifteen rows, of five settings and three loads, and it holds of each.
+# rows CONDITION: there are fifteen rows, of five settings and three loads, and it holds for each.
 rows() {
     awk "NR == 1 { for (i = 1; i <= NF; i++) at[\$i] = i; next } function of(name) { return \$at[name] } { n++; if (!($1)) { print; wrong = 1 } }
         END { exit wrong || n != 15 }" "$scratch/bottleneck.txt"
@@ -75,7 +74,7 @@ check 'budgets of 16, 64 and 300 differ only in their runs' awk 'NR > 1 && $1 > 
         before[$4] = row; n++ }
     END { exit wrong || n != 9 }' "$scratch/bottleneck.txt"
 
-# used BUDGET DEFER: of 400000 packets a second.
+# used BUDGET DEFER: at 400000 packets per second.
 used() {
     awk -v budget="$1" -v defer="$2" 'NR == 1 { for (i = 1; i <= NF; i++) at[$i] = i; next }
         $1 == budget && $2 == defer && $at["load"] == 400000 { print $at["used"] }' "$scratch/bottleneck.txt"
@@ -85,7 +84,7 @@ check 'at 400000 packets a second deferred interrupts leave more to the applicat
 
 # ---- the machine of napi_machine, on the same arrivals
 
-# machine PROGRAM BUDGET DEFER LOAD: its counts and waits exactly, of what was simulated.
+# machine PROGRAM BUDGET DEFER LOAD: exactly its counts and waits, for what was simulated.
 machine() {
     local options=(--defer-hard-irqs "$3" --gro-flush-timeout 50000)
     "$scratch/bottleneck" --budget="$2" --defer="$3" --flush=50000 --load="$4" --arrivals="$scratch/arrivals" --report="$scratch/report" \
@@ -110,7 +109,7 @@ for program in "${programs[@]}"; do
     done
 done
 
-# ---- words and files
+# ---- options and files
 
 again() {
     "$scratch/bottleneck" --budget=16 --load=250000 > "$scratch/again" && grep -x -F -q -f "$scratch/again" "$scratch/bottleneck.txt"
@@ -121,7 +120,9 @@ check 'a budget that is too large is refused' refused 64 "$scratch/bottleneck" -
 check 'calls that can not be written are told' refused 74 "$scratch/bottleneck" --load=1000 --calls=/dev/full
 check 'arrivals that can not be written are told' refused 74 "$scratch/bottleneck" --load=1000 --arrivals=/dev/full
 check 'limits without words are refused' refused 64 "$scratch/limits"
-if has gnuplot 'its picture'; then
+if ! python3 -c 'import matplotlib' 2> /dev/null && ! /usr/bin/python3 -c 'import matplotlib' 2> /dev/null; then
+    skip 'its picture' matplotlib
+else
     check 'the picture is drawn' [ "$(head -c 4 "$scratch/bottleneck.png" | tail -c 3)" = PNG ]
 fi
 

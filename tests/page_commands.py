@@ -1,9 +1,9 @@
-"""The commands of the pages: each is run in a copy of the repository, or commands.txt says who runs it or why nobody does.
+"""The commands of the pages: each is run in a copy of the repository, or commands.txt says which test runs it or why none does.
 
-A command of a page is a line of a block that begins with a program's name, a line `$ COMMAND` with what it prints below it, or
-text in code of two words and more, of which the first one is a program's name. What stands behind three spaces, or behind `#`,
-is a remark. A synopsis, as `./fintaqush raise TRACE WORD ..`, is held against the program's usage text. What proves, measures or installs
-is run by hand: there has to be such a command.
+A command of a page is a line of a block that begins with a program's name, a line `$ COMMAND` with its output below it, or code
+of at least two words, of which the first one is a program's name. Text after three spaces, or after `#`, is a remark. A synopsis,
+such as `./fintaqush raise TRACE WORD ..`, is compared with the program's usage text. Commands that prove, measure or install are
+run by hand: the command has to exist.
 """
 import functools
 import os
@@ -20,7 +20,7 @@ TOP = pathlib.Path(__file__).resolve().parent.parent
 LIST = TOP / "tests/commands.txt"
 LONGEST = 900  # seconds; nothing is judged by its time
 PROGRAMS = set("""rt cc gcc g++ clang clang++ c++ make cmake ctest cargo rustc python3 bash sh awk sbatch trace-cmd apt apt-get git cp mv rm
-    mkdir cd printf echo cat head pkg-config valgrind gnuplot man ip ethtool taskset tcpdump parallel perf sudo export curl ns3 tar diff
+    mkdir cd printf echo cat head pkg-config valgrind man ip ethtool taskset tcpdump parallel perf sudo export curl ns3 tar diff
     fintaqush napi_machine napi_replay napi_series napi_serial""".split())
 SUBCOMMANDS = runpy.run_path(str(TOP / "scripts/subcommands.py"))["FILES"]
 FOLDERS = r"(?:\./|\.\./)*(?:bench|crates|bindings|examples|scripts|tests|tools)/[\w./-]+"
@@ -42,15 +42,16 @@ SKIPPED = []  # what was, a line each
 
 @functools.cache
 def is_missing(program, what):
-    """Whether a program isn't installed; what needs it is skipped, and named once."""
-    if not shutil.which(program):
+    """Whether a program or a library isn't installed; what needs it is skipped, and named once."""
+    is_here = needs.is_here(program)
+    if not is_here:
         SKIPPED.append(needs.skipped("pages", what, program))
         print(SKIPPED[-1])
-    return not shutil.which(program)
+    return not is_here
 
 
 def begins_a_command(text):
-    """Whether the first word is a program's; settings of variables may stand before it."""
+    """Whether the first word is a program's; variable settings may precede it."""
     words = SETTINGS.sub("", text).split()
     if not words:
         return False
@@ -62,19 +63,19 @@ def begins_a_command(text):
 
 
 def plain(line):
-    """A command without the remark behind it, each gap one space."""
+    """A command without the remark after it, with single spaces."""
     return " ".join(re.split(r" {3,}|\s+# ", line.strip())[0].split())
 
 
 def listed_as(command):
-    """A command as commands.txt has it: a subcommand stands there as it is called in a checkout, however a page calls it."""
+    """A command as commands.txt has it: a subcommand is listed as it is called in a checkout, however a page calls it."""
     program, _, words = command.partition(" ")
     name = next((name for name, file in SUBCOMMANDS.items() if program == f"tools/{file}"), None)
     return f"./{command}" if program == "fintaqush" else f"./fintaqush {name} {words}" if name else command
 
 
 def blocks(text):
-    """The blocks of a page, each the list of its lines: those between fences, and those that stand in by four spaces."""
+    """The blocks of a page, each the list of its lines: fenced ones, and those indented by four spaces."""
     block, fence, before = [], False, ""
     for line in text.splitlines() + [""]:
         if line.startswith("```"):
@@ -96,7 +97,7 @@ def blocks(text):
 
 
 def joined(lines):
-    """The lines of a block as commands: one goes on behind a backslash, in quotes, and to the end of a text behind `<<`."""
+    """The lines of a block as commands: one continues after a backslash, in quotes, and to the end of a text after `<<`."""
     held = ""
     for line in lines + [""]:
         held = f"{held}\n{line}" if held else line
@@ -109,7 +110,7 @@ def joined(lines):
 
 
 def commands_of_block(block):
-    """Pairs of a command as it is listed, and what it prints by the page; nothing where the page doesn't show it."""
+    """Pairs of a command as it is listed, and its output by the page; nothing if the page doesn't show it."""
     lines = "\n".join(line.rstrip() for line in block).rstrip("\n").splitlines()
     if any(line.startswith("$ ") for line in lines):
         for part in re.split(r"^\$ ", "\n".join(lines), flags=re.M)[1:]:
@@ -144,7 +145,7 @@ def commands_of_page(path):
 
 
 def read_list():
-    """What is to be done with each command of the list, as its keys; and what is wrong with the list itself."""
+    """What to do with each command of the list, by its keys; and what is wrong with the list itself."""
     entries, wrong = {}, []
     for line in LIST.read_text().splitlines():
         if not line.strip() or line.startswith("#") and not line.startswith("#!"):
@@ -168,7 +169,8 @@ def read_list():
 
 
 def synopsis(command):
-    """What is wrong with a synopsis: each of its options stands in the program's usage text; for a built one that of the launcher."""
+    """What is wrong with a synopsis: each of its options has to be in the program's usage text; for a built one in the
+    launcher's."""
     name, *words = re.sub(r"^(\./|\.\./)+", "", SETTINGS.sub("", command)).split()
     if name == "fintaqush" and words[0] in SUBCOMMANDS:
         name = "replay" if words[0] == "replay" else f"tools/{SUBCOMMANDS[words[0]]}"
@@ -180,7 +182,7 @@ def synopsis(command):
 
 
 def by_hand(command):
-    """What is wrong with a command that is run by hand: the kit has it, or the script is there."""
+    """What is wrong with a command that is run by hand: the kit has to have it, or the script has to exist."""
     program, word = (SETTINGS.sub("", command).split() + [""])[:2]
     if program == "rt" and shutil.which("rt"):
         told = subprocess.run(["rt", "help"], capture_output=True, text=True, check=False)
@@ -191,8 +193,8 @@ def by_hand(command):
 
 
 class Copy:
-    """A fresh clone (scripts/fresh_clone.sh) with an empty home folder, in which commands run and leave what they write. They have the
-    variables of the machine, and none by which a script of this repository is told something."""
+    """A fresh clone (scripts/fresh_clone.sh) with an empty home folder, in which commands run and leave what they write. They
+    have the environment of the machine, except variables that scripts of this repository read."""
 
     def __init__(self):
         self.room = pathlib.Path(tempfile.mkdtemp())
@@ -218,12 +220,12 @@ class Copy:
 
 
 def is_shown(wanted, printed):
-    """Whether what was printed is what a page shows, where a remark may stand behind three spaces."""
+    """Whether the output is what a page shows, which may have a remark after three spaces."""
     return len(wanted) == len(printed) and all(line == one or re.split(r" {3,}", line)[0] == one for line, one in zip(wanted, printed))
 
 
 def play(copy, command, wanted, entry):
-    """What is wrong with a run: its status, what it prints where a page shows it, and what the list says of its output."""
+    """What is wrong with a run: its status, its output if a page shows it, and what the list says about its output."""
     text = command
     for name, _, value in (one.partition("=") for one in entry.get("run", "").split()):
         if name not in text:
@@ -265,7 +267,7 @@ def judge_list(entries, wrong):
 
 
 def first_program(copy, path):
-    """What is wrong with the first program: its lines of shell, its text, and what it prints."""
+    """What is wrong with the first program: its shell lines, its text, and its output."""
     page = list(blocks(path.read_text()))
     place = next(at for at, block in enumerate(page) if block[0] == FIRST)
     shell, text, printed = page[place : place + 3]

@@ -1,6 +1,6 @@
-"""The pages beside the repository: links lead, files and names are there, claims name clauses that are (claims.py), programs that they
-show are compiled (snippets.py), commands do what they say (page_commands.py), README.md keeps its number of words, the site and the
-manual pages are whole (site_pages.py).
+"""The repository's pages: links lead somewhere, files and names exist, claims name existing clauses (claims.py), programs that
+they show are compiled (snippets.py), commands do what they say (page_commands.py), README.md keeps to its number of words,
+the site and the manual pages are complete (site_pages.py).
 """
 import functools
 import pathlib
@@ -17,14 +17,14 @@ from page_commands import SKIPPED, is_missing, listed
 TOP = pathlib.Path(__file__).resolve().parent.parent
 DOORS = "napi_model dql_core rx_ring tx_ring napi_word napi_calls poll_engine device_model replay machine".split()
 README_WORDS = 700
-# What is made, or stands in somebody else's folder.
+# What is generated, or is in another folder than the repository's.
 MADE = re.compile(r"(^|/)out(/|$)|include/linux/|crates/first|NAME|FOLDER|FILE|PROGRAM|TRACE|DOOR|\.\.\./|^\.\.?/\.\./|[*<>{}$]|^/")
-# Crates that use the library's doors, beside those named for tests.
-USERS = ("bench_", "example_", "uses_")
-# Words in code that are others': the kernel's, a file format's, an instruction's, and what stands for a file.
+# Crates that use the library's facades, apart from those named for tests.
+USERS = ("bench_", "example_", "test_", "uses_")
+# Words in code that come from elsewhere: from the kernel, a file format, an instruction set; and names that stand for a file.
 OUTSIDE = {"__do_softirq", "time_after", "softnet_stat", "virtio_net", "sysexits", "btr", "mb", "MACHINES", "enqueue_to_backlog",
            "rps_trigger_softirq", "nstat", "UdpRcvbufErrors", "no_std", "num_queued", "num_completed",
-           "dql_check_stall", "stall_thrs", "irq_suspend_timeout", "EPIOCSPARAMS", "napi_busy_loop_rcu", "NAPI_STATE_THREADED_BUSY_POLL", "_locked"}
+           "dql_check_stall", "stall_thrs", "irq_suspend_timeout", "EPIOCSPARAMS", "napi_busy_loop_rcu", "NAPI_STATE_THREADED_BUSY_POLL", "_locked", "libfintaqush1"}
 # The crates that may have unsafe code: those that export C functions.
 EXPORTING = {"c_handles", "napi_c", "replay_c"}
 
@@ -34,7 +34,7 @@ def pages():
 
 
 def headings(page):
-    """The anchors of a page's headings, as they are made of their words."""
+    """The anchors of a page's headings, by their text."""
     found = []
     for words in re.findall(r"^#+ (.*)$", page.read_text(), re.M):
         anchor = re.sub(r"[^\w\- ]", "", words.lower()).replace(" ", "-")
@@ -44,7 +44,7 @@ def headings(page):
 
 
 def links(page):
-    """Links of a page whose file or heading isn't there."""
+    """Links of a page whose file or heading doesn't exist."""
     for name, anchor in re.findall(r"\]\(([^)#\s]*)(?:#([^)\s]*))?\)", page.read_text()):
         there = page.parent / name if name else page
         if not re.match(r"[a-z]+:", name) and not there.exists():
@@ -54,7 +54,7 @@ def links(page):
 
 
 def named_files(page):
-    """Names in code that begin with a folder of the top: each is a file or a folder."""
+    """Names in code that begin with a folder of the top: each has to be a file or a folder."""
     folders = "bench|bindings|crates|docs|examples|include|models|scripts|tests|tools"
     for code in re.findall(r"`([^`\n]+)`", page.read_text()):
         for name in re.findall(rf"(?:^|\s)(?:\./)?((?:{folders})/[\w./-]*)", code):
@@ -65,7 +65,7 @@ def named_files(page):
 
 @functools.cache
 def source_words():
-    """All words of the sources, pages left out, and of the files' names."""
+    """All words of the sources, without pages, and of the files' names."""
     found = set(re.findall(r"\w+", "\n".join(listed())))
     for name in listed():
         if not name.endswith((".md", ".png", ".gz")) and (TOP / name).is_file():
@@ -74,7 +74,8 @@ def source_words():
 
 
 def names(page):
-    """Words in code that no source has, nor the kernel or a program outside: a name that was changed there, or never was."""
+    """Words in code that are neither in a source nor from the kernel or another program: a name that was changed there, or
+    never existed."""
     # Those pages name the kernel's functions, rule by rule.
     known = source_words() | OUTSIDE
     for code in re.findall(r"`([^`\n]+)`", "" if page.name in ("RULES.md", "TIMING.md") else page.read_text()):
@@ -84,7 +85,7 @@ def names(page):
 
 
 def kits(page):
-    """A page that names kits names the one that proves here."""
+    """A page that names kits has to name the one that proves here."""
     named = re.findall(r"rattle-kit-\w+", page.read_text())
     if named and not is_missing("rt", "whether the pages name the kit that proves here"):
         if (kit := site_pages.run("rt", "version").stdout.split()[0]) not in named:
@@ -96,27 +97,27 @@ def leftovers(page):
 
 
 def ratios(page):
-    """A ratio between two programs says which one is slower or faster."""
+    """A ratio between two programs has to say which one is slower or faster."""
     for line in page.read_text().splitlines():
         if "times as fast" in line:
             yield f"{line[:60]} ..: it doesn't say which one is slower"
 
 
 def lengths(_page):
-    """Words of README.md beside commands and tables: no other page has a limit."""
+    """Words of README.md, without commands and tables: no other page has a limit."""
     first = len(re.sub(r"^(    |\|).*$", "", (TOP / "README.md").read_text(), flags=re.M).split())
     if first > README_WORDS:
         yield f"{first} words beside commands and tables, of at most {README_WORDS}"
 
 
 def needs_of_crates():
-    """What each crate stands on, by crates.txt."""
+    """The dependencies of each crate, by crates.txt."""
     return {row[1]: row[2].split() for row in re.finditer(r"^(\w+)(?: staticlib)?:(.*)", (TOP / "crates.txt").read_text(), re.M)}
 
 
 @functools.cache
 def door_of():
-    """The door of each crate that stands behind one, by its first line."""
+    """The facade of each internal crate, by its first line."""
     found = {}
     for name in needs_of_crates():
         first = TOP / "crates" / name / "src/lib.rt"
@@ -126,7 +127,7 @@ def door_of():
 
 
 def unprinted(crates, names, surface):
-    """Traits of these names, and public calls of them or of types of these names, aliases too, that a surface hasn't word for word."""
+    """Traits with these names, and public calls of them or of types with these names, including aliases, that a surface lacks."""
     texts = [path.read_text() for crate in crates for path in sorted((TOP / "crates" / crate / "src").glob("*.rt"))]
     of = {*names, *(alias[2] for text in texts for alias in re.finditer(r"^pub type (\w+).*= (\w+)", text, re.M) if alias[1] in names)}
     for text in texts:
@@ -139,7 +140,8 @@ def unprinted(crates, names, surface):
 
 
 def door_page(page):
-    """A door's page tells of each crate behind it and claims what is there; `scripts/surface.sh` prints all that it passes on."""
+    """A facade's page names each of its internal crates and claims what they have; `scripts/surface.sh` prints all that it
+    re-exports."""
     door = page.parent.name
     behind = [name for name, at in door_of().items() if at == door]
     programs = {"replay": ["napi_replay", "napi_serial", "napi_series"], "machine": ["napi_machine"]}.get(door, [])
@@ -153,17 +155,23 @@ def door_page(page):
 
 
 def door_rules(_page):
-    """A crate behind a door bears its prefix; tests, examples, benches and users name none, but for what programs end by."""
+    """An internal crate has the prefix of its facade's name; tests, examples, benches and users name none, except the one with
+    which programs end; and each file of `uses_facades` is of one facade."""
     needs, door = needs_of_crates(), door_of()
     yield from (f"{name} hasn't the prefix of {door[name]}" for name in door if name.split("_")[0] != door[name].split("_")[0])
     for name in needs:
         if name.startswith(USERS) or name.endswith("_tests"):
             yield from (f"{name} names {low}, which stands behind {door[low]}" for low in needs[name] if low in door and low != "replay_text")
+    for user in sorted((TOP / "crates/uses_facades/src").glob("[!l]*.rt")):
+        text = user.read_text()
+        named = {*re.findall(r"^(?:ghost )?use (?:Rattle\.)?(\w+)", text, re.M)} - {"std", "mathlib", "crate", "uses_facades"}
+        if re.findall(r"\A//! A program that uses only `(\w+)`:", text) != [*named]:
+            yield f"{user.name} isn't of one facade: it names {', '.join(sorted(named))}"
 
 
 def crate_picture(picture):
-    """Each crate of the library and each program stands in the picture, and each arrow is from what a crate, or one behind it if it is a
-    door, stands on."""
+    """Each crate of the library and each program is in the picture, and each arrow is from a dependency of a crate or, for a
+    facade, of one of its internal crates."""
     needs, door, text = needs_of_crates(), door_of(), picture.read_text()
     for name in needs:
         if not name.startswith(USERS) and not name.endswith("_tests") and not re.search(rf"\b{name}\b", text):
@@ -176,8 +184,8 @@ def crate_picture(picture):
 
 
 def assurance(page):
-    """What docs/ASSURANCE.md says of the sources: the lines of the definitions to read, within a tenth; that there is no axiom, unsafe code
-    only in what exports C functions, and no atomic operation but sequentially consistent ones."""
+    """What docs/ASSURANCE.md says about the sources: the number of lines of definitions to read, within a tenth; that there is
+    no axiom, unsafe code only in what exports C functions, and no atomic operation but sequentially consistent ones."""
     rows = re.findall(r"^\| (`crates/[^|]*\.antt`) \| (\d+) \|", page.read_text(), re.M)
     for names_told, lines in rows:
         files = [TOP / name for name in re.findall(r"`([^`]+)`", names_told)]
@@ -197,14 +205,15 @@ def assurance(page):
 
 
 def scripts_told(_page):
-    """Each script says at its head what it does."""
+    """Each script has to say at its head what it does."""
     for name in listed("bench/*.sh", "examples/*.sh", "scripts/*.sh", "tests/*.sh"):
         if not re.match(r"#( [A-Z./a-z]|!.*\n# )", (TOP / name).read_text()):
             yield f"{name} has no head"
 
 
 def places(page):
-    """A row of the table of places names files that are there; they have the word that finds the rest, and others have it too."""
+    """A row of the table of places has to name files that exist; they have the word that finds the rest, and others have it
+    too."""
     table = page.read_text().split("## Where things go")[1].split("\n## ")[0]
     for row in table.splitlines():
         named = [name for name in re.findall(r"`([\w./-]+/[\w./-]+)`", row) if "NAME" not in name and not name.endswith("/")]
@@ -218,7 +227,7 @@ def places(page):
 
 
 def commands(all_pages):
-    """Checks of the commands of all pages, in their order, in one copy of the repository; then of the list of them."""
+    """Checks of the commands of all pages, in order, in one copy of the repository; then of the list of them."""
     copy = page_commands.Copy()
     entries, wrong = page_commands.read_list()
     try:

@@ -1,8 +1,9 @@
 #!/usr/bin/env bash
-# tests/pages.sh [--static]: the pages beside the repository. The files that they name are there, each script is told of, and each
-# command of each page and manual page is run, and prints what the page says; or tests/commands.txt says which other test runs it, or
-# why none does. Commands run in a fresh clone with an empty home folder. It needs the programs built, and builds the C library over
-# them; with --static it runs no command, and needs none. What needs a program that isn't installed is skipped. The last line is `N passed, M failed, K skipped`.
+# tests/pages.sh [--static]: the repository's pages. The files that they name exist, each script is described, and each command
+# of each page and manual page is run, and prints what the page says; or tests/commands.txt says which other test runs it, or
+# why none does. Commands run in a fresh clone with an empty home folder. It needs the programs built, and builds the C library
+# with them; with --static it runs no command, and needs none. What needs a program that isn't installed is skipped. The last
+# line is `N passed, M failed, K skipped`.
 set -u
 cd "$(dirname "$(dirname "$(readlink -f "${BASH_SOURCE[0]}")")")" || exit 1
 programs=(napi_machine napi_replay napi_series napi_serial)

@@ -1,7 +1,7 @@
 #!/usr/bin/env bash
-# bindings/python over the shared library that scripts/install.sh makes: its tests, in the checkout and as it is installed, from another
-# folder; its example; what a library that is missing or another one comes to; and its types, if there is a mypy. It is skipped
-# without rt, which proves and builds the library. The last line is `N passed, M failed, K skipped`.
+# bindings/python with the shared library that scripts/install.sh makes: its tests, in the checkout and as it is installed, from
+# another folder; its example; the errors for a library that is missing or of another version; and its types, if there is a
+# mypy. It is skipped without rt, which proves and builds the library. The last line is `N passed, M failed, K skipped`.
 set -uo pipefail
 unset CDPATH PYTHONPATH FINTAQUSH_LIB
 top=$(dirname "$(dirname "$(readlink -f "$0")")")
@@ -22,7 +22,8 @@ nothing_is_left() { files | diff before -; }
 
 tested() { python3 -W error "$package/tests/test_fintaqush.py"; }
 
-# said_in_a_line WORDS: an import ends by 1 and this line alone, which has these words; who catches it goes on.
+# said_in_a_line TEXT: an import ends with status 1 and only this line, which has this text; a program that catches the error
+# continues.
 said_in_a_line() {
     local status=0
     python3 -c 'import fintaqush' > said 2>&1 || status=$?
@@ -33,7 +34,7 @@ except ImportError as fault:
     print("ImportError:", fault)' | diff said -
 }
 
-# A library of the header's names, which does nothing.
+# A library with the header's names, which does nothing.
 of_another_version() {
     grep -oE '\bfq_\w+\(' "$top/include/fintaqush.h" | sort -u | sed 's/\(.*\)(/long \1(void) { return 0; }/' > other.c &&
         cc -w -shared -fPIC other.c -o libfintaqush.so.1 && FINTAQUSH_LIB=$scratch said_in_a_line 'another version'

@@ -1,7 +1,7 @@
 #!/usr/bin/env bash
-# tests/recorded.sh: replays the traffic that was recorded from a running Linux, by examples/compare.sh, which compares the
-# work of each row with what the kernel did there; and each example in shared mode, which has to give serial mode's bytes. The
-# last line is `N passed, M failed`.
+# tests/recorded.sh: replays the traffic that was recorded from a running Linux, by examples/compare.sh, which compares the work
+# of each row with what the kernel did there; and each example in shared mode, which has to write serial mode's bytes. The last
+# line is `N passed, M failed`.
 set -u
 examples=$(cd "$(dirname "$0")/../examples" && pwd)
 log=$(mktemp)
@@ -10,7 +10,7 @@ trap 'rm -f "$log"' EXIT
 status=${PIPESTATUS[0]}
 passed=$(grep -c ': as the kernel$' "$log")
 failed=$(grep -c ': other than the kernel$\|: the replay ended with status' "$log")
-# compare.sh is the judge: where it fails and no line tells why, that is one failure.
+# compare.sh decides: if it fails and no line says why, that is one failure.
 if [ "$status" != 0 ] && [ "$failed" = 0 ]; then failed=1; fi
 for trace in "$examples"/*.csv; do
     "$examples/../replay" "$trace" > "$log"

@@ -1,7 +1,7 @@
 #!/usr/bin/env bash
-# tests/refusals.sh: refuses each allocation, read, write and start of a thread of the built programs in turn, and each
-# allocation and start of a thread of calls of the library, by bench/refusals.sh; each mode is a test. The last line is
-# `N passed, M failed`.
+# tests/refusals.sh: makes each allocation, read, write and start of a thread of the built programs fail in turn, and each
+# allocation and start of a thread of calls of the library, by bench/refusals.sh; each mode is a test. The last line is `N
+# passed, M failed`.
 set -u
 top=$(cd "$(dirname "$(readlink -f "$0")")/.." && pwd)
 passed=0

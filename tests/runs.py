@@ -1,4 +1,4 @@
-"""The runs of runs.txt, for the scripts that play them."""
+"""The runs of runs.txt, for the scripts that execute them."""
 import itertools
 import os
 
@@ -6,7 +6,7 @@ TESTS = os.path.dirname(os.path.abspath(__file__))
 
 
 def runs():
-    """The runs of runs.txt: name, words, input."""
+    """The runs of runs.txt: name, options, input."""
     name, words, text = None, [], []
     for line in itertools.chain(open(os.path.join(TESTS, "runs.txt"), errors="surrogateescape"), ["run"]):
         kind, _, rest = line.rstrip("\n").partition(" ")

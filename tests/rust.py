@@ -10,8 +10,9 @@ import sys
 TOP = pathlib.Path(__file__).resolve().parent.parent
 HEADER = (TOP / "include/fintaqush.h").read_text()
 SYS = (TOP / "bindings/rust/src/sys.rs").read_text()
-# The functions whose types are Rust's own, or which are methods over its traits of a card, as is that struct.
-RUSTS_OWN = {"fq_status_name", "fq_fault_name", "fq_seat_interrupt_masked", "fq_seat_end_watched", "fq_seat_end_unmasked"}
+# The functions whose types are Rust's own, or that are methods over its traits of a card; and that struct.
+RUSTS_OWN = {"fq_status_name", "fq_fault_name", "fq_seat_interrupt_masked", "fq_seat_end_watched", "fq_seat_end_unmasked",
+             "fq_seat_request", "fq_control_open"}
 STRUCTS_OWN = {"fq_card"}
 C_TYPES = {"u8": "uint8_t", "u32": "uint32_t", "u64": "uint64_t", "AtomicU64": "uint64_t", "i64": "int64_t", "usize": "size_t", "bool": "bool",
            "c_void": "void", "c_char": "char"}
@@ -23,16 +24,16 @@ def without_comments(text, comment):
 
 def header_names():
     text = without_comments(HEADER, r"/\*.*?\*/")
-    calls = re.findall(r"^(?:[A-Z_]+ )*(?:static inline )?(?:const )?(?:struct )?\w+ \*?(fq_\w+)\(", text, re.MULTILINE)
+    calls = re.findall(r"^(?:[A-Z_]+ )*(?:static inline )?(?:const )?(?:struct |enum )?\w+ \*?(fq_\w+)\(", text, re.MULTILINE)
     structs = re.findall(r"^struct (fq_\w+) \{", text, re.MULTILINE)
-    enumerators = [name for body in re.findall(r"^enum \w+ \{(.*?)\}", text, re.MULTILINE | re.DOTALL)
+    enumerators = [name for body in re.findall(r"^enum \w+ (?:FQ_NUMBER )?\{(.*?)\}", text, re.MULTILINE | re.DOTALL)
                    for name in re.findall(r"(FQ_\w+) =", body)]
     bits = re.findall(r"^#define (FQ_BIT_\w+)", text, re.MULTILINE)
     return {"function": set(calls), "struct": set(structs), "number": set(enumerators + bits)}
 
 
 def functions():
-    """Of each function of the binding its name, the types of its arguments, and of its answer."""
+    """Each function of the binding: its name, the types of its arguments, and of its result."""
     text = without_comments(SYS, r"//[^\n]*")
     for name, arguments, answer in re.findall(r"pub (?:unsafe )?fn (fq_\w+)\(([^)]*)\)(?: -> ([^;{]+))?[;{]", text):
         types = [one.split(":")[1].strip() for one in arguments.split(",") if one.strip()]
@@ -41,14 +42,14 @@ def functions():
 
 
 def structs():
-    """Of each struct of the binding its name, and its fields with their types."""
+    """Each struct of the binding: its name, and its fields with their types."""
     text = without_comments(SYS, r"//[^\n]*")
     for name, body in re.findall(r"pub struct (fq_\w+) \{(.*?)\n\}", text, re.DOTALL):
         yield name, re.findall(r"(?:pub(?:\(crate\))? )?(\w+): ([^,]+),", body)
 
 
 def numbers():
-    """Of each number of the binding its name, and its value as C has it."""
+    """Each number of the binding: its name, and its value as C has it."""
     for name, value in re.findall(r"^    (FQ_\w+) = (\d+),", SYS, re.MULTILINE):
         yield name, value
     for name, value in re.findall(r"^pub const (FQ_\w+): u(?:32|64) = ([^;]+);", SYS, re.MULTILINE):

@@ -1,7 +1,7 @@
 #!/usr/bin/env bash
-# bindings/rust: what it declares of the C library beside its header; that it builds without a network, its tests and examples,
-# what the compiler has to refuse, for the reason that its doc test names, and all of it under valgrind where that is installed.
-# What needs cargo or valgrind is skipped without it. The last line is `N passed, M failed, K skipped`.
+# bindings/rust: its declarations of the C library, compared with the header; that it builds without a network, its tests and
+# examples, what the compiler has to reject, for the reason that its doc test names, and all of it under valgrind if that is
+# installed. What needs cargo or valgrind is skipped without it. The last line is `N passed, M failed, K skipped`.
 set -uo pipefail
 unset CDPATH
 top=$(dirname "$(dirname "$(readlink -f "$0")")")
@@ -22,7 +22,7 @@ types_agree() {
         gcc -std=c11 -Wall -Wextra -Werror -I "$top/include" -fsyntax-only "$scratch/types.c"
 }
 
-# Each `unsafe` has a line above it that says why it is sound; src/sys.rs alone declares what isn't safe to call.
+# Each `unsafe` has a line above it that says why it is sound; only src/sys.rs declares what isn't safe to call.
 each_unsafe_has_its_reason() {
     awk '/^ *\/\// { if (/SAFETY: /) told = 1; next } /unsafe \{|unsafe impl/ && !told { print FILENAME ":" FNR ": " $0; bad = 1 }
         { told = 0 } END { exit bad }' "$crate"/src/*.rs
@@ -51,14 +51,14 @@ export CARGO_HOME=$scratch/home CARGO_TARGET_DIR=$scratch/target FINTAQUSH_LIB=$
 files() { find "$crate" | sort; }
 files > "$scratch/before"
 
-# of CARGO-COMMAND WORD ..: without a network, and with the lock file as it is
+# of CARGO-COMMAND ARGUMENT ..: without a network, and with the lock file as it is
 of() {
     local command=$1
     shift
     (cd "$crate" && timeout 600 cargo "$command" --offline --locked --quiet "$@")
 }
 
-# compared COMMAND ..: it ends well, and prints what the example of the same name in C prints.
+# compared COMMAND ..: it succeeds, and prints what the example of the same name in C prints.
 compared() { timeout 300 "$@" > "$scratch/printed" && diff "$scratch/printed" "$top/examples/c/$(basename "$1").stdout"; }
 
 nothing_is_left() { files | diff "$scratch/before" -; }
@@ -82,9 +82,9 @@ check 'the example limit' compared "$scratch/target/debug/examples/limit"
 check 'it builds as a release' of build --release --example threads
 check 'the example threads as a release' compared "$scratch/target/release/examples/threads"
 
-# ---- what the compiler refuses
+# ---- what the compiler rejects
 
-# The doc tests show that these don't compile; here, that nothing else is wrong with them than they name.
+# The doc tests show that these don't compile; here, that nothing but what they name is wrong with them.
 awk -v to="$scratch" '/^\/\/\/ ```compile_fail,/ { split($0, w, ","); name = FILENAME; sub(/.*\//, "", name)
         file = to "/" sprintf("%02d", ++n) "." w[2] "." name; next }
     file && /^\/\/\/ ```/ { close(file); file = "" } file { sub(/^\/\/\/ ?/, ""); print > file }' "$crate"/src/*.rs
@@ -102,7 +102,7 @@ for source in "$scratch"/[0-9][0-9].E*.rs; do
     check "refused for $why, of $(cut -d . -f 3 <<< "$name").rs" refused_for "$why" "$source"
 done
 
-# ---- under valgrind, where a thread runs at a time
+# ---- under valgrind, which runs one thread at a time
 
 if has valgrind 'its tests under valgrind'; then
     watched() {

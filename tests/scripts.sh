@@ -1,6 +1,7 @@
 #!/usr/bin/env bash
-# What scripts of bench/, examples/ and scripts/ refuse; how ./test counts and names what its scripts skip, and that tests/needs.txt has
-# all that they need; and scripts/gate-times.sh on a gate that proves nothing. The last line is `N passed, M failed, K skipped`.
+# What scripts of bench/, examples/ and scripts/ reject; how ./test counts and names what its scripts skip, and that
+# tests/needs.txt has all that they need; and scripts/gate-times.sh on a gate that proves nothing. The last line is `N passed, M
+# failed, K skipped`.
 set -uo pipefail
 unset CDPATH
 top=$(dirname "$(dirname "$(readlink -f "$0")")")
@@ -36,12 +37,12 @@ refuses scripts/release.sh
 refuses scripts/release.sh a b
 check 'a refused script makes nothing' [ ! -e "$scratch/traces" ]
 
-# ./test on a repository of five scripts: three skip something, and two of these say so in a way that doesn't count.
+# ./test on a repository of five scripts: three skip something, and two of these say so in a form that doesn't count.
 mkdir -p "$scratch/low/scripts" "$scratch/low/tests"
 cp "$top/test" "$scratch/low"
 cp "$top/scripts/checks.sh" "$scratch/low/scripts"
 printf '%s\n' '# needs' 'spin spin' 'root -' 'cc gcc libc6-dev' > "$scratch/low/tests/needs.txt"
-# script NAME LINE ..: one that counts two checks, and has these lines between them.
+# script NAME LINE ..: a script that counts two checks, with these lines between them.
 script() {
     { printf '%s\n' '#!/bin/bash' 'top=$(dirname "$(dirname "$(readlink -f "$0")")") scratch=$(mktemp -d)' '. "$top/scripts/checks.sh"' \
         'check one true' "${@:2}" 'check two true' 'sum_up'; } > "$scratch/low/tests/$1.sh"
@@ -52,7 +53,7 @@ script part "skip 'the search' spin cc" "skip 'the card' root"
 script unknown "skip 'the search' none"
 script uncounted "echo 'skipped: the search needs spin'"
 script broken 'check three false'
-# sums STATUS LINE NAME ..: ./test on these scripts ends so.
+# sums STATUS LINE NAME ..: ./test on these scripts ends like this.
 sums() {
     local status=0
     "$scratch/low/test" "${@:3}" > "$scratch/out" 2>&1 || status=$?
@@ -67,10 +68,10 @@ sums 1 '2 passed, 1 failed, 0 skipped' unknown
 sums 1 '2 passed, 1 failed, 0 skipped' uncounted
 sums 1 '4 passed, 1 failed, 2 skipped' part broken
 check 'tests/needs.txt has what tests need, and nothing else' python3 -B "$top/tests/needs.py"
-check 'scripts/test-packages.sh lists the packages' grep -qx gnuplot-nox <("$top/scripts/test-packages.sh" --list)
+check 'scripts/test-packages.sh lists the packages' grep -qx python3-matplotlib <("$top/scripts/test-packages.sh" --list)
 check 'and what each gives' grep -qx 'spin: the search of the models' <("$top/scripts/test-packages.sh" --gives)
 check 'for all that it lists, and those that are only fetched' eval '[ "$("$top/scripts/test-packages.sh" --gives | grep -vc "^linux-")" = "$("$top/scripts/test-packages.sh" --list | wc -l)" ]'
-# without_root: in a copy that everybody may read.
+# without_root: in a copy that every user may read.
 without_root() {
     local status=0 as=()
     mkdir -p "$scratch/free/scripts" "$scratch/free/tests" && cp "$top"/scripts/{test-packages,arguments}.sh "$scratch/free/scripts"
@@ -81,9 +82,9 @@ without_root() {
 }
 ! command -v apt-get > /dev/null || check 'and asks for root in a line' without_root
 
-# `scripts/test-packages.sh --fetch`, and where the driver in a guest finds the kernel: Debian's packages as they were, and as they are
-# since the image has a package of its own. What stands for apt-get and apt-cache packs folders.
-# deb NAME FILE ..: a package of empty files.
+# `scripts/test-packages.sh --fetch`, and where the driver in a guest finds the kernel: with Debian's packages as they were, and
+# as they are since the image has its own package. The replacements for apt-get and apt-cache pack folders. deb NAME FILE ..: a
+# package of empty files.
 deb() {
     local file
     rm -rf "$scratch/deb"
@@ -95,7 +96,7 @@ deb() {
     done
     dpkg-deb -b "$scratch/deb" "$scratch/debs/$1.deb" > "$scratch/out"
 }
-# fetches IMAGE MODULES: into a fresh home; a second time nothing is fetched.
+# fetches IMAGE MODULES: into a fresh home; the second time nothing is downloaded.
 fetches() {
     local home=$scratch/fetched/home wanted=.cache/fintaqush/linux-image
     rm -rf "$scratch/fetched"
@@ -127,7 +128,7 @@ if has dpkg-deb 'the fetched kernel'; then
     check 'and one whose image has a package of its own' fetches "usr/lib/modules/$new/vmlinuz" "usr/lib/modules/$new"
 fi
 
-# A tool that has to build first says so at once: what stands for the toolchain never ends.
+# A tool that has to build first says so at once: the replacement for the toolchain never ends.
 mkdir -p "$scratch/kit/bin" "$scratch/kit/rattle"
 printf '#!/bin/sh\necho "%s/kit/rattle"\n' "$scratch" > "$scratch/kit/bin/rt"
 printf '#!/bin/sh\nsleep 60\n' > "$scratch/kit/bin/rattle"
@@ -141,8 +142,8 @@ says_that_it_builds() {
 }
 check 'compare-recording without a built program says that it builds' says_that_it_builds
 
-# The launcher with too few descriptors doesn't say that python3 isn't there; interrupted, or out of memory, while it begins it ends in a
-# line: csv.py is imported then.
+# The launcher with too few descriptors doesn't say that python3 is missing; interrupted, or out of memory, while it starts it
+# ends with a message: csv.py is imported then.
 tells_no_untruth() {
     local most
     for most in 10 11 12 13 14; do
@@ -158,7 +159,7 @@ check 'too few descriptors are no missing python3' tells_no_untruth
 check 'the launcher is interrupted as it begins' ends_in_a_line KeyboardInterrupt interrupted
 check 'it is out of memory as it begins' ends_in_a_line MemoryError 'out of memory'
 
-# A gate of one crate, whose prover is a shell under the prover's name.
+# A gate of one crate, whose prover is a shell with the prover's name.
 mkdir -p "$scratch/rt-edit-x"
 cat > "$scratch/gate" << 'END'
 #!/usr/bin/env bash

@@ -1,5 +1,5 @@
-"""simulator.py PROGRAM: whether the simulator of docs/GUIDE.md (examples/c/simulator.cpp) counts what napi_machine counts of the same
-arrivals and costs: packets polled and dropped, interrupts, runs and squeezed runs."""
+"""simulator.py PROGRAM: whether the simulator of docs/GUIDE.md (examples/c/simulator.cpp) has the counts of napi_machine for
+the same arrivals and costs: packets polled and dropped, interrupts, runs and squeezed runs."""
 import pathlib
 import re
 import subprocess

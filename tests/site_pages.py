@@ -1,7 +1,8 @@
-"""The pictures beside their texts, the site of all pages, and the manual pages."""
+"""The pictures and their texts, the site of all pages with the references, and the manual pages."""
 import os
 import pathlib
 import re
+import runpy
 import subprocess
 import tempfile
 import urllib.parse
@@ -10,21 +11,22 @@ from page_commands import is_missing
 
 TOP = pathlib.Path(__file__).resolve().parent.parent
 MANUALS = sorted((TOP / "docs/man").iterdir())
+OTHERS = re.compile(r"/reference/(c|rust)/")
 
 
 def run(*words, **others):
-    return subprocess.run(words, cwd=TOP, capture_output=True, text=True, stdin=subprocess.DEVNULL, timeout=300, check=False, **others)
+    return subprocess.run(words, cwd=TOP, capture_output=True, text=True, stdin=subprocess.DEVNULL, timeout=900, check=False, **others)
 
 
 def marks():
-    """Pictures that aren't drawn from their texts as they are, by the checksums that they keep."""
+    """Pictures that aren't drawn from their present texts, by the checksums that they contain."""
     ended = run("scripts/pictures.sh", "--check")
     if ended.returncode != 0:
         yield ended.stdout + ended.stderr
 
 
 def site(script, pages):
-    """What is wrong with the site: pages that it lacks or that lost their text, and links in it that lead nowhere."""
+    """What is wrong with the site: pages that are missing or lost their text, and links in it that lead nowhere."""
     if is_missing("pandoc", "whether the site of all pages is whole"):
         return
     with tempfile.TemporaryDirectory() as room:
@@ -33,10 +35,11 @@ def site(script, pages):
         if ended.returncode != 0:
             yield f"status {ended.returncode}: {ended.stderr}"
             return
-        # Those of docs/steps are no pages of the site's making.
-        texts = {path: path.read_text() for path in made.rglob("*.html") if path.parent.name != "steps"}
-        if len(texts) != len(pages) + len(MANUALS):
-            yield f"{len(texts)} pages, of {len(pages) + len(MANUALS)}"
+        # Those of docs/steps are no pages of the site's making, and doxygen and cargo make theirs.
+        texts = {path: path.read_text() for path in made.rglob("*.html") if path.parent.name != "steps" and not OTHERS.search(str(path))}
+        missing = [name for name in MANUALS if made / "docs/man" / f"{name.name}.html" not in texts]
+        yield from (f"there is no page of {name}" for name in missing)
+        yield from references(made, texts)
         for page in pages:
             name = page.relative_to(TOP).with_suffix(".html")
             path = made / (name.with_name("index.html") if page.name == "README.md" else name)
@@ -46,13 +49,51 @@ def site(script, pages):
             for lead in re.findall(r"""(?:href|src)=["']([^"'#]+)""", text):
                 if not re.match(r"[a-z]+:", lead) and not (path.parent / urllib.parse.unquote(lead)).exists():
                     yield f"{path.relative_to(made)} leads to {lead}, which isn't there"
+        yield from anchors(made, texts)
         again = run(script, str(made))
         if again.returncode != 73 or "isn't empty" not in again.stderr:
             yield f"a folder that is filled is overwritten: status {again.returncode}"
 
 
+def references(made, texts):
+    """What the references of all calls lack: a call of the header, a class of fintaqush.hpp, a public type of the Rust crate, a facade, and a
+    name that a clause cites, with its definition."""
+    header = (TOP / "include/fintaqush.h").read_text()
+    calls = set(re.findall(r"\b(fq_\w+)\(", header))
+    if not is_missing("doxygen", "the reference of C and C++ in the site") and not (made / "reference/c").is_dir():
+        yield "there is no reference/c"
+    if not is_missing("cargo", "the reference of Rust in the site") and not (made / "reference/rust").is_dir():
+        yield "there is no reference/rust"
+    if (made / "reference/c").is_dir():
+        shown = "".join(path.read_text() for path in (made / "reference/c").glob("group__*.html"))
+        yield from (f"reference/c lacks {name}" for name in sorted(calls) if not re.search(rf'class="memtitle">.*{name}\(\)', shown))
+        text = (TOP / "include/fintaqush.hpp").read_text()
+        classes = [name for name in re.findall(r"^class (?:\[\[nodiscard\]\] )?(\w+)", text, re.M) if f"detail::{name}" not in text]
+        yield from (f"reference/c lacks {name}" for name in classes if not list((made / "reference/c").glob(f"classfintaqush_1_1{name}*.html")))
+    if (made / "reference/rust").is_dir():
+        exported = re.findall(r"\b[A-Z]\w+", " ".join(re.findall(r"^pub use ([^;]*);", (TOP / "bindings/rust/src/lib.rs").read_text(), re.M)))
+        yield from (f"reference/rust lacks {name}" for name in exported if name not in (made / "reference/rust/fintaqush/index.html").read_text())
+    groups = runpy.run_path(str(TOP / "scripts/header.py"))["groups"]()
+    manuals = "".join(texts.get(made / "docs/man" / f"fintaqush_{name}.3.html", "") for name, *_ in groups)
+    yield from (f"no manual page of a group has {name}" for name in sorted(calls) if name not in manuals)
+    facade = texts.get(made / "reference/rattle/dql_core.html", "")
+    wanted = '<a href="../definitions/dql_core.html#Limit.after_queued">after_queued</a>'
+    if wanted not in facade or 'id="Limit.after_queued"' not in texts.get(made / "reference/definitions/dql_core.html", ""):
+        yield "after_queued in a clause of dql_core doesn't link to its definition"
+
+
+def anchors(made, texts):
+    """Links of the Rattle reference to an anchor that isn't there."""
+    for path, text in texts.items():
+        if "/reference/" in str(path):
+            for name, at in set(re.findall(r'href="([^"#:]*)#([^"]+)"', text)):
+                there = (path.parent / name).resolve() if name else path
+                if there in texts and f'id="{urllib.parse.unquote(at)}"' not in texts[there]:
+                    yield f"{path.relative_to(made)} leads to {name}#{at}, which isn't there"
+
+
 def manual_warnings(manual):
-    """What man says of a manual page as it shows it."""
+    """Warnings of man for a manual page."""
     if is_missing("man", f"whether {manual.name} has warnings") or is_missing("groff", f"whether {manual.name} has warnings"):
         return
     ended = run("man", "--warnings", "-l", str(manual), env={**os.environ, "MANWIDTH": "100", "LC_ALL": "C.UTF-8", "PAGER": "cat"})
@@ -63,15 +104,15 @@ def manual_warnings(manual):
 
 
 def plain_manual(manual):
-    """A manual page's words, without its requests."""
+    """A manual page's text, without its requests."""
     text = re.sub(r"^\.\\\".*$", "", manual.read_text(), flags=re.M)
     text = re.sub(r"^\.[A-Z]+ ?", "", text, flags=re.M).replace("\\-", "-").replace("\\&", "").replace('"', "")
     return re.sub(r" ([,;.])", r"\1", " ".join(text.split()))
 
 
 def whole_manual(manual):
-    """What napi_replay(1) lacks of the usage text of ./replay: words, ranges, usual values, modes, statuses; and words that are in
-    none of both. Faults are those of docs/FORMATS.md."""
+    """What napi_replay(1) lacks of the usage text of ./replay: options, ranges, defaults, modes, statuses; and options that are
+    in neither. Errors are those of docs/FORMATS.md."""
     usage = run("./replay", "--help").stdout
     words = plain_manual(manual)
     rows = re.findall(r"^  ((?:-h, )?--\w+)(?: N| M)?  +(.*)$", usage, re.M)

@@ -1,8 +1,8 @@
 #!/usr/bin/env python3
 """sizes.py FOLDER: runs each program in FOLDER/NAME/out on inputs of all sizes, with all the memory that it needs: none fails, and its
-report has the counts of the input. The sizes are the powers of two and the numbers beside them, up to the most that there may be:
-100,000 rows, rings of 65,536 places, 16 devices, 8 pollers. Address space is bounded, to twice what the greatest of these inputs took
-where threads don't share it. The last line is `N passed, M failed`."""
+report has the counts of the input. The sizes are the powers of two and the numbers next to them, up to the limits: 100,000 rows,
+rings of capacity 65,536, 16 devices, 8 pollers. Address space is limited to twice what the greatest of these inputs needed, unless
+threads share it. The last line is `N passed, M failed`."""
 
 import os
 import resource
@@ -12,7 +12,8 @@ import time
 from collections import Counter
 
 MOST_ROWS, MOST_PLACES, MOST_DEVICES, MOST_POLLERS = 100000, 65536, 16, 8
-# MiB of address space: twice what the greatest input took (14, 37 and 95). With threads each has a stack, and malloc's own 64 MiB.
+# MiB of address space: twice what the greatest input needed (14, 37 and 95). With threads each has a stack, and malloc's own 64
+# MiB.
 MEMORY = {"napi_serial": 28, "napi_series": 74, "napi_machine": 190, "napi_replay": 8192}
 HEADER = b"moment,device,event,value\n"
 REPLAYS = [("napi_serial", []), ("napi_replay", ["--mode", "shared"]), ("napi_replay", ["--mode", "threads"]), ("napi_series", [])]
@@ -23,13 +24,13 @@ took = Counter()
 
 
 def sizes(most):
-    """The powers of two, the numbers beside them, and the two greatest."""
+    """The powers of two, the numbers next to them, and the two greatest."""
     near = {(1 << power) + beside for power in range(18) for beside in (-1, 0, 1)} | {most - 1, most}
     return sorted(size for size in near if 1 <= size <= most)
 
 
 def run(program, words, text):
-    """The lines that a program prints; what it prints for a fault is an error."""
+    """The lines that a program prints; a message on standard error raises an exception."""
     begun = time.monotonic()
     most = MEMORY[program] << 20
     done = subprocess.run([f"{crates}/{program}/out/{program}", *words], input=text, capture_output=True, check=False, timeout=300,
@@ -47,7 +48,7 @@ class Trace:
         self.rows, self.arrived, self.bytes, self.sent, self.runs, self.last = [], Counter(), Counter(), Counter(), 0, {}
 
     def add(self, device, event, value, times=1):
-        """A row, so many times."""
+        """Adds a row, this many times."""
         self.rows += [f"{len(self.rows)},{device},{event},{value}\n"] * times
         if event == "rx":
             self.arrived[device] += times
@@ -69,7 +70,7 @@ def expect(seen, wanted, what):
 
 
 def check_report(trace, lines, is_threads, dropped):
-    """The counts of a report against those of the rows."""
+    """Compares the counts of a report with those of the rows."""
     of = {int(line.split()[1]): line for line in lines if line.startswith("device ")}
     expect(len(of), trace.devices(), "lines of devices")
     for device, line in of.items():
@@ -91,7 +92,7 @@ def check_report(trace, lines, is_threads, dropped):
 
 
 def check_series(trace, lines, dropped):
-    """A line for each row, and the counts of each device in the line of its last packet."""
+    """Checks that there is a line for each row, with the counts of each device in the line of its last packet."""
     expect(len(lines), 1 + len(trace.rows), "lines")
     expect(lines[-1].split(",")[0], str(len(trace.rows)), "the last row")
     for device, row in trace.last.items():
@@ -99,7 +100,7 @@ def check_series(trace, lines, dropped):
 
 
 def try_trace(name, trace, dropped=None, pollers=1, programs=None):
-    """The trace by each program and in each mode."""
+    """Tries the trace with each program and in each mode."""
     global passed, failed
     text = trace.text()
     for program, words in programs or REPLAYS:
@@ -117,7 +118,7 @@ def try_trace(name, trace, dropped=None, pollers=1, programs=None):
 
 
 def try_rings():
-    """Rings of each size that just take what comes, polled by a thread of the device's own or from the list; and one packet more,
+    """Rings of each size that just hold what arrives, polled by the device's own thread or from the list; and one more packet,
     which is dropped."""
     for number, places in enumerate(sizes(MOST_PLACES)):
         trace = Trace()
@@ -138,7 +139,7 @@ def try_rings():
 
 
 def rows_of(count, devices):
-    """A trace of so many rows at so many devices: each is opened, gets packets and sends, and every hundredth row is a run."""
+    """A trace of this many rows at this many devices: each is opened, gets packets and sends, and every hundredth row is a run."""
     trace = Trace()
     devices = min(devices, count)
     for device in range(1, devices + 1):
@@ -155,7 +156,7 @@ def rows_of(count, devices):
 
 
 def try_rows():
-    """Traces of each length, at one device and more, up to the most."""
+    """Traces of each length, at one device and more, up to the maximum."""
     for number, count in enumerate(sizes(MOST_ROWS)):
         devices = MOST_DEVICES if count >= MOST_ROWS else 1 + number % MOST_DEVICES
         trace = rows_of(count, devices)
@@ -168,7 +169,7 @@ def try_rows():
 
 
 def try_threads():
-    """Each number of devices with each number of pollers, half of the devices with threads of their own, and at last all."""
+    """Each number of devices with each number of pollers, half of the devices with their own threads, and finally all."""
     for devices in range(1, MOST_DEVICES + 1):
         for pollers in range(1, MOST_POLLERS + 1):
             trace = Trace()
@@ -181,7 +182,7 @@ def try_threads():
 
 
 def try_machine():
-    """Arrivals of each number, on one processor and more; of its greatest numbers of devices, processors and queues each once."""
+    """Each number of arrivals, on one processor and more; and once each greatest number of devices, processors and queues."""
     global passed, failed
     cases = [(count, 1 + number % 64, 1, []) for number, count in enumerate(sizes(MOST_ROWS))]
     cases += [(4096, 64 * processors, processors, []) for processors in (1, 2, 16, 63, 64)]

@@ -6,7 +6,7 @@ import textwrap
 import page_commands
 
 TOP = pathlib.Path(__file__).resolve().parent.parent
-# A shown block that begins so is a program, or a part of one.
+# A shown block that begins like this is a program, or a part of one.
 CODE = re.compile(r'(//|/\*|"""|#!?\[|#include|(pub|ghost|use|impl|fn|const|static|struct|enum|trait|let|mod|abbrev|int|limit) )')
 ENDINGS = (".rt", ".antt", ".rs", ".c", ".cc", ".cpp", ".h", ".hpp", ".py")
 
@@ -17,14 +17,14 @@ def sources():
 
 
 def stands_in(block, text):
-    """Whether these lines stand one after the other in a text, all of them so much further to the right or not at all."""
+    """Whether these lines occur consecutively in a text, all indented by the same amount or not at all."""
     lines = text.splitlines()
     starts = [place for place, line in enumerate(lines) if line.strip() == block[0]]
     return any(textwrap.dedent("\n".join(lines[place : place + len(block)])).splitlines() == block for place in starts)
 
 
 def snippets(page):
-    """What a page shows and nothing compiles: it has to stand word for word in a program here."""
+    """What a page shows and nothing compiles: it has to occur word for word in a program here."""
     texts = sources()
     for shown in page_commands.blocks(page.read_text()):
         block = textwrap.dedent("\n".join(shown)).strip("\n").splitlines()

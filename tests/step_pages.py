@@ -1,14 +1,15 @@
-"""step_pages.py KEPT MADE: whether a page of docs/steps that is kept shows the rows and states of one that tools/steps made now. Its
-sentences may be in other words."""
+"""step_pages.py KEPT MADE: whether a page of docs/steps in the repository shows the rows and states of one that tools/steps
+made now. Its sentences may differ."""
 import json
 import re
 import sys
 
 
 def states(path):
-    with open(path, encoding="utf-8") as page:
-        steps = json.loads(re.search(r"^const steps = (.*);$", page.read(), re.M)[1])
-    return [{key: value for key, value in step.items() if key != "said"} for step in steps]
+    """The rows of a page, and what it shows of each, without the sentences."""
+    with open(path, encoding="utf-8") as file:
+        page = json.loads(re.search(r"^const page = (.*);$", file.read(), re.M)[1])
+    return page["steps"] + [{key: value for key, value in step.items() if key != "said"} for side in page["sides"] for step in side["steps"]]
 
 
 if __name__ == "__main__":

@@ -1,7 +1,7 @@
 #!/usr/bin/env bash
-# scripts/take.sh: what it takes and what it refuses, and a program over `tx_ring`, proved and run in the repository that took it.
-# `rt` takes the libraries that a checkout on this machine has built, and proves the rest there from nothing, which takes some
-# minutes. The last line is `N passed, M failed, K skipped`.
+# scripts/take.sh: what it copies and what it rejects, and a program that uses `tx_ring`, proved and run in the repository to
+# which it was copied. `rt` uses the libraries that a checkout on this machine has built, and proves the rest there from
+# nothing, which takes some minutes. The last line is `N passed, M failed, K skipped`.
 set -uo pipefail
 unset CDPATH
 top=$(dirname "$(dirname "$(readlink -f "$0")")")
@@ -19,7 +19,7 @@ ends_with() {
     [ "$status" = "$wanted" ]
 }
 
-# leaves_as_it_was STATUS COMMAND ..: it ends so, and every file of the repository stays.
+# leaves_as_it_was STATUS COMMAND ..: it ends with this status, and no file of the repository changes.
 leaves_as_it_was() {
     local said=0
     rm -rf "$scratch/before" && cp -a "$to" "$scratch/before" || return 1
@@ -27,10 +27,10 @@ leaves_as_it_was() {
     diff -r "$scratch/before" "$to" && [ "$said" = 0 ]
 }
 
-# tells NAME: takes it, and notes what was said.
-tells() { take "$1" "$to" > "$scratch/taken" 2> "$scratch/told"; }
+# takes NAME: copies it, and keeps the output.
+takes() { take "$1" "$to" > "$scratch/taken" 2> "$scratch/told"; }
 
-# is_whole: each crate that was taken has the files and the line that it has here, and nothing else.
+# is_whole: each crate that was copied has the files and the line that it has here, and nothing else.
 is_whole() {
     local name part
     while read -r name; do
@@ -44,7 +44,7 @@ is_whole() {
     done < "$scratch/taken"
 }
 
-# is_closed: what a crate there stands on, and has a folder here, stands before it.
+# is_closed: the dependencies of a crate there that have a folder here come before it.
 is_closed() {
     local name needs need seen=' '
     while IFS=: read -r name needs; do
@@ -63,29 +63,29 @@ prints_when_proved() {
 # begin: an empty repository in place of the last one.
 begin() { rm -rf "$to" && mkdir "$to"; }
 
-# with_program CRATE LIBRARY: a program of the repository over the library, from standard input.
+# with_program CRATE LIBRARY: a program of the repository that uses the library, from standard input.
 with_program() {
     mkdir -p "$to/crates/$1/src" && cat > "$to/crates/$1/src/main.rt" && echo "$1: $2 anyhow" >> "$to/crates.txt"
 }
 
-# ---- what is taken
+# ---- what is copied
 
 begin
-check 'takes poll_engine' tells poll_engine
+check 'takes poll_engine' takes poll_engine
 check 'as the last of them' [ "$(tail -n 1 "$scratch/taken")" = poll_engine ]
 check 'each file and each line' is_whole
 check 'each crate behind those that it stands on' is_closed
-check 'it tells the handles' grep -q 'HANDLES has to allow: Threads, Wait$' "$scratch/told"
+check 'it prints the handles' grep -q 'HANDLES has to allow: Threads, Wait$' "$scratch/told"
 check 'a second time nothing is to be done' leaves_as_it_was 0 take poll_engine "$to"
 cp "$top/HANDLES" "$to/HANDLES"
-check 'with these handles' tells poll_engine
+check 'with these handles' takes poll_engine
 check 'nothing is told' [ ! -s "$scratch/told" ]
 printf 'mine:   napi_model   # of my own' >> "$to/crates.txt"
-check 'takes another one beside it' tells dql_core
+check 'takes another one as well' takes dql_core
 check 'a line of its own stays' grep -qx 'mine:   napi_model   # of my own' "$to/crates.txt"
 check 'and the new one has its own' grep -qx 'dql_core: thiserror' "$to/crates.txt"
 
-# ---- what is refused
+# ---- what is rejected
 
 check 'no such library' leaves_as_it_was 64 take napi_shared "$to"
 check 'a program' leaves_as_it_was 64 take napi_replay "$to"
@@ -98,10 +98,10 @@ cp "$top/crates/dql_core/src/lib.rt" "$to/crates/dql_core/src/lib.rt"
 echo 'tx_ring: dql_core' >> "$to/crates.txt"
 check 'a line of that name with other words' leaves_as_it_was 65 take tx_ring "$to"
 
-# ---- a program over what was taken
+# ---- a program that uses the copy
 
 begin
-check 'takes tx_ring' tells tx_ring
+check 'takes tx_ring' takes tx_ring
 check 'with the limit below it' [ "$(cat "$scratch/taken")" = $'dql_core\ntx_ring' ]
 check 'which takes no handle' [ ! -s "$scratch/told" ]
 with_program sends 'tx_ring dql_core' << 'END'

@@ -1,7 +1,8 @@
 #!/usr/bin/env bash
-# tests/tap.sh: the driver of examples/tap on real packets, in each of its ways, by examples/tap/run.sh: what the kernel counted is
-# what the driver counted, a disable and an enable under load, and a trace that replays to the same counts. The commands of
-# docs/EXAMPLES.md run as they are printed, in a fresh clone. It is skipped if there is no root, no `ip`, no /dev/net/tun or no right to make a namespace. The last line is `N passed, M failed, K skipped`.
+# tests/tap.sh: the driver of examples/tap on real packets, in each of its modes, by examples/tap/run.sh: the kernel's counts
+# are the driver's counts, a disable and an enable under load, and a trace that replays to the same counts. The commands of
+# docs/EXAMPLES.md run as they are printed, in a fresh clone. It is skipped if there is no root, no `ip`, no /dev/net/tun or no
+# right to make a namespace. The last line is `N passed, M failed, K skipped`.
 set -uo pipefail
 unset CDPATH
 top=$(dirname "$(dirname "$(readlink -f "$0")")")

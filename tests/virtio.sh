@@ -16,7 +16,7 @@ if build plain; then
     for words in '' '0000:00:05.0 --late'; do refuses "$words"; done
     printed 'examples/virtio/run.sh'
     printed_table 'examples/virtio/compare.sh' 10 '[a-z0-9, ]+ (driver|kernel) +[1-9][0-9]*( +[0-9]+){4}'
-    # of an order that is wrong by nanoseconds a millisecond is made, so that each run shows it
+    # a wrong order of some nanoseconds is stretched to a millisecond, so that each run shows it
     mistake 'no look behind the unmask' 'nothing lies in the queues' virtio/virtio.c \
         'must("end", fq_seat_end_watched(&side->seat, full, &side->calls, &next), FQ_OK);' 'must("end", fq_seat_end(&side->seat, full, &next), FQ_OK);
     if (next == FQ_NEXT_GONE) usleep(1000), queue_unmask(side->queue);'

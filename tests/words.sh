@@ -1,9 +1,9 @@
 #!/usr/bin/env bash
-# tests/words.sh: runs the built programs with the words and the inputs of runs.txt, and compares what they wrote and how they
-# ended; then with real ends that fail, and a word that is no text. napi_serial has to answer as napi_replay, and refuses the
-# words that name another mode. ends.py tries the exit status of all four programs with outputs that are closed or full. Each run
-# that differs is shown. The last line is `N passed, M failed`. It asks ./replay and scripts/build.sh for the programs, which build
-# them only where neither the gate nor an earlier call did.
+# tests/words.sh: runs the built programs with the options and the inputs of runs.txt, and compares their output and exit
+# status; then with real inputs and outputs that fail, and an argument that isn't UTF-8. napi_serial has to behave like
+# napi_replay, and rejects options that name another mode. ends.py tries the exit status of all four programs with outputs that
+# are closed or full. Each run that differs is printed. The last line is `N passed, M failed`. It asks ./replay and
+# scripts/build.sh for the programs, which build them only if neither the gate nor an earlier call did.
 set -u
 tests=$(cd "$(dirname "$0")" && pwd)
 replay=$tests/../replay
@@ -14,7 +14,7 @@ trap 'rm -rf "$folder"' EXIT
 passed=0
 failed=0
 
-# judge NAME: compares out, err and status of the folder with what is wanted.
+# judge NAME: compares out, err and status of the folder with the expected ones.
 judge() {
     if cmp -s "$folder/out" "$folder/wanted.out" && cmp -s "$folder/err" "$folder/wanted.err" && cmp -s "$folder/status" "$folder/wanted.status"; then
         passed=$((passed + 1))
@@ -27,14 +27,14 @@ judge() {
     done
 }
 
-# want STATUS LINE: no output, this status and this line on standard error.
+# want STATUS LINE: no output, this status and this message on standard error.
 want() {
     : > "$folder/wanted.out"
     echo "$2" > "$folder/wanted.err"
     echo "$1" > "$folder/wanted.status"
 }
 
-# answer NAME INPUT OUTPUT WORD ..: each program, as it is called and on these ends.
+# answer NAME INPUT OUTPUT OPTION ..: each program, as it is called and with this input and output.
 answer() {
     local name=$1 input=$2 output=$3 program
     shift 3
@@ -46,7 +46,7 @@ answer() {
     done
 }
 
-# play NAME: runs the programs on the words and the input of the folder.
+# play NAME: runs the programs on the options and the input of the folder.
 play() {
     words=()
     while IFS= read -r word; do words+=("$word"); done < "$folder/words"
@@ -97,14 +97,14 @@ while IFS= read -r line; do
 done < "$tests/runs.txt"
 [ -n "$name" ] && play "$name"
 
-# A word that is no text, an input that can't be read, and an output that is full.
+# An argument that isn't UTF-8, an input that can't be read, and an output that is full.
 printf 'moment,device,event,value\n' > "$folder/in"
 want 64 'usage fault 64'
 answer 'a word that is no text' "$folder/in" "$folder/out" $'--budget=\xff'
 want 4 'output fault 15 OutputFailed'
 answer 'a full output' "$folder/in" /dev/full
 
-# broken NAME COMMAND ..: what comes in that way, in each mode, to each program that has it.
+# broken NAME COMMAND ..: an input that comes like this, in each mode, to each program that has it.
 broken() {
     local name=$1 program mode
     shift
@@ -120,7 +120,7 @@ broken() {
 from_folder() { "$@" < "$folder"; }
 exec 9< "/proc/$$/mem"
 from_memory() { "$@" <&9; }
-# Memory is bounded, which a record without end takes.
+# Memory is limited, because a record without end uses all of it.
 from_zeros() { (ulimit -v 1500000 && exec "$@" < /dev/zero); }
 from_line() { tr '\0' x < /dev/zero 2> /dev/null | (ulimit -v 1500000 && exec "$@"); }
 from_row() { { printf 'moment,device,event,value\n' && tr '\0' 7 < /dev/zero; } 2> /dev/null | (ulimit -v 1500000 && exec "$@"); }
@@ -138,7 +138,7 @@ want 4 'memory fault 11 OutOfMemory'
 broken 'zeros without end' from_zeros
 broken 'a line without end' from_line
 broken 'a row without end' from_row
-# What a pipe that is closed in the middle of a row has of it is a row of too few fields.
+# A row that is cut off because a pipe is closed is a row with too few fields.
 want 2 'trace fault 2 BadFields row 3'
 broken 'a pipe that is closed in the middle of a row' from_pipe
 want 2 'trace fault 1 BadHeader row 0'

@@ -45,8 +45,7 @@ def add_words(parser, what, out):
     parser.add_argument("--resume", action="store_true", help="go on with the file, where there is one")
     parser.add_argument("--part", type=pair("/", "3/16"), metavar="K/N", help="each Nth row from the Kth on, for a job array")
     parser.add_argument("--jobs", type=number(1, 999999), help="programs at a time (as many as processors)")
-    parser.add_argument("--sshloginfile", help="GNU parallel's file of machines")
-    parser.add_argument("--without-parallel", action="store_true", help="don't use GNU parallel")
+    parser.add_argument("--sshloginfile", help="GNU parallel's file of machines; without it all rows are made on this one")
     add_program(parser, what)
     parser.add_argument("--play", nargs="+", help=argparse.SUPPRESS)
 
@@ -104,8 +103,7 @@ class Combinations:
     """The rows of a tool. A key's first value is a file, the second one what that is known by, and the others are settings; `row_of`
     makes the row of a program and a key, or refuses."""
 
-    def __init__(self, script, key, told, row_of, by_threads=False):
-        self.by_threads = by_threads  # rather than by GNU parallel, since a row takes little work but the program's
+    def __init__(self, script, key, told, row_of):
         self.script, self.tool = Path(script).resolve(), os.path.basename(script)
         self.key, self.columns, self.row_of = key, [*key, *told], row_of
         self.head = ",".join(self.columns) + "\n"
@@ -142,10 +140,7 @@ class Combinations:
         jobs = words.jobs or os.cpu_count()
         some = max(1, min(32, len(keys) // (4 * jobs)))
         command = ["parallel", "--will-cite", "--line-buffer", "--quote", "--retries", TRIES, "--jobs", words.jobs or "100%",
-                   "--max-args", some]
-        if words.sshloginfile:
-            command += ["--workdir", os.getcwd(), "--sshloginfile", words.sshloginfile]
-        command += [self.script, "--program", made, "--play"]
+                   "--max-args", some, "--workdir", os.getcwd(), "--sshloginfile", words.sshloginfile, self.script, "--program", made, "--play"]
         with tempfile.TemporaryFile() as lines:
             # From a file, as a pipe that is full on both sides would wait for ever.
             lines.write(b"".join(os.fsencode(f"{','.join(key[1:])},{key[0]}\n") for key in keys))
@@ -161,7 +156,7 @@ class Combinations:
                     process.terminate()
 
     def rows_here(self, made, keys, words):
-        """The same without GNU parallel."""
+        """The same on this machine, by a pool of threads: the programs are processes of their own."""
         def tries(key):
             for left in range(TRIES - 1, -1, -1):
                 row, told = self.try_row(made, key)
@@ -182,11 +177,7 @@ class Combinations:
 
     def rows_of(self, made, keys, words):
         """The rows of these keys, in the order in which they end."""
-        if shutil.which("parallel") and not words.without_parallel and (words.sshloginfile or not self.by_threads):
-            return self.rows_by_parallel(made, keys, words)
-        if not words.without_parallel and not self.by_threads:
-            say(self.tool, "GNU parallel isn't on PATH: on this machine's processors without it")
-        return self.rows_here(made, keys, words)
+        return (self.rows_by_parallel if words.sshloginfile else self.rows_here)(made, keys, words)
 
     def key_of(self, row):
         return tuple(row[name] for name in self.key)
@@ -239,7 +230,7 @@ class Combinations:
         told = {key[1:]: row for key, row in rows.items()}
         known = [{**told[key[1:]], self.key[0]: key[0]} for key in missing if key[1:] in told]
         unknown = [key for key in missing if key[1:] not in told]
-        there = set()  # a process of parallel's that is tried again tells its first rows again
+        there = set()  # a process of parallel's that is tried again prints its first rows again
         with Progress(f"making {len(missing)} row{'s' * (len(missing) > 1)}", counted.how_far):
             for row in itertools.chain(known, self.rows_of(made, unknown, words) if unknown else []):
                 if self.key_of(row) not in there:

@@ -1,49 +1,231 @@
-"""Pictures by gnuplot, which plot and what-if draw."""
+"""Pictures from a description: as .png and .svg by matplotlib, and as a page that can be zoomed (.html) by dygraphs.
 
-from toolbox import Progress, Refusal, ran, shown
+A description has a title, an axis, and panels below each other. A panel has curves: lists of points with a kind (area, step, between, bars,
+line, dots), a name, and the name of a colour."""
 
-import shutil
+from toolbox import Progress, Refusal, shown
+
+import html
+import importlib.util
+import io
+import json
+import os
+import re
+import site
+import sys
 import tempfile
+import textwrap
 from pathlib import Path
 
-TERMINALS = {".png": "pngcairo", ".svg": "svg", ".html": "canvas standalone mousing"}
-BLUE, RED, GREY, PALE = "'#1f5fbf'", "'#d03030'", "'#999999'", "'#cccccc'"
-INSTALL = "it needs gnuplot, which isn't on PATH (Debian: apt install gnuplot-nox)"
+ENDS = (".png", ".svg", ".html")
+# On the page a text has a contrast of at least 4.5, and a curve of at least 3; the first eight can be told apart by the colour-blind.
+LIGHT = {"blue": "#0063a6", "orange": "#b85000", "green": "#00805c", "purple": "#9b4b86", "brown": "#7a5c00", "sky": "#2b83ba", "red": "#c22a1e",
+         "black": "#1c1c1c", "grey": "#757575", "pale": "#8fa3bd", "page": "#ffffff", "text": "#1d1d1d", "quiet": "#555555", "grid": "#dddddd"}
+DARK = {"blue": "#6cb4ff", "orange": "#ffa45c", "green": "#4fd6a8", "purple": "#e3a6d3", "brown": "#e0c060", "sky": "#9ad8f8", "red": "#ff8577",
+        "black": "#ededed", "grey": "#a3a3a3", "pale": "#6f86a6", "page": "#16181c", "text": "#ececec", "quiet": "#b9b9b9", "grid": "#3a3d44"}
+COLORS = ("blue", "orange", "green", "purple", "brown", "sky", "red", "black")
+SHAPES = "os^Dv*Xp"  # matplotlib's names for the marks of lines
+MARK = "^"
+PACKAGES = "/usr/lib/python3/dist-packages"  # Debian's, which another build of the same version of Python can use
+DYGRAPHS = ("/usr/share/javascript/dygraphs/dygraph.min.js", "/usr/share/javascript/dygraphs/dygraph.min.css")
+NEEDS = {"matplotlib": "it needs matplotlib for Python (Debian: apt install python3-matplotlib)",
+         "dygraphs": "it needs dygraphs, which isn't in /usr/share/javascript (Debian: apt install libjs-dygraphs)"}
 
 
-def ticks(low, high, most):
-    """A step of 1, 2 or 5 times a power of ten, so that there are at most so many ticks, each a whole number."""
-    power = 1
-    while True:
-        for step in (power, 2 * power, 5 * power):
-            if (high - low) / step <= most:
-                return step
-        power *= 10
+def find_packages():
+    """Lets Python find installed packages, which the tools start without."""
+    for folder in [*site.getsitepackages(), PACKAGES]:
+        if folder not in sys.path and os.path.isdir(folder):
+            sys.path.append(folder)
 
 
-def head(kind, size):
-    return [f"set terminal {kind} size {size[0]},{size[1]} font 'sans,11' background '#ffffff'",
-            "set style fill solid noborder", "set border 3 lc '#888888'", "set tics nomirror out", "set grid ytics lc '#dddddd' lt 1",
-            "set lmargin 11", "set rmargin 3",
-            "set key at graph 1, graph 1 right bottom horizontal noenhanced samplen 1.5 font 'sans,9'",
-            "set format x '%.0f'", "set format y '%.0f'"]
+def check_library(path):
+    """Refuses to draw without the library. A tool that works long asks before it does."""
+    if Path(path).suffix == ".html":
+        if not all(map(os.path.isfile, DYGRAPHS)):
+            raise Refusal(NEEDS["dygraphs"])
+        return
+    find_packages()
+    if not importlib.util.find_spec("matplotlib"):
+        raise Refusal(NEEDS["matplotlib"])
 
 
-def check_gnuplot():
-    """Refuses to draw without gnuplot. A tool that works long asks before it does."""
-    if not shutil.which("gnuplot"):
-        raise Refusal(INSTALL)
+def matplotlib():
+    """The library, with its own settings and not the user's. It warns of nothing."""
+    import logging
+    import warnings
+    find_packages()
+    logging.getLogger("matplotlib").setLevel(logging.CRITICAL)
+    warnings.simplefilter("ignore")
+    try:
+        import matplotlib as library
+    except ImportError:
+        raise Refusal(NEEDS["matplotlib"]) from None
+    library.rcdefaults()
+    library.use("Agg")
+    return library
 
 
-def by_gnuplot(script, *headings):
-    """What gnuplot draws. It writes to a pipe, so that no name of a file reaches it."""
-    with tempfile.TemporaryDirectory() as folder:
-        path = Path(folder) / "script"
-        path.write_text(script, encoding="utf-8")
-        check_gnuplot()
-        with Progress("drawing by gnuplot"):
-            status, out, said = ran(["gnuplot", "--default-settings", "-c", path, *headings])
-    if status != 0 or not out:
-        told = [line for line in said.decode("utf-8", "replace").splitlines() if line.strip()]
-        raise Refusal(f"gnuplot failed: {shown(told[-1]) if told else status}")
-    return out
+def styles(colors):
+    """Matplotlib's settings for these colours. No name is read as a formula, and texts of an .svg stay texts."""
+    return {"text.color": colors["text"], "axes.labelcolor": colors["text"], "xtick.color": colors["quiet"], "ytick.color": colors["quiet"],
+            "axes.edgecolor": colors["quiet"], "axes.facecolor": colors["page"], "figure.facecolor": colors["page"], "savefig.facecolor": colors["page"],
+            "grid.color": colors["grid"], "font.size": 9, "text.parse_math": False, "svg.fonttype": "none", "svg.hashsalt": "fintaqush",
+            "axes.spines.top": False, "axes.spines.right": False, "axes.grid": True, "axes.grid.axis": "y", "axes.axisbelow": True,
+            "axes.formatter.useoffset": False, "axes.unicode_minus": False, "hatch.color": colors["page"]}
+
+
+class canvas:
+    """A figure of matplotlib of so many pixels, within a block."""
+
+    def __init__(self, size, colors=None):
+        self.size, self.colors, self.folder = size, colors or LIGHT, None
+
+    def __enter__(self):
+        os.environ["MPLCONFIGDIR"] = self.cache()
+        try:
+            library = matplotlib()
+            self.settings = library.rc_context(styles(self.colors))
+            self.settings.__enter__()
+            from matplotlib.figure import Figure
+        except BaseException:
+            self.close()
+            raise
+        return Figure(figsize=(self.size[0] / 100, self.size[1] / 100), dpi=100, layout="constrained")
+
+    def __exit__(self, *error):
+        self.settings.__exit__(*error)
+        self.close()
+
+    def cache(self):
+        """The folder in which the library keeps its list of fonts: the user's, or one that goes."""
+        name = os.path.join(os.environ.get("XDG_CACHE_HOME") or os.path.expanduser("~/.cache"), "fintaqush", "matplotlib")
+        try:
+            os.makedirs(name, exist_ok=True)
+            if os.access(name, os.W_OK):
+                return name
+        except OSError:
+            pass
+        self.folder = tempfile.TemporaryDirectory()
+        return self.folder.name
+
+    def close(self):
+        if self.folder:
+            self.folder.cleanup()
+
+
+def saved(figure, end, title, alternative):
+    """The bytes of a figure, with its alternative text. An .svg has the colours of the dark mode too."""
+    made = io.BytesIO()
+    if end == ".png":
+        figure.savefig(made, format="png", metadata={"Title": title, "Description": alternative, "Software": None})
+        return made.getvalue()
+    figure.savefig(made, format="svg", metadata={"Date": None, "Creator": None, "Title": title})
+    text = made.getvalue().decode()
+    dark = "".join(f'[style*="{kind}: {LIGHT[name]}"]{{{kind}:{DARK[name]}!important}}' for name in LIGHT for kind in ("fill", "stroke"))
+    inside = (f"<title>{html.escape(title)}</title><desc>{html.escape(alternative)}</desc>"
+              f"<style>text{{fill:{LIGHT['text']}}}@media (prefers-color-scheme:dark){{text{{fill:{DARK['text']}!important}}{dark}}}</style>")
+    return re.sub(r"(<svg )([^>]*>)", lambda found: f'{found[1]}role="img" {found[2]}{inside}', text, count=1).encode()
+
+
+# ---- a description drawn by matplotlib
+
+def draw_curve(axes, each, colors):
+    """One curve of a panel."""
+    color, name, points = colors[each["color"]], each["name"] or None, each["points"]
+    x, y = [point[0] for point in points], [point[-1] for point in points]
+    if each["kind"] == "area":
+        axes.fill_between(x, y, step="post", color=color, linewidth=0, label=name)
+        axes.step(x, y, where="post", color=color, linewidth=1)
+    elif each["kind"] == "between":
+        axes.fill_between(x, [point[1] for point in points], y, color=color, linewidth=0.8, label=name)
+    elif each["kind"] == "step":
+        axes.step(x, y, where="post", color=color, linewidth=1.8, label=name)
+    elif each["kind"] == "bars":
+        axes.vlines(x, 0, y, color=color, linewidth=1.4, label=None if each.get("marked") else name)
+        if each.get("marked"):
+            axes.plot(x, y, MARK, color=color, markersize=4.5, label=name)
+    else:
+        line = {"line": {"linestyle": "--" if each.get("dashed") else "-", "linewidth": 1.6}, "dots": {"linestyle": ""}}[each["kind"]]
+        axes.plot(x, y, marker=SHAPES[each.get("shape", 0)], markersize=each.get("size", 5), color=color, label=name, **line)
+
+
+def draw_panel(axes, panel, axis):
+    """What is around the curves of a panel: heading, legend, labels and scales."""
+    from matplotlib.ticker import MaxNLocator, StrMethodFormatter
+    axes.set_ylabel(panel["label"])
+    named = axes.get_legend_handles_labels()[1] if panel.get("legend", True) else []
+    if named:
+        axes.legend(loc="lower right", bbox_to_anchor=(1, 1), ncol=min(4, len(named)) if max(map(len, named)) < 24 else 1 + (len(named) > 4), frameon=False,
+                    fontsize=8, borderaxespad=0.1, handlelength=1.6, columnspacing=1.2)
+    if panel["heading"]:
+        axes.set_title(panel["heading"], loc="left", fontsize=8.5, pad=20 if named else 6)
+    axes.set_xlim(axis["low"], axis["high"])
+    if panel.get("log"):
+        axes.set_yscale("log")
+        axes.yaxis.set_major_formatter(StrMethodFormatter("{x:g}"))
+    else:
+        axes.set_ylim(0, panel["top"])
+        axes.yaxis.set_major_locator(MaxNLocator(5, integer=panel["top"] >= 5))
+        axes.yaxis.set_major_formatter(StrMethodFormatter("{x:,.0f}" if panel["top"] >= 5 else "{x:g}"))
+    axes.xaxis.set_major_formatter(StrMethodFormatter("{x:,.0f}" if axis.get("whole") else "{x:g}"))
+
+
+def drawn(picture, end, size, colors):
+    """The bytes of an .svg or a .png."""
+    panels = picture["panels"]
+    title = "\n".join(line for each in picture["title"].split("\n") for line in textwrap.wrap(each, max(20, size[0] // 7)) or [""])
+    with canvas((size[0], size[1] * len(panels) + 20 + 16 * (title.count("\n") + 1)), colors) as figure:
+        columns = figure.subplots(len(panels), 1, sharex=True, squeeze=False)
+        figure.suptitle(title, fontsize=10.5)
+        for (axes,), panel in zip(columns, panels):
+            for each in panel["curves"]:
+                draw_curve(axes, each, colors)
+            draw_panel(axes, panel, picture["axis"])
+        columns[-1][0].set_xlabel(picture["axis"]["label"])
+        return saved(figure, end, picture["title"], alternative_of(picture))
+
+
+# ---- a description as a page
+
+def merged(curves):
+    """The points of all curves of a panel by their places: a row has a value, or none, for each."""
+    values = {}
+    for column, each in enumerate(curves):
+        for point in each["points"]:
+            values.setdefault(point[0], [None] * len(curves))[column] = point[-1]
+    return [[place, *row] for place, row in sorted(values.items())]
+
+
+def page_of(picture, height):
+    """The page, with the library in it."""
+    panels = [{**panel, "curves": [{name: value for name, value in each.items() if name != "points"} for each in panel["curves"]],
+               "rows": merged(panel["curves"])} for panel in picture["panels"]]
+    data = json.dumps({"axis": picture["axis"], "panels": panels, "height": height}, separators=(",", ":")).replace("<", "\\u003c")
+    library, style = (Path(path).read_text(encoding="utf-8").replace("</script", "<\\/script") for path in DYGRAPHS)
+    palettes = [";".join(f"--{name}:{value}" for name, value in colors.items()) for colors in (LIGHT, DARK)]
+    texts = {"TITLE": html.escape(picture["title"]), "ALTERNATIVE": html.escape(alternative_of(picture)), "DATA": data, "LIBRARY": library,
+             "STYLE": re.sub("/\\*#.*", "", style), "LIGHT": palettes[0], "DARK": palettes[1]}
+    page = (Path(__file__).resolve().parent / "plot.html").read_text(encoding="utf-8")
+    return re.sub("@(" + "|".join(texts) + ")@", lambda found: texts[found[1]], page).encode()
+
+
+# ---- both
+
+def alternative_of(picture):
+    """The picture in words, for who can't see it: of each curve between what it is."""
+    told = [picture["title"].replace("\n", " ") + "."]
+    for number, panel in enumerate(picture["panels"], 1):
+        heading = f", {panel['heading']}" if panel["heading"] else ""
+        curves = [f"{each['name']} from {min(point[1] for point in each['points']):g} to {max(point[-1] for point in each['points']):g}"
+                  for each in panel["curves"] if each["name"] and each["points"]]
+        told.append(f"Panel {number} ({panel['label']}{heading}): {'; '.join(curves) or 'nothing'}.")
+    axis = picture["axis"]
+    return shown(" ".join(told) + f" The axis is {axis['label']}, from {axis['low']:g} to {axis['high']:g}.")
+
+
+def picture_bytes(picture, path, size, is_dark=False):
+    """A picture by the end of its name."""
+    with Progress("drawing"):
+        end = Path(path).suffix
+        return page_of(picture, size[1]) if end == ".html" else drawn(picture, end, size, DARK if is_dark else LIGHT)

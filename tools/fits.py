@@ -6,7 +6,7 @@ from dataclasses import dataclass
 from math import sqrt
 from statistics import median
 
-FAR = 3  # standard deviations, as the median of the distances tells them
+FAR = 3  # standard deviations, estimated by the median of the distances
 WIDE = 1.96  # standard errors to each side
 NOTHING, LITTLE = 0.005, 0.05  # of how times differ: what a line explains that is useless, and useless if its slope may be 0
 FEWEST = 8  # of what is estimated

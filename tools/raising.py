@@ -19,16 +19,16 @@ class Raising:
         try:
             run_program(program, words, text)  # the trace is the replay's to refuse
         except Refusal as error:
-            if not PENDING.match(str(error)):  # told of a trace that was read whole; with its runs raised it may be none
+            if not PENDING.match(str(error)):  # reported for a trace that was read whole; with its runs raised it may be none
                 raise
         self.header, self.rows = records_of(text)
-        # The places of the runs. One that is followed by a run at the same moment is raised anew already.
+        # The places of the runs. One that is followed by a run at the same moment was raised already.
         self.runs = [place for place, row in enumerate(self.rows) if is_softirq(row) and self.rows[place + 1 : place + 2] != [row]]
         self.number_at = {place: number for number, place in enumerate(self.runs)}
         self.own = [number for number, place in enumerate(self.softirq_rows()) if place in self.number_at]  # each among all runs
         self.raised = [0] * len(self.runs)
         self.settled = 0  # these runs, from the first on, have all that they need
-        self.emptied = -1  # how many were settled when what stood behind the others was last taken out
+        self.emptied = -1  # how many were settled when what was after the others was last taken out
 
     def softirq_rows(self):
         return [place for place, row in enumerate(self.rows) if is_softirq(row)]
@@ -82,7 +82,7 @@ class Raising:
         """One replay: rows behind a run that polled nothing found the list empty, so they are taken out again."""
         tried = self.probes()
         if not tried and self.emptied < self.settled:
-            # What was found behind the others while this one wasn't settled may be too much.
+            # What was found after the others while this one wasn't settled may be too much.
             self.raised[self.settled :] = [0] * (len(self.runs) - self.settled)
             self.emptied = self.settled
             return
@@ -95,7 +95,7 @@ class Raising:
         rows, _ = self.rows_with(self.raised[: self.settled] + counts, end)
         polls = self.polls_of(rows)
         added = sum(self.raised[: self.settled])
-        is_exact = True  # whether every run so far has all that it needs, so that what stands behind it is as it will be
+        is_exact = True  # whether every run so far has all that it needs, so that what comes after it is as it will be
         for number, count in enumerate(counts, self.settled):
             place = self.own[number] + added
             if place >= len(polls):
@@ -123,7 +123,7 @@ class Raising:
         rows, places = self.rows_with(self.raised, len(self.rows))
         if len(rows) > MOST_ROWS:
             raise Refusal(f"with the runs that are raised there are {len(rows)} rows, and a trace has at most {MOST_ROWS}")
-        self.replay(rows)  # an enable row behind the last run may still meet a pending disable
+        self.replay(rows)  # an enable row after the last run may still meet a pending disable
         return rows, places
 
 

@@ -28,7 +28,7 @@ SENT = re.compile(r"dev=(\S+) .*\blen=(\d{1,10}) rc=(\w+)")
 POLLED = re.compile(r"napi poll on napi struct \S+ for (?:network )?device (\S+) work (\d{1,9}) budget (\d{1,9})")
 SOFTIRQ = re.compile(r"vec=(\d{1,9})")
 LOST = re.compile(r"\[LOST (\d+) EVENTS\]|\[(\d+) EVENTS DROPPED\]|PERF_RECORD_LOST lost (\d+)")
-# And the lines of a call chain, which perf puts behind an event.
+# And the lines of a call chain, which perf puts after an event.
 NO_EVENT = re.compile(r"\s*(#.*|cpus=\d+|version = .*|CPU:? ?\d+ is empty|[0-9a-f]{4,16} .* \(.*\))?$")
 
 
@@ -53,11 +53,6 @@ class Event:
         return found.groups()
 
 
-def name_of(found):
-    """The event's name. ftrace writes a system call as `sys_read(..` where it begins, and as `sys_read -> ..` where it ends."""
-    return found["name"] or ("sys_exit_" if found["is_exit"] else "sys_enter_") + found["call"]
-
-
 NEXT = re.compile(r"next_comm=(.*) next_pid=(\d{1,9}) ")
 
 
@@ -71,11 +66,13 @@ def events_of(lines, lost, first=1):
         if ("LOST" in line or "DROPPED" in line) and (loss := LOST.search(line)):
             lost.append(f"line {number} of the recording: the kernel lost {loss[1] or loss[2] or loss[3]} events")
         elif found:
-            name, task = name_of(found), found["task"]
-            if name == "sched_switch" and (named := NEXT.search(found["said"])):
+            task, pid, cpu, flags, whole, fraction, name, call, is_exit, said = found.groups()
+            name = name or ("sys_exit_" if is_exit else "sys_enter_") + call  # ftrace writes `sys_read(..` and `sys_read -> ..`
+            if name == "sched_switch" and (named := NEXT.search(said)):
                 names[named[2]] = named[1]
-            yield Event(number, names.get(found["pid"], task) if task == "<...>" else task, int(found["cpu"]), found["flags"] or "",
-                        seconds(found["seconds"], found["fraction"]), name, found["said"].rstrip(), int(found["pid"]))
+            if task == "<...>":
+                task = names.get(pid, task)
+            yield Event(number, task, int(cpu), flags or "", seconds(whole, fraction), name, said.rstrip(), int(pid))
         elif not NO_EVENT.match(line):
             raise Refusal(f"line {number}: no line of ftrace, `trace-cmd report` or `perf script`: {line.strip()[:60]!r}")
 

@@ -1,6 +1,7 @@
-/* Buffers used in turn, with no list of free ones: as many as the ring has places, 64 for a poll, and a burst in the interrupt's hands.
- * An interrupt thread writes 200000 packets into them, and puts them in bursts; a poller reads each as it was written. A packet's number is its buffer's
- * address. The calls of fintaqush_tsan.h are for ThreadSanitizer alone. */
+/* A circular pool of buffers, without a list of free ones: as many as the ring's capacity, 64 for a poll, and a burst that
+ * the interrupt thread holds. An interrupt thread writes 200000 packets into them, and puts them in bursts; a poller reads
+ * each as it was written. A packet's number is its buffer's address. The calls of fintaqush_tsan.h are only for
+ * ThreadSanitizer. */
 #include <fintaqush_tsan.h>
 #include <pthread.h>
 #include <sched.h>
@@ -10,7 +11,7 @@ enum { PACKETS = 200000, WEIGHT = 64, PLACES = 256, BURST = 16, BUFFERS = PLACES
 
 static unsigned char buffers[BUFFERS][BYTES];
 
-/* What is written into the packet, in each of its bytes. */
+/* The value of each byte of the packet. */
 static unsigned char written(uint64_t packet) { return (unsigned char)(packet % 251); }
 
 struct interrupts {
@@ -24,7 +25,7 @@ static void *interrupt(void *at) {
     for (uint64_t first = 0; first < PACKETS; first += BURST) {
         for (size_t i = 0; i < BURST; i++) {
             unsigned char *buffer = buffers[(first + i) % BUFFERS];
-            /* the last put found a place free that a later poll emptied than the one that gave this buffer's last packet */
+            /* the last put found a slot that was freed by a later poll than the one that returned this buffer's last packet */
             fq_tsan_acquire(buffer);
             for (int k = 0; k < BYTES; k++) buffer[k] = written(first + i);
             fq_tsan_release(buffer);
@@ -50,7 +51,7 @@ static bool end_poll(struct fq_handle *seat, size_t count) {
     return fq_seat_end(seat, count == WEIGHT, &next) == FQ_OK;
 }
 
-/* Reads the next packet, and answers whether it is there as it was written. */
+/* Reads the next packet, and returns whether it is there as it was written. */
 static bool is_next(struct fq_packet packet, uint64_t next) {
     unsigned char *buffer = (unsigned char *)(uintptr_t)packet.number;
     bool good = buffer == buffers[next % BUFFERS] && packet.bytes == BYTES;
@@ -76,7 +77,7 @@ static void *poll_all(void *at) {
     return NULL;
 }
 
-/* napi_disable. What lies on the list when it is asked for is taken and completed by the poller's seat. */
+/* napi_disable. The poller's seat takes and completes an instance that is on the list when the disable is requested. */
 static bool disable(struct fq_handle *control, struct fq_handle *seat) {
     uint32_t said;
     while ((said = fq_control_step(control, false, false)) == FQ_BUSY)

@@ -2,16 +2,16 @@
 #include <fintaqush.h>
 #include <stdio.h>
 
-/* Whoever calls an instance bears a number; the controller's is named when it is made. */
+/* Each caller of an instance has a number; the controller's is named when the instance is made. */
 enum { INTERRUPT, POLLER, CONTROLLER };
 
-/* The card interrupts. Returns whether the instance was handed to the poll list now. */
+/* The card's interrupt. Returns whether the instance was queued on the poll list now. */
 static bool interrupt(struct fq_napi *napi) {
     return fq_napi_schedule(napi, INTERRUPT) == FQ_GRANTED && fq_napi_hand(napi, INTERRUPT, FQ_LIST) == FQ_OK;
 }
 
-/* The poller takes the instance from the list, polls the device, and completes. If a request was missed meanwhile, it is granted
- * the instance again and hands it to the list once more. */
+/* The poller takes the instance from the list, polls the device, and completes. If a request was missed meanwhile, it still
+ * owns the instance and queues it on the list again. */
 static uint32_t poll_once(struct fq_napi *napi) {
     uint32_t done = fq_napi_take(napi, POLLER, FQ_LIST);
     if (done != FQ_TAKEN) return done;

@@ -2,16 +2,16 @@
 #include <fintaqush.hpp>
 #include <cstdio>
 
-// Whoever calls an instance bears a number; the controller's is named when it is made.
+// Each caller of an instance has a number; the controller's is named when the instance is made.
 enum : std::uint32_t { INTERRUPT, POLLER, CONTROLLER };
 
-// The card interrupts. The answer is whether the instance was handed to the poll list now.
+// The card's interrupt. Returns whether the instance was queued on the poll list now.
 static bool interrupt(fintaqush::SerialNapi &napi) {
     return napi.schedule(INTERRUPT) == FQ_GRANTED && napi.hand(INTERRUPT, FQ_LIST) == FQ_OK;
 }
 
-// The poller takes the instance from the list, polls the device, and completes. Where a request was missed meanwhile, it is granted
-// the instance again and hands it to the list once more.
+// The poller takes the instance from the list, polls the device, and completes. If a request was missed meanwhile, it still
+// owns the instance and queues it on the list again.
 static fintaqush::Status poll_once(fintaqush::SerialNapi &napi) {
     auto done = napi.take(POLLER, FQ_LIST);
     if (done != FQ_TAKEN) return done;

@@ -9,7 +9,7 @@ struct device {
     uint32_t left; /* packets in its ring */
 };
 
-/* Polls a device, and ends the poll: its answer is of enum fq_next. */
+/* Polls a device, and ends the poll; the result is of enum fq_next. */
 static enum fq_next poll_once(struct device *device, uint32_t *work) {
     *work = 0;
     if (fq_napi_take(&device->napi, POLLER, FQ_LIST) != FQ_TAKEN) return FQ_NEXT_ABSENT;
@@ -20,7 +20,7 @@ static enum fq_next poll_once(struct device *device, uint32_t *work) {
     return fq_napi_hand(&device->napi, POLLER, FQ_LIST) == FQ_OK ? FQ_NEXT_AGAIN : FQ_NEXT_ABSENT;
 }
 
-/* One run; the answer is whether it polled something. */
+/* Makes one run, and returns whether it polled something. */
 static bool run(struct fq_handle *list, struct device *devices) {
     struct fq_run_report report;
     uint32_t id, work;

@@ -1,4 +1,4 @@
-// A simulator in C++: four cards and one processor, whose time interrupts and polls take. docs/GUIDE.md explains it.
+// A simulator in C++: four cards and one processor, with the time that interrupts and polls take. docs/GUIDE.md explains it.
 #include <fintaqush.hpp>
 #include <algorithm>
 #include <cstdio>
@@ -25,7 +25,7 @@ struct Processor {
     Time gap, now = 0, waited = 0; // the distance of a card's packets; the clock; the sum of all waits
     unsigned interrupts = 0, polled = 0, runs = 0, squeezed = 0;
 
-    // All that arrives until now: into the ring, or dropped; a card that isn't masked raises its interrupt.
+    // All packets that arrived until now are put into the ring, or dropped; a card that isn't masked raises its interrupt.
     void arrivals() {
         for (Card &card : cards)
             for (; card.arrived < PACKETS && card.next <= now; card.arrived++, card.next += gap) {
@@ -49,7 +49,8 @@ struct Processor {
         return false;
     }
 
-    // One poll: packet by packet, also those that arrive meanwhile. Below the weight the instance completes, and its card is unmasked.
+    // One poll, packet by packet, including those that arrive meanwhile. Below the weight the instance completes, and its card
+    // is unmasked.
     std::pair<std::uint32_t, fq_next> poll(Card &card, std::uint32_t weight) {
         Packets out;
         std::uint32_t work = 0;

@@ -1,4 +1,4 @@
-/* Step 2 of docs/GUIDE.md: each packet asks for a poll, and runs of the softirq poll what was asked for. */
+/* Step 2 of docs/GUIDE.md: each packet requests a poll, and runs of the softirq make the requested polls. */
 #include <fintaqush.h>
 #include <stdio.h>
 
@@ -35,7 +35,7 @@ static uint32_t poll_device(struct driver *driver, uint32_t *next) {
     *next = FQ_NEXT_ABSENT;
     if (fq_seat_take(&driver->poller, FQ_LIST) != FQ_TAKEN) return 0;
     if (fq_seat_poll(&driver->poller, WEIGHT, out, WEIGHT, &count) != FQ_OK) return 0;
-    driver->polled += (unsigned)count; /* here they go up the stack */
+    driver->polled += (unsigned)count; /* here they would be passed to the network stack */
     if (fq_seat_end(&driver->poller, count == WEIGHT, next) != FQ_OK) return 0;
     return (uint32_t)count;
 }
@@ -51,7 +51,7 @@ static bool softirq(struct driver *driver, struct fq_run_report *report) {
     return fq_run_end(&driver->list, report) == FQ_OK;
 }
 
-/* Disables the instance, which nobody polls here any more, and frees everything. */
+/* Disables the instance, which no other thread polls here, and frees everything. */
 static bool take_down(struct driver *driver) {
     if (fq_control_step(&driver->control, false, false) != FQ_OK) return false;
     return fq_free(&driver->control) == FQ_OK && fq_free(&driver->irq) == FQ_OK && fq_free(&driver->poller) == FQ_OK &&

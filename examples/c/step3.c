@@ -23,7 +23,7 @@ struct driver {
     struct fq_handle ring, control, irq, poller, list;
 };
 
-/* What the library calls. */
+/* The callbacks of the library. */
 static struct fq_card calls_of(struct driver *driver) { return (struct fq_card){&driver->card, mask, unmask, look, NULL}; }
 
 /* Makes ring, instance and poll list, and enables the instance (netif_napi_add, napi_enable). */
@@ -58,7 +58,7 @@ static uint32_t poll_device(struct driver *driver, uint32_t *next) {
     *next = FQ_NEXT_ABSENT;
     if (fq_seat_take(&driver->poller, FQ_LIST) != FQ_TAKEN) return 0;
     if (fq_seat_poll(&driver->poller, WEIGHT, out, WEIGHT, &count) != FQ_OK) return 0;
-    driver->card.taken += count; /* here they go up the stack */
+    driver->card.taken += count; /* here they would be passed to the network stack */
     const struct fq_card calls = calls_of(driver);
     if (fq_seat_end_watched(&driver->poller, count == WEIGHT, &calls, next) != FQ_OK) return 0;
     return (uint32_t)count;
@@ -75,7 +75,7 @@ static bool softirq(struct driver *driver, struct fq_run_report *report) {
     return fq_run_end(&driver->list, report) == FQ_OK;
 }
 
-/* Disables the instance, which nobody polls here any more, and frees everything. */
+/* Disables the instance, which no other thread polls here, and frees everything. */
 static bool take_down(struct driver *driver) {
     if (fq_control_step(&driver->control, false, false) != FQ_OK) return false;
     return fq_free(&driver->control) == FQ_OK && fq_free(&driver->irq) == FQ_OK && fq_free(&driver->poller) == FQ_OK &&

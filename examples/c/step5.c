@@ -25,14 +25,15 @@ static bool look(void *at) {
 struct driver {
     struct card card;
     struct fq_handle ring, control, irq, poller, list, tx;
-    uint64_t backlog, sent, completed, now_ms; /* answers that wait, were given to the card, and are sent; the poll's time */
+    uint64_t backlog, sent, completed, now_ms; /* answers that wait, that were given to the card, and that were sent; the
+                                                * poll's time */
     struct fq_word pending; /* which devices the poller has to list */
     sem_t wake;
-    uint64_t next; /* the number of the packet that comes next */
+    uint64_t next; /* the number of the next packet */
     atomic_bool failed;
 };
 
-/* What the library calls. */
+/* The callbacks of the library. */
 static struct fq_card calls_of(struct driver *driver) { return (struct fq_card){&driver->card, mask, unmask, look, NULL}; }
 
 /* Makes ring, instance and poll list, and enables the instance (netif_napi_add, napi_enable). */
@@ -52,7 +53,7 @@ static bool interrupt(struct driver *driver) {
     const struct fq_card calls = calls_of(driver);
     const uint32_t said = fq_seat_interrupt_masked(&driver->irq, FQ_LIST, &calls);
     driver->card.interrupts++;
-    /* the list is the poller's own, so the interrupt raises a bit, as the kernel raises the softirq */
+    /* only the poller may use the list, so the interrupt raises a bit, as the kernel raises the softirq */
     if (said == FQ_GRANTED && fq_word_raise(&driver->pending, DEVICE)) sem_post(&driver->wake);
     return said == FQ_GRANTED || said == FQ_MISSED;
 }
@@ -69,7 +70,7 @@ static void *arrive_all(void *at) {
     return NULL;
 }
 
-/* What the card has sent meanwhile is complete (netdev_tx_completed_queue): at most TX_SPEED packets for each call here. */
+/* Completes what the card has sent meanwhile (netdev_tx_completed_queue): at most TX_SPEED packets for each call here. */
 static void complete_sent(struct driver *driver) {
     const uint64_t under_way = driver->sent - driver->completed;
     const uint32_t count = under_way < TX_SPEED ? (uint32_t)under_way : TX_SPEED;
@@ -95,7 +96,8 @@ static uint32_t poll_device(struct driver *driver, uint32_t *next) {
     *next = FQ_NEXT_ABSENT;
     if (fq_seat_take(&driver->poller, FQ_LIST) != FQ_TAKEN) return 0;
     if (fq_seat_poll(&driver->poller, WEIGHT, out, WEIGHT, &count) != FQ_OK) return 0;
-    for (size_t i = 0; i < count; i++) driver->failed |= out[i].number != driver->next++; /* here they go up the stack */
+    for (size_t i = 0; i < count; i++) driver->failed |= out[i].number != driver->next++; /* here they would be passed to the
+                                                                                           * network stack */
     driver->card.taken += count;
     driver->backlog += count;
     complete_sent(driver);
@@ -116,7 +118,7 @@ static bool softirq(struct driver *driver, struct fq_run_report *report) {
     return fq_run_end(&driver->list, report) == FQ_OK;
 }
 
-/* The poller's thread: it lists what interrupts asked for, makes runs, and sleeps if there is nothing to poll. */
+/* The poller's thread: it lists the devices that requested a poll, makes runs, and sleeps if there is nothing to poll. */
 static void *poll_all(void *at) {
     struct driver *driver = at;
     while (driver->next < PACKETS && !driver->failed) {
@@ -128,7 +130,8 @@ static void *poll_all(void *at) {
     return NULL;
 }
 
-/* Disables the instance, which no thread polls any more, and frees everything. What is scheduled still is completed first. */
+/* Disables the instance, which no thread polls any more, and frees everything. If it is still scheduled, it is completed
+ * first. */
 static bool take_down(struct driver *driver) {
     uint32_t said, next;
     while ((said = fq_control_step(&driver->control, false, false)) == FQ_BUSY) (void)poll_device(driver, &next);

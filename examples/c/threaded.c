@@ -1,5 +1,6 @@
-/* An instance with a thread of its own, which sleeps while nothing is asked of it: an interrupt thread puts 200000 packets in bursts,
- * and each is polled once and in order. A full poll stays with the thread (FQ_HELD), which polls on at once. */
+/* An instance with its own thread, which sleeps while no poll is requested: an interrupt thread puts 200000 packets in
+ * bursts, and each is polled once and in order. After a full poll the instance stays with the thread (FQ_HELD), which polls
+ * again at once. */
 #include <fintaqush.h>
 #include <pthread.h>
 #include <sched.h>
@@ -37,7 +38,7 @@ struct poller {
     bool failed;
 };
 
-/* One take: polls until a poll isn't full, and answers how that ended. */
+/* One take: polls until a poll isn't full, and returns how that ended. */
 static uint32_t poll_once(struct poller *poller) {
     struct fq_packet out[WEIGHT];
     uint32_t said, next;
@@ -75,7 +76,7 @@ int main(void) {
     if (pthread_create(&threads[1], NULL, poll_all, &poller) != 0) return 1;
     for (int i = 0; i < 2; i++) pthread_join(threads[i], NULL);
     if (irq.failed || poller.failed || poller.next != PACKETS || poller.held == 0) return 1;
-    /* napi_disable: what was handed to the thread last is taken and completed */
+    /* napi_disable: an instance that was handed to the thread last is taken and completed */
     while (fq_control_step(&control, false, false) == FQ_BUSY)
         if (fq_seat_take(&seats[1], FQ_THREAD) == FQ_TAKEN) poll_once(&poller);
     printf("%d packets by a thread of its own, each once and in order\n", PACKETS);

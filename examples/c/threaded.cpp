@@ -1,5 +1,5 @@
-// An instance with a thread of its own: an interrupt thread puts 200000 packets in bursts, and each is polled once and in order. A full
-// poll stays with the thread, which polls on at once.
+// An instance with its own thread: an interrupt thread puts 200000 packets in bursts, and each is polled once and in order.
+// After a full poll the instance stays with the thread, which polls again at once.
 #include <fintaqush.hpp>
 #include <cstdio>
 
@@ -27,7 +27,7 @@ struct Thread {
     unsigned long held = 0;
     bool good = true;
 
-    // Takes the instance where it is there, and polls until a poll isn't full.
+    // Takes the instance if it is there, and polls until a poll isn't full.
     bool poll_once() {
         auto took = std::move(*caller).take(FQ_THREAD);
         if (auto *resting = std::get_if<Caller>(&took)) {
@@ -59,7 +59,7 @@ int main() {
     });
     first.join();
     second.join();
-    // what was handed to the thread last is taken and completed before the disable
+    // an instance that was handed to the thread last is taken and completed before the disable
     while (own.poll_once()) {
     }
     const auto off = std::move(on).disable();

@@ -48,7 +48,7 @@ static void *poll_all(void *at) {
     return NULL;
 }
 
-/* napi_disable. What lies on the list when it is asked for is taken and completed by the poller's seat. */
+/* napi_disable. The poller's seat takes and completes an instance that is on the list when the disable is requested. */
 static bool disable(struct fq_handle *control, struct fq_handle *seat) {
     uint32_t said;
     while ((said = fq_control_step(control, false, false)) == FQ_BUSY)

@@ -13,7 +13,7 @@ static void interrupt(Input &input, std::optional<Caller> &caller) {
     }
 }
 
-// Ends a poll. It was taken from the list, so that none is held.
+// Ends a poll. It was taken from the list, so FQ_HELD isn't possible.
 static Caller end_poll(Polling polling, std::size_t count) {
     auto end = std::move(polling).end(count == Weight().get());
     return std::move(std::get<Ended>(end).caller);
@@ -33,7 +33,7 @@ static void poll_all(std::optional<Caller> &caller, bool &good) {
             std::this_thread::yield();
         }
     }
-    // what is on the list still
+    // an instance that is still on the list
     auto took = std::move(*caller).take(FQ_LIST);
     if (auto *polling = std::get_if<Polling>(&took)) {
         caller = end_poll(std::move(*polling), 0);
@@ -52,7 +52,7 @@ int main() {
     std::thread second([&] { poll_all(poller, good); });
     first.join();
     second.join();
-    // a last request may have come behind the poller's last look
+    // a last request may have come after the poller's last look
     auto took = std::move(*poller).take(FQ_LIST);
     if (auto *polling = std::get_if<Polling>(&took)) poller = end_poll(std::move(*polling), 0);
     auto off = std::move(on).disable();

@@ -1,6 +1,6 @@
-// The transmit side of a card: frames of 1500 bytes are sent into a ring of four places until a send is refused, and the card is
-// done with all of them every six milliseconds. The limit grows, since the card ran out of work each time, until the ring itself is
-// too short.
+// The transmit side of a card: frames of 1500 bytes are sent into a ring of capacity four until a send fails, and the card
+// completes all of them every six milliseconds. The limit grows, because the card ran out of work each time, until the ring
+// itself is too short.
 #include <fintaqush.hpp>
 #include <cstdio>
 

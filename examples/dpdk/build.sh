@@ -1,5 +1,6 @@
 #!/usr/bin/env bash
-# examples/dpdk/build.sh FOLDER [FLAG ..]: as examples/driver/build.sh; status 69 if there is no DPDK (Debian: libdpdk-dev).
+# examples/dpdk/build.sh FOLDER [FLAG ..]: like examples/driver/build.sh; status 69 if DPDK isn't installed (Debian:
+# libdpdk-dev).
 set -euo pipefail
 unset CDPATH
 here=$(dirname "$(readlink -f "${BASH_SOURCE[0]}")")

@@ -1,5 +1,5 @@
 /* DPDK's ports polled under NAPI's rules; each is a host 10.99.0.2 that answers ARP, pings and UDP to port 7 in the frame that was
- * received. DPDK tells that the card is done with a frame by freeing it.
+ * received. DPDK frees a frame when the card has completed it.
  *
  * dpdk [EAL's words] -- napi|one|busy|power [--budget 1..65535] [--min BYTES]
  *
@@ -20,9 +20,10 @@ enum { RING = 512, WAITING = 1024, MBUFS = 8191, BURST = 32, QUIET = 10, SLEEPY 
 struct port {
     struct device device;
     uint16_t id;
-    bool switches; /* whether its driver turns the interrupt on and off; else epoll alone does */
+    bool switches; /* whether its driver turns the interrupt on and off; otherwise only epoll does */
     struct rte_mbuf *waiting[WAITING];
-    uint64_t first, let, behind; /* from first on the limit let the answers go, from let on they wait for it, behind is the next */
+    uint64_t first, let, behind; /* the limit has allowed the answers from first on, those from let on wait for it, and the
+                                  * next one goes to `behind` */
     uint32_t freed;
     unsigned long dropped;
 };
@@ -32,7 +33,7 @@ static struct rte_mempool *frames, *heads;
 static uint32_t least;
 static unsigned long sleeps;
 
-/* ---- Sending. An answer is a head over the bytes that were received. */
+/* ---- Sending. An answer is a header followed by the bytes that were received. */
 
 static void freed(void *bytes, void *received) {
     (void)bytes;
@@ -57,7 +58,7 @@ static void use(struct port *port, struct rte_mbuf *got) {
     port->device.answered++;
 }
 
-/* As far as the limit lets frames go; and again, where the card was done with some at once. */
+/* Gives frames to the card as the limit allows; and again, if the card completed some at once. */
 static void give(struct device *device) {
     struct port *port = (struct port *)device;
     do {
@@ -71,7 +72,7 @@ static void give(struct device *device) {
     } while (port->freed);
 }
 
-/* ---- The card. It can't be looked at: a poll takes what it finds. */
+/* ---- The card. It can't be checked for packets: a poll takes what it finds. */
 
 static void mask(void *at) {
     struct port *port = at;
@@ -79,7 +80,7 @@ static void mask(void *at) {
     arm(at, EPOLL_CTL_MOD, false);
 }
 
-/* What is told until here the polls behind it will find. */
+/* Later polls find the events that were reported until here. */
 static void unmask(void *at) {
     struct port *port = at;
     if (port->switches && ((void)!read(port->device.event, &(uint64_t){0}, 8), rte_eth_dev_rx_intr_enable(port->id, 0))) die("unmask");
@@ -141,7 +142,7 @@ static void open_port(struct port *port) {
 static void close_port(struct port *port) {
     struct rte_eth_stats card;
     if (rte_eth_stats_get(port->id, &card) || rte_eth_dev_stop(port->id) || rte_eth_dev_close(port->id)) die("statistics");
-    completed(&port->device, port->freed); /* what the port held */
+    completed(&port->device, port->freed); /* the counts of the port */
     close_device(&port->device);
     printf("dropped %lu sleeps %lu | the port: in %lu out %lu missed %lu errors %lu\n", port->dropped, sleeps, card.ipackets, card.opackets, card.imissed,
         card.ierrors + card.oerrors);

@@ -1,8 +1,8 @@
 #!/usr/bin/env bash
-# examples/dpdk/run.sh [MODE [WORD ..]]: runs the driver, as `napi` or with these words, on DPDK's port over a TAP device in a network
-# namespace; the loads are those of examples/driver/driver.sh. Compares what the other end (the kernel), the card (the port's
-# statistics) and the driver counted. BUILT=FOLDER: there build.sh has built it. The status is 0 only if all is well, 69 if there is
-# no root, no `ip`, no DPDK, no /dev/net/tun or no right to make a namespace.
+# examples/dpdk/run.sh [MODE [OPTION ..]]: runs the driver, as `napi` or with these arguments, on DPDK's port over a TAP device
+# in a network namespace; the loads are those of examples/driver/driver.sh. Compares the counts of the other end (the kernel),
+# the card (the port's statistics) and the driver. BUILT=FOLDER: a folder in which build.sh has built it. The status is 0 only
+# if all checks pass, 69 if there is no root, no `ip`, no DPDK, no /dev/net/tun or no right to make a namespace.
 set -uo pipefail
 unset CDPATH
 here=$(dirname "$(readlink -f "${BASH_SOURCE[0]}")")

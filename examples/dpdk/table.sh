@@ -1,7 +1,8 @@
 #!/usr/bin/env bash
-# examples/dpdk/table.sh: the driver busy polling, by DPDK's power idea, and under NAPI with one thread and with two, each under the same
-# loads: processor time of all its threads in milliseconds a second, and of pings the median and the 99th percentile of the time to the
-# answer in microseconds. The last line tells how busy the machine was. Status 69 as run.sh. BUILT=FOLDER: there build.sh has built it.
+# examples/dpdk/table.sh: the driver busy polling, with DPDK's power management, and with NAPI on one thread and on two, each
+# under the same loads: processor time of all its threads in milliseconds per second, and the median and the 99th percentile of
+# the pings' round-trip time in microseconds. The last line shows how busy the machine was. Status 69 as in run.sh.
+# BUILT=FOLDER: a folder in which build.sh has built it.
 set -uo pipefail
 unset CDPATH
 here=$(dirname "$(readlink -f "${BASH_SOURCE[0]}")")

@@ -1,6 +1,7 @@
 #!/usr/bin/env bash
-# examples/driver/build.sh DRIVER FOLDER [FLAG ..]: builds this driver of examples/, with these flags of the compiler too, and its load
-# into the folder, over the C library, which is proved and built first where the folder hasn't it and that isn't done yet.
+# examples/driver/build.sh DRIVER FOLDER [FLAG ..]: builds this driver of examples/, with these additional flags of the
+# compiler, and its load into the folder, with the C library, which is proved and built first if the folder doesn't have it and
+# that isn't done yet.
 set -euo pipefail
 unset CDPATH
 examples=$(dirname "$(dirname "$(readlink -f "${BASH_SOURCE[0]}")")")

@@ -1,8 +1,8 @@
-/* What the drivers of examples/xdp and examples/dpdk share, whatever their card is: the request for a poll, the poller's runs, the
- * limit of what is sent, enable and disable.
+/* What the drivers of examples/xdp and examples/dpdk share, whatever their card is: the request for a poll, the poller's
+ * runs, the queue limit, enable and disable.
  *
- * The interrupt thread waits for the cards' events, and asks for polls. The poller has the list, polls by driven runs, and is the
- * controller too; with one thread it waits for the events itself. Each number is written by one of them. */
+ * The interrupt thread waits for the cards' events, and requests polls. The poller has the list, makes the polls of runs
+ * itself, and is the controller too; with one thread it also waits for the events. Each count is written by only one thread. */
 #ifndef DRIVER_H
 #define DRIVER_H
 
@@ -24,13 +24,13 @@ enum { DEVICES = 16, WEIGHT = 64, WINDOW = 1024, HOLD_MS = 1000, STUCK_MS = 5000
 enum wanted { ON, OFF, END };
 
 struct device {
-    struct fq_card card; /* all its calls are made with the device */
+    struct fq_card card; /* the argument of all its calls */
     uint32_t id;
-    int event;                           /* the file that is readable as the card interrupts */
-    void (*give)(struct device *device); /* sends what waits, and tells what the card is done with */
-    alignas(APART) struct fq_handle interrupt; /* from here on the interrupt thread's */
+    int event;                           /* the file that becomes readable when the card interrupts */
+    void (*give)(struct device *device); /* sends what waits, and reports what the card has completed */
+    alignas(APART) struct fq_handle interrupt; /* from here on used by the interrupt thread */
     unsigned long interrupts, granted, missed, disabled;
-    alignas(APART) struct fq_handle poller; /* from here on the poller's */
+    alignas(APART) struct fq_handle poller; /* from here on used by the poller */
     struct fq_handle control, limit;
     struct fq_tx_watchdog watchdog;
     bool on, stopping;
@@ -41,13 +41,13 @@ static struct device *devices[DEVICES];
 static uint32_t count_of_devices, budget = 300;
 static bool one_thread;
 static struct fq_handle list;
-static alignas(APART) struct fq_word handed; /* the devices that are to be listed */
+static alignas(APART) struct fq_word handed; /* the devices that have to be listed */
 static atomic_int wanted;
 static atomic_bool ended;
 static int wake, card_events, poller_events;
 static unsigned long runs, squeezed;
 
-/* With status 69 where the kernel hasn't it, or doesn't let it. */
+/* With status 69 if the kernel lacks it, or refuses it. */
 static inline void die(const char *what) {
     const int status = errno == EPERM || errno == EAFNOSUPPORT ? 69 : 1;
     fprintf(stderr, "%s: %s\n", what, strerror(errno));
@@ -66,7 +66,7 @@ static inline uint64_t now_ms(void) {
     return (uint64_t)now.tv_sec * 1000 + (uint64_t)now.tv_nsec / 1000000;
 }
 
-/* ---- Interrupts. Epoll tells an event once (EPOLLONESHOT), until it is armed anew. */
+/* ---- Interrupts. Epoll reports an event once (EPOLLONESHOT), until it is armed again. */
 
 static inline void arm(struct device *device, int operation, bool on) {
     struct epoll_event event = {.events = on ? EPOLLIN | EPOLLONESHOT : 0, .data.ptr = device};
@@ -77,7 +77,7 @@ static inline void wake_poller(void) {
     if (write(wake, &(uint64_t){1}, 8) != 8 && errno != EAGAIN) die("wake");
 }
 
-/* Asks for a poll by one of the seats. Where that is granted the card is masked, and then the poller lists the device. */
+/* Requests a poll by one of the seats. If that is granted, the card is masked, and then the poller lists the device. */
 static inline uint32_t request(struct device *device, struct fq_handle *seat) {
     const uint32_t said = fq_seat_interrupt_masked(seat, FQ_LIST, &device->card);
     if (said != FQ_MISSED && said != FQ_DISABLED) must("request", said, FQ_GRANTED);
@@ -85,7 +85,7 @@ static inline uint32_t request(struct device *device, struct fq_handle *seat) {
     return said;
 }
 
-/* Waits for so many milliseconds at most. */
+/* Waits at most this many milliseconds. */
 static inline void wait_events(int events, int ms) {
     struct epoll_event got[DEVICES + 1];
     const int count = epoll_wait(events, got, DEVICES + 1, ms);
@@ -107,7 +107,7 @@ static inline void *interrupt_thread(void *at) {
 
 /* ---- Sending. */
 
-/* Whether the limit lets a frame of so many bytes to the card, which then has it (netdev_tx_sent_queue). */
+/* Whether the limit allows a frame of this size to be given to the card, which then has it (netdev_tx_sent_queue). */
 static inline bool may_send(struct device *device, uint32_t bytes) {
     const uint32_t said = fq_tx_send(&device->limit, bytes);
     if (said == FQ_STOPPED || said == FQ_FULL) {
@@ -119,7 +119,7 @@ static inline bool may_send(struct device *device, uint32_t bytes) {
     return true;
 }
 
-/* The card is done with so many frames (netdev_tx_completed_queue). */
+/* The card has completed this many frames (netdev_tx_completed_queue). */
 static inline void completed(struct device *device, uint32_t count) {
     must("done", fq_tx_done(&device->limit, count, now_ms()), FQ_OK);
     device->done += count;
@@ -133,7 +133,7 @@ static inline void watch(struct device *device) {
 
 /* ---- Polls. */
 
-/* A card that can be looked at is looked at behind its unmask; another one is unmasked before its last poll. */
+/* A card that can be checked for packets is checked after its unmask; another one is unmasked before its last poll. */
 static inline void poll_device(struct device *device) {
     uint32_t next;
     must("take", fq_seat_take(&device->poller, FQ_LIST), FQ_TAKEN);
@@ -144,7 +144,7 @@ static inline void poll_device(struct device *device) {
     device->polls++, device->packets += work, device->full += next == FQ_NEXT_REPOLL, device->again += next == FQ_NEXT_AGAIN;
 }
 
-/* A run over what was handed to the list; whether something is left there. */
+/* A run over the listed devices; returns whether the list isn't empty. */
 static inline bool run(void) {
     struct fq_run_report report;
     uint32_t id, left;
@@ -157,8 +157,8 @@ static inline bool run(void) {
     return left > 0;
 }
 
-/* A step of a device towards what is wanted, and whether it is there. A disable that has begun ends first. Behind an enable a poll is
- * asked for once, for what came before. */
+/* A step of a device towards the wanted state; returns whether it is reached. A disable that has begun ends first. After an
+ * enable a poll is requested once, for packets that arrived before. */
 static inline bool step(struct device *device, bool on) {
     if (device->on != on || device->stopping) {
         const uint32_t said = fq_control_step(&device->control, !device->on, false);
@@ -171,7 +171,8 @@ static inline bool step(struct device *device, bool on) {
     return device->on == on;
 }
 
-/* Until the end is wanted, all devices are off, and what was answered is sent. No interrupt tells that it is complete. */
+/* Runs until the end is wanted, all devices are disabled, and all answers are sent. There is no interrupt for completed
+ * sends. */
 static inline void poller(const char *name) {
     enum wanted told = OFF;
     for (bool more = true, there = false, complete = true;;) {
@@ -191,7 +192,7 @@ static inline void poller(const char *name) {
     }
 }
 
-/* ---- Begin and end. */
+/* ---- Start and end. */
 
 /* SIGHUP disables and enables in turn, SIGINT ends. */
 static inline void tell(int signal) {
@@ -217,8 +218,8 @@ static inline void open_driver(void) {
     signal(SIGINT, tell), signal(SIGTERM, tell), signal(SIGHUP, tell);
 }
 
-/* An instance of two seats, whose handles lie apart since each thread writes its own; and a limit of so many frames, which lets at
- * least so many bytes to the card. */
+/* Makes an instance of two seats, whose handles are apart because each thread writes its own; and a limit for this many
+ * frames, which allows at least this many bytes. */
 static inline void open_device(struct device *device, uint32_t frames, uint32_t least) {
     struct fq_handle seats[2] = {FQ_NONE, FQ_NONE};
     must("instance", fq_shared_bare(&device->control, seats, 2), FQ_OK);

@@ -1,5 +1,6 @@
-# examples/driver/driver.sh, sourced by a driver's run.sh: namespaces, which go with the script that made them; the loads; and what
-# has to be so, a line `ok` or `WRONG` each, of which the first WRONG ends the script. PATIENCE: how many seconds it waits for a thing.
+# examples/driver/driver.sh, sourced by a driver's run.sh: namespaces, which are removed with the script that made them; the
+# loads; and the checks, a line `ok` or `WRONG` each; the first WRONG ends the script. PATIENCE: how many seconds it waits for
+# each condition.
 . "$(dirname "${BASH_SOURCE[0]}")/../tap/device.sh"
 patience=${PATIENCE:-120}
 
@@ -23,7 +24,7 @@ make_spaces() {
     space=$2
 }
 
-# What runs in them ends first.
+# The processes in them end first.
 remove_spaces() {
     local process each
     for each in "${spaces[@]}"; do
@@ -61,7 +62,7 @@ check() {
 }
 
 load() { inside timeout "$patience" "$built/load" "$@"; }
-# answered COUNT LINE: so many came back at least, none of them changed
+# answered COUNT LINE: at least this many packets came back, none of them changed
 answered() { [[ $2 =~ \ back\ ([0-9]+)\ bad\ 0\  ]] && [ "${BASH_REMATCH[1]}" -ge "$1" ]; }
 pings() {
     local said
@@ -83,7 +84,8 @@ start() {
 }
 has_begun() { told on 1 || has_ended "$driver"; }
 
-# Pings, a second of UDP both ways, ten disables and enables under load, pings, and SIGINT; `tx` and `rx` are what the other end counted.
+# Pings, a second of UDP both ways, ten disables and enables under load, pings, and SIGINT; `tx` and `rx` are the counts of the
+# other end.
 drive() {
     local turn load
     pings 3000 1400 16
@@ -109,7 +111,7 @@ drive() {
     cat "$scratch/out"
 }
 
-# is NAME: the number behind this name in the driver's lines
+# is NAME: the number after this name in the driver's lines
 is() { awk -v name="$1" '{ for (i = 1; i < NF; i++) if ($i == name) print $(i + 1) }' "$scratch/out"; }
 
 end() {

@@ -1,6 +1,6 @@
 #!/usr/bin/env bash
-# examples/ns3/build.sh FOLDER: builds limits and bottleneck into the folder, on Debian's libns3-dev and the C library, which is
-# proved and built first where that isn't done yet. Status 69 if there is no ns-3, which is Debian's package libns3-dev.
+# examples/ns3/build.sh FOLDER: builds limits and bottleneck into the folder, with Debian's libns3-dev and the C library, which
+# is proved and built first if that isn't done yet. Status 69 if there is no ns-3, which is Debian's package libns3-dev.
 set -euo pipefail
 unset CDPATH
 here=$(dirname "$(readlink -f "${BASH_SOURCE[0]}")")

@@ -1,4 +1,4 @@
-/* Queue limits of ns-3 (ns3::QueueLimits) over this library's, and both side by side. */
+/* Queue limits of ns-3 (ns3::QueueLimits) by this library's, and both compared. */
 #ifndef FINTAQUSH_NS3_LIMITS_H
 #define FINTAQUSH_NS3_LIMITS_H
 
@@ -10,14 +10,14 @@
 #include <ns3/queue-limits.h>
 #include <ns3/simulator.h>
 
-/* Ends the program where a call answers what it can't answer here. */
+/* Ends the program if a call returns what isn't possible here. */
 inline void must(const char *what, uint32_t said, uint32_t wanted = FQ_OK) {
     if (said == wanted) return;
     std::cerr << what << ": " << fq_status_name(said) << "\n";
     std::exit(1);
 }
 
-/* The library's limit as one of ns-3. Its moments are of any clock: here they are ns-3's nanoseconds. */
+/* The library's limit as one of ns-3. Its times are of any clock: here they are ns-3's nanoseconds. */
 class FintaqushLimits : public ns3::QueueLimits {
   public:
     FintaqushLimits(uint32_t min, uint32_t max, ns3::Time hold) {
@@ -36,7 +36,7 @@ class FintaqushLimits : public ns3::QueueLimits {
     fq_dql dql;
 };
 
-/* A limit whose calls are counted and, where a stream is given, written, each with what is available behind it. */
+/* A limit whose calls are counted and, if a stream is given, written, each with the bytes available after it. */
 class ToldLimits : public ns3::QueueLimits {
   public:
     ToldLimits(ns3::Ptr<ns3::QueueLimits> limits, std::ostream *calls) : limits(limits), calls(calls) {}
@@ -56,7 +56,7 @@ class ToldLimits : public ns3::QueueLimits {
         tell("completed", count);
     }
 
-    /* What is available is the limit without what is in flight. */
+    /* The bytes available are the limit minus those in flight. */
     int64_t Limit() const { return limits->Available() + in_flight; }
     uint64_t Stops() const { return stops; }
 

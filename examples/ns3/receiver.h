@@ -1,10 +1,12 @@
 /* A receiver with one processor: its cards put packets into the library's rings and interrupt; a softirq polls them by the
- * library's driven runs; an application uses what was delivered. With a budget of 0 each packet interrupts and nothing is polled. With
- * deferral (napi_defer_hard_irqs, gro_flush_timeout) a card stays masked after a poll, and a timer asks for the next one.
+ * library's runs; an application uses what was delivered. With a budget of 0 each packet interrupts and nothing is polled.
+ * With deferral (napi_defer_hard_irqs, gro_flush_timeout) a card stays masked after a poll, and a timer requests the next
+ * one.
  *
- * Softirqs run before tasks, and an interrupt goes before a run's next poll. A poll takes packet after packet, also those that arrive
- * meanwhile. An interrupt interrupts the application, and nothing else. What ends at a time ends before timers expire, and both before a
- * packet of that time arrives. This is the machine of napi_machine, which reports the same counts and waits for the same arrivals. */
+ * Softirqs run before tasks, and an interrupt goes before a run's next poll. A poll takes packet after packet, including
+ * those that arrive meanwhile. An interrupt interrupts only the application. What ends at a time ends before timers expire,
+ * and both before a packet of that time arrives. This is the machine of napi_machine, which reports the same counts and
+ * waits for the same arrivals. */
 #ifndef FINTAQUSH_NS3_RECEIVER_H
 #define FINTAQUSH_NS3_RECEIVER_H
 
@@ -24,7 +26,7 @@ enum : uint32_t { RING = 256, WEIGHT = 64, WINDOW = 65535, SOCKET = 512 };
 /* What each piece of work takes: made up, of the order of a small machine's. */
 static const ns3::Time INTERRUPT = ns3::MicroSeconds(4), POLL = ns3::MicroSeconds(1);
 static const ns3::Time PACKET = ns3::MicroSeconds(1), USE = ns3::MicroSeconds(2);
-/* How long a run lasts at most (netdev_budget_usecs). */
+/* The time limit of a run (netdev_budget_usecs). */
 static const ns3::Time TIME_LIMIT = ns3::MilliSeconds(8);
 
 struct Settings {
@@ -41,7 +43,7 @@ struct Card {
     uint64_t next = 0, arrived = 0, dropped = 0, interrupts = 0, polls = 0;
     std::vector<int64_t> waits; /* until each was delivered */
     uint32_t waiting = 0; /* packets in its ring */
-    uint32_t deferrals = 0; /* that are left */
+    uint32_t deferrals = 0; /* still left */
     bool raised = false, masked = false, fired = false;
 };
 
@@ -128,7 +130,7 @@ class Receiver {
         Disturb();
     }
 
-    /* An idle processor begins, and a packet's use is interrupted if a card asks for it. */
+    /* An idle processor starts work, and a packet's use is interrupted if a card requires it. */
     void Disturb() {
         const ns3::Time now = ns3::Simulator::Now();
         if (!work) counts.end = now;
@@ -143,7 +145,7 @@ class Receiver {
 
     static bool Asks(const Card &card) { return card.raised || card.fired; }
 
-    /* The first work that there is. */
+    /* Takes up the first work that there is. */
     void TakeUp() {
         work = nullptr;
         const auto asking = std::find_if(cards.begin(), cards.end(), Asks);
@@ -159,7 +161,7 @@ class Receiver {
         Use(USE);
     }
 
-    /* Work of this length, which counts in this sum; what is done at its end may begin more of it. */
+    /* Work of this length, which is added to this sum; its effect at the end may start more of it. */
     void After(ns3::Time length, ns3::Time &sum, std::function<void()> then) {
         work = &sum;
         began = ns3::Simulator::Now();
@@ -246,7 +248,7 @@ class Receiver {
         return true;
     }
 
-    /* A run that time alone ended is late, and squeezed, as the kernel counts both. */
+    /* A run that only time ended is late, and squeezed, as the kernel counts both. */
     void EndRun(bool is_over) {
         fq_run_report report;
         must("end", fq_run_end(&list, &report));
@@ -297,7 +299,7 @@ class Receiver {
     fq_handle list = FQ_NONE;
     std::ostream *arrivals;
     std::deque<Waiting> socket;
-    ns3::Time *work = nullptr; /* the sum that the work under way counts in */
+    ns3::Time *work = nullptr; /* the sum to which the present work is added */
     ns3::EventId work_end;
     ns3::Time began, run_began, use_left, rest; /* rest: of an interrupted use */
     Waiting in_use{};

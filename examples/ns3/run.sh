@@ -1,7 +1,7 @@
 #!/usr/bin/env bash
 # examples/ns3/run.sh [FOLDER [LOAD ..]]: builds the example and runs it over the offered loads, in packets a second, with interrupts
 # without polling, with budgets of 16, 64 and 300, and with 300 and deferred interrupts. Prints a table, and leaves in the folder (out/ns3
-# at the top) all columns as bottleneck.txt and, if there is gnuplot, bottleneck.png. Status 69 if there is no ns-3.
+# at the top) all columns as bottleneck.txt and, if Python has matplotlib, bottleneck.png. Status 69 if there is no ns-3.
 set -euo pipefail
 unset CDPATH
 here=$(dirname "$(readlink -f "${BASH_SOURCE[0]}")")
@@ -31,36 +31,7 @@ awk 'NR == 1 { for (i = 1; i <= NF; i++) at[$i] = i
             $at["p50_us"] / 1000, $at["p99_us"] / 1000, $at["interrupt%"], $at["poll%"], $at["use%"],
             $at["squeezed"] " of " $at["runs"] }' "$to/bottleneck.txt"
 
-command -v gnuplot > /dev/null || { echo 'run: no gnuplot, so no picture' >&2; exit 0; }
-gnuplot << END
-set terminal pngcairo size 540,900 font 'sans,11' background '#ffffff'
-set output '$to/bottleneck.png'
-set multiplot layout 3,1
-set border 3 lc '#888888'
-set tics nomirror out
-set grid ytics lc '#dddddd' lt 1
-set xlabel 'offered load, thousand packets a second'
-set xrange [0:400]
-unset key
-budgets = '0 16 300 300'
-deferrals = '0 0 0 2'
-names = '"interrupts without polling" "budget 16" "budget 300" "budget 300, deferral by 100 µs"'
-colours = '#888888 #9fdcc4 #d95f02 #7570b3'
-widths = '2 7 2 2'
-file = '$to/bottleneck.txt'
-drawn = 'with linespoints pt 7 ps 0.5 lw word(widths, i) lc rgb word(colours, i)'
-of(i, value) = \$1 == word(budgets, i) && \$2 == word(deferrals, i) ? value : NaN
-set datafile missing NaN
-set title 'latency, 99th percentile, ms'
-set logscale y
-plot for [i = 1:4] file using (\$4 / 1000):(of(i, \$13 / 1000)) skip 1 @drawn
-unset logscale
-set title 'dropped packets, %'
-set yrange [0:100]
-set key top left Left reverse samplen 1.5 font 'sans,9'
-plot for [i = 1:4] file using (\$4 / 1000):(of(i, 100.0 * (\$6 + \$8 + \$9) / \$5)) skip 1 @drawn \
-    title word(names, i)
-unset key
-set title 'the processor''s time for the application, %'
-plot for [i = 1:4] file using (\$4 / 1000):(of(i, \$16)) skip 1 @drawn
-END
+for python in python3 /usr/bin/python3; do
+    "$python" -c 'import matplotlib' 2> /dev/null && break
+done || { echo 'run: no matplotlib for Python, so no picture' >&2; exit 0; }
+"$python" "$here/picture.py" "$to/bottleneck.txt" "$to/bottleneck.png"

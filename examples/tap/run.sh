@@ -1,8 +1,8 @@
 #!/usr/bin/env bash
-# examples/tap/run.sh [WORD ..]: runs the driver, with these words, on a TAP device in a network namespace: 3000 pings of 1400 bytes,
-# a second of UDP both ways, a disable and an enable under load, and SIGINT under load. Prints the driver's counts beside the
-# kernel's, and a line `ok` or `WRONG` for each thing that has to be so. BUILT=FOLDER: there build.sh has built it. The status is 0
-# only if all is well, 69 if there is no root, no `ip`, no /dev/net/tun or no right to make a namespace.
+# examples/tap/run.sh [OPTION ..]: runs the driver, with these arguments, on a TAP device in a network namespace: 3000 pings of
+# 1400 bytes, a second of UDP both ways, a disable and an enable under load, and SIGINT under load. Prints the driver's counts
+# and the kernel's, and a line `ok` or `WRONG` for each check. BUILT=FOLDER: a folder in which build.sh has built it. The status
+# is 0 only if all checks pass, 69 if there is no root, no `ip`, no /dev/net/tun or no right to make a namespace.
 set -uo pipefail
 unset CDPATH
 here=$(dirname "$(readlink -f "${BASH_SOURCE[0]}")")
@@ -21,7 +21,7 @@ scratch=$(mktemp -d)
 trap 'remove_device; rm -rf "$scratch"' EXIT
 built=${BUILT:-$scratch}
 [ -n "${BUILT:-}" ] || "$here/build.sh" "$built" || exit
-# A trace has at most 100000 rows, so there the load is gentle.
+# A trace has at most 100000 rows, so the load is gentle then.
 under_load=(udp 7 0 600)
 [ -z "$trace" ] || under_load=(rate 200 1000000 600)
 
@@ -59,7 +59,7 @@ cat "$scratch/out"
 tx=$(counter tx_packets) rx=$(counter rx_packets)
 echo "the kernel: TX $tx RX $rx"
 
-# is NAME: the number behind this name in the driver's lines
+# is NAME: the number after this name in the driver's lines
 is() { awk -v name="$1" '{ for (i = 1; i < NF; i++) if ($i == name) print $(i + 1) }' "$scratch/out"; }
 check "the kernel's TX is what was read" [ "$tx" = "$(is read)" ]
 check "the kernel's RX is what was sent" [ "$rx" = "$(is sent)" ]
@@ -68,7 +68,7 @@ check 'answered = sent + failed + dropped' [ "$(is answered)" = "$(($(is sent) +
 check 'nothing is in flight' [ "$(is in_flight)" = 0 ]
 if [ -n "$trace" ]; then
     "$here/../../replay" "$trace" > "$scratch/report" || wrong=1
-    # of NAME: the number behind it in the replay's line of the device, of its requests, of its sends, and in the last one
+    # of NAME: the number after it in the replay's line of the device, of its requests, of its sends, and in the last one
     of() { awk -v name="$1" '$1 != "softirq" { for (i = 1; i < NF; i++) if ($i == name) found = $(i + 1) } END { print found }' <(grep -e "^$2 " "$scratch/report"); }
     same() {
         echo "the replay: $(of arrived device) $(of dropped device) $(of polled device) $(of left device) $(of polls device) $(of granted napi)" \

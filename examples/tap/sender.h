@@ -1,5 +1,5 @@
-/* What a device sends: frames that wait (as in the kernel's queue discipline), and before them those that the card has, under a
- * byte queue limit. The card is slow if it has a rate: it takes frames at a timer's ticks. */
+/* What a device sends: frames that wait (as in the kernel's queue discipline), and before them those that the card has,
+ * under a byte queue limit. The card is slow if it has a rate: it takes frames at a timer's ticks. */
 #ifndef SENDER_H
 #define SENDER_H
 
@@ -11,13 +11,14 @@ enum { SLOTS = 1024 };
 
 struct sender {
     struct fq_dql limit;
-    bool stopped; /* by the limit */
+    bool stopped; /* allowed by the limit */
     int card;
-    size_t device, places; /* the card has at most so many frames */
+    size_t device, places; /* the card has at most this many frames */
     uint8_t (*frames)[FRAME];
     uint32_t bytes[SLOTS];
-    uint64_t first, given, behind; /* the card has the frames from first on, those from given on wait, behind is the next */
-    uint64_t credit;               /* what the card may take by its rate, in bits times a second's nanoseconds */
+    uint64_t first, given, behind; /* the card has the frames from first on, those from given on wait, and the next one goes
+                                    * to `behind` */
+    uint64_t credit;               /* what the card may take by its rate, in bits times the nanoseconds of a second */
     unsigned long answered, sent, failed, dropped, held;
     struct trace *trace;
 };
@@ -31,7 +32,7 @@ static inline void sender_open(struct sender *sender, int card, size_t device, s
     must("limit", fq_dql_init(&sender->limit, 0, 1879048192, 1000, moment), FQ_OK);
 }
 
-/* A frame is to be sent: it waits behind the others; where too many wait it is dropped. */
+/* Queues a frame after the others; if too many wait, it is dropped. */
 static inline void sender_put(struct sender *sender, const uint8_t *frame, uint32_t bytes) {
     sender->answered++;
     if (sender->behind - sender->first == SLOTS) {
@@ -42,7 +43,7 @@ static inline void sender_put(struct sender *sender, const uint8_t *frame, uint3
     sender->bytes[sender->behind++ % SLOTS] = bytes;
 }
 
-/* Frames that wait are given to the card, until the limit stops the queue or the card has no place (netdev_tx_sent_queue). */
+/* Gives frames that wait to the card, until the limit stops the queue or the card is full (netdev_tx_sent_queue). */
 static inline void sender_give(struct sender *sender) {
     while (sender->given < sender->behind) {
         const uint32_t bytes = sender->bytes[sender->given % SLOTS];
@@ -57,7 +58,7 @@ static inline void sender_give(struct sender *sender) {
     }
 }
 
-/* The card sends so many frames, and says that it is done with them (netdev_tx_completed_queue). */
+/* The card sends this many frames, and completes them (netdev_tx_completed_queue). */
 static inline void sender_done(struct sender *sender, uint32_t count) {
     const uint64_t moment = now_ms();
     uint32_t sum = 0;
@@ -77,7 +78,8 @@ static inline void sender_flush(struct sender *sender) {
     for (sender_give(sender); sender->first < sender->given; sender_give(sender)) sender_done(sender, (uint32_t)(sender->given - sender->first));
 }
 
-/* A tick of a card with a rate, in bits a second: it sends what the time since the last tick allows, of a tenth of a second at most. */
+/* A tick of a card with a rate, in bits per second: it sends what the time since the last tick allows, at most a tenth of a
+ * second. */
 static inline void sender_tick(struct sender *sender, uint64_t rate, uint64_t passed_ns) {
     uint32_t count = 0;
     sender->credit += rate * (passed_ns < 100000000 ? passed_ns : 100000000);

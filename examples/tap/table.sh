@@ -1,8 +1,8 @@
 #!/usr/bin/env bash
-# examples/tap/table.sh: the driver in five ways under the same loads, one after the other: of a flood of UDP the packets a second
-# that it read and its processor time for each; of pings of 64 bytes the median and the 99th percentile of the time to the answer, in
-# microseconds, at 100, 2000 and 20000 a second and with 32 always under way. The last line tells how busy the machine was. Status
-# 69 as run.sh. BUILT=FOLDER: there build.sh has built it.
+# examples/tap/table.sh: the driver in five modes under the same loads, one after the other: for a flood of UDP the packets per
+# second that it read and its processor time per packet; for pings of 64 bytes the median and the 99th percentile of the
+# round-trip time in microseconds, at 100, 2000 and 20000 per second and with 32 always in flight. The last line shows how busy
+# the machine was. Status 69 as in run.sh. BUILT=FOLDER: a folder in which build.sh has built it.
 set -uo pipefail
 unset CDPATH
 here=$(dirname "$(readlink -f "${BASH_SOURCE[0]}")")
@@ -22,7 +22,7 @@ failed() {
 # The processor time of the driver's threads, in ns.
 spent() { cat "/proc/$driver/task/"*/schedstat | awk '{ sum += $1 } END { printf "%.0f\n", sum }'; }
 
-# flood BYTES: packets a second and ns a packet, over one second
+# flood BYTES: packets per second and ns per packet, over one second
 flood() {
     local packets time
     packets=$(counter tx_packets) time=$(spent)

@@ -27,11 +27,11 @@ enum { CARD = 0, POLLER = 1, STOP = QUEUES, WAKE, TIMER };
 struct queue {
     int tap;
     size_t number;
-    uint8_t (*frames)[FRAME]; /* what the ring holds, what a poll gave, and the one that is read into, in turn */
+    uint8_t (*frames)[FRAME]; /* for what the ring holds, what a poll returned, and the frame that is being read, in turn */
     struct fq_handle ring, control, seats[2];
-    alignas(64) uint64_t next; /* from here on the card thread's */
+    alignas(64) uint64_t next; /* from here on used by the card thread */
     unsigned long read, full, granted, missed, disabled;
-    alignas(64) enum state state; /* from here on the poller's */
+    alignas(64) enum state state; /* from here on used by the poller */
     unsigned long packets, polls, again, drained;
     struct sender sender;
 };
@@ -43,7 +43,7 @@ static struct fq_handle list;
 static struct trace trace;
 static unsigned long runs, squeezed;
 static int card_events, poller_events, wake, stop, timer;
-static alignas(64) _Atomic uint64_t handed; /* a bit for each queue that is to be listed */
+static alignas(64) _Atomic uint64_t handed; /* a bit for each queue that has to be listed */
 static atomic_int wanted;
 static atomic_bool ended;
 
@@ -55,12 +55,12 @@ static void watch(int events, int operation, int file, uint32_t what, uint32_t n
     if (epoll_ctl(events, operation, file, &(struct epoll_event){.events = what, .data.u32 = number})) die("epoll_ctl");
 }
 
-/* The device's interrupt is on: with --mask until it interrupts. */
+/* Enables the device's interrupt: with --mask until it interrupts. */
 static void arm(struct queue *queue, int operation) {
     watch(card_events, operation, queue->tap, EPOLLIN | (set.mask ? EPOLLONESHOT : 0), (uint32_t)queue->number);
 }
 
-/* Asks for a poll by one of the seats; where it is granted and handed over, the poller lists it. */
+/* Requests a poll by one of the seats; if it is granted and handed over, the poller lists it. */
 static uint32_t interrupt(struct queue *queue, size_t seat) {
     const uint32_t said = fq_seat_interrupt(&queue->seats[seat], FQ_LIST);
     if (said != FQ_GRANTED) return said;
@@ -123,7 +123,8 @@ static size_t poll_ring(struct queue *queue) {
     return count;
 }
 
-/* Ends a poll: one of the whole weight is requeued, unless a disable waits; any other completes, and the interrupt is on again. */
+/* Ends a poll: after one of the whole weight the instance is requeued, unless a disable is pending; any other completes, and
+ * the interrupt is enabled again. */
 static enum fq_next end_poll(struct queue *queue, bool whole) {
     struct fq_handle *seat = &queue->seats[POLLER];
     uint32_t said;
@@ -143,7 +144,7 @@ static enum fq_next end_poll(struct queue *queue, bool whole) {
     return FQ_NEXT_GONE;
 }
 
-/* A run of the softirq over what was handed to the list. Answers whether it polled anything: then another one follows. */
+/* A run of the softirq over the listed queues. Returns whether it polled anything: then another one follows. */
 static bool run(void) {
     struct fq_run_report report;
     uint32_t id;
@@ -164,7 +165,7 @@ static bool run(void) {
     return report.polls > 0;
 }
 
-/* napi_enable, and a poll for what came before it; a trace has no row for that, so there the next packet asks. */
+/* napi_enable, and a poll for what arrived before it; a trace has no row for that, so then the next packet requests it. */
 static void enable(struct queue *queue) {
     uint32_t said;
     do said = fq_control_enable(&queue->control, false);
@@ -175,7 +176,7 @@ static void enable(struct queue *queue) {
     if (!trace.file) interrupt(queue, POLLER);
 }
 
-/* A step of napi_disable: it is marked once, and then taken as soon as nobody has it. */
+/* A step of napi_disable: it is marked once, and then taken as soon as no caller owns it. */
 static void disable_step(struct queue *queue) {
     if (queue->state == ENABLED) {
         must("mark", fq_control_mark(&queue->control), FQ_OK);
@@ -187,7 +188,7 @@ static void disable_step(struct queue *queue) {
     else if (said != FQ_BUSY) must("disable", said, FQ_CHANGED);
 }
 
-/* Goes a step towards what is wanted. Answers whether all queues are there. */
+/* Makes a step towards the wanted state. Returns whether all queues have reached it. */
 static bool control(enum wanted now) {
     bool there = true;
     for (size_t i = 0; i < set.queues; i++) {
@@ -257,7 +258,7 @@ static void open_queue(struct queue *queue, size_t number, uint64_t moment) {
     row(&trace, moment, number + 1, "open", set.ring);
 }
 
-/* What is left in the ring of a disabled queue is polled out, and what waits to be sent is sent. */
+/* Polls what is left in the ring of a disabled queue, and sends what waits. */
 static void drain(struct queue *queue) {
     struct fq_handle *seat = &queue->seats[POLLER];
     struct fq_packet packets[WEIGHT];
@@ -290,7 +291,7 @@ static void close_queue(struct queue *queue) {
     close(queue->tap);
 }
 
-/* Two lines: of what came, and of what went. */
+/* Two lines: what arrived, and what was sent. */
 static void print(void) {
     struct queue sum = {0};
     uint32_t limit = 0, in_flight = 0;

@@ -1,5 +1,5 @@
-/* A virtio-net card (virtio 1, split rings) through vfio-pci: registers, memory, interrupts, and a queue's rings. Nothing here knows of
- * polling. Queue 0 receives, queue 1 sends. */
+/* A virtio-net card (virtio 1, split rings) through vfio-pci: registers, memory, interrupts, and a queue's rings. Nothing
+ * here depends on polling. Queue 0 receives, queue 1 sends. */
 #ifndef CARD_H
 #define CARD_H
 
@@ -22,11 +22,11 @@
 #include <unistd.h>
 
 enum { RX = 0, TX = 1, QUEUES = 2, LARGEST_QUEUE = 1024, BUFFER = 2048, PAGE = 4096, HEAD = sizeof(struct virtio_net_hdr_v1) };
-enum { IOVA = 0x10000000 }; /* where the card sees its memory */
+enum { IOVA = 0x10000000 }; /* the address at which the card sees its memory */
 
 struct queue {
     uint16_t number, size;
-    uint16_t posted, seen; /* how many descriptors the card was given, and how many came back, modulo 2^16 */
+    uint16_t posted, seen; /* how many descriptors the card was given, and how many it returned, modulo 2^16 */
     struct vring_desc *desc;
     struct vring_avail *avail;
     struct vring_used *used;
@@ -53,7 +53,7 @@ static inline void need(bool is_so, const char *what) {
     if (!is_so) die(what);
 }
 
-/* ---- Memory that the card sees, on pages of its own. */
+/* ---- Memory that the card sees, in separate pages. */
 
 static inline void *card_memory(struct card *card, size_t bytes) {
     uint8_t *at = card->memory + card->given;
@@ -82,7 +82,7 @@ static inline void write_config(const struct card *card, uint64_t at, const void
     need(pwrite(card->device, from, bytes, (off_t)(config.offset + at)) == (ssize_t)bytes, "configuration space");
 }
 
-/* What a capability leads to, mapped. */
+/* Maps the registers of a capability. */
 static inline void *registers(const struct card *card, const struct virtio_pci_cap *cap) {
     const struct vfio_region_info bar = region(card, cap->bar);
     uint8_t *at = mmap(NULL, bar.size, PROT_READ | PROT_WRITE, MAP_SHARED, card->device, (off_t)bar.offset);
@@ -105,7 +105,7 @@ static inline void find_registers(struct card *card) {
     need(card->common && card->notify, "registers of virtio 1");
 }
 
-/* Opens the card at a PCI address (0000:00:05.0), which vfio-pci has; so much memory of ours is the card's too. */
+/* Opens the card at a PCI address (0000:00:05.0), which vfio-pci has, with this much memory that the card can access. */
 static inline void card_open(struct card *card, const char *address, size_t room) {
     char path[128], link[128] = "";
     snprintf(path, sizeof path, "/sys/bus/pci/devices/%s/iommu_group", address);
@@ -133,7 +133,7 @@ static inline void card_reset(struct card *card) {
     while (card->common->device_status) usleep(1000);
 }
 
-/* Resets the card, and takes of its features those alone without which nothing goes. */
+/* Resets the card, and accepts only those of its features without which it doesn't work. */
 static inline void card_begin(struct card *card) {
     volatile struct virtio_pci_common_cfg *common = card->common;
     const uint32_t taken[2] = {0, 1u << (VIRTIO_F_VERSION_1 - 32) | 1u << (VIRTIO_F_ACCESS_PLATFORM - 32)};
@@ -181,20 +181,20 @@ static inline void card_queue(struct card *card, uint16_t number) {
 
 /* ---- A queue's rings. */
 
-/* A descriptor is the card's from the next publish on. */
+/* A descriptor belongs to the card from the next publish on. */
 static inline void queue_post(struct queue *queue, uint16_t which, uint64_t address, uint32_t bytes) {
     queue->desc[which] = (struct vring_desc){.addr = address, .len = bytes, .flags = queue->number == RX ? VRING_DESC_F_WRITE : 0};
     queue->avail->ring[queue->posted++ % queue->size] = which;
 }
 
-/* All that was posted is the card's, which is told where it asks for that. */
+/* Passes everything that was posted to the card, and notifies it if it asks for that. */
 static inline void queue_publish(struct queue *queue) {
     __atomic_store_n(&queue->avail->idx, queue->posted, __ATOMIC_RELEASE);
     __sync_synchronize();
     if (!(__atomic_load_n(&queue->used->flags, __ATOMIC_RELAXED) & VRING_USED_F_NO_NOTIFY)) *queue->doorbell = queue->number;
 }
 
-/* How many descriptors came back and weren't looked at yet. */
+/* How many descriptors were returned and not read yet. */
 static inline uint16_t queue_back(const struct queue *queue) {
     return (uint16_t)(__atomic_load_n(&queue->used->idx, __ATOMIC_ACQUIRE) - queue->seen);
 }
@@ -206,7 +206,7 @@ static inline struct vring_used_elem queue_next(struct queue *queue) {
     return next;
 }
 
-/* ---- What the library does with a queue (struct fq_card). The card sees a mask in its own time. */
+/* ---- The library's callbacks for a queue (struct fq_card). The card sees a mask with a delay. */
 
 static inline void queue_flags(struct queue *queue, uint16_t flags) { __atomic_store_n(&queue->avail->flags, flags, __ATOMIC_RELAXED); }
 static inline void queue_mask(void *queue) { queue_flags(queue, VRING_AVAIL_F_NO_INTERRUPT); }

@@ -1,11 +1,11 @@
 #!/usr/bin/env bash
-# examples/virtio/compare.sh: the driver, and then the guest kernel's own virtio_net, under the same loads on the same card: packets that
-# came and went, the interrupts for both, and polls. Settings and status are those of run.sh.
+# examples/virtio/compare.sh: the driver, and then the guest kernel's own virtio_net, under the same loads on the same card:
+# packets received and sent, the interrupts for both, and polls. Settings and status are those of run.sh.
 set -uo pipefail
 unset CDPATH
 . "$(dirname "$(readlink -f "${BASH_SOURCE[0]}")")/vm.sh"
 
-# numbers WHAT: interrupts of receive and transmit, and polls, since it began
+# numbers WHAT: interrupts of receive and transmit, and polls, since the start
 numbers() {
     case $1 in
     driver) counts | awk '/^[rt]x / { print $3; polls += $11 } END { print polls }' ;;
@@ -15,7 +15,7 @@ numbers() {
     esac
 }
 
-# row WHAT NAME WORD ..: under that load
+# row WHAT NAME OPTION ..: under that load
 row() {
     local what=$1 name=$2 before after rx tx
     shift 2

@@ -1,14 +1,14 @@
 #!/usr/bin/env bash
-# examples/virtio/run.sh: runs the driver on the virtio card of a virtual machine: 3000 pings of 1400 bytes, two seconds of UDP both ways,
-# disables and enables under load (ROUNDS of them, 5), and SIGINT under load. Prints the driver's counts beside those of the card, of the
-# guest's kernel and of the other end, and a line `ok` or `WRONG` for each thing that has to be so. PATIENCE: how many seconds it
-# waits for packets (120); the other settings are those of vm.sh. The status is 0 only if all is well, 69 if there is no root, no
-# `ip`, no right to make a namespace, no TAP, or nothing to make a virtual machine of.
+# examples/virtio/run.sh: runs the driver on the virtio card of a virtual machine: 3000 pings of 1400 bytes, two seconds of UDP
+# both ways, disables and enables under load (ROUNDS of them, 5), and SIGINT under load. Prints the driver's counts and those of
+# the card, of the guest's kernel and of the other end, and a line `ok` or `WRONG` for each check. PATIENCE: how many seconds it
+# waits for packets (120); the other settings are those of vm.sh. The status is 0 only if all checks pass, 69 if there is no
+# root, no `ip`, no right to make a namespace, no TAP, or something that a virtual machine needs is missing.
 set -uo pipefail
 unset CDPATH
 . "$(dirname "$(readlink -f "${BASH_SOURCE[0]}")")/vm.sh"
 
-# check NAME COMMAND ..: its status. Behind the first WRONG nothing more is done to the driver, and the counts tell where packets are.
+# check NAME COMMAND ..: its status. After the first WRONG the driver is left alone, and the counts show where packets are.
 wrong=0
 check() {
     if "${@:2}"; then echo "ok: $1"; else
@@ -58,7 +58,7 @@ received=$(card 0) sent=$(card 1) tx=$(counter tx_packets) rx=$(counter rx_packe
 interrupts=$(guest 'grep vfio-msix /proc/interrupts' | awk '{ for (i = 2; $i ~ /^[0-9]+$/; i++) sum += $i } END { print sum + 0 }')
 echo "the card: received $received and sent $sent, modulo 65536; the guest's kernel: interrupts $interrupts; the other end: TX $tx RX $rx"
 
-# of LINE NAME: the number behind this name in that line of the driver's; -1 where it has told none
+# of LINE NAME: the number after this name in that line of the driver's; -1 if it printed none
 of() {
     awk -v line="$1" -v name="$2" '$1 == line { for (i = 1; i < NF; i++) if ($i == name) found = $(i + 1) }
         END { print found == "" ? -1 : found }' "$scratch/counts"

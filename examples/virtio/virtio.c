@@ -1,8 +1,8 @@
-/* A driver in user space of a virtio-net card, with its interrupts: behind it the far host 10.99.0.2 answers ARP, pings and UDP to port 7.
+/* A driver in user space for a virtio-net card, with its interrupts. Its host 10.99.0.2 answers ARP, pings and UDP to port 7.
  *
- * The interrupt thread waits for MSI-X and asks for polls. The poller has the poll list, polls both queues by driven runs, and sends the
- * answers under a byte queue limit; it disables and enables too. SIGHUP does either in turn, SIGUSR1 prints the counts, and SIGINT
- * disables, prints, and ends. usage: virtio ADDRESS, as 0000:00:05.0. */
+ * The interrupt thread waits for MSI-X and requests polls. The poller has the poll list, polls both queues in runs, and sends
+ * the answers under a byte queue limit; it disables and enables too. SIGHUP does either in turn, SIGUSR1 prints the counts, and
+ * SIGINT disables, prints, and ends. usage: virtio ADDRESS, for example 0000:00:05.0. */
 #define _GNU_SOURCE
 #include "answer.h"
 #include "card.h"
@@ -17,10 +17,10 @@
 enum { WEIGHT = 64, BUDGET = 300, WINDOW = 1024, SLOTS = 1024, MOST = 1879048192, HOLD_MS = 1000 };
 enum wanted { ON, OFF, END };
 
-/* A queue, its instance, and its counts. What is of different threads lies 128 bytes apart. */
+/* A queue, its instance, and its counts. Fields of different threads are 128 bytes apart. */
 struct side {
     struct queue *queue;
-    struct fq_card calls; /* what the library does with it */
+    struct fq_card calls; /* the library's callbacks for it */
     alignas(128) struct fq_handle irq; /* the interrupt thread's seat */
     atomic_ulong interrupts, granted, missed, disabled;
     alignas(128) struct fq_handle seat, control; /* the poller's */
@@ -31,12 +31,13 @@ struct side {
 static struct card card;
 static struct side sides[QUEUES];
 static struct fq_handle list, tx;
-static alignas(128) struct fq_word listed; /* what is to be listed */
+static alignas(128) struct fq_word listed; /* what has to be listed */
 static atomic_int wanted;
 static atomic_bool asked; /* for the counts */
 static int wake, stop;
 static uint8_t *buffers; /* one for each descriptor that receives */
-static uint8_t *slots;   /* answers, in turn: the card has those from first on, those from given on wait, behind is the next */
+static uint8_t *slots;   /* answers, in turn: the card has those from first on, those from given on wait, and the next one
+                          * goes to `behind` */
 static uint32_t lengths[SLOTS];
 static uint64_t first, given, behind;
 static unsigned long runs, squeezed, dropped, held, disorder;
@@ -55,14 +56,14 @@ static uint64_t now_ms(void) {
 
 static void raise_event(int event) { need(write(event, &(uint64_t){1}, 8) == 8, "eventfd"); }
 
-/* ---- What is asked for. */
+/* ---- Requests. */
 
 /* An instance was handed over: its number is for the list, and the poller wakes. */
 static void hand(struct side *side) {
     if (fq_word_raise(&listed, side->queue->number)) raise_event(wake);
 }
 
-/* An interrupt. Where the poll is granted the queue is masked before it is handed over. */
+/* An interrupt. If the poll is granted, the queue is masked before it is handed over. */
 static void interrupt(struct side *side) {
     uint64_t count;
     if (read(side->queue->event, &count, 8) != 8) return;
@@ -90,7 +91,7 @@ static void *interrupts(void *at) {
 
 static uint8_t *slot(uint64_t number) { return slots + number % SLOTS * BUFFER; }
 
-/* Answers that wait are given to the card, until the limit stops the queue or the card has no place (netdev_tx_sent_queue). */
+/* Gives answers that wait to the card, until the limit stops the queue or the card is full (netdev_tx_sent_queue). */
 static void send_answers(struct queue *queue) {
     const uint64_t before = given;
     for (; given < behind; given++) {
@@ -105,7 +106,7 @@ static void send_answers(struct queue *queue) {
     if (given != before) queue_publish(queue);
 }
 
-/* A frame behind the card's head: its answer, if it has one, waits to be sent. Where no slot is left it is dropped. */
+/* Handles a frame after the card's header: its answer, if it has one, waits to be sent. If no slot is free, it is dropped. */
 static void use(const uint8_t *frame, uint32_t bytes) {
     uint8_t *to = slot(behind);
     if (behind - first == SLOTS || bytes <= HEAD || bytes > BUFFER) {
@@ -130,7 +131,7 @@ static uint32_t receive(struct queue *queue) {
     return count;
 }
 
-/* What the card has sent is complete (netdev_tx_completed_queue). */
+/* Completes what the card has sent (netdev_tx_completed_queue). */
 static uint32_t complete(struct queue *queue) {
     uint32_t count = 0;
     for (; count < WEIGHT && queue_back(queue); count++) disorder += queue_next(queue).id != (first + count) % queue->size;
@@ -139,7 +140,8 @@ static uint32_t complete(struct queue *queue) {
     return count;
 }
 
-/* Ends a poll: once nobody has the instance the queue is unmasked and looked at, and polled again if something came meanwhile. */
+/* Ends a poll: when no caller owns the instance the queue is unmasked and checked, and polled again if something arrived
+ * meanwhile. */
 static uint32_t end(struct side *side, bool full) {
     uint32_t next;
     must("end", fq_seat_end_watched(&side->seat, full, &side->calls, &next), FQ_OK);
@@ -148,7 +150,7 @@ static uint32_t end(struct side *side, bool full) {
     return next;
 }
 
-/* A run of the softirq. Answers whether something is listed still: then another one follows. */
+/* A run of the softirq. Returns whether something is still listed: then another one follows. */
 static bool run(void) {
     struct fq_run_report report;
     uint32_t id, length;
@@ -173,8 +175,8 @@ static bool run(void) {
 
 /* ---- Open and stop. */
 
-/* A step to what is wanted. Answers whether both queues are there. What came while a queue was off has interrupted nobody, so that behind
- * an enable it is asked for here. */
+/* A step towards the wanted state. Returns whether both queues have reached it. What arrived while a queue was disabled
+ * caused no interrupt, so a poll is requested here after an enable. */
 static bool control(bool on) {
     bool there = true;
     for (int i = 0; i < QUEUES; i++) {
@@ -189,7 +191,7 @@ static bool control(bool on) {
     return there;
 }
 
-/* A line of each queue, and one of all. While packets flow they are near to what is. */
+/* A line for each queue, and one for all. While packets flow they are approximate. */
 static void print(void) {
     struct fq_tx_shown state;
     must("state", fq_tx_state(&tx, &state), FQ_OK);
@@ -203,7 +205,7 @@ static void print(void) {
     fflush(stdout);
 }
 
-/* What is wanted is looked at once the last one is reached, as an open waits for a stop. */
+/* A new request is read once the last one is done, as an open waits for a stop. */
 static void *poller(void *at) {
     struct pollfd file = {wake, POLLIN, 0};
     uint64_t count;

@@ -1,7 +1,7 @@
-# examples/virtio/vm.sh, sourced: a virtual machine with a virtio card, whose other end is a TAP device in a namespace. Settings: BUILT, a
-# folder in which build.sh has built; CPUS, the number of processors (2); KERNEL, a folder that Debian's kernel packages were unpacked
-# into (~/.cache/fintaqush/linux-image, or what is installed). The image is boot/vmlinuz-VERSION or, in Debian's newest packages,
-# usr/lib/modules/VERSION/vmlinuz.
+# examples/virtio/vm.sh, sourced: a virtual machine with a virtio card, whose other end is a TAP device in a namespace.
+# Settings: BUILT, a folder in which build.sh has built; CPUS, the number of processors (2); KERNEL, a folder into which
+# Debian's kernel packages were unpacked (~/.cache/fintaqush/linux-image, or what is installed). The image is
+# boot/vmlinuz-VERSION or, in Debian's newest packages, usr/lib/modules/VERSION/vmlinuz.
 export PATH=$PATH:/sbin:/usr/sbin
 here=$(dirname "$(readlink -f "${BASH_SOURCE[0]}")")
 . "$here/../driver/driver.sh"
@@ -65,7 +65,8 @@ boot() {
 }
 has_booted() { wrote 'GUEST ready' 1 || has_ended "$machine"; }
 
-# open_machine: builds the driver, and boots a machine in which vfio-pci has the card; status 69 where there is nothing to make it of.
+# open_machine: builds the driver, and boots a machine in which vfio-pci has the card; status 69 if there is nothing to make it
+# from.
 open_machine() {
     local program
     for program in qemu-system-x86_64 busybox kmod cpio; do
@@ -83,7 +84,7 @@ open_machine() {
     exit 1
 }
 
-# wrote PATTERN COUNT: whether so many lines of the console are it
+# wrote PATTERN COUNT: whether at least this many lines of the console match it
 wrote() { [ "$(tr -d '\r' < "$scratch/console" | grep -c -x -e "$1")" -ge "$2" ]; }
 
 # guest COMMAND: runs it there, and prints what it wrote; its status
@@ -95,7 +96,7 @@ guest() {
     tail -n +$((lines + 1)) "$scratch/console" | tr -d '\r' | awk '/^GUEST / { status = $2; exit } { print } END { exit status }'
 }
 
-# start_driver: its link is up then
+# start_driver: its link is up afterwards
 start_driver() {
     guest "virtio $address > /out &"
     patience=120 wait_for wrote 'virtio: on' 1 || { cat "$scratch/console"; exit 1; }
@@ -105,7 +106,7 @@ start_driver() {
 # counts: what the driver prints
 counts() { guest 'kill -USR1 $!; sleep 1; tail -n 3 /out'; }
 
-# card QUEUE: how many descriptors the card gave back, modulo 2^16, as its side tells (QEMU's monitor)
+# card QUEUE: how many descriptors the card returned, modulo 2^16, by the host's side (QEMU's monitor)
 card() {
     local answers
     answers=$(grep -c used_idx: "$scratch/monitor")

@@ -1,8 +1,8 @@
 #!/usr/bin/env bash
-# examples/xdp/run.sh [WORD ..]: runs the driver, with these words, on one end of a veth pair, each end in a namespace; the loads are
-# those of examples/driver/driver.sh. Compares what the other end, the card (ethtool), the socket (XDP_STATISTICS) and the driver
-# counted. BUILT=FOLDER: there build.sh has built it. The status is 0 only if all is well, 69 if there is no root, no `ip`, no
-# `ethtool`, no AF_XDP, or no right to make a namespace.
+# examples/xdp/run.sh [OPTION ..]: runs the driver, with these arguments, on one end of a veth pair, each end in a namespace;
+# the loads are those of examples/driver/driver.sh. Compares the counts of the other end, the card (ethtool), the socket
+# (XDP_STATISTICS) and the driver. BUILT=FOLDER: a folder in which build.sh has built it. The status is 0 only if all checks
+# pass, 69 if there is no root, no `ip`, no `ethtool`, no AF_XDP, or no right to make a namespace.
 set -uo pipefail
 unset CDPATH
 here=$(dirname "$(readlink -f "${BASH_SOURCE[0]}")")

@@ -1,5 +1,5 @@
-/* A driver in user space over an AF_XDP socket: rings of descriptors in memory that it shares with the kernel, which tells by one of
- * them what it has sent. Its host 10.99.0.2 answers ARP, pings and UDP to port 7, in the frame that was received.
+/* A driver in user space over an AF_XDP socket: rings of descriptors in memory that it shares with the kernel, one of which
+ * reports what the kernel has sent. Its host 10.99.0.2 answers ARP, pings and UDP to port 7, in the frame that was received.
  *
  * xdp DEVICE [--one] [--budget 1..65535]; --one: with one thread. ../driver/driver.h has the rest. */
 #define _GNU_SOURCE
@@ -12,9 +12,9 @@
 #include <sys/socket.h>
 #include <sys/syscall.h>
 
-enum { FRAMES = 2048, FRAME = 2048 }; /* each ring has a place for each frame, so none is ever full for want of one */
+enum { FRAMES = 2048, FRAME = 2048 }; /* each ring has room for every frame, so none is ever full */
 
-/* A ring that the kernel has the other end of; `at` is ours. */
+/* A ring whose other end is the kernel's; `at` is ours. */
 struct ring {
     uint32_t *producer, *consumer, *flags, at;
     void *places;
@@ -23,7 +23,7 @@ struct ring {
 static struct device device;
 static uint8_t *memory;
 static struct ring fill, completion, rx, tx;
-static struct xdp_desc waiting[FRAMES]; /* from first on, up to behind: the answers that wait for the limit */
+static struct xdp_desc waiting[FRAMES]; /* from first on, up to `behind`: the answers that wait for the limit */
 static uint64_t first, behind;
 static unsigned long kicks;
 
@@ -35,7 +35,7 @@ static int bpf(int command, union bpf_attr *attributes) {
     return said;
 }
 
-/* The program of the device: what comes goes to the socket. It is there until this process ends. */
+/* The program of the device: received packets go to the socket. It stays until this process ends. */
 static void attach(unsigned index) {
     union bpf_attr map = {.map_type = BPF_MAP_TYPE_XSKMAP, .key_size = 4, .value_size = 4, .max_entries = 1};
     const int file = bpf(BPF_MAP_CREATE, &map);
@@ -89,7 +89,7 @@ static void mask(void *at) { arm(at, EPOLL_CTL_MOD, false); }
 static void unmask(void *at) { arm(at, EPOLL_CTL_MOD, true); }
 static bool look(void *at) { return (void)at, produced(&rx) > 0; }
 
-/* What the kernel has sent, by its ring of completions; whether there was any. */
+/* What the kernel has sent, by its ring of completions; returns whether there was any. */
 static bool complete(void) {
     const uint32_t count = produced(&completion);
     for (uint32_t i = 0; i < count; i++) refill(((uint64_t *)completion.places)[completion.at++ % FRAMES]);
@@ -98,7 +98,7 @@ static bool complete(void) {
     return count > 0;
 }
 
-/* The kernel sends a few frames for each call, or none, where it has too many of this socket under way. */
+/* The kernel sends a few frames for each call, or none if it has too many of this socket in flight. */
 static void kick(void) {
     uint32_t before;
     do {
@@ -108,7 +108,7 @@ static void kick(void) {
     } while ((sendto(device.event, NULL, 0, MSG_DONTWAIT, NULL, 0) >= 0 || errno == EAGAIN) && __atomic_load_n(tx.consumer, __ATOMIC_ACQUIRE) != before);
 }
 
-/* As far as the limit lets frames go; and again, where the kernel was done with some at once. */
+/* Gives frames to the kernel as the limit allows; and again, if the kernel completed some at once. */
 static void give(struct device *at) {
     do {
         while (first != behind && may_send(at, waiting[first % FRAMES].len)) ((struct xdp_desc *)tx.places)[tx.at++ % FRAMES] = waiting[first++ % FRAMES];

@@ -1,4 +1,4 @@
-// Bursts into an instance's ring by the types of C++: none, more than fit, and what is polled of them.
+// Bursts into an instance's ring by the C++ types: none, more than fit, and what is polled of them.
 #include <fintaqush.hpp>
 
 using namespace fintaqush;

@@ -1,8 +1,9 @@
-/* A model card, which interrupts by edges: a packet that comes while it is masked interrupts nobody. Its packets come at every point of
- * interrupt and poll, behind each call of the library and of the card, in all orders; the interrupt comes there and then. At every
- * point of an interrupt, and of another poll, a whole poll may run, as on another processor, and a disable begins at every point. In the end nothing may
- * wait on the card, which then isn't masked. The orders of fintaqush.h never fail there; the two that hang real cards do: no look
- * behind the unmask, and a mask behind the hand-over. To be linked with --wrap for the calls of a seat. */
+/* A model card with edge-triggered interrupts: a packet that arrives while it is masked causes no interrupt. Its packets
+ * arrive at every point of interrupt and poll, after each call of the library and of the card, in all orders; the interrupt
+ * comes at that point. At every point of an interrupt, and of another poll, a whole poll may run, as on another processor,
+ * and a disable starts at every point. In the end nothing may wait on the card, which then isn't masked. The orders of
+ * fintaqush.h never fail there; the two that hang real cards do: no check after the unmask, and a mask after the hand-over.
+ * To be linked with --wrap for the calls of a seat. */
 #include <fintaqush.h>
 #include <stdio.h>
 #include <stdlib.h>
@@ -12,12 +13,12 @@ enum { WEIGHT = 2, PACKETS = 3, POINTS = 120, TURNS = 90, NEVER = 1000 };
 
 static enum order order;
 static bool threaded;
-static struct fq_handle control, seats[3]; /* the interrupt's, and two pollers' */
+static struct fq_handle control, seats[3]; /* the interrupt's seat, and two pollers' */
 
-/* When what happens: the points are counted. */
+/* The points at which things happen: points are counted. */
 static unsigned point_now, turn_now, packet_at[PACKETS], stop_at, turn_at;
 
-/* The card, and who is about. */
+/* The card, and what is running. */
 static unsigned packets, waiting, next_packet, polls; /* polls: how many poll, the second within a call of the first */
 static unsigned long played;
 static bool masked, raised, handles, stops;
@@ -119,7 +120,7 @@ static void interrupt(void) {
     handles = false;
 }
 
-/* Ends a poll, and answers whether the poller polls on. */
+/* Ends a poll, and returns whether the poller continues. */
 static bool end(struct fq_handle *seat, size_t work) {
     uint32_t next = 99, said;
     if (order == UNMASKED) said = fq_seat_end_unmasked(seat, &card, WEIGHT, &work, &next);
@@ -139,7 +140,7 @@ static void turn(void) {
     polls--;
 }
 
-/* Polls until nobody has the instance. */
+/* Polls until no caller owns the instance. */
 static void drain(void) {
     uint64_t word = FQ_BIT_SCHED;
     for (int turns = 0; word & FQ_BIT_SCHED; turns++) {
@@ -149,7 +150,7 @@ static void drain(void) {
     }
 }
 
-/* Plays one order of events, and answers whether the card hangs in the end. */
+/* Executes one order of events, and returns whether the card hangs in the end. */
 static bool hangs(void) {
     waiting = next_packet = polls = point_now = turn_now = 0;
     masked = raised = handles = stops = false;
@@ -157,7 +158,7 @@ static bool hangs(void) {
     point();
     for (drain(); next_packet < packets; drain()) packet();
     must(point_now <= POINTS && turn_now <= TURNS, "more points than are tried");
-    if (stops) { /* and one request behind the enable */
+    if (stops) { /* and one request after the enable */
         must(fq_control_step(&control, false, false) == FQ_OK && fq_control_step(&control, true, threaded) == FQ_OK, "off and on");
         request();
         drain();
@@ -168,7 +169,8 @@ static bool hangs(void) {
     return is_hung;
 }
 
-/* All orders of the packets from this one on, each not before the last: how many hang. What comes behind the last point is one. */
+/* All orders of the packets from this one on, each not before the last: returns how many hang. All points after the last are
+ * one. */
 static unsigned long each(unsigned from, unsigned first) {
     unsigned long hung = 0;
     if (from == packets) return played++, hangs();

@@ -1,5 +1,5 @@
-/* corners [NAME]: answers at corners, each case by hand, with calls and structs of the header alone. Where one isn't what it has to be
- * it tells which, and ends by 9. To be linked with --wrap for malloc, realloc and free. */
+/* corners [NAME]: results in corner cases, each case by hand, with calls and structs of the header only. If one is wrong it
+ * prints which, and exits with 9. To be linked with --wrap for malloc, realloc and free. */
 #include "memory.h"
 #include <fintaqush.h>
 #include <stdio.h>
@@ -24,7 +24,8 @@ static void given_up(void) {
     want(fq_abandon(&control) == FQ_OK && fq_abandon(irq) == FQ_OK && fq_abandon(poller) == FQ_OK && blocks == 0, "nothing is left");
 }
 
-/* Who took the instance as its thread, and polled its whole weight, polls on: no list has it then, of which nobody knows. */
+/* A caller that took the instance as its thread, and polled its whole weight, polls again: otherwise no list would have the
+ * instance. */
 static void a_full_poll_of_a_thread(void) {
     uint32_t next = 99;
     enabled(true);
@@ -37,7 +38,7 @@ static void a_full_poll_of_a_thread(void) {
     given_up();
 }
 
-/* A busy poller polls on, full or not; and how a poll ended is told on each path. */
+/* A busy poller keeps polling, full or not; and how a poll ended is set on each path. */
 static void a_full_poll_of_a_busy_poller(void) {
     uint32_t next = 99;
     enabled(false);
@@ -50,7 +51,7 @@ static void a_full_poll_of_a_busy_poller(void) {
     given_up();
 }
 
-/* A byte above 1 is what 1 is, and a place above 5 what 5 is, to each call. */
+/* A byte above 1 means 1, and a place above 5 means 5, in each call. */
 static void bytes_of_an_instance(void) {
     for (size_t at = 0; at < 8; at++) {
         for (unsigned byte = at < 7 ? 2 : 6; byte < 256; byte++) {
@@ -69,7 +70,7 @@ static void bytes_of_an_instance(void) {
     }
 }
 
-/* Bounds that are refused give a limit of 0, which goes on as one. */
+/* After bounds that are rejected the limit is 0, and works as one. */
 static void a_limit_out_of_bounds(void) {
     struct fq_dql dql;
     want(fq_dql_init(&dql, 5, 4, 0, 0) == FQ_BAD_BOUNDS && fq_dql_limit(&dql) == 0 && fq_dql_avail(&dql) == 0, "min above max");
@@ -85,7 +86,7 @@ static void a_polled_instance_is_handed(void) {
     want(fq_napi_hand(&napi, 2, FQ_LIST) == FQ_OK && fq_napi_take(&napi, 2, FQ_LIST) == FQ_TAKEN, "to the list");
 }
 
-/* The number that is being polled counts among the 64, and comes back behind the others by its poll's end. */
+/* The number that is being polled counts among the 64, and returns after the others at the end of its poll. */
 static void a_list_of_64(void) {
     struct fq_handle list = FQ_NONE;
     uint32_t id = 99, len = 99;
@@ -98,7 +99,8 @@ static void a_list_of_64(void) {
     want(fq_run_next(&list, &id) == FQ_DONE && fq_abandon(&list) == FQ_OK && blocks == 0, "the end");
 }
 
-/* Devices with weights of their own, below the run's, are polled as by net_rx_action, which asks a full poll's device again. */
+/* Devices with their own weights, below the run's, are polled as by net_rx_action, which asks again for a device with a full
+ * poll. */
 static void weights_of_devices(void) {
     static const uint32_t weights[3] = {8, 16, 64}, polls[] = {0, 1, 2, 0, 1, 2, 0, 1};
     uint32_t left[3] = {20, 40, 100}, id = 99;
@@ -121,7 +123,7 @@ static void weights_of_devices(void) {
     want(made == 8 && left[0] + left[1] + left[2] == 0 && fq_abandon(&list) == FQ_OK && blocks == 0, "all is polled");
 }
 
-/* A split looks at its handle before it takes memory, which may be out. */
+/* A split checks its handle before it allocates, which may fail. */
 static void a_split_of_what_is_no_ring(void) {
     struct fq_handle list = FQ_NONE, out = FQ_NONE;
     want(fq_list_new(&list) == FQ_OK, "a list");
@@ -131,7 +133,7 @@ static void a_split_of_what_is_no_ring(void) {
     want(fq_abandon(&list) == FQ_OK && blocks == 0, "the end");
 }
 
-/* Where an instance over a ring can't be made, whichever take of memory is refused, the ring is as it was, and nothing else is set. */
+/* If an instance over a ring can't be made, whichever allocation fails, the ring is unchanged, and nothing else is set. */
 static void a_ring_whose_instance_is_refused(void) {
     uint32_t said = FQ_OUT_OF_MEMORY;
     for (long at = 1; said == FQ_OUT_OF_MEMORY; at++) {
@@ -150,6 +152,115 @@ static void a_ring_whose_instance_is_refused(void) {
     }
     want(said == FQ_OK, "with memory it is made");
     given_up();
+}
+
+/* The end of a poll of one thread is told as its single calls are made, from each state, by whoever polls it or not; and a full poll is
+ * completed where a disable is pending. */
+static enum fq_status by_single_calls(struct fq_napi *napi, uint32_t who, bool full, uint32_t *next) {
+    const uint64_t word = fq_napi_word(napi);
+    struct fq_napi tried = *napi;
+    const enum fq_status said = fq_napi_complete(&tried, who);
+    *next = FQ_NEXT_GONE;
+    if (said == FQ_NOT_ALLOWED) return said;
+    if (full && !(word & (FQ_BIT_DISABLE | FQ_BIT_IN_BUSY_POLL))) {
+        if (word & FQ_BIT_SCHED_THREADED) return FQ_HELD;
+        *next = FQ_NEXT_REPOLL;
+        return fq_napi_hand(napi, who, FQ_LIST);
+    }
+    *napi = tried;
+    if (said != FQ_AGAIN) return said == FQ_RELEASED ? FQ_OK : said;
+    *next = word & FQ_BIT_THREADED ? FQ_NEXT_AGAIN_THREAD : FQ_NEXT_AGAIN;
+    return fq_napi_hand(napi, who, word & FQ_BIT_THREADED ? FQ_THREAD : FQ_LIST);
+}
+
+static void ends_of_polls_on_one_thread(void) {
+    for (unsigned bits = 0; bits < 128; bits++) {
+        for (unsigned i = 0; i < 6 * 2 * 2; i++) {
+            struct fq_napi one = fq_napi_new(7), other;
+            unsigned char *bytes = (unsigned char *)&one;
+            uint32_t next = 99, wanted = 99;
+            for (unsigned at = 0; at < 7; at++) bytes[at] = bits >> at & 1;
+            one.place = (uint8_t)(i % 6);
+            one.owner = 1 + i / 6 % 2;
+            other = one;
+            want(fq_napi_end(&one, 1, i / 12, &next) == by_single_calls(&other, 1, i / 12, &wanted) && next == wanted, "the end of a poll");
+            want(memcmp(&one, &other, sizeof one) == 0, "the instance then");
+        }
+    }
+}
+
+/* Under load a disable ends after one poll, as in the kernel. Without a look at FQ_BIT_DISABLE, by hand over and over, it never does. */
+static void a_full_poll_under_a_disable(void) {
+    struct fq_napi napi = fq_napi_new(2);
+    uint32_t next = 99, polls = 0;
+    want(fq_napi_enable(&napi, 2, false) == FQ_OK && fq_napi_schedule(&napi, 0) == FQ_GRANTED && fq_napi_hand(&napi, 0, FQ_LIST) == FQ_OK, "it is listed");
+    want(fq_napi_mark_disable(&napi, 2) == FQ_OK, "a disable is pending");
+    while (fq_napi_take_disable(&napi, 2) == FQ_BUSY && polls < 1000) {
+        want(fq_napi_take(&napi, 1, FQ_LIST) == FQ_TAKEN && fq_napi_end(&napi, 1, true, &next) == FQ_OK && next == FQ_NEXT_GONE, "a full poll is completed");
+        polls++;
+    }
+    want(polls == 1 && fq_napi_unmark(&napi, 2) == FQ_OK, "and the disable ends");
+}
+
+/* What was asked while an instance is off is missed; its open asks once, and the request is handed to where the word tells. */
+static unsigned masks;
+static void mask(void *at) { masks++, (void)at; }
+static const struct fq_card card = {NULL, mask, NULL, NULL, NULL};
+
+static void an_open_asks_once(void) {
+    for (int threaded = 0; threaded < 2; threaded++) {
+        uint32_t next = 99;
+        masks = 0;
+        want(fq_shared_bare(&control, seats, 2) == FQ_OK && fq_seat_request(irq, &card, &next) == FQ_MISSED && next == FQ_NEXT_GONE && masks == 0, "off");
+        want(fq_control_open(&control, threaded, poller, &card, &next) == FQ_GRANTED && masks == 1, "it is asked for");
+        want(next == (threaded ? FQ_NEXT_AGAIN_THREAD : FQ_NEXT_AGAIN), "where it was handed");
+        want(fq_seat_take(poller, threaded ? FQ_THREAD : FQ_LIST) == FQ_TAKEN && fq_seat_end(poller, false, &next) == FQ_OK, "it is polled");
+        want(fq_control_open(&control, threaded, poller, &card, &next) == FQ_NOT_ALLOWED && next == FQ_NEXT_GONE && masks == 1, "it is on already");
+        want(fq_control_step(&control, false, false) == FQ_OK, "it is off again");
+        given_up();
+    }
+}
+
+/* The kind is read from the word: an end that looks at the card, and a request, hand over to a thread that was set meanwhile, and say so. */
+static void unmask(void *at) { (void)at; }
+static bool look(void *at) { return (void)at, true; }
+static const struct fq_card watched = {NULL, mask, unmask, look, NULL};
+
+static void handed_to_a_thread_that_was_set_meanwhile(void) {
+    uint32_t next = 99;
+    enabled(false);
+    want(fq_seat_request(irq, &watched, &next) == FQ_GRANTED && next == FQ_NEXT_AGAIN && fq_seat_take(poller, FQ_LIST) == FQ_TAKEN, "on the list");
+    want(fq_seat_set_threaded(irq, true) == FQ_OK, "threaded meanwhile");
+    want(fq_seat_end_watched(poller, false, &watched, &next) == FQ_OK && next == FQ_NEXT_AGAIN_THREAD, "the thread is to be woken");
+    want(fq_seat_request(irq, &watched, &next) == FQ_MISSED && next == FQ_NEXT_GONE, "a request is missed");
+    want(fq_seat_take(poller, FQ_THREAD) == FQ_TAKEN && fq_seat_end(poller, false, &next) == FQ_OK && next == FQ_NEXT_AGAIN_THREAD, "again");
+    want(fq_seat_take(poller, FQ_THREAD) == FQ_TAKEN && fq_seat_end(poller, false, &next) == FQ_OK && next == FQ_NEXT_GONE, "and over");
+    want(fq_seat_request(irq, &watched, &next) == FQ_GRANTED && next == FQ_NEXT_AGAIN_THREAD, "by a request too");
+    want(fq_seat_request(poller, &watched, &next) == FQ_MISSED, "once");
+    given_up();
+}
+
+/* Of several refusals of a replay the first that the header names is told. */
+static void refusals_of_a_replay(void) {
+    static const char good[] = "moment,device,event,value\n0,1,open,4\n";
+    static const uint8_t bad[] = "?";
+    uint8_t report[1];
+    struct fq_replayed told;
+    struct fq_settings settings = {0, 0, 0};
+    want(fq_replay(&settings, bad, 1, report, 0, &told) == FQ_BAD_WEIGHT, "a weight is looked at first");
+    settings.weight = 64;
+    want(fq_replay(&settings, bad, 1, report, 0, &told) == FQ_BAD_BUDGET, "then budget and window");
+    settings.budget = 300, settings.window = 1024;
+    want(fq_replay(&settings, bad, 1, report, 0, &told) == FQ_BAD_TRACE && told.fault == 1, "then the trace");
+    want(fq_replay(&settings, (const uint8_t *)good, sizeof good - 1, report, 0, &told) == FQ_NO_ROOM && told.length > 0, "then the room");
+}
+
+/* The answers of a free and of a list, of which the header names no other. */
+static void frees_and_lists(void) {
+    struct fq_handle list = FQ_NONE;
+    (void)fq_free(&list), (void)fq_abandon(&list); /* no compiler warns of these */
+    fq_free(&list);
+    want(fq_list_new(&list) == FQ_OK && fq_list_new(&list) == FQ_IN_USE && fq_free(&list) == FQ_OK && fq_free(&list) == FQ_BAD_HANDLE, "a list");
 }
 
 /* So many buffers are used in turn, for a ring of 256 places and bursts of 16, which are put as far as they fit while a poll's packets
@@ -187,7 +298,9 @@ static const struct {
     const char *name;
     void (*call)(void);
 } cases[] = {CASE(a_full_poll_of_a_thread), CASE(a_full_poll_of_a_busy_poller), CASE(bytes_of_an_instance), CASE(a_limit_out_of_bounds), CASE(a_polled_instance_is_handed), CASE(a_list_of_64),
-    CASE(weights_of_devices), CASE(a_split_of_what_is_no_ring), CASE(a_ring_whose_instance_is_refused), CASE(buffers_in_turn)};
+    CASE(weights_of_devices), CASE(a_split_of_what_is_no_ring), CASE(a_ring_whose_instance_is_refused), CASE(buffers_in_turn),
+    CASE(ends_of_polls_on_one_thread), CASE(a_full_poll_under_a_disable), CASE(an_open_asks_once), CASE(handed_to_a_thread_that_was_set_meanwhile),
+    CASE(refusals_of_a_replay), CASE(frees_and_lists)};
 
 int main(int count, char **words) {
     unsigned called = 0;

@@ -1,11 +1,11 @@
-/* The library's memory: what is taken, and a take that is refused. To be linked with --wrap for malloc, realloc and free. */
+/* The library's memory: counts allocations, and makes one fail. To be linked with --wrap for malloc, realloc and free. */
 #ifndef MEMORY_H
 #define MEMORY_H
 
 #include <stdbool.h>
 #include <stddef.h>
 
-static long blocks, takes, refused_take; /* on the heap; takes since it was set to 0, and the one that is refused, or 0 */
+static long blocks, takes, refused_take; /* on the heap; allocations since it was set to 0, and the one that fails, or 0 */
 
 void *__real_malloc(size_t size);
 void *__real_realloc(void *old, size_t size);

@@ -1,5 +1,5 @@
-/* A model of its own of what the library's calls answer, for random.c: written from the kernel's text and from fintaqush.h, over plain
- * structs. Nothing here calls the library. */
+/* A model of what the library's calls return, for random.c: written from the kernel's source and from fintaqush.h, with
+ * plain structs. Nothing here calls the library. */
 #ifndef MODEL_H
 #define MODEL_H
 
@@ -7,12 +7,12 @@
 
 static inline uint64_t model_minus(uint64_t a, uint64_t b) { return a > b ? a - b : 0; }
 
-/* ---- a receive ring of at most so many places */
+/* ---- a receive ring of at most this capacity */
 
 enum { PLACES = 40 };
 
 struct ring {
-    unsigned users; /* how many know of it */
+    unsigned users; /* how many objects refer to it */
     size_t places, first, held;
     struct fq_packet packets[PLACES];
     uint64_t put, bytes;
@@ -52,7 +52,8 @@ static inline uint32_t model_queued(struct model_limit *l, uint32_t count) {
     return FQ_OK;
 }
 
-/* The slack of a queue that was busy all the time is noted; once it was held for long enough the limit shrinks by the lowest. */
+/* The slack of a queue that was busy all the time is recorded; once it has lasted long enough the limit shrinks by the
+ * lowest. */
 static inline uint64_t model_slackened(struct model_limit *l, uint32_t count, uint64_t now) {
     const uint64_t unused = model_minus(l->limit + l->previous_over, 2 * (uint64_t)count);
     const uint64_t last = l->previous_over ? model_minus(l->previous_last, l->previous_over) : 0;
@@ -84,7 +85,7 @@ static inline uint32_t model_completed(struct model_limit *l, uint32_t count, ui
     return FQ_OK;
 }
 
-/* ---- an instance (struct napi_struct), and who may do what with it */
+/* ---- an instance (struct napi_struct), and which caller may do what with it */
 
 enum model_place { NOBODY, GRANTED, LISTED, TO_THREAD, POLLED, CONTROLLED };
 
@@ -230,7 +231,7 @@ static inline bool model_is_spent(const struct model_list *l) { return l->work >
 static inline uint32_t model_next(struct model_list *l, uint32_t *id) {
     if (!l->runs || l->is_asked) return FQ_NOT_ALLOWED;
     if (model_is_spent(l)) return FQ_DONE;
-    if (l->batch.count == 0) { /* what came meanwhile, where nothing is to be polled again */
+    if (l->batch.count == 0) { /* what arrived meanwhile, if no repoll is pending */
         if (l->repoll.count != 0 || l->list.count == 0) return FQ_DONE;
         l->batch = l->list, l->list.count = 0;
     }

@@ -1,7 +1,7 @@
-/* random KIND [CALLS [SEED]]: so many random calls of a kind (limit, instance, ring, transmit, shared, list, any), with arguments in and out
- * of range, on handles of the right kind and of others, unset, freed and moved ones, while memory is refused, and on an instance of any
- * bytes. Each answer and all that it leaves is compared with model.h. What is wrong ends it with the call's number. To be linked with
- * --wrap for malloc, realloc and free. */
+/* random KIND [CALLS [SEED]]: this many random calls of a kind (limit, instance, ring, transmit, shared, list, any), with
+ * arguments in and out of range, on handles of the right kind and of others, unset, freed and moved ones, while allocations
+ * fail, and on an instance of any bytes. Each result and all effects are compared with model.h. A difference ends it with
+ * the call's number. To be linked with --wrap for malloc, realloc and free. */
 #include "memory.h"
 #include "model.h"
 #include <inttypes.h>
@@ -13,7 +13,7 @@ enum { HANDLES = 24, IDS = 100 };
 
 static uint64_t seed = 1;
 static unsigned long call;
-static bool seen[128]; /* the numbers that were answered */
+static bool seen[128]; /* the numbers that were returned */
 
 static uint32_t below(uint32_t bound) {
     seed = seed * UINT64_C(6364136223846793005) + UINT64_C(1442695040888963407);
@@ -29,7 +29,7 @@ static void hold(const char *what, bool holds) {
     exit(1);
 }
 
-/* A call was answered as the model answers it, and took no memory. */
+/* A call returned what the model returns, and didn't allocate. */
 static void want(const char *what, uint32_t said, uint32_t wanted) {
     if (said < 128) seen[said] = true;
     if (said != wanted) {
@@ -39,7 +39,7 @@ static void want(const char *what, uint32_t said, uint32_t wanted) {
     hold("no memory is taken", takes == 0);
 }
 
-/* The same of a call that takes memory if all else is well: true where it was made. `before` is what was on the heap. */
+/* The same for a call that allocates if all else is right: true if it succeeded. `before` is what was on the heap. */
 static bool takes_memory(const char *what, uint32_t said, uint32_t wanted, long before) {
     const bool was_refused = refused_take != 0 && takes >= refused_take;
     hold("memory is taken where all else is well", wanted == FQ_OK || takes == 0);
@@ -50,13 +50,13 @@ static bool takes_memory(const char *what, uint32_t said, uint32_t wanted, long 
     return wanted == FQ_OK;
 }
 
-/* One of the takes that follow may be refused. */
+/* One of the next allocations may fail. */
 static long may_refuse(uint32_t most) {
     refused_take = below(3) ? 0 : 1 + (long)below(most);
     return blocks;
 }
 
-/* ---- what the handles lead to */
+/* ---- what the handles refer to */
 
 enum what { NOTHING, RING, INPUT, OUTPUT, SENDER, LIST, SEAT, CONTROL };
 
@@ -100,7 +100,7 @@ static struct lister listers[HANDLES];
 static struct shared instances[HANDLES];
 static uint64_t now;
 
-/* A place in an array of these that nobody uses. */
+/* An unused element of an array of these. */
 #define UNUSED(array) (&(array)[unused(&(array)[0].users, sizeof (array)[0])])
 static size_t unused(const unsigned *users, size_t size) {
     size_t at = 0;
@@ -121,7 +121,7 @@ static void forget(struct object *o) {
     *o = object_of(NOTHING);
 }
 
-/* A handle: mostly one that leads to such a thing. */
+/* A handle: mostly one of such an object. */
 static uint32_t one_of(enum what what, enum what other) {
     const uint32_t from = below(HANDLES);
     if (below(16) == 0) return from;
@@ -172,7 +172,7 @@ static void put_all(void) {
     hold("how many were put", count == wanted_count);
 }
 
-/* What a poll of the ring gave is what lies first in it; the rest of the array is as it was. */
+/* A poll of the ring returned its first packets; the rest of the array is unchanged. */
 static void given(struct ring *r, const struct fq_packet *out, size_t count, size_t weight, uint64_t mark) {
     const size_t most = r == NULL ? 0 : r->held < weight ? r->held : weight;
     hold("a poll's count", count == most);
@@ -189,7 +189,7 @@ static void given(struct ring *r, const struct fq_packet *out, size_t count, siz
 
 typedef uint32_t poll_call(struct fq_handle *, size_t, struct fq_packet *, size_t, size_t *);
 
-/* A poll by one of two calls, which is allowed, or answered so, over this ring. */
+/* A poll of this ring by one of two calls, which is allowed, or returns this status. */
 static void polls_by(poll_call *poll, const char *what, uint32_t i, uint32_t wanted, struct ring *r) {
     struct fq_packet out[64];
     const uint64_t mark = UINT64_MAX;
@@ -249,7 +249,7 @@ static bool busy_polls(const struct object *o) { return o->what == SEAT && model
 static bool is_granted(const struct object *o) { return o->what == SEAT && model_owns(napi_of(o), o->who, GRANTED); }
 static bool rests(const struct object *o) { return o->what == SEAT && !polls(o) && !busy_polls(o) && !is_granted(o); }
 
-/* The model's answer is counted, as the seat counts it. */
+/* The model's result is counted, as the seat counts it. */
 static uint32_t counted(struct object *o, uint32_t said) {
     struct fq_answers *const a = &o->answers;
     uint64_t *const counts[] = {&a->granted, &a->missed, &a->disabled, &a->released, &a->again, &a->held};
@@ -258,7 +258,7 @@ static uint32_t counted(struct object *o, uint32_t said) {
     return said;
 }
 
-/* What a call of a seat is answered: made by the model where it may be made. */
+/* The result of a call of a seat: made by the model if it is allowed. */
 static uint32_t seat_schedules(struct object *o) {
     if (o->what != SEAT) return FQ_BAD_HANDLE;
     return rests(o) ? counted(o, model_schedule(napi_of(o), o->who)) : (uint32_t)FQ_NOT_ALLOWED;
@@ -283,7 +283,7 @@ static uint32_t seat_takes(struct object *o, uint32_t kind) {
 
 static uint32_t random_seat(void) { return one_of(SEAT, SEAT); }
 
-/* Seldom out of range. */
+/* Rarely out of range. */
 static uint32_t random_kind(void) { return below(9) ? below(2) : 2 + below(2); }
 
 static void seat_call(void) {
@@ -312,7 +312,7 @@ static void poll_seat(void) {
     polls_by(fq_seat_poll, "poll of a seat", i, wanted, wanted == FQ_OK ? o->shared->ring : NULL);
 }
 
-/* The ring whose polls are counted by who has its poll end, or none. */
+/* The ring whose polls are counted for the owner of its poll end, or none. */
 static struct ring *counted_ring(const struct object *o) {
     static struct ring none; /* of a bare instance nothing is compared */
     const bool is_end = o->what == RING || o->what == OUTPUT;
@@ -345,7 +345,7 @@ static void look(void) {
     else hold("answers that stay", answers.granted == 9 && answers.changed == 9);
 }
 
-/* A card, which tells what was done with it. */
+/* A card, which records what was done with it. */
 static bool is_masked, is_there;
 static size_t most_asked, polled_more;
 static void mask(void *at) { (void)at, is_masked = true; }
@@ -364,7 +364,7 @@ static void interrupt(void) {
     hold("masked exactly where it was granted", is_masked == (wanted == FQ_GRANTED));
 }
 
-/* Hands what was granted over, as the word tells to whom. */
+/* Hands over what was granted, by the word's threaded bit. */
 static uint32_t hands_again(struct object *o, uint32_t *next) {
     const uint32_t kind = napi_of(o)->threaded ? FQ_THREAD : FQ_LIST;
     *next = kind == FQ_THREAD ? FQ_NEXT_AGAIN_THREAD : FQ_NEXT_AGAIN;
@@ -428,7 +428,7 @@ static void end_unmasked(void) {
 
 /* ---- shared instances */
 
-/* Seats side by side, and places for the others that aren't among them. */
+/* Seats in adjacent elements, and elements for the others that aren't among them. */
 static bool is_apart(uint32_t at, uint32_t from, uint32_t count, uint32_t other) { return at != other && (at < from || at >= from + count); }
 
 static bool is_one_set(uint32_t from, uint32_t count) {
@@ -478,7 +478,7 @@ static uint32_t control_enables(struct object *o, bool threaded) {
     return is_off(o) ? model_enable(napi_of(o), napi_of(o)->controller, threaded) : (uint32_t)FQ_NOT_ALLOWED;
 }
 
-/* Disables are rare, so that most polls are of an instance that isn't to be disabled. */
+/* Disables are rare, so that most polls are of an instance that isn't being disabled. */
 static void control_call(void) {
     const uint32_t i = one_of(CONTROL, CONTROL), which = below(12);
     struct object *const o = &objects[i];
@@ -497,7 +497,7 @@ static void control_call(void) {
 
 /* ---- transmit rings */
 
-/* The bytes of an object: about the greatest that one has, or that may be in flight, or far fewer. */
+/* The size of an object: about the greatest that one may have, or that may be in flight, or far smaller. */
 static uint32_t random_object(const struct model_limit *l) {
     const uint64_t room = l != NULL ? 1073741823 - model_in_flight(l) : 0;
     if (below(is_loaded() ? 4 : 50)) return below(3000);
@@ -561,7 +561,7 @@ static void show_sender(void) {
                                shown.avail == model_avail(&s->limit) && shown.stopped == s->stopped);
 }
 
-/* Whether it has been stopped since so long, with nothing done, by a clock that may go back. */
+/* Whether it has been stopped for this long, with nothing completed, by a clock that may go back. */
 static void watch(void) {
     static struct fq_tx_watchdog unmoved;
     const uint32_t i = one_of(SENDER, SENDER);
@@ -663,7 +663,7 @@ static void any_handle(void) {
     else if (below(6) == 0) give_up();
 }
 
-/* ---- what lies in the caller's memory */
+/* ---- objects in the caller's memory */
 
 static void limit_call(void) {
     static struct fq_dql dql;
@@ -693,7 +693,7 @@ static void limit_call(void) {
     hold("available", fq_dql_avail(&dql) == model_avail(&l) && fq_dql_avail_here(&dql) == model_avail(&l));
 }
 
-/* The state that a struct's bytes are. */
+/* The state that a struct's bytes represent. */
 static struct model_napi state_of(const struct fq_napi *n) {
     const uint8_t place = n->place > 5 ? 5 : n->place;
     return (struct model_napi){n->sched != 0, n->missed != 0, n->disable != 0, n->npsvc != 0, n->in_busy_poll != 0, n->threaded != 0, n->sched_threaded != 0,
@@ -717,7 +717,8 @@ static uint32_t step_of(struct fq_napi *n, struct model_napi *m, uint32_t who, u
     }
 }
 
-/* Whatever the bytes are, each call answers as of the state that they are, and a call that isn't made leaves every byte. */
+/* Whatever the bytes are, each call returns what it should in the state that they represent, and a call that fails changes
+ * no byte. */
 static void instance_call(void) {
     static struct fq_napi napi;
     const uint32_t afresh = below(call == 0 ? 1 : 40), who = below(4), which = below(11);
@@ -762,7 +763,7 @@ static const struct kind {
     const char *name;
     a_call *const *calls;
     size_t count;
-    uint32_t answers[24]; /* each of which comes in a million calls */
+    uint32_t answers[24]; /* each of which occurs in a million calls */
 } kinds[] = {
     KIND("limit", limit_calls, FQ_BAD_BOUNDS, FQ_TOO_LARGE, FQ_TOO_MUCH_IN_FLIGHT, FQ_MORE_THAN_QUEUED),
     KIND("instance", instance_calls, FQ_GRANTED, FQ_MISSED, FQ_DISABLED, FQ_TAKEN, FQ_NOT_THERE, FQ_RELEASED, FQ_AGAIN, FQ_HELD, FQ_BUSY, FQ_NOT_ALLOWED, FQ_BAD_KIND),

@@ -1,7 +1,7 @@
-/* Refuses each allocation of each call that makes something in turn, counted from 1. Each one has to be told by FQ_OUT_OF_MEMORY, or to
- * change nothing where memory is asked for again; what is left is given up, and then nothing is left on the heap; and the same call
- * makes what it is for as soon as memory is there. To be linked with --wrap for malloc, realloc and free. Where one of this isn't so it
- * ends by 9. */
+/* Makes each allocation of each call that makes something fail in turn, counted from 1. Each failure has to return
+ * FQ_OUT_OF_MEMORY, or to change nothing if the allocation is retried; what is left is abandoned, and then nothing is left
+ * on the heap; and the same call succeeds as soon as allocations do. To be linked with --wrap for malloc, realloc and free.
+ * It exits with 9 if one of this isn't so. */
 #include "memory.h"
 #include <fintaqush.h>
 #include <stdio.h>
@@ -42,7 +42,8 @@ static bool list_works(void) {
            fq_run_next(&handles[0], &id) == FQ_OK && id == 7;
 }
 
-/* Its ring too, so that each of them is refused. Where memory is out the ring is whole, with what lies in it, and nothing else is set. */
+/* Its ring too, so that each of them fails. If memory is out, the ring is unchanged, with its packets, and nothing else is
+ * set. */
 static uint32_t make_shared(void) {
     struct fq_packet out[2];
     size_t count = 0;
@@ -67,7 +68,7 @@ static uint32_t make_split(void) {
     if (said != FQ_OK) return said;
     const uint32_t split = fq_ring_split(&handles[0], &handles[1]);
     struct fq_totals totals;
-    /* where memory is out the ring is whole */
+    /* if memory is out, the ring is unchanged */
     if (split == FQ_OUT_OF_MEMORY) want(fq_ring_finish(&handles[0], &totals) == FQ_OK, "a ring that wasn't split", refused_take);
     return split;
 }
@@ -77,7 +78,7 @@ static bool split_works(void) {
     return takes_two(&handles[0]) && fq_ring_poll(&handles[1], 2, out, 2, &count) == FQ_OK && count == 2;
 }
 
-/* All calls but those that the header names: none takes memory, or gives it. */
+/* All calls but those that the header names: none allocates or frees. */
 static void take_none(void) {
     struct fq_packet packets[2] = {{1, 60}, {2, 60}};
     struct fq_counts counts;
@@ -127,7 +128,7 @@ static uint32_t make_replay(void) {
 }
 static bool replay_works(void) { return memcmp(report, wanted, ROOM) == 0; }
 
-/* refuse_each: how many allocations there were, each of which was refused. */
+/* refuse_each: how many allocations there were, each of which failed. */
 static long refuse_each(const char *what, uint32_t (*make)(void), bool (*works)(void)) {
     for (long call = 1;; call++) {
         takes = 0;

@@ -1,6 +1,7 @@
-/* replay BUDGET WEIGHT WINDOW < TRACE: what napi_serial does of it, by fq_replay: the report on standard output, or the line of the
- * fault on standard error and its status. On the way each array that is too short has to stay as it was, with the room told that the
- * report takes, and no byte behind a report may be written. Where one of this isn't so it ends by 9. */
+/* replay BUDGET WEIGHT WINDOW < TRACE: what napi_serial does with it, by fq_replay: the report on standard output, or the
+ * message of the error on standard error, and its status. Before that, each array that is too short has to stay unchanged,
+ * with the length that the report needs returned, and no byte after a report may be written. It exits with 9 if one of this
+ * isn't so. */
 #include <fintaqush.h>
 #include <stdio.h>
 #include <stdlib.h>
@@ -20,7 +21,7 @@ static bool is_untouched(const uint8_t *bytes, size_t from, size_t to) {
     return true;
 }
 
-/* Tells a fault as napi_serial does. */
+/* Prints an error as napi_serial does. */
 static int tell(uint32_t said, const struct fq_replayed *replayed) {
     if (said != FQ_BAD_TRACE) {
         fprintf(stderr, "%s\n", fq_status_name(said));

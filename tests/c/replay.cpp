@@ -1,5 +1,5 @@
-// replay.cpp BUDGET WEIGHT WINDOW < TRACE: what napi_serial does of it, by fintaqush::replay: the report on standard output, or the
-// line of the fault on standard error and its status.
+// replay.cpp BUDGET WEIGHT WINDOW < TRACE: what napi_serial does with it, by fintaqush::replay: the report on standard output,
+// or the message of the error on standard error, and its status.
 #include <fintaqush.hpp>
 
 #include <cstdlib>

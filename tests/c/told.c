@@ -1,6 +1,9 @@
-/* What the library tells of itself is what the header says: version, names, sizes. A text comes with a 0 behind where there is room for
- * both, and else not at all. Where this isn't so it ends by 9. */
+/* What the library says about itself is what the header says: version, names, sizes. A text ends with a 0 if there is room
+ * for both, otherwise nothing is written. It exits with 9 if this isn't so. */
 #include <fintaqush.h>
+#if FQ_VERSION_NUMBER < 10000
+#error "a version before 1.0"
+#endif
 #include <stdio.h>
 #include <stdlib.h>
 #include <string.h>
@@ -25,7 +28,19 @@ static void tells(size_t tell(uint32_t, char *, size_t), uint32_t number, const 
     }
 }
 
+/* Each status says something of its own, for which there is room; what is no status says nothing. */
+static void says(uint32_t status, bool is_one) {
+    static char said[300][FQ_MESSAGE_ROOM];
+    want(fq_status_message(status, said[status], FQ_MESSAGE_ROOM) < FQ_MESSAGE_ROOM, "room for a message");
+    want((strcmp(said[status], "?") != 0) == is_one, "what a status says");
+    for (uint32_t i = 0; is_one && i < status; i++) want(strcmp(said[i], said[status]) != 0, "a message of its own");
+}
+
 int main(void) {
+    want(FQ_VERSION_MAJOR * 10000 + FQ_VERSION_MINOR * 100 + FQ_VERSION_PATCH == FQ_VERSION_NUMBER, "the version's number");
+    char version_text[16];
+    snprintf(version_text, sizeof version_text, "%d.%d.%d", FQ_VERSION_MAJOR, FQ_VERSION_MINOR, FQ_VERSION_PATCH);
+    want(strcmp(version_text, FQ_VERSION) == 0, "the version in numbers");
     const size_t sizes[] = {sizeof(struct fq_handle), sizeof(struct fq_dql), sizeof(struct fq_dql_made), sizeof(struct fq_napi),
         sizeof(struct fq_packet), sizeof(struct fq_counts), sizeof(struct fq_totals), sizeof(struct fq_ring_shown),
         sizeof(struct fq_tx_shown), sizeof(struct fq_answers), sizeof(struct fq_run_report)};
@@ -38,6 +53,9 @@ int main(void) {
         tells(fq_fault_text, i, fq_fault_name(i));
     }
     tells(fq_status_text, UINT32_MAX, "?");
+    for (uint32_t i = 0; i < 300; i++) says(i, strcmp(fq_status_name(i), "?") != 0);
+    tells(fq_status_message, FQ_BAD_WEIGHT, "a weight is 1 to 64 packets");
+    tells(fq_status_message, 99, "?");
     puts("it tells of itself what the header says");
     return 0;
 }

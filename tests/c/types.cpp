@@ -1,5 +1,5 @@
-// What fintaqush.hpp adds to the header: a callback that throws, what was moved from, rings without an instance, busy polling, counts,
-// words, cards, and memory that is out. To be linked with --wrap for malloc, realloc and free.
+// What fintaqush.hpp adds to the header: a callback that throws, objects that were moved from, rings without an instance, busy
+// polling, counts, words, cards, and failing allocations. To be linked with --wrap for malloc, realloc and free.
 #include <fintaqush.hpp>
 #include <cstdio>
 #include <cstdlib>
@@ -56,12 +56,30 @@ static_assert(noexcept(std::declval<Caller>().schedule()) && noexcept(std::declv
 static_assert(!std::is_convertible_v<int, Weight> && !std::is_constructible_v<Weight, int>);
 static_assert(Weight::of<1>().get() == 1 && Weight().get() == 64 && !Weight::make(0) && !Weight::make(65) && Weight::make(64)->get() == 64);
 
-// The structs whose functions had their names.
+// The structs whose names were taken by functions.
 [[maybe_unused]] static void names() {
     fq_counts counts{};
     fq_tx_shown state{};
     fq_dql_made made{};
     static_cast<void>(counts), static_cast<void>(state), static_cast<void>(made);
+}
+
+// What ends a run is told by its name, with what was polled until then, and the others stay listed.
+static void refused_runs(List &list) {
+    using Did = std::pair<std::uint32_t, fq_next>;
+    const auto ends = [&](fq_status status, std::uint32_t polls, auto &&poll) {
+        want(list.push(1) && list.push(2) && list.push(3), "a list of three");
+        const Ran ran = list.run(300, 64, 1024, poll);
+        want(ran.status == status && !ran && !ran.has_value() && ran.report.work == 5 && ran->polls == polls, "why a run ended, and its report");
+        want(list.run(300, 64, 1024, [](std::uint32_t, std::uint32_t) { return Did{0, FQ_NEXT_GONE}; })->polls == 1, "the last one is listed still");
+    };
+    ends(FQ_BAD_WORK, 2, [](std::uint32_t id, std::uint32_t) { return id == 1 ? Did{5, FQ_NEXT_GONE} : Did{65, FQ_NEXT_GONE}; });
+    ends(FQ_BAD_NEXT, 2, [](std::uint32_t id, std::uint32_t) { return id == 1 ? Did{5, FQ_NEXT_GONE} : Did{0, fq_next(9)}; });
+    ends(FQ_IN_USE, 2, [&](std::uint32_t id, std::uint32_t) {
+        if (id == 1) return Did{5, FQ_NEXT_GONE};
+        want(list.push(id).status == FQ_OK && list.push(id).status == FQ_IN_USE, "it lists itself, once");
+        return Did{0, FQ_NEXT_AGAIN};
+    });
 }
 
 static void runs() {
@@ -77,8 +95,10 @@ static void runs() {
     const auto too_much = [](std::uint32_t, std::uint32_t weight) { return std::pair(weight + 1, FQ_NEXT_GONE); };
     want(!list->run(300, 64, 1024, too_much) && list->size() == 0, "too many packets end a run");
     want(list->push(3) && !list->run(300, 65, 1024, too_much), "a weight of 65");
+    want(list->run(300, 65, 1024, too_much).status == FQ_BAD_WEIGHT && list->run(0, 64, 1024, too_much).status == FQ_BAD_BUDGET, "and why");
     const auto report = list->run(300, 64, 1024, [](std::uint32_t id, std::uint32_t) { return std::pair(id, FQ_NEXT_GONE); });
     want(report && report->polls == 1 && report->work == 3, "a run behind those");
+    refused_runs(*list);
 }
 
 static void rings() {
@@ -102,7 +122,7 @@ static void rings() {
     want(!whole->put(1, 1) && whole->poll(out) == 0 && std::move(*whole).finish().put == 0 && !std::move(*whole).split(), "it is gone");
 }
 
-// A card whose packets come at the moments of its calls.
+// A card whose packets arrive at given calls.
 struct Card {
     unsigned there = 0, behind_unmask = 0;
     bool masked = true;
@@ -172,7 +192,7 @@ static void busy() {
     want(off.counts().polls == 1, "the counts of what is off");
 }
 
-// What was moved from answers, and never loops.
+// An object that was moved from still returns from every call.
 static void moved() {
     auto shared = Shared::make(4, 2);
     want(shared.has_value(), "a shared instance");

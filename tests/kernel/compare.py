@@ -57,7 +57,7 @@ class Trace:
 
 
 def trace_of(name, text, settings):
-    """The trace of a text, up to its first record that is no row; None where its first record is none."""
+    """The trace of a text, up to its first record that isn't a row; None if its first record isn't a header."""
     records = [record for record in csv.reader(io.StringIO(text.lstrip("\ufeff"))) if record]
     if not records or ",".join(records[0]) not in (HEADER, HEADER + ",2"):
         return None
@@ -81,7 +81,7 @@ def random_traces(count, seed):
 
 
 def far_moments(rows, dice):
-    """The rows with moments that lie far from each other: a tenth of them go elsewhere, and those behind them follow."""
+    """The rows with times that are far apart: a tenth of them are moved, and those after them follow."""
     far, moved = 0, []
     for moment, *rest in rows:
         if dice.random() < 0.1:
@@ -91,7 +91,7 @@ def far_moments(rows, dice):
 
 
 def queue_traces(count, seed):
-    """Sends and completions of one queue, whose ring holds some packets, at moments near and far."""
+    """Sends and completions of one queue, whose ring holds some packets, at times near and far."""
     for number in range(seed, seed + count):
         dice = random.Random(number)
         rows, moment = [(0, 1, "open", dice.choice([8, 64]))], 0
@@ -102,7 +102,7 @@ def queue_traces(count, seed):
 
 
 def small_traces(most):
-    """All lists of up to so many of SMALL, behind two opened devices of two places, under two settings."""
+    """All lists of up to this many of SMALL, after two opened devices of capacity two, with two settings."""
     opened = [(0, 1, "open", 2), (0, 2, "open", 2)]
     for length in range(1, most + 1):
         for chosen in itertools.product(SMALL, repeat=length):
@@ -113,7 +113,7 @@ def small_traces(most):
 
 
 def comes_in_turn(rows):
-    """Whether each disable comes on a device that is on, and each enable on one that is off."""
+    """Whether each disable is of an enabled device, and each enable of a disabled one."""
     off = set()
     for _, device, event, _ in rows:
         if event in ("disable", "enable") and (device in off) != (event == "enable"):
@@ -126,7 +126,7 @@ def comes_in_turn(rows):
 
 
 def worked_traces():
-    """The runs of runs.txt whose words name a run's numbers alone, and the examples, under two settings."""
+    """The runs of runs.txt whose options are only a run's numbers, and the examples, with two settings."""
     for name, words, text in runs.runs():
         keys = re.findall(r"--(\w+)=", "=".join(words))
         if all(words) and len(keys) == len(set(keys)) and re.fullmatch(r"(=?--(budget|weight|window)=\d{1,5})*", "=".join(words)):
@@ -142,7 +142,7 @@ def worked_traces():
 # ---- both sides
 
 class Sides:
-    """The program, a process for each trace, and the kernel's functions, one process for all."""
+    """The program, one process per trace, and the kernel's functions, one process for all."""
 
     def __init__(self, program, kernel):
         self.program, self.kernel = program, kernel
@@ -153,7 +153,7 @@ class Sides:
         return run.returncode, (run.stdout if run.returncode == 0 else run.stderr).decode()
 
     def kernels(self, trace):
-        """The report, and how often each mapping made a difference; what it said where it ended."""
+        """The report, and how often each mapping made a difference; or the message with which it ended."""
         if self.server is None:
             self.server = subprocess.Popen([self.kernel], stdin=subprocess.PIPE, stdout=subprocess.PIPE, stderr=subprocess.STDOUT, text=True)
         lines = []
@@ -172,7 +172,7 @@ class Sides:
         return "".join(lines) + "the kernel's side ended with status %d\n" % status, [0] * len(MAPPINGS)
 
     def compare(self, trace):
-        """The trace as far as it is lawful, with both reports and what was mapped."""
+        """The trace up to its first invalid row, with both reports and the mappings."""
         status, ours = self.ours(trace)
         fault = re.fullmatch(r"trace fault (?!12 )\d+ \w+ row (\d+)\n", ours)
         if status == 2 and fault:
@@ -186,7 +186,8 @@ class Sides:
         return ours != kernels
 
     def smallest(self, trace):
-        """The first rows that show the difference, without each row, or run of rows, that it stands without; at most so many tries."""
+        """The first rows that show the difference, without each row, or series of rows, that it doesn't need; with at most this
+        many tries."""
         tries, low, high = 1500, 0, len(trace.rows)
         while low < high:
             middle = (low + high) // 2
@@ -214,7 +215,7 @@ def shown(trace, sides):
 
 
 def compare_some(traces):
-    """How many traces, how many of their rows, what was mapped, and the first difference."""
+    """How many traces, how many of their rows, the mappings, and the first difference."""
     rows, mapped, difference = 0, [0] * len(MAPPINGS), None
     for trace in traces:
         trace, ours, kernels, counts = SIDES.compare(trace)

@@ -1,9 +1,9 @@
-// Plays traces on Linux's own functions, which kernel.sh has extracted into instances.h and queues.h, and writes the reports
+// Replays traces on Linux's own functions, which kernel.sh has extracted into instances.h and queues.h, and writes the reports
 // that napi_serial writes. Devices, rings, rows and text are here; every rule of an instance, a poll, a run and a limit is the
 // kernel's. Standard input has traces one after the other: a line of version, budget, weight, window and how many rows, then
-// each row as its moment, device, event and value. Behind each report stands a line `end` with how often each mapping of
-// profile and kernel made a difference: set threaded, repoll behind busy polling, window, moments, threaded off. With STOPS_THREADS the
-// functions are those of a kernel that stops the thread of an instance (napi_stop_kthread).
+// each row as its moment, device, event and value. After each report there is a line `end` with how often each mapping of
+// profile and kernel made a difference: set threaded, repoll after busy polling, window, moments, threaded off. With
+// STOPS_THREADS the functions are those of a kernel that stops the thread of an instance (napi_stop_kthread).
 #include <sys/time.h>
 #include <ucontext.h>
 #include <unistd.h>
@@ -25,7 +25,7 @@ static void count_completion(struct napi_struct *napi, bool is_released);
 
 #define jiffies polls_as_time
 #include "instances.h"
-// each completion is counted, whoever makes it
+// each completion is counted, whatever makes it
 #define napi_complete_done(napi, work) ({ const bool was_released = napi_complete_done(napi, work); count_completion(napi, was_released); was_released; })
 #include "polls.h"
 #undef jiffies
@@ -66,7 +66,7 @@ static unsigned int take(struct ring *ring, const unsigned int *sizes) {
     return sizes[ring->first++ % PLACES];
 }
 
-// In whole numbers: an end beyond 64 bits is after every moment, where the kernel's jiffies wrap.
+// In whole numbers: an end beyond 64 bits is after every time, where the kernel's jiffies wrap.
 bool after_as_whole(unsigned long now, unsigned long end, unsigned long hold) {
     const bool is_after = end >= hold && now > end;
     mapped.moments += is_after != ((long)(end - now) < 0);
@@ -80,7 +80,7 @@ static void count_completion(struct napi_struct *napi, bool is_released) {
     else device->again++;
 }
 
-// A driver's poll, by napi.rst: it completes where there is work below the budget.
+// A driver's poll, as in napi.rst: it completes if there is work below the budget.
 static int poll_ring(struct napi_struct *napi, int budget) {
     struct device *device = device_of(napi);
     int work = 0;
@@ -100,7 +100,7 @@ static int poll_ring(struct napi_struct *napi, int budget) {
     return work;
 }
 
-// The disable of a row runs on a stack of its own, and sleeps where the kernel's caller does.
+// The disable of a row runs on its own stack, and sleeps where the kernel's caller does.
 void sleep_in_disable(void) { swapcontext(&in_disable->disabling, &rows); }
 static void run_disable(void) {
     napi_disable(&in_disable->napi);
@@ -210,7 +210,7 @@ static void disable(struct device *device, count value) {
 static void enable(struct device *device, count value) { napi_enable(&device->napi); }
 
 #ifdef STOPS_THREADS
-// The profile clears THREADED at once; these kernels wait until the instance is neither scheduled nor off.
+// The profile clears THREADED at once; these kernels wait until the instance is neither scheduled nor disabled.
 static void set_threaded(struct device *device, count value) {
     if (!value && device->napi.thread && test_bit(NAPI_STATE_SCHED, &device->napi.state)) {
         mapped.off++;
@@ -221,7 +221,7 @@ static void set_threaded(struct device *device, count value) {
     netif_set_threaded(&device->net, value);
 }
 #else
-// The profile writes THREADED in any state; the kernel only where the device hasn't the setting yet.
+// The profile writes THREADED in any state; the kernel only if the device doesn't have the setting yet.
 static void set_threaded(struct device *device, count value) {
     if (device->net.threaded == value && test_bit(NAPI_STATE_THREADED, &device->napi.state) != value) {
         mapped.threaded++;
@@ -236,7 +236,7 @@ static const struct { const char *word; void (*play)(struct device *, count); } 
     {"kthread", run_thread}, {"busy", poll_busily}, {"disable", disable}, {"enable", enable}, {"threaded", set_threaded},
 };
 
-// Plays one row; false where it enables a device whose disable sleeps still.
+// Processes one row; returns false if it enables a device whose disable still sleeps.
 static bool play_row(const char *word, struct device *device, count value) {
     made.polls = made.work = 0;
     if (strcmp(word, "enable") == 0 && device->is_disabling) return false;
@@ -249,7 +249,7 @@ static bool play_row(const char *word, struct device *device, count value) {
 
 // ---- the report
 
-// The kernel's bits but for LISTED; in place of the list's links and the thread's wake-up the profile has two marks.
+// The kernel's bits except LISTED; in place of the list's links and the thread's wake-up, the profile has two bits.
 static count word_of(struct napi_struct *napi) {
     return (napi->state & ~NAPIF_STATE_LISTED) | (count)!list_empty(&napi->poll_list) << 32 | (count)test_bit(NAPI_STATE_SCHED_THREADED, &napi->state) << 33;
 }
@@ -294,7 +294,7 @@ static void begin(unsigned int budget, unsigned int weight, unsigned int window)
     for (unsigned int number = 1; number <= DEVICES; number++) devices[number].napi.weight = weight;
 }
 
-// One trace: its report, or the line of an enable that is early. False at the end of the input.
+// One trace: its report, or the message of an enable that is early. Returns false at the end of the input.
 static bool play_trace(void) {
     unsigned int budget, weight, window, count_of_rows, early = 0;
     char *text = NULL, word[16];

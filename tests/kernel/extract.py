@@ -1,10 +1,10 @@
 #!/usr/bin/env python3
-"""Takes definitions out of Linux's sources by their names, and prints them in the order that is asked for.
+"""Extracts definitions from Linux's sources by name, and prints them in the order of the arguments.
 
 usage: extract.py FOLDER FILE: NAME .. [FILE: NAME ..] ..
 
-A name is a function's, a macro's, or that of the first constant of an enum. One that isn't there exactly once is told, with
-status 1, and nothing is printed.
+A name is a function's, a macro's, or that of the first constant of an enum. One that doesn't occur exactly once is an
+error: its name is printed, with status 1, and nothing else.
 """
 import pathlib
 import re
@@ -18,7 +18,7 @@ FORMS = [
 
 
 def definition(text, name):
-    """The one definition of that name, or None."""
+    """The one definition with that name, or None."""
     found = [match[0] for form in FORMS for match in re.finditer(form.format(re.escape(name)), text, re.M | re.S)]
     return found[0] if len(found) == 1 else None
 

@@ -1,5 +1,5 @@
-// What the extracted functions take from other headers of the kernel, for a program of one thread. What a machine does beside
-// them (interrupts, timers, GRO, other processors) is nothing here; what they warn of ends the program.
+// What the extracted functions take from other headers of the kernel, for a program of one thread. What else a machine does
+// (interrupts, timers, GRO, other processors) is nothing here; their warnings end the program.
 #ifndef KERNEL_STUBS_H
 #define KERNEL_STUBS_H
 
@@ -12,7 +12,7 @@
 typedef uint16_t u16;
 typedef uint32_t u32;
 
-// ---- the queue limit: moments are whole numbers of 64 bits
+// ---- the queue limit: times are whole numbers of 64 bits
 
 bool after_as_whole(unsigned long now, unsigned long end, unsigned long hold);
 #undef time_after
@@ -45,7 +45,7 @@ struct list_head { struct list_head *next, *prev; };
 #define __list_del_entry_valid(...) true
 #define list_add_rcu(entry, list) list_add_tail(entry, list)
 
-// ---- what stands beside an instance
+// ---- what else an instance needs
 
 struct task_struct { int is_awake; };
 struct hrtimer { void *function; };

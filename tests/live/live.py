@@ -47,7 +47,7 @@ BROADCAST = Traffic("mixed", 3000, 24, 150, gso=64)
 
 @dataclass(frozen=True)
 class Case:
-    """A setting that is predicted, and how far each value may be off, in %."""
+    """A setting that is predicted, and by how much each value may differ, in %."""
 
     setting: Setting
     limits: dict
@@ -120,7 +120,7 @@ class Recordings:
         self.folder, self.until, self.count = folder, until, 0
 
     def once(self, setting):
-        """One recording that nothing disturbed: the sender kept to its times, and no hypervisor took the processors."""
+        """One undisturbed recording: the sender kept to its times, and no hypervisor took the processors."""
         for _ in range(TRIES):
             if time.monotonic() > self.until:
                 raise rig.Failed(f"it isn't quiet enough within {MOST_SECONDS} s")
@@ -133,7 +133,7 @@ class Recordings:
                          f"hypervisor took {recorded.stolen} hundredths of a second from its processors")
 
     def of(self, group):
-        """Of each setting of the group its recordings."""
+        """The recordings of each setting of the group."""
         settings = [group.base, *(case.setting for case in group.cases)]
         made = {setting.name: [] for setting in settings}
         for _ in range(TIMES):
@@ -187,8 +187,8 @@ class Line:
 
     @property
     def is_of_one_speed(self):
-        """Whether all recordings agree about a time, within 15 % or 5 us. If not, the machine was slower in some of them, and costs from one
-        don't predict another."""
+        """Whether all recordings agree about a time, within 15 % or 5 us. If not, the machine was slower in some of them, and
+        costs from one don't predict another."""
         return self.name != "used_p50" or max(self.measured) - min(self.measured) <= max(0.15 * self.median, 5000)
 
     def __str__(self):
@@ -207,7 +207,7 @@ def lines_of(program, setting, limits, kept):
 
 
 def own_check(group):
-    """The values by which the rig is judged at the setting that was recorded."""
+    """The values by which the rig is judged at the recorded setting."""
     return dict.fromkeys(("runs", "squeezed") if group.base.devices > 1 else ("polls", "dropped", "used_p50"), 0)
 
 
@@ -227,7 +227,8 @@ class Sum:
         print(f"skipped: live: {why}", flush=True)
 
     def take(self, line, is_good=True):
-        """Judges a line; one that is off fails if the recorded setting is predicted well, and two of the three recordings agree about the value."""
+        """Judges a line; one that differs too much fails if the recorded setting is predicted well, and two of the three
+        recordings agree about the value."""
         print(line, flush=True)
         if abs(line.error) <= line.limit:
             self.passed += 1
@@ -244,7 +245,7 @@ class Sum:
 
 
 def is_off(lines):
-    """Whether a prediction is further off than it may be."""
+    """Whether a prediction differs by more than it may."""
     return any(abs(line.error) > line.limit for line in lines)
 
 
@@ -255,7 +256,7 @@ def judged(program, group, kept):
 
 
 def check_kept(program, total):
-    """The recording that the repository has."""
+    """Checks the recording in the repository."""
     for place, group in enumerate(GROUPS):
         own, lines = judged(program, group, read_kept(place))
         for line in own:
@@ -274,7 +275,8 @@ def check_page(program, total):
 
 
 def recorded_group(program, group, until):
-    """What may be kept of a group, with its lines. What is off is recorded a second time, as anything may have slowed the machine."""
+    """What may be kept of a group, with its lines. What differs too much is recorded a second time, because anything may have
+    slowed the machine."""
     with tempfile.TemporaryDirectory() as scratch:
         rig.build(Path(scratch))
         for left in (1, 0):
@@ -285,7 +287,7 @@ def recorded_group(program, group, until):
 
 
 def check_here(program, folder, numbers, total):
-    """Records these groups on this machine, and keeps in a folder, if one is named, what holds."""
+    """Records these groups on this machine, and keeps in a folder, if one is named, what is predicted well."""
     lacks = rig.missing()
     if lacks:
         total.skip(f"recordings made here: needs {', '.join(lacks)}")
@@ -313,7 +315,7 @@ def check_here(program, folder, numbers, total):
             write_kept(folder, place, kept)
 
 
-# ---- what the repository keeps
+# ---- recordings in the repository
 
 def read_kept(place, folder=HERE / "kept"):
     kept = json.loads((folder / f"{place + 1}.json").read_text(encoding="utf-8"))

@@ -1,6 +1,7 @@
-/* receiver PORT USE_NS FILTER FILE: reads UDP packets of the sender, works USE_NS on each, and writes `number,read` of each to FILE
- * (CLOCK_MONOTONIC, in ns) once none has come for 300 ms. It reports `ready` on standard output when it listens, and gives up if none comes
- * for 5 s. A socket filter of FILTER multiplications makes the kernel's work on each packet dearer. */
+/* receiver PORT USE_NS FILTER FILE: reads UDP packets of the sender, works USE_NS on each, and writes `number,read` of each
+ * to FILE (CLOCK_MONOTONIC, in ns) once none has arrived for 300 ms. It prints `ready` on standard output when it listens,
+ * and gives up if none arrives for 5 s. A socket filter of FILTER multiplications makes the kernel's work on each packet
+ * more expensive. */
 #define _GNU_SOURCE
 #include <arpa/inet.h>
 #include <stdint.h>

@@ -1,5 +1,5 @@
-"""The rig of tests/live.sh: veth pairs between two network namespaces, a sender and a receiver that run at SCHED_FIFO on processors of
-their own, and a recording by tools/record. It restores every setting that it changes.
+"""The rig of tests/live.sh: veth pairs between two network namespaces, a sender and a receiver that run at SCHED_FIFO on
+separate processors, and a recording by tools/record. It restores every setting that it changes.
 """
 
 import contextlib
@@ -40,8 +40,9 @@ class Traffic:
 
 @dataclass(frozen=True)
 class Setting:
-    """What is set for one recording. By `poller` packets are polled by `backlog`, the receiving processor's backlog (RPS); by `softirq`, the
-    veth device's NAPI instance on the sender's processor; by `thread`, the instance's thread on the receiving processor."""
+    """The settings of one recording. With `poller` `backlog`, the receiving processor's backlog polls (RPS); with `softirq`,
+    the veth device's NAPI instance on the sender's processor; with `thread`, the instance's thread on the receiving
+    processor."""
 
     name: str
     poller: str
@@ -58,7 +59,7 @@ class Setting:
 
 @dataclass
 class Recorded:
-    """What a recording gave: the file of tools/record, when each packet was read, and how far the sender was from its times."""
+    """The result of a recording: the file of tools/record, when each packet was read, and how late the sender was."""
 
     path: Path
     reads: list  # (the packet's number, when it was read, in ns), in this order
@@ -67,7 +68,7 @@ class Recorded:
 
 
 def missing():
-    """What this machine lacks, each in a few words; the rig needs nothing if this is empty."""
+    """What this machine lacks, each in a few words; empty if nothing."""
     lacks = [f"{name} (Debian: {package})" for name, package in NEEDS.items() if not shutil.which(name)]
     if os.geteuid() != 0:
         return ["root", *lacks]
@@ -190,7 +191,7 @@ class Rig:
         if setting.poller == "backlog":
             files["queues/rx-0/rps_cpus"] = f"{1 << RECEIVES:x}"
         for number in range(1, setting.devices + 1):
-            # In a mount namespace of its own, where /sys shows the devices of this network namespace.
+            # In its own mount namespace, where /sys shows the devices of this network namespace.
             self.within(self.into, "sh", "-c", ";".join(f"echo {value} > /sys/class/net/vb{number}/{name}" for name, value in files.items()))
         if setting.poller == "thread":
             for process in tasks(r"napi/vb1-\d+"):
@@ -201,7 +202,7 @@ class Rig:
             self.undo.callback(run, "chrt", "-o", "-p", 0, process)
 
     def receiver(self, read):
-        """The receiver at work, which writes to that file when it ends."""
+        """The running receiver, which writes to that file when it ends."""
         process = subprocess.Popen(["ip", "netns", "exec", self.into, "chrt", "-f", "1", "taskset", "-c", str(RECEIVES), self.folder / "receiver",
                                     str(PORT), str(USE_NS), str(self.setting.traffic.filter), read], stdout=subprocess.PIPE)
         self.undo.callback(process.wait)
@@ -211,7 +212,7 @@ class Rig:
         return process
 
     def recorder(self, path):
-        """tools/record at work, as somebody calls it."""
+        """The running tools/record, called as a user would."""
         names = range(1, self.setting.devices + 1)
         process = subprocess.Popen([RECORD, "1", "--netns", self.into, "--processors", f"{SENDS},{RECEIVES}", "--program", "receiver", "--out", path,
                                     *(word for name in names for word in ("--device", f"vb{name}", "--sender", f"va{name}"))],
@@ -246,7 +247,7 @@ class Rig:
 
 
 def record(folder, setting, path):
-    """One recording by this setting."""
+    """Makes one recording with this setting."""
     wait_for_quiet()
     with Rig(folder, setting) as rig:
         return rig.record(path)

@@ -3,7 +3,7 @@
     table.py PROGRAM                prints the table
     table.py PROGRAM --check PAGE   whether the page has that table between its marks; the exit status is 1 if it hasn't
     table.py PROGRAM --into PAGE    puts it there
-    table.py PROGRAM --draw FILE    draws it, by gnuplot, as .png or .svg
+    table.py PROGRAM --draw FILE    draws it, as .png or .svg
 """
 
 import sys
@@ -11,7 +11,7 @@ from pathlib import Path
 
 from live import GROUPS, judged, read_kept
 import predicting
-from drawing import BLUE, GREY, TERMINALS, by_gnuplot, head
+from drawing import LIGHT, canvas, saved
 
 BEGIN, END = "<!-- predicted and measured: begin -->", "<!-- predicted and measured: end -->"
 NAMES = {"dropped": "packets dropped", "polls": "polls", "runs": "runs", "squeezed": "squeezed runs",
@@ -28,7 +28,7 @@ def text_of(name, value):
 
 
 def rows_of(program):
-    """Of each group: its base's name, the lines of the base, and the predicted lines."""
+    """For each group: its base's name, the lines of the base, and the predicted lines."""
     for place, group in enumerate(GROUPS):
         yield group.base.name, *judged(program, group, read_kept(place))
 
@@ -57,32 +57,43 @@ def label_of(line, is_named):
     text = line.setting
     for words, broken in BREAKS.items():
         text = text.replace(words, broken)
-    return "\\n".join([*text.split("~"), *([NAMES[line.name]] if is_named else [])])
+    return "\n".join([*text.split("~"), *([NAMES[line.name]] if is_named else [])])
 
 
-def script_of(program, kind):
-    """The text for gnuplot: a panel for each kind of value, and for each setting what was measured, with its range, and predicted."""
+def draw(program, path):
+    """A picture: a panel for each kind of value, and for each setting what was measured, with its range, and predicted."""
     lines = [line for _, _, predicted in rows_of(program) for line in predicted]
-    text = [*head(kind, (960, 340)), "set multiplot", "set style data histograms", "set style histogram clustered gap 1 errorbars lw 1.5",
-            "set bars 0.6", "set xtics noenhanced font 'sans,8'", "set tmargin 3", "set bmargin 5", "set lmargin 7", "set rmargin 1", "set format y '%g'"]
-    for number, (title, names) in enumerate(PANELS.items()):
-        scale = 10**6 if "ms" in title else 1
-        text += [f"$panel{number} << END"]
-        for line in lines:
-            if line.name in names:
-                low, middle, high, value = (each / scale for each in (min(line.measured), line.median, max(line.measured), line.predicted))
-                text.append(f'"{label_of(line, len(names) > 1)}" {middle:.6g} {low:.6g} {high:.6g} {value:.6g} {value:.6g} {value:.6g}')
-        text += ["END", f"set title '{title}' font 'sans,9'", f"set size {WIDTHS[number]},1", f"set origin {sum(WIDTHS[:number]):.2f},0",
-                 *(["set logscale y", "set yrange [0.01:20]"] if scale > 1 else ["unset logscale y", "set yrange [0:*]"]),
-                 "set key inside top right vertical" if number == 0 else "unset key",
-                 f"plot $panel{number} using 2:3:4:xtic(1) lc rgb {GREY} title 'measured', '' using 5:6:7 lc rgb {BLUE} title 'predicted'"]
-    return "\n".join([*text, "unset multiplot", ""])
+    title = "Predicted and measured values on veth pairs; the range of three measurements"
+    with canvas((960, 380)) as figure:
+        for number, (axes, (name, names)) in enumerate(zip(figure.subplots(1, len(PANELS), gridspec_kw={"width_ratios": WIDTHS}), PANELS.items())):
+            draw_panel(axes, name, [line for line in lines if line.name in names], len(names) > 1)
+            if number == 0:
+                axes.legend(loc="upper right", frameon=False, fontsize=8)
+        figure.suptitle(title, fontsize=10)
+        told = "; ".join(f"{line.setting}, {NAMES[line.name]}: measured {text_of(line.name, line.median)}, predicted {text_of(line.name, line.predicted)}"
+                         for line in lines)
+        Path(path).write_bytes(saved(figure, Path(path).suffix, title, f"{title}. {told}."))
+
+
+def draw_panel(axes, title, lines, is_named):
+    """Pairs of bars, side by side; those of predictions are hatched too."""
+    scale = 10**6 if "ms" in title else 1
+    places, middles = range(len(lines)), [line.median / scale for line in lines]
+    ends = [[(line.median - min(line.measured)) / scale for line in lines], [(max(line.measured) - line.median) / scale for line in lines]]
+    axes.bar([place - 0.2 for place in places], middles, 0.4, yerr=ends, capsize=3, color=LIGHT["grey"], ecolor=LIGHT["text"], label="measured")
+    axes.bar([place + 0.2 for place in places], [line.predicted / scale for line in lines], 0.4, color=LIGHT["blue"], hatch="//", label="predicted")
+    axes.set_title(title, fontsize=9)
+    axes.set_xticks(list(places), [label_of(line, is_named) for line in lines], fontsize=7)
+    if scale > 1:
+        axes.set_yscale("log")
+        axes.set_ylim(0.01, 20)
+        axes.yaxis.set_major_formatter("{x:g}")
 
 
 def main(program, what="", path=""):
     table = table_of(program) if what != "--draw" else ""
     if what == "--draw":
-        Path(path).write_bytes(by_gnuplot(script_of(program, TERMINALS[Path(path).suffix])))
+        draw(program, path)
     elif what in ("--into", "--check"):
         old = Path(path).read_text(encoding="utf-8")
         new = page_with(old, table)

@@ -11,7 +11,7 @@ import unittest
 
 import timing
 from timing import Made
-from tooltest import HAS_MACHINE, TOP, InFolder, run
+from tooltest import HAS_MACHINE, TOP, InFolder, run, skip_without
 
 sys.path.insert(0, str(TOP / "tools"))
 import advising  # noqa: E402
@@ -188,7 +188,7 @@ class Advise(InFolder):
         for each in ("busy polling is on", "adaptive coalescing is on", "7 packets were dropped at a full socket", "RPS moves packets on"):
             self.assertTrue(any(note.startswith(each) for note in told["notes"]), each)
 
-    @unittest.skipUnless(shutil.which("gnuplot"), "gnuplot")
+    @skip_without("matplotlib")
     def test_the_picture(self):
         for name, begins in (("x.png", b"\x89PNG"), ("x.svg", b"<?xml")):
             self.advised(file_of(quiet()), "--plot", self.folder / name)

@@ -74,7 +74,7 @@ class Replaced(InFolder):
         with unittest.mock.patch("os.fsync", synced), by_name[0], by_name[1], by_name[2]:
             toolbox.write_whole(str(self.folder / "old"), TEXT)
             toolbox.write_all({str(self.folder / name): text for name, text in (("first", TEXT), ("second", "short\n"))})
-            with toolbox.whole_file(str(self.folder / "drawn")) as new:  # by another program, as gnuplot
+            with toolbox.whole_file(str(self.folder / "drawn")) as new:  # by another program
                 subprocess.run(["sh", "-c", 'printf text > "$0"', new], check=True)
         sizes = {"old": len(TEXT), "first": len(TEXT), "second": 6, "drawn": 4}
         self.assertEqual([each[2] for each in events if each[0] != "fsync"], list(sizes))

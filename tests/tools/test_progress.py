@@ -44,7 +44,7 @@ class Shown(InFolder):
 
     def test_rows_of_a_sweep(self):
         slow = self.program("slow", f"#!/bin/sh\nsleep 0.7\nexec '{REPLAY}' \"$@\"\n")
-        words = [BURSTS, "--budget", "1,2,3,4", "--jobs", "1", "--without-parallel"]
+        words = [BURSTS, "--budget", "1,2,3,4", "--jobs", "1"]
         self.assertRegex(self.seen("sweep", *words, "--out", "rows", PROGRAM=slow), r"\r\x1b\[Ksweep: making 4 rows, (25|50|75) %, \d+ s left")
         self.assertNotIn("\x1b[K", self.seen("sweep", *words, "--out", "others", "--quiet", PROGRAM=slow))
 
@@ -59,10 +59,6 @@ class Shown(InFolder):
         capture.write_bytes(b"\xd4\xc3\xb2\xa1" + b"\0" * 39996)
         self.program("tcpdump", HALF)
         self.check(r"reading, 50 %, \d s left", "from-pcap", capture, "made", PATH=f"{self.folder}:{os.environ['PATH']}")
-
-    def test_a_picture(self):
-        self.program("gnuplot", "#!/bin/sh\nsleep 2.5\n")
-        self.check(r"drawing by gnuplot, [123] s", "plot", BURSTS, "--out", "x.svg", PATH=f"{self.folder}:{os.environ['PATH']}")
 
     def test_runs_that_are_raised(self):
         slow = self.program("slow", f"#!/bin/sh\nsleep 0.5\nexec '{REPLAY}' \"$@\"\n")
@@ -80,9 +76,9 @@ class Shown(InFolder):
         self.assertRegex(self.seen("from-ftrace", recording, "trace", "--arrivals"), r"from-ftrace: reading, \d+ %, \d+ s left")
 
     def test_elsewhere_nothing_is_shown(self):
-        self.program("gnuplot", "#!/bin/sh\nsleep 1.5\n")
-        done = run("plot", BURSTS, "--out", "x.svg", folder=self.folder, path=f"{self.folder}:{os.environ['PATH']}")
-        self.assertEqual((done.stderr, done.returncode), ("plot: gnuplot failed: 0\n", 1))
+        slow = self.program("slow", f"#!/bin/sh\nsleep 1.5\nexec '{REPLAY}' \"$@\"\n")
+        done = run("raise", BURSTS, "--out", "x.csv", folder=self.folder, PROGRAM=slow)
+        self.assertEqual((done.stderr.count("\n"), "\r" in done.stderr, done.returncode), (1, False, 0))
 
 
 if __name__ == "__main__":

@@ -1,4 +1,4 @@
-"""Tests of tools/steps: what its page shows, by a browser where there is one, is what the report of each prefix of the trace tells."""
+"""Tests of tools/steps: what its page shows, by a browser if there is one, is what the report of each prefix of the trace says."""
 
 import html
 import json
@@ -9,14 +9,15 @@ import subprocess
 import unittest
 
 from prefixes import report_of
-from tooltest import HEADER, REPLAY, TOP, InFolder, run
+from tooltest import HEADER, REPLAY, TOP, InFolder, contrast, run
 
 BROWSER = next(filter(None, map(shutil.which, ("chromium", "chromium-browser", "google-chrome"))), None)
 # docs/FORMATS.md, "The state word".
 FLAGS = {0: "SCHED", 1: "MISSED", 2: "DISABLE", 3: "NPSVC", 6: "IN_BUSY_POLL", 8: "THREADED", 9: "SCHED_THREADED", 32: "QUEUED", 33: "TO_THREAD"}
-# Steps on by the key, the button, the slider and a stroke in turn, then back by each, and tells what is shown after each step.
+# Steps on by the key, the button, the slider and a stroke in turn, then back by each, and prints what is shown after each step.
 WALK = """<script>
-const told = [], shown = () => told.push({ place: by('place').textContent, list: by('list').textContent, said: by('said').textContent,
+const one = name => document.querySelector(name).textContent;
+const told = [], shown = () => told.push({ place: by('place').textContent, list: one('.list'), said: one('.said'),
   devices: [...document.querySelectorAll('.device')].map(card => [card.dataset.device, card.querySelector('h2').textContent,
     card.querySelector('.waiting').textContent, card.querySelector('.counts').textContent,
     [...card.querySelectorAll('.chip')].map(chip => chip.textContent).join(' '), (card.querySelector('.limit') || {}).textContent || '']) });
@@ -27,9 +28,9 @@ const slide = by_how_many => { slider.value = Number(slider.value) + by_how_many
 const on = [() => key('ArrowRight'), () => by('forth').click(), () => slide(1), () => stroke(300, 100)];
 const back = [() => key('ArrowLeft'), () => by('back').click(), () => slide(-1), () => stroke(100, 300)];
 shown();
-for (let place = 1; place < steps.length; place++) { on[place % 4](); shown(); }
+for (let place = 1; place < count; place++) { on[place % 4](); shown(); }
 on[0](); shown();
-for (let place = 1; place < steps.length; place++) { back[place % 4](); shown(); }
+for (let place = 1; place < count; place++) { back[place % 4](); shown(); }
 key('End'); shown(); key('Home'); shown();
 document.body.replaceChildren(made('pre', 'told', JSON.stringify(told)));
 </script>"""
@@ -60,7 +61,7 @@ class Steps(InFolder):
             queues = {line[1]: line for line in report if line[0] == "tx"}
             listed = next(line[1:] for line in report if line[0] == "list")
             yield {"place": f"row {number} of {len(rows)}", "list": "".join(f"device {one}" for one in listed) or "empty",
-                   "devices": [[one, f"device {one}, {line[2]}", f"{line[12]} of {places[one]} places filled",
+                   "devices": [[one, f"device {one}, {line[2]}", f"{line[12]} of {places[one]} packets in the ring",
                                 f"{line[4]} arrived, {line[8]} polled, {line[6]} dropped",
                                 " ".join(name for bit, name in FLAGS.items() if naps[one] >> bit & 1),
                                 f"queue limit {queues[one][11]} bytes, {int(queues[one][11]) - int(queues[one][13])} in flight, "
@@ -91,10 +92,14 @@ class Steps(InFolder):
                                                        f"<body><iframe width=360 height=700 src='{frame.name}'></iframe>"))
         self.assertTrue(found and 0 < int(found[1]) <= 360, found)
 
+    def data(self, trace, *words):
+        """What a page shows, as it has it."""
+        return json.loads(re.search(r"^const page = (.*);$", self.steps(trace, *words), re.M)[1])
+
     def said(self, rows, *words, header=HEADER):
-        """What the page says behind each row."""
-        page = self.steps(self.write("trace.csv", header + "".join(f"{row}\n" for row in rows)), *words)
-        return [step["said"] for step in json.loads(re.search(r"^const steps = (.*);$", page, re.M)[1])][1:]
+        """What the page says after each row."""
+        trace = self.write("trace.csv", header + "".join(f"{row}\n" for row in rows))
+        return [step["said"] for step in self.data(trace, *words)["sides"][0]["steps"]][1:]
 
     def test_what_a_row_did_and_by_which_rule(self):
         """By hand: the ring has two places, so a third packet is dropped; the second one's request is missed. A budget of 1 is spent
@@ -102,22 +107,148 @@ class Steps(InFolder):
         said = self.said(["0,1,open,2", "1,1,rx,60", "1,1,rx,60", "1,1,rx,60", "2,0,softirq,0", "3,0,softirq,0", "4,1,disable,0", "4,1,rx,60",
                           "6,1,tx,100", "7,1,done,1", "7,1,done,1"], "--budget", "1", "--weight", "1")
         texts = ["".join(f"{sentence} {rule} " for sentence, rule in step) for step in said]
-        for text, words in zip(texts, (["netif_napi_add", "2 places"], ["SCHED is set", "tail of the poll list", "____napi_schedule"],
-                                       ["MISSED is set", "napi_schedule_prep"], ["full", "dropped"], ["1 poll: 1 packet", "squeezed", "time_squeeze"],
-                                       ["1 poll: 1 packet", "next run"], ["DISABLE is set", "pending"], ["refused", "DISABLE"],
-                                       ["100 bytes are in flight, by a limit of 0", "queue stops"],
-                                       ["The limit goes from 0 to 100", "dql_completed", "goes on"], ["It is refused"])):
+        for text, words in zip(texts, (["netif_napi_add", "ring of 2 packets"],
+                                       ["SCHED is set", "tail of the poll list", "____napi_schedule"],
+                                       ["MISSED is set", "napi_schedule_prep"], ["full", "dropped"], ["1 poll and takes 1 packet", "squeezed", "time_squeeze"],
+                                       ["1 poll and takes 1 packet", "next run"], ["DISABLE is set", "pending"], ["refused", "DISABLE"],
+                                       ["100 bytes are in flight; the limit is 0", "queue is stopped"],
+                                       ["The limit goes from 0 to 100", "dql_completed", "woken"], ["is refused"])):
             for word in words:
                 self.assertIn(word, text)
 
+    # Three devices with 3, 1 and 2 packets in their rings; all requests after a device's first one are missed.
+    QUEUED = ["0,1,open,8", "0,2,open,8", "0,3,open,8", "1,1,rx,60", "1,2,rx,60", "1,1,rx,60", "1,3,rx,60", "1,1,rx,60", "1,3,rx,60"]
+
+    def polls(self, rows, *words):
+        """The polls of each run: device, packets, how it ended, and what is left of the budget."""
+        trace = self.write("trace.csv", HEADER + "".join(f"{row}\n" for row in rows))
+        steps = self.data(trace, *words)["sides"][0]["steps"]
+        return [step["polls"] and [(poll["device"], poll["packets"], poll["ending"], poll["budget"]) for poll in step["polls"]]
+                for step in steps if "polls" in step]
+
+    def test_a_run_poll_by_poll(self):
+        """By hand, with a weight of 2. The list has 1, 2 and 3. Device 1 has three packets: its poll takes two and asks for a repoll.
+        Device 2 has one and no missed request, so it completes. Device 3 has two, its whole weight. Then the run stops, as something is
+        to be repolled. The next run takes device 1's last packet: a request was missed, so it is polled again; device 3 has none left, and
+        a missed request; then each is polled once more, completes and is idle."""
+        again, repoll = "a request was missed: poll again", "its whole weight: repoll"
+        first = [(1, 2, repoll, 8), (2, 1, "complete", 7), (3, 2, repoll, 5)]
+        second = [(1, 1, again, 9), (3, 0, again, 9), (1, 0, "complete", 9), (3, 0, "complete", 9)]
+        rows = [*self.QUEUED, "2,0,softirq,0", "3,0,softirq,0"]
+        self.assertEqual(self.polls(rows, "--weight", "2", "--budget", "10"), [first, second])
+        # A budget of 3 is used up by two polls; device 3 stays on the list, before device 1, which is to be repolled.
+        self.assertEqual(self.polls(rows, "--weight", "2", "--budget", "3"), [[(1, 2, repoll, 1), (2, 1, "complete", 0)],
+                                                                             [(3, 2, repoll, 1), (1, 1, again, 0)]])
+
+    def test_the_state_within_a_run(self):
+        """After the first of the polls above the list has the others and then device 1, which has one packet left."""
+        trace = self.write("trace.csv", HEADER + "".join(f"{row}\n" for row in [*self.QUEUED, "2,0,softirq,0"]))
+        polls = self.data(trace, "--weight", "2")["sides"][0]["steps"][-1]["polls"]
+        self.assertEqual([poll["list"] for poll in polls], [[2, 3, 1], [3, 1], [1, 3]])
+        self.assertEqual([[(device["device"], device["left"], device["polled"]) for device in poll["devices"]] for poll in polls],
+                         [[(1, 1, 2)], [(2, 0, 1)], [(3, 0, 2)]])
+
+    def test_polls_add_up_to_their_runs(self):
+        """In recordings, with several settings: each run that opens has the polls and the packets of its report."""
+        for name, rows, words in (("linux-veth-bursts", "1:500", ["--budget", "16", "--weight", "8"]), ("linux-veth-small-budget", "120:320", []),
+                                  ("linux-veth-tcp", "13500:13913", ["--budget", "64"])):
+            trace, known, runs = TOP / f"examples/{name}.csv", 0, 0
+            header, *lines = trace.read_text().splitlines()
+            first, last = map(int, rows.split(":"))
+            page = self.data(trace, "--rows", rows, *words)
+            report = {int(line[1]): (int(line[3]), int(line[5])) for line in report_of(REPLAY, lines, words, f"{header}\n") if line[0] == "softirq"}
+            for label, step in zip(page["steps"], page["sides"][0]["steps"]):
+                if "polls" not in step:
+                    continue
+                runs += 1
+                known += step["polls"] is not None
+                if step["polls"] is not None:
+                    self.assertEqual((len(step["polls"]), sum(poll["packets"] for poll in step["polls"])), report[int(label["at"])])
+            self.assertEqual(runs, sum(first <= number <= last and polls > 0 for number, (polls, _) in report.items()))
+            self.assertEqual(known, runs, name)
+
+    def test_a_window_of_rows(self):
+        """Rows of a recording of 13,913 rows: their numbers stay those of the trace, and the states those of the reports so far."""
+        trace = TOP / "examples/linux-veth-tcp.csv"
+        header, *rows = trace.read_text().splitlines()
+        page = self.data(trace, "--rows", "13900:13913")
+        self.assertEqual([label["at"] for label in page["steps"]], [str(number) for number in range(13899, 13914)])
+        self.assertEqual(page["rows"], 13913)
+        wanted = list(line for line in report_of(REPLAY, rows, [], f"{header}\n") if line[0] == "device")
+        last = {}
+        for step in page["sides"][0]["steps"]:
+            last.update((device["device"], device) for device in step["devices"])
+        self.assertEqual([[str(last[int(line[1])][name]) for name in ("arrived", "dropped", "polled", "left")] for line in wanted],
+                         [[line[4], line[6], line[8], line[12]] for line in wanted])
+        done = run("steps", trace, "--out", "x.html", "--rows", "13914:13920", folder=self.folder)
+        self.assertIn("has no row 13914: it has 13913 rows", done.stderr)
+
+    def test_two_settings(self):
+        """A row that only one of the settings adds is a step of both."""
+        trace = self.write("trace.csv", HEADER + "".join(f"{row}\n" for row in [*self.QUEUED, "2,0,softirq,0"]))
+        page = self.data(trace, "--raise", "--budget", "2", "--weight", "2", "--beside", "--budget 300")
+        self.assertEqual([side["settings"] for side in page["sides"]],
+                         ["budget 2 packets, weight 2 packets, window 1024 polls (default), with added runs (--raise)",
+                          "budget 300 packets (default), weight 64 packets (default), window 1024 polls (default), with added runs (--raise)"])
+        self.assertEqual(len(page["sides"][0]["steps"]), len(page["sides"][1]["steps"]))
+        self.assertIn("10+1", [label["at"] for label in page["steps"]])
+        said = [step["said"][0][0] for step in page["sides"][1]["steps"]]
+        self.assertEqual(said[-1], "With these settings no run is added here.")
+        self.assertEqual([bool(step.get("squeezed")) for step in page["sides"][0]["steps"]][10:12], [True, True])
+        self.assertFalse(any(step.get("squeezed") for step in page["sides"][1]["steps"]))
+        for wrong in ("--budget", "--budget x", "'", "3"):
+            self.assertEqual(run("steps", trace, "--out", "x.html", "--beside", wrong, folder=self.folder).returncode, 2)
+
+    # Clicks on a mark and on a poll, plays, pauses and steps by keys, and reports the row and the list after each.
+    CLICKS = """<script>
+const told = [], tell = () => told.push([page.steps[here()].at, document.querySelector('.list').textContent, document.querySelectorAll('tr.chosen').length]);
+const near = number => {
+  const box = document.querySelectorAll('.mark')[number].getBoundingClientRect();
+  by('timeline').dispatchEvent(new MouseEvent('click', { clientX: box.left + box.width / 2 + 3, clientY: box.top, bubbles: true }));
+  tell();
+};
+near(0); near(1);
+document.querySelector('.polls tbody tr').click(); tell();
+const key = name => document.dispatchEvent(new KeyboardEvent('keydown', { key: name }));
+key('ArrowDown'); tell(); key('ArrowUp'); key('ArrowUp'); tell(); key('p'); tell(); key('n'); tell();
+by('next').click(); tell();
+key('Home'); by('pace').value = '20'; by('play').click(); told.push(by('play').getAttribute('aria-label'));
+setTimeout(() => { by('play').click(); told.push(by('play').getAttribute('aria-label')); told.push(here() > 0);
+  told.push(document.querySelector('#timeline').getAttribute('aria-label'));
+  document.body.replaceChildren(made('pre', 'told', JSON.stringify(told))); }, 400);
+</script>"""
+
+    @unittest.skipUnless(BROWSER, "chromium")
+    def test_marks_polls_and_play(self):
+        """The run of row 11 is squeezed after two polls by a budget of 3; at row 10 a packet finds the ring of device 2 full. A click near a
+        mark goes to its row, and a click on a poll shows the list after it."""
+        rows = [self.QUEUED[0], "0,2,open,1", *self.QUEUED[2:], "1,2,rx,60", "2,0,softirq,0"]
+        page = self.steps(self.write("trace.csv", HEADER + "".join(f"{row}\n" for row in rows)), "--weight", "2", "--budget", "3")
+        found = re.search(r'<pre class="told">(.*?)</pre>', self.dumped(page.replace("</body>", self.CLICKS + "</body>"), "--virtual-time-budget=5000"))
+        told = json.loads(html.unescape(found[1]))
+        before, after = "device 1device 2device 3", "device 3device 1"
+        self.assertEqual(told[:8], [["10", before, 0], ["11", after, 0], ["11", "device 2device 3device 1", 1], ["11", after, 1], ["11", after, 0],
+                                    ["10", before, 0], ["11", after, 0], ["11", after, 0]])
+        self.assertEqual(told[-4:-1], ["pause", "play", True])
+        self.assertEqual(told[-1], "Timeline of 11 rows: 1 squeezed runs, 1 dropped packets.")
+
+    def test_texts_can_be_read(self):
+        """In both modes each text has a contrast of at least 4.5 to what it stands on, and each curve and border of at least 3."""
+        page = self.steps(TOP / "examples/two-packets.csv")
+        for block in re.findall(r":root \{(.*?)\}", page, re.S):
+            colors = dict(re.findall(r"--(\w+): #([0-9a-f]{6})", block))
+            for one, ground, least in [(text, ground, 4.5) for text in ("text",) for ground in ("page", "empty", "flag", "listed", "chosen")] + [
+                    (text, "page", 4.5) for text in ("quiet", "bad", "lost", "fill")] + [("line", "page", 3), ("quiet", "page", 4.5)]:
+                self.assertGreaterEqual(contrast(colors[one], colors[ground]), least, (one, ground, colors))
+
     def test_names_are_no_html(self):
-        name = "<script>alert(1)<\u2028>@STEPS@.csv"
+        name = "<script>alert(1)<\u2028>@DATA@.csv"
         self.write(name, (TOP / "examples/two-packets.csv").read_text())
         self.assertIn("&lt;script&gt;alert(1)", self.steps(name))
 
     def test_refusals(self):
         rows = "0,1,open,8\n" + "1,1,rx,60\n" * 500
-        for text, why in ((HEADER + rows, "501 rows, and a page has at most 500"), ("x\n", "trace fault 1 BadHeader row 0")):
+        for text, why in ((HEADER + rows, "501 rows, and a page has at most 500: --rows 1:200 has the first of them"), ("x\n", "trace fault 1 BadHeader row 0")):
             done = run("steps", "-", "--out", "page.html", text=text, folder=self.folder)
             self.assertEqual((done.returncode, self.names()), (1, []))
             self.assertIn(why, done.stderr)

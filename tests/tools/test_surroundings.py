@@ -20,7 +20,7 @@ REPORT = "list\ntotal devices 0 runs 0 polls 0 work 0 squeezed 0\n"
 WRITERS = {"raise": [TRACE], "report2json": ["-"], "traffic": [], "compare-runs": [TRACE, "--budget", "1", "--"],
            "plot": [TRACE, "--script"], "compare-recording": [TOP / "examples/linux-veth-small-budget", "--budget", "64"],
            "from-ftrace": [HERE / "soft-tcp.txt", "made", *(f"--pair=va{number}:vb{number}" for number in range(1, 7))],
-           "from-pcap": ["captured", "made"], "costs": [HERE / "soft-gso-23.txt"], "what-if": ["arrivals", "--without-parallel"],
+           "from-pcap": ["captured", "made"], "costs": [HERE / "soft-gso-23.txt"], "what-if": ["arrivals"],
            "advise": [HERE / "recorded-apart.rec"], "completion": ["bash"]}
 if not os.path.exists(MACHINE):
     del WRITERS["what-if"], WRITERS["advise"]
@@ -28,7 +28,7 @@ SERIES_HEAD = "row,moment,device,state,waiting,arrived,dropped,polled,in_flight,
 CAPTURED = "100.000000 eth0  In  ifindex 2 02:00:00:00:00:01 ethertype IPv4 (0x0800), length 60: 10.0.0.1 > 10.0.0.2: UDP\n"
 ALL = ["raise", "report2json", "traffic", "compare-runs", "compare-recording", "plot", "from-ftrace", "from-pcap", "sweep", "steps", "what-if", "costs",
        "record", "advise", "completion", "try"]
-# As somebody has it, and as a machine has it that tells no locale.
+# With the locale of a user, and with none.
 USUAL = dict(os.environ)
 BARE = {"PATH": os.environ["PATH"], "HOME": os.environ.get("HOME", "/"), "CI": "true"}
 MOST_SECONDS = 300
@@ -124,15 +124,14 @@ class Surroundings(InFolder):
     def test_an_end_by_TERM_leaves_nothing(self):
         """As a batch system ends a job, to the tool alone: no file beside the old one, and no program at work."""
         old = self.write("old.svg", "old\n")
-        held = self.write("gnuplot", f"#!/bin/sh\necho $$ > '{self.folder}/begun.new'\nmv '{self.folder}/begun.new' '{self.folder}/begun'\nexec sleep 1000\n")
+        held = self.write("held", f"#!/bin/sh\necho $$ > '{self.folder}/begun.new'\nmv '{self.folder}/begun.new' '{self.folder}/begun'\nexec sleep 1000\n")
         held.chmod(0o755)
         before = self.names()
-        by_path = {"PATH": f"{self.folder}:{os.environ['PATH']}"}
         for number in (signal.SIGTERM, signal.SIGHUP):
-            for tool, words, variables in (("raise", [TRACE, "--out", old], {"PROGRAM": held}), ("plot", [TRACE, "--out", old, "--force"], by_path),
+            for tool, words, variables in (("raise", [TRACE, "--out", old], {"PROGRAM": held}), ("plot", [TRACE, "--out", old, "--force"], {"SERIES": held}),
                                            ("steps", [TRACE, "--out", "page.html"], {"PROGRAM": held}),
                                            ("advise", [HERE / "recorded-apart.rec", "--plot", old], {"MACHINE": held}),
-                                           ("sweep", [TRACE, "--without-parallel", "--resume", "--out", "rows"], {"PROGRAM": held})):
+                                           ("sweep", [TRACE, "--resume", "--out", "rows"], {"PROGRAM": held})):
                 process = self.start(tool, words, variables=variables, stdout=subprocess.PIPE)
                 until = time.monotonic() + MOST_SECONDS
                 while not (self.folder / "begun").exists():
@@ -214,19 +213,18 @@ class Surroundings(InFolder):
         return names, said
 
     def test_an_interruption_of_tools_that_write(self):
-        """In the middle of a replay, or of drawing: the old file stays, and nothing beside it."""
-        held = self.held("gnuplot")
+        """In the middle of a replay: the old file stays, and nothing beside it."""
+        held = self.held("held")
         old = self.write("old.svg", "old\n")
-        by_path = {"PATH": f"{self.folder}:{os.environ['PATH']}"}
         before = self.names()
         for tool, words, variables in (("raise", [TRACE, "--out", old], {"PROGRAM": held}),
                                        ("compare-runs", [TRACE, "--out", old, "--"], {"PROGRAM": held}),
-                                       ("plot", [TRACE, "--out", old, "--force"], {"SERIES": held}), ("plot", [TRACE, "--out", old, "--force"], by_path)):
+                                       ("plot", [TRACE, "--out", old, "--force"], {"SERIES": held})):
             begun = os.open(self.folder / "begun", os.O_RDONLY | os.O_NONBLOCK)
             process = self.start(tool, words, variables=variables, stdout=subprocess.PIPE, start_new_session=True)
             names, said = self.interrupt(process, begun)
             os.close(begun)
-            self.assertEqual(len(names) > len(before), variables is by_path)  # gnuplot is to fill a new file
+            self.assertEqual(names, before)
             self.assertEqual((said, process.returncode), (f"{tool}: interrupted\n".encode(), 130))
             self.assertEqual((old.read_text(), self.names()), ("old\n", before))
 
@@ -234,7 +232,7 @@ class Surroundings(InFolder):
         """What was played is there, line by line, and the next call goes on with it."""
         held, out = self.held("held"), self.folder / "rows"
         held.write_text(held.read_text().replace("#!/bin/sh\n", f"#!/bin/sh\n[ \"$2\" = 300 ] || exec '{REPLAY}' \"$@\"\n"))
-        words = [TRACE, "--budget", "64,300", "--without-parallel", "--jobs", "1", "--out", out]
+        words = [TRACE, "--budget", "64,300", "--jobs", "1", "--out", out]
         begun = os.open(self.folder / "begun", os.O_RDONLY | os.O_NONBLOCK)
         process = self.start("sweep", [*words, "--program", held], stdout=subprocess.PIPE, start_new_session=True)
         _, said = self.interrupt(process, begun, lambda: out.read_text().count("\n") == 2)
@@ -273,7 +271,7 @@ class Surroundings(InFolder):
     def test_an_interruption_of_tools_that_read(self):
         """On a FIFO that somebody has open and writes nothing to."""
         os.mkfifo(self.folder / "fifo.csv")
-        words = {"compare-runs": ["--"], "plot": ["--script"], "from-pcap": ["made"], "from-ftrace": ["made"]}
+        words = {"compare-runs": ["--"], "plot": ["--json"], "from-pcap": ["made"], "from-ftrace": ["made"]}
         for tool in ALL:
             if tool in ("traffic", "sweep", "steps", "what-if", "record", "advise", "completion", "try"):
                 continue
@@ -312,14 +310,14 @@ class Surroundings(InFolder):
     def test_a_disk_that_is_full(self):
         """For which files stand that may not grow at all: each tool that writes some says so, and what was there stays."""
         old, rows = self.write("old.svg", "old\n"), self.folder / "rows"
-        self.assertEqual(run("sweep", TRACE, "--budget", "64", "--without-parallel", "--out", rows).returncode, 0)
+        self.assertEqual(run("sweep", TRACE, "--budget", "64", "--out", rows).returncode, 0)
         before = rows.read_text()
         self.write("captured", CAPTURED)
         names = self.names()
         words = {tool: WRITERS[tool] for tool in ("from-ftrace", "from-pcap")}
         words.update({"raise": [TRACE, "--out", old], "traffic": ["--out", old], "report2json": ["-", "--out", old],
                       "compare-runs": [TRACE, "--out", old, "--budget", "1", "--"], "plot": [TRACE, "--out", old, "--force"],
-                      "sweep": [TRACE, "--without-parallel", "--resume", "--out", rows]})
+                      "sweep": [TRACE, "--resume", "--out", rows]})
         for tool, each in words.items():
             done = subprocess.run(["bash", "-c", 'ulimit -f 0; trap "" XFSZ; exec "$0" "$@"', sys.executable, "-B", TOP / "tools" / tool, *each],
                                   capture_output=True, check=False, input=REPORT.encode(), cwd=self.folder,
@@ -341,7 +339,7 @@ class Surroundings(InFolder):
     def test_inputs_that_are_none(self):
         (self.folder / "folder.csv").mkdir()
         (self.folder / "bytes").write_bytes(b"\xff\xfe")
-        words = {"compare-runs": ["--"], "plot": ["--script"], "from-pcap": ["made"], "from-ftrace": ["made"], "what-if": ["--without-parallel"]}
+        words = {"compare-runs": ["--"], "plot": ["--json"], "from-pcap": ["made"], "from-ftrace": ["made"], "what-if": []}
         for tool in ALL:
             if tool in ("traffic", "sweep", "compare-recording", "steps", "record", "completion", "try"):
                 continue

@@ -59,7 +59,7 @@ class Sweep(InFolder):
             self.assertEqual([row[name] for name in names], ["2", "trace fault 6 UnknownDevice row 1", "", "", "", "", "", ""])
 
     def test_every_trace_with_every_combination(self):
-        done = self.sweep("--without-parallel")
+        done = self.sweep()
         self.assertEqual(done.returncode, 0)
         self.assertIn("8 rows in", done.stderr)
         self.check_rows()
@@ -87,51 +87,46 @@ total devices 3 runs 2 polls 7 work 80 squeezed 2
         neither the first queue's nor the last one's."""
         program = self.write("program", f"#!/bin/sh\ncat > '{self.folder}/read'\ncat '{self.write('report', self.REPORT)}'\n")
         program.chmod(0o755)
-        done = run("sweep", self.folder / "burst.csv", "--out", self.out, "--program", program, "--without-parallel")
+        done = run("sweep", self.folder / "burst.csv", "--out", self.out, "--program", program)
         self.assertEqual((done.returncode, len(self.rows())), (0, 1), done.stderr)
         self.assertEqual([self.rows()[0][name] for name in ("polls", "work", "squeezed", "dropped", "left", "greatest_limit")],
                          [str(1 + 200 + 40000 + 6 + 800), str(10 + 3000 + 500000 + 70 + 9000), "2", "321", "9870", "1500"])
 
-    @skip_without("parallel")
-    def test_by_parallel(self):
-        self.assertEqual(self.sweep().returncode, 0)
-        self.check_rows()
-
-    def test_where_parallel_is_missing_it_says_so(self):
+    def test_only_other_machines_need_parallel(self):
         done = self.sweep(path=str(self.folder))
         self.assertEqual(done.returncode, 0)
-        self.assertIn("GNU parallel isn't on PATH", done.stderr)
+        self.assertNotIn("parallel", done.stderr)
         self.check_rows()
         self.assertIn("needs GNU parallel", self.sweep("--resume", "--sshloginfile", self.write("machines", ":"), "--window", "7", path=str(self.folder)).stderr)
 
     def test_it_goes_on_where_it_was(self):
-        self.sweep("--without-parallel")
+        self.sweep()
         lines = self.out.read_text().splitlines(keepends=True)
-        # Three rows and a part of one are there. What is there isn't made again: a row of it is told apart by its polls.
+        # Three rows and a part of one are there. What is there isn't made again: its polls distinguish it from a row that is made.
         kept = [lines[0], lines[1].replace(",1,2,1,", ",7,2,1,"), *lines[2:4], lines[4][:-5]]
         self.assertNotEqual(kept[1], lines[1])
         self.out.write_text("".join(kept))
-        done = self.sweep("--without-parallel", "--resume")
+        done = self.sweep("--resume")
         self.assertIn("8 rows, of which 3 are there", done.stderr)
         self.assertEqual(self.out.read_text().splitlines(keepends=True), [kept[0], kept[1], *lines[2:]])
 
     def test_a_damaged_file_and_the_line_that_repairs_it(self):
         """What the refusal tells is done by a shell; then --resume has all rows again."""
-        self.sweep("--without-parallel")
+        self.sweep()
         whole = self.out.read_text()
         for damage in (lambda lines: [lines[0], lines[1], lines[2].replace(",", "", 3), *lines[3:]], lambda lines: ["trace;sum\n", *lines[1:]]):
             self.out.write_text("".join(damage(whole.splitlines(True))))
-            done = self.sweep("--without-parallel", "--resume")
+            done = self.sweep("--resume")
             self.assertEqual(done.returncode, 1)
             repair = re.search("`(sed .*)`", done.stderr)[1]
             subprocess.run(["sh", "-c", repair], check=True)
-            self.assertEqual(self.sweep("--without-parallel", "--resume").returncode, 0)
+            self.assertEqual(self.sweep("--resume").returncode, 0)
             self.assertEqual(self.out.read_text(), whole)
 
     def test_limits(self):
         """By --fail-if a result beyond one makes the status 3; by hand, a budget of 2 squeezes, and 300 doesn't."""
         for condition, status in (("squeezed>0", 3), ("squeezed>1", 0), ("dropped >= 1", 3), ("left==6", 3), ("work<2", 0)):
-            done = self.sweep("--without-parallel", "--resume", "--fail-if", condition)
+            done = self.sweep("--resume", "--fail-if", condition)
             self.assertEqual((done.returncode, done.stderr.count("sweep: --fail-if")), (status, status // 3), condition)
         self.assertIn("sweep: --fail-if 'squeezed>0': squeezed is 1 with trace ", self.sweep("--resume", "--fail-if", "squeezed>0").stderr)
         for condition in ("squeezed", "squeezed>0us", "nothing>0", "squeezed>", "squeezed>1e3"):
@@ -141,7 +136,7 @@ total devices 3 runs 2 polls 7 work 80 squeezed 2
         """Each plays other windows, at the same time; the file has the rows of both, each once."""
         slow = self.write("slow", f"#!/bin/sh\nsleep 0.05\nexec '{REPLAY}' \"$@\"\n")
         slow.chmod(0o755)
-        words = [self.folder, "--budget", "2,300", "--without-parallel", "--resume", "--jobs", "2", "--out", self.out, "--program", slow]
+        words = [self.folder, "--budget", "2,300", "--resume", "--jobs", "2", "--out", self.out, "--program", slow]
         windows = [[str(10 * call + each) for each in range(1, 10)] for call in range(3)]
         with ThreadPoolExecutor(3) as pool:
             ended = list(pool.map(lambda window: run("sweep", *words, "--window", ",".join(window)), windows))
@@ -154,7 +149,7 @@ total devices 3 runs 2 polls 7 work 80 squeezed 2
         played = self.folder / "played"
         program = self.write("program", f"#!/bin/sh\necho >> '{played}'\nexec '{REPLAY}' \"$@\"\n")
         program.chmod(0o755)
-        words = ["--without-parallel", "--resume", "--program", program]
+        words = ["--resume", "--program", program]
         self.assertEqual(self.sweep(*words).returncode, 0)
         before = self.rows()
         played.unlink()
@@ -172,11 +167,11 @@ total devices 3 runs 2 polls 7 work 80 squeezed 2
         self.assertEqual([row["polls"] for row in rows], ["0"] * 4)
 
     def test_what_a_killed_call_left_of_a_row_goes(self):
-        self.sweep("--without-parallel")
+        self.sweep()
         whole = self.out.read_text()
         self.out.write_text(whole[: whole.rindex("faulty") - 20])
-        self.assertEqual(self.sweep("--without-parallel", "--resume", "--budget", "2").returncode, 0)
-        self.assertEqual(self.sweep("--without-parallel", "--resume").returncode, 0)
+        self.assertEqual(self.sweep("--resume", "--budget", "2").returncode, 0)
+        self.assertEqual(self.sweep("--resume").returncode, 0)
         self.assertEqual(sorted(self.out.read_text().splitlines()), sorted(whole.splitlines()))
 
     def test_tasks_that_are_cancelled_and_resumed_have_the_rows_of_one_machine(self):
@@ -187,7 +182,7 @@ total devices 3 runs 2 polls 7 work 80 squeezed 2
         words = [self.folder, "--budget", "2,300", "--window", windows, "--program", slow]
         def task(number):
             call = [sys.executable, "-BES", TOP / "tools/sweep", *map(str, words), "--resume", "--jobs", "1", "--part", f"{number}/16",
-                    "--out", str(self.folder / f"rows-{number}"), *(["--without-parallel"] if number % 2 else [])]
+                    "--out", str(self.folder / f"rows-{number}")]
             said = []
             for seconds in (0.3, 0.5, 0.7, 300):
                 with subprocess.Popen(call, stderr=subprocess.PIPE, text=True) as process:
@@ -206,7 +201,7 @@ total devices 3 runs 2 polls 7 work 80 squeezed 2
                 self.assertTrue(ended, said)
                 self.assertNotIn("Traceback", "".join(said))
         parts = [line for number in range(1, 17) for line in (self.folder / f"rows-{number}").read_text().splitlines()[1:]]
-        self.assertEqual(run("sweep", *words, "--out", self.out, "--without-parallel", "--program", REPLAY).returncode, 0)
+        self.assertEqual(run("sweep", *words, "--out", self.out, "--program", REPLAY).returncode, 0)
         self.assertEqual(sorted(parts), sorted(self.out.read_text().splitlines()[1:]))
         self.assertEqual(len(parts), 2 * 2 * 32)
         self.assertEqual([name for name in self.names() if name.startswith(".")], [])
@@ -215,13 +210,13 @@ total devices 3 runs 2 polls 7 work 80 squeezed 2
         self.out = self.folder / "rows.csv"
         self.write(".hidden.csv", self.BURST)
         for words in ([], ["--resume"]):
-            self.assertEqual(self.sweep("--without-parallel", *words).returncode, 0)
+            self.assertEqual(self.sweep(*words).returncode, 0)
             self.check_rows()
 
     def test_rows_of_other_settings_stay(self):
-        self.sweep("--without-parallel")
+        self.sweep()
         before = self.out.read_text()
-        done = self.sweep("--without-parallel", "--resume", "--window", "7", "--budget", "5")
+        done = self.sweep("--resume", "--window", "7", "--budget", "5")
         self.assertEqual(done.returncode, 0)
         self.assertIn("8 others of", done.stderr)
         self.assertTrue(self.out.read_text().startswith(before))
@@ -233,26 +228,25 @@ total devices 3 runs 2 polls 7 work 80 squeezed 2
                      "echo 'trace fault 10 ReadFailed' >&2; exit 2", "exit 64"):
             program = self.write("program", f"#!/bin/sh\n{body}\n")
             program.chmod(0o755)
-            for words in (["--without-parallel"], []):
-                done = self.sweep(*words, "--resume", "--program", program)
-                self.assertEqual(done.returncode, 1)
-                self.assertIn("8 rows are missing: --resume tries them again", done.stderr)
-                self.assertEqual(self.rows(), [])
+            done = self.sweep("--resume", "--program", program)
+            self.assertEqual(done.returncode, 1)
+            self.assertIn("8 rows are missing: --resume tries them again", done.stderr)
+            self.assertEqual(self.rows(), [])
         program.write_text(f"#!/bin/sh\necho >> '{self.folder}/calls'\nexec '{REPLAY}' \"$@\"\n")
-        self.assertEqual(self.sweep("--resume", "--without-parallel", "--program", program).returncode, 0)
+        self.assertEqual(self.sweep("--resume", "--program", program).returncode, 0)
         self.check_rows()
         # Twice no luck, and then there is.
         self.out.unlink()
         program.write_text(f"#!/bin/sh\nd='{self.folder}/'$2-$4; if mkdir \"$d\" 2> /dev/null || mkdir \"$d\"b 2> /dev/null; then exit 7; fi\n"
                            f"exec '{REPLAY}' \"$@\"\n")
-        self.assertEqual(self.sweep("--without-parallel", "--program", program).returncode, 0)
+        self.assertEqual(self.sweep("--program", program).returncode, 0)
         self.check_rows()
 
     def test_runs_raised_anew(self):
         """By the recorded runs alone 5582 packets are dropped; Linux would have raised more."""
         trace = TOP / "examples/linux-veth-bursts.csv"
         for words in ([], ["--raise"]):
-            done = run("sweep", trace, "--budget", "16", "--weight", "8", "--out", self.out, "--resume", "--without-parallel", *words)
+            done = run("sweep", trace, "--budget", "16", "--weight", "8", "--out", self.out, "--resume", *words)
             self.assertEqual(done.returncode, 0, done.stderr)
         names = ["raise", "work", "dropped"]
         self.assertEqual([[row[name] for name in names] for row in self.rows()],
@@ -261,19 +255,19 @@ total devices 3 runs 2 polls 7 work 80 squeezed 2
     def test_a_trace_of_version_2(self):
         """All nine packets of examples/busy-poll.csv are polled by a run, a thread or a busy poll, so none is left."""
         shutil.copy(TOP / "examples/busy-poll.csv", self.write("burst.csv", ""))
-        done = self.sweep("--without-parallel")
+        done = self.sweep()
         self.assertEqual(done.returncode, 0, done.stderr)
         row = self.rows()[3]
         self.assertEqual([row[name] for name in ("budget", "weight", "status", "fault", "dropped", "left")],
                          ["300", "64", "0", "", "0", "0"])
 
     def test_progress_is_told(self):
-        self.assertRegex(self.sweep("--without-parallel").stderr, r"sweep: 4 of 8 rows, \d+ s\n")
+        self.assertRegex(self.sweep().stderr, r"sweep: 4 of 8 rows, \d+ s\n")
 
     def test_what_it_finds_in_a_folder(self):
         (self.folder / "folder.csv").mkdir()
         os.mkfifo(self.folder / "fifo.csv")
-        done = self.sweep("--without-parallel")
+        done = self.sweep()
         self.assertIn("folder.csv: passed over, as it is no regular file", done.stderr)
         self.assertIn("fifo.csv: passed over", done.stderr)
         self.check_rows()
@@ -283,11 +277,9 @@ total devices 3 runs 2 polls 7 work 80 squeezed 2
         name = os.fsencode(self.folder) + b"/\xff;touch x,\x1b.csv"
         os.rename(self.folder / "burst.csv", name)
         os.unlink(self.folder / "faulty.csv")
-        for words in ([], ["--without-parallel"]):
-            done = run("sweep", self.folder, "--out", self.out, *words)
-            self.assertEqual((done.returncode, "\x1b" in done.stderr), (0, False), done.stderr)
-            self.assertIn(b"/\xff;touch x,\x1b.csv", self.out.read_bytes())
-            self.out.unlink()
+        done = run("sweep", self.folder, "--out", self.out)
+        self.assertEqual((done.returncode, "\x1b" in done.stderr), (0, False), done.stderr)
+        self.assertIn(b"/\xff;touch x,\x1b.csv", self.out.read_bytes())
 
     # In place of ssh: it runs here what it is to run on a host, and no host called dead answers.
     SSH = """#!/bin/bash
@@ -354,7 +346,7 @@ SHELL=/bin/bash exec bash -c "$*"  # as sshd does
         together = "awk 'FNR > 1 || NR == 1' rows-*.csv"
         self.assertIn(f"`{together}` puts the parts together", (TOP / "docs/TOOLS.md").read_text())
         parts = subprocess.run(["bash", "-c", together], cwd=self.folder, capture_output=True, text=True, check=True).stdout.splitlines()
-        done = run("sweep", "traces", "--budget", "64,300,1000", "--weight", "16,64", "--raise", "--out", self.out, "--without-parallel",
+        done = run("sweep", "traces", "--budget", "64,300,1000", "--weight", "16,64", "--raise", "--out", self.out,
                    folder=self.folder)
         self.assertEqual(done.returncode, 0, done.stderr)
         whole = self.out.read_text().splitlines()
@@ -366,7 +358,7 @@ SHELL=/bin/bash exec bash -c "$*"  # as sshd does
         self.by_slurm("--wait")
 
     # In place of sbatch: it reads the lines for it at the head of the file, and runs each job of the array after the other, with
-    # what Slurm tells a job.
+    # what Slurm sets for a job.
     SBATCH = """#!/usr/bin/env python3
 import os, re, subprocess, sys
 words = dict(re.findall(r"^#SBATCH --([a-z-]+)=(\\S+)$", open(sys.argv[1]).read(), re.M))
@@ -390,12 +382,12 @@ for job in range(first, last + 1):
         self.assertEqual(self.out.read_text(), "mine\n")
 
     def test_parts_are_all_of_it(self):
-        self.sweep("--without-parallel")
+        self.sweep()
         whole = self.rows()
         parts = []
         for part in ("1/3", "2/3", "3/3"):
             self.out = self.folder / part.replace("/", "-")
-            self.assertEqual(self.sweep("--without-parallel", "--part", part).returncode, 0)
+            self.assertEqual(self.sweep("--part", part).returncode, 0)
             parts.append(self.rows())
         self.assertEqual([len(rows) for rows in parts], [3, 3, 2])
         self.assertCountEqual([tuple(row.values()) for rows in parts for row in rows], [tuple(row.values()) for row in whole])

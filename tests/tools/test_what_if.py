@@ -27,7 +27,7 @@ class WhatIf(InFolder):
         self.arrivals = self.write("arrivals.csv", HEADER + "".join(f"{moment},{device},60\n" for moment, device in rows))
 
     def rows(self, *words, **others):
-        done = run("what-if", self.arrivals, "--without-parallel", *words, **others)
+        done = run("what-if", self.arrivals, *words, **others)
         self.assertEqual(done.returncode, 0, done.stderr)
         return list(csv.DictReader(io.StringIO(done.stdout)))
 
@@ -102,7 +102,7 @@ class WhatIf(InFolder):
         self.assertEqual(len(out.read_text().splitlines()), 7)
 
     def said(self, *words):
-        done = run("what-if", self.arrivals, "--without-parallel", *words)
+        done = run("what-if", self.arrivals, *words)
         self.assertEqual(done.returncode, 0, done.stderr)
         return done.stderr
 
@@ -128,12 +128,12 @@ class WhatIf(InFolder):
             self.assertEqual(rows[load], self.modelled(scaled, "--use", "4000"))
         self.assertEqual({name for name in set(os.listdir("/tmp")) - before if name.startswith("what-if")}, set())
         self.arrivals.write_text(HEADER + '0,1,60\n"7",1,60\n')
-        done = run("what-if", self.arrivals, "--load", "2", "--without-parallel")
+        done = run("what-if", self.arrivals, "--load", "2")
         self.assertEqual(done.returncode, 1)
         self.assertIn("row 2: only moments that are plain numbers are scaled", done.stderr)
 
     def test_json(self):
-        done = run("what-if", self.arrivals, "--without-parallel", "--json", "--budget", "1,2", "--load", "0.5", "--band", "0")
+        done = run("what-if", self.arrivals, "--json", "--budget", "1,2", "--load", "0.5", "--band", "0")
         told = list(map(json.loads, done.stdout.splitlines()))
         self.assertEqual([(row["budget"], row["load"], row["weight"], row["fault"], row["arrivals"]) for row in told],
                          [(1, 0.5, 64, None, str(self.arrivals)), (2, 0.5, 64, None, str(self.arrivals))])
@@ -142,7 +142,7 @@ class WhatIf(InFolder):
     def test_json_keys_are_identifiers(self):
         """Also those of made traffic and of a load that is searched; each object has the version of its form."""
         for words in ([self.arrivals], [self.arrivals, "--until", "drops", "--ring", "8"], ["--traffic", "--rate 1000", "--seeds", "2"]):
-            done = run("what-if", "--without-parallel", "--json", *words)
+            done = run("what-if", "--json", *words)
             self.assertEqual(done.returncode, 0, done.stderr)
             told = json.loads(done.stdout)
             self.assertEqual((told["version"], [name for name in told if not name.isidentifier()]), (1, []))
@@ -156,7 +156,7 @@ class WhatIf(InFolder):
             self.assertIn(f"\n    {name}: ", text)
 
     def table(self, *words):
-        return run("what-if", self.arrivals, "--without-parallel", "--table", *words).stdout.splitlines()
+        return run("what-if", self.arrivals, "--table", *words).stdout.splitlines()
 
     def test_the_table(self):
         """One packet, whose interrupt takes 10 or 20 us, its poll 5 and 3, its use 2: it is delivered after 18 or 28 us and used after 20 or 30, of which the
@@ -177,11 +177,11 @@ class WhatIf(InFolder):
         for words, begins in (([], b"row  "), (["--csv"], b"budget,"), (["--json"], b'{"version": 1')):
             master, slave = os.openpty()
             with open(master, "rb", buffering=0) as end:
-                subprocess.run([sys.executable, "-BES", TOP / "tools/what-if", self.arrivals, "--without-parallel", "--budget", "1,300", *words], stdout=slave,
+                subprocess.run([sys.executable, "-BES", TOP / "tools/what-if", self.arrivals, "--budget", "1,300", *words], stdout=slave,
                                stderr=subprocess.DEVNULL, check=True, env={**os.environ, "MACHINE": MACHINE})
                 os.close(slave)
                 self.assertTrue(end.read(100).startswith(begins))
-        self.assertTrue(run("what-if", self.arrivals, "--without-parallel", "--budget", "1,300").stdout.startswith("budget,"))
+        self.assertTrue(run("what-if", self.arrivals, "--budget", "1,300").stdout.startswith("budget,"))
         self.assertEqual(run("what-if", self.arrivals, "--csv", "--table").returncode, 2)
 
     def test_what_follows(self):
@@ -246,12 +246,12 @@ class WhatIf(InFolder):
         self.assertEqual({name for name in os.listdir("/tmp") if name.startswith("what-if")}, set())
 
     def repeated(self, traffic, *words):
-        done = run("what-if", "--without-parallel", "--traffic", traffic, *words)
+        done = run("what-if", "--traffic", traffic, *words)
         self.assertEqual(done.returncode, 0, done.stderr)
         return list(csv.DictReader(io.StringIO(done.stdout)))
 
     def test_made_traffic_in_a_table(self):
-        done = run("what-if", "--without-parallel", "--table", "--traffic", "--kind poisson --rate 100000 --seconds 0.01", "--seeds", "3", "--interrupt", "4000,4050")
+        done = run("what-if", "--table", "--traffic", "--kind poisson --rate 100000 --seconds 0.01", "--seeds", "3", "--interrupt", "4000,4050")
         self.assertRegex(done.stdout, r"\d+ \(\d+ to \d+\)")
         self.assertIn("overlap in their 99th percentiles over the seeds: which one is lower may be chance", done.stdout)
         for words, why in ((["--traffic", "--rate none"], "isn't a number over 0"), (["--traffic", "--seed 5"], "--seed isn't for this"), (["--traffic", "'"], "--traffic: ")):
@@ -286,25 +286,19 @@ class WhatIf(InFolder):
         none.chmod(0o755)
         self.assertEqual(self.rows(*words, "--resume", "--out", out, "--program", none), self.rows(*words))
 
-    @skip_without("parallel")
-    def test_by_parallel(self):
-        words = ["--budget", "1,2", "--load", "1,2"]
-        done = run("what-if", self.arrivals, *words)
-        self.assertEqual((done.returncode, list(csv.DictReader(io.StringIO(done.stdout)))), (0, self.rows(*words)))
-
-    @skip_without("gnuplot")
+    @skip_without("matplotlib")
     def test_the_picture(self):
-        for name, begins in (("x.png", b"\x89PNG"), ("x.svg", b"<?xml")):
+        for name, begins in (("x.png", b"\x89PNG"), ("x.svg", b"<?xml"), ("x.html", b"<!DOCTYPE html>")):
             self.rows("--budget", "1,300", "--load", "0.5,1,2", "--plot", self.folder / name)
             self.assertTrue((self.folder / name).read_bytes().startswith(begins))
         text = (self.folder / "x.svg").read_text()
-        for told in ("arrivals.csv: load 0.5, 1, 2; budget 1, 300.<", "Costs are given, in ns: interrupt 4000, poll 1000, packet 1000, use 2000, wake 0, app-wake 0.",
-                     "99th percentile of waits", "dropped and refused, %", "share of the processor, %", "budget 1<", "budget 300<", "load (times the arrivals)"):
+        for told in ("arrivals.csv: load 0.5, 1, 2; budget 1, 300", "Costs are given, in ns: interrupt 4000, poll 1000, packet 1000, use 2000, wake 0, app-wake 0.",
+                     "99th percentile of waits", "dropped and refused, %", "share, %", "budget 1<", "budget 300<", "load (times the arrivals)"):
             self.assertIn(told, text.replace("&apos;", "'"))
 
     def test_the_picture_of_words_that_it_cannot_tell_apart(self):
         for words, why in (([], "no option has several values"), (["--budget", "1,2,3", "--weight", "1,2,3", "--load", "1,2"], "9 curves")):
-            done = run("what-if", self.arrivals, "--without-parallel", *words, "--plot", self.folder / "x.png")
+            done = run("what-if", self.arrivals, *words, "--plot", self.folder / "x.png")
             self.assertEqual((done.returncode, (self.folder / "x.png").exists()), (1, False))
             self.assertIn(why, done.stderr)
 
@@ -317,7 +311,7 @@ class WhatIf(InFolder):
         self.assertIn("there is no such file", run("what-if", self.folder / "none").stderr)
         self.assertIn("a regular file", run("what-if", "-", text="").stderr)
         self.arrivals.write_text(HEADER + "1,1,60\n0,1,60\n")
-        done = run("what-if", self.arrivals, "--without-parallel", "--budget", "1,2")
+        done = run("what-if", self.arrivals, "--budget", "1,2")
         self.assertEqual((done.returncode, done.stdout), (1, ""))
         self.assertIn("arrivals.csv: arrivals fault 8 Falls row 2", done.stderr)
 
@@ -325,6 +319,6 @@ class WhatIf(InFolder):
         for body in ("kill -9 $$", "exit 0", "echo hello", "echo 'arrivals fault 10 ReadFailed row 0' >&2; exit 2", "exit 64"):
             program = self.write("program", f"#!/bin/sh\n{body}\n")
             program.chmod(0o755)
-            done = run("what-if", self.arrivals, "--without-parallel", "--program", program)
+            done = run("what-if", self.arrivals, "--program", program)
             self.assertEqual((done.returncode, done.stdout), (1, ""), body)
             self.assertIn("1 rows are missing", done.stderr)

@@ -12,6 +12,8 @@ from pathlib import Path
 
 HERE = Path(__file__).resolve().parent
 TOP = HERE.parent.parent
+sys.path.append(str(TOP / "tests"))
+import needs
 REPLAY = os.environ.get("PROGRAM") or str(TOP / "crates/napi_replay/out/napi_replay")
 SERIES = os.environ.get("SERIES") or str(TOP / "crates/napi_series/out/napi_series")
 MACHINE = os.environ.get("MACHINE") or str(TOP / "crates/napi_machine/out/napi_machine")
@@ -25,8 +27,8 @@ HAS_MACHINE = unittest.skipUnless(os.path.exists(MACHINE), "g++")
 
 
 def skip_without(program):
-    """Skips a test where this program, a name of tests/needs.txt, isn't installed."""
-    return unittest.skipUnless(shutil.which(program), program)
+    """Skips a test if this program or library, a name of tests/needs.txt, isn't installed."""
+    return unittest.skipUnless(needs.is_here(program), program)
 
 
 HEADER = "moment,device,event,value\n"
@@ -40,6 +42,16 @@ def run(tool, *words, text=None, path=None, folder=None, **variables):
     words = [word if isinstance(word, bytes) else str(word) for word in words]
     return subprocess.run([sys.executable, "-BES", TOP / "tools" / tool, *words], input=text, capture_output=True, text=True, check=False,
                           env=environment, cwd=folder, errors="surrogateescape", timeout=600)
+
+
+def contrast(one, other):
+    """The contrast of two colours, as WCAG 2 defines it."""
+    def light(color):
+        parts = [int(color[place : place + 2], 16) / 255 for place in (0, 2, 4)]
+        red, green, blue = (part / 12.92 if part <= 0.04045 else ((part + 0.055) / 1.055) ** 2.4 for part in parts)
+        return 0.2126 * red + 0.7152 * green + 0.0722 * blue
+    low, high = sorted((light(one), light(other)))
+    return (high + 0.05) / (low + 0.05)
 
 
 class InFolder(unittest.TestCase):

@@ -1,5 +1,6 @@
-"""Four cards of 64 places get 8 packets each in a millisecond, and one run of polls has a budget: how many are lost?"""
-from fintaqush import List, Napi, Next, Ring, Status
+"""Four cards with rings of capacity 64 get 8 packets each per millisecond, and one run of polls has a budget: how many are
+lost?"""
+from fintaqush import List, Napi, Ring, Status
 
 
 class Card:
@@ -14,10 +15,7 @@ class Card:
     def poll(self, weight):
         self.napi.take()
         work = len(self.ring.poll(weight))
-        if work < weight and self.napi.complete() == Status.RELEASED:
-            return work, Next.GONE
-        self.napi.hand()
-        return work, Next.REPOLL if work == weight else Next.AGAIN
+        return work, self.napi.end(work == weight)
 
 
 def simulate(budget):

@@ -1,9 +1,9 @@
-"""The numbers of fintaqush.h, and what is raised where a call isn't made."""
+"""The numbers of fintaqush.h, and the exceptions of calls that fail."""
 import enum
 
 
 class Status(enum.IntEnum):
-    """What a call answers (`enum fq_status`); below GRANTED, but for OK, and from NOT_ALLOWED on it wasn't made."""
+    """The result of a call (`enum fq_status`); one below GRANTED, except OK, or from NOT_ALLOWED on is an error."""
     OK = 0
     BAD_BOUNDS = 1
     TOO_LARGE = 2
@@ -39,7 +39,7 @@ class Status(enum.IntEnum):
 
 
 class Kind(enum.IntEnum):
-    """To whom an instance is handed: a poll list, or a thread of its own."""
+    """The queue for a scheduled instance: a poll list, or its own thread's."""
     LIST = 0
     THREAD = 1
 
@@ -69,7 +69,7 @@ class Word(enum.IntFlag):
 
 
 class Fault(ValueError):
-    """A call wasn't made. `status` tells why, and the text is its name in the header."""
+    """A call failed. `status` says why, and the text is its name in the header."""
 
     def __init__(self, status: Status, *more: int) -> None:
         super().__init__(status, *more)  # the values that it is made of again where it is unpickled
@@ -78,9 +78,15 @@ class Fault(ValueError):
     def __str__(self) -> str:
         return f"FQ_{self.status.name}"
 
+    @property
+    def message(self) -> str:
+        """What the status says in words."""
+        from . import _library  # which raises this
+        return _library.message(self.status)
+
 
 class TraceFault(Fault):
-    """A trace can't be played: the fault's number and name, and the row, as docs/FORMATS.md has them."""
+    """A trace can't be replayed: the error's number and name, and the row, as described in docs/FORMATS.md."""
 
     NAMES = ("?", "BadHeader", "BadFields", "BadNumber", "BadEvent", "OutOfRange", "UnknownDevice", "OpenTwice", "WrongState", "TooManyRows",
              "ReadFailed", "OutOfMemory", "Pending")

@@ -1,4 +1,4 @@
-"""The shared library: where it lies, its structs and calls, and that it has them as they are told here."""
+"""The shared library: where it is, its structs and calls, and a check that it has them as declared here."""
 from __future__ import annotations
 
 import ctypes
@@ -18,7 +18,7 @@ DECLARED: dict[str, tuple[Any, dict[str, Any]]] = {}  # each call's answer and a
 
 
 class Missing(ImportError):
-    """The library isn't there, or is another one. Where nobody catches it, it is told in one line."""
+    """The library is missing, or another one. If it isn't caught, it prints one line."""
 
 
 def _one_line(kind: type[BaseException], fault: BaseException, trace: TracebackType | None, others: Any = sys.excepthook) -> None:
@@ -29,13 +29,14 @@ def _one_line(kind: type[BaseException], fault: BaseException, trace: TracebackT
 
 
 def missing(why: object) -> Missing:
-    """To be raised where the package can't be loaded."""
+    """Returns the exception for a package that can't be loaded."""
     sys.excepthook = _one_line
     return Missing(f"fintaqush: {why}; FINTAQUSH_LIB may name the folder of {SONAME}", name="fintaqush")
 
 
 def place() -> str:
-    """The library's: in the folder that FINTAQUSH_LIB names, else where this was installed with it, else by the usual search."""
+    """Returns the library's path: in the folder that FINTAQUSH_LIB names, otherwise where this was installed with it, otherwise
+    by the usual search."""
     beside = pathlib.Path(__file__).resolve().parents[3] / SONAME
     if named := os.environ.get("FINTAQUSH_LIB"):
         return os.path.join(named, SONAME)
@@ -67,6 +68,18 @@ class Counts(ctypes.Structure):
     _fields_ = [("polls", u64), ("packets", u64), ("bytes", u64)]
 
 
+class RingShown(ctypes.Structure):
+    _fields_ = [("put", u64), ("places", size)]
+
+
+class TxShown(ctypes.Structure):
+    _fields_ = [("queued", u32), ("completed", u32), ("limit", u32), ("avail", ctypes.c_int64), ("stopped", boolean)]
+
+
+class Answers(ctypes.Structure):
+    _fields_ = [(name, u64) for name in ("granted", "missed", "disabled", "released", "again", "held", "changed")]
+
+
 class RunReport(ctypes.Structure):
     _fields_ = [("polls", u32), ("work", u32), ("squeezed", boolean)]
 
@@ -79,26 +92,26 @@ class Replayed(ctypes.Structure):
     _fields_ = [("length", size), ("fault", u32), ("row", u32)]
 
 
-# The structs whose size the library tells, by their numbers in `enum fq_struct`; and all.
-NUMBERS = {Handle: 0, Dql: 1, DqlMade: 2, Napi: 3, Packet: 4, Counts: 5, RunReport: 10}
+# The structs whose size the library returns, by their numbers in `enum fq_struct`; and all.
+NUMBERS = {Handle: 0, Dql: 1, DqlMade: 2, Napi: 3, Packet: 4, Counts: 5, RingShown: 7, TxShown: 8, Answers: 9, RunReport: 10}
 STRUCTS = {*NUMBERS, Settings, Replayed}
 
 try:
-    # A call that is short keeps the interpreter's lock, and one that takes long lets it go.
+    # A short call keeps the interpreter's lock, and a long one releases it.
     _short, _long = ctypes.PyDLL(place()), ctypes.CDLL(place())
 except OSError as error:
     raise missing(error) from None
 
 
 def number(value: int, name: str, kind: Any = u32) -> int:
-    """A number that its type has; ctypes would cut another one."""
+    """Checks that a number fits its type; ctypes would truncate it."""
     if not 0 <= operator.index(value) <= MOST[kind]:
         raise ValueError(f"{name} is 0 to {MOST[kind]}, not {value}")
     return value
 
 
 def declare(name: str, answer: Any = Status, of: ctypes.CDLL = _short, **arguments: Any) -> Callable[..., Any]:
-    """A call of the library, which raises Fault where that answers one."""
+    """Declares a call of the library, which raises Fault if that returns an error."""
     try:
         function = getattr(of, f"fq_{name}")
     except AttributeError:
@@ -118,7 +131,7 @@ def declare(name: str, answer: Any = Status, of: ctypes.CDLL = _short, **argumen
 
 
 def checked(said: int) -> Status:
-    """An answer that is no fault."""
+    """Returns a status that isn't an error, and raises Fault for one that is."""
     if said == Status.OUT_OF_MEMORY:
         raise MemoryError("FQ_OUT_OF_MEMORY")
     if 0 < said < Status.GRANTED or said >= Status.NOT_ALLOWED:
@@ -127,6 +140,7 @@ def checked(said: int) -> Status:
 
 
 struct_size = declare("struct_size", size, which=u32)
+status_message = declare("status_message", size, status=u32, to=ctypes.c_char_p, room=size)
 abandon = declare("abandon", handle=Handle)
 dql_new = declare("dql_new", DqlMade, min=u32, max=u32, hold_ms=u64, now_ms=u64)
 dql_queued = declare("dql_queued", dql=Dql, count=u32)
@@ -140,6 +154,7 @@ napi_schedule = declare("napi_schedule", napi=Napi, who=u32)
 napi_hand = declare("napi_hand", napi=Napi, who=u32, kind=u32)
 napi_take = declare("napi_take", napi=Napi, who=u32, kind=u32)
 napi_complete = declare("napi_complete", napi=Napi, who=u32)
+napi_end = declare("napi_end", napi=Napi, who=u32, full=boolean, next=ctypes.POINTER(u32))
 napi_busy_take = declare("napi_busy_take", napi=Napi, who=u32)
 napi_busy_stop = declare("napi_busy_stop", napi=Napi, who=u32)
 napi_set_threaded = declare("napi_set_threaded", None, napi=Napi, who=u32, threaded=boolean)
@@ -152,6 +167,26 @@ ring_new = declare("ring_new", ring=Handle, capacity=size)
 ring_put = declare("ring_put", ring=Handle, number=u64, bytes=u32)
 ring_poll = declare("ring_poll", ring=Handle, weight=size, out=ctypes.POINTER(Packet), len=size, count=ctypes.POINTER(size))
 count = declare("count", handle=Handle, counts=Counts)
+ring_show = declare("ring_show", ring=Handle, shown=RingShown)
+tx_new = declare("tx_new", tx=Handle, capacity=size, min=u32, max=u32, hold_ms=u64, now_ms=u64)
+tx_send = declare("tx_send", tx=Handle, bytes=u32)
+tx_done = declare("tx_done", tx=Handle, count=u32, now_ms=u64)
+tx_state = declare("tx_state", tx=Handle, state=TxShown)
+shared_new = declare("shared_new", ring=Handle, control=Handle, seats=ctypes.POINTER(Handle), count=size)
+seat_schedule = declare("seat_schedule", seat=Handle)
+seat_take = declare("seat_take", seat=Handle, kind=u32)
+seat_busy_take = declare("seat_busy_take", seat=Handle)
+seat_set_threaded = declare("seat_set_threaded", seat=Handle, threaded=boolean)
+seat_hand = declare("seat_hand", seat=Handle, kind=u32)
+seat_poll = declare("seat_poll", seat=Handle, weight=size, out=ctypes.POINTER(Packet), len=size, count=ctypes.POINTER(size))
+seat_requeue = declare("seat_requeue", seat=Handle)
+seat_complete = declare("seat_complete", seat=Handle)
+seat_busy_stop = declare("seat_busy_stop", seat=Handle)
+seat_look = declare("seat_look", seat=Handle, word=ctypes.POINTER(u64))
+seat_count = declare("seat_count", seat=Handle, answers=Answers)
+control_enable = declare("control_enable", control=Handle, threaded=boolean)
+control_mark = declare("control_mark", control=Handle)
+control_try_take = declare("control_try_take", control=Handle)
 list_new = declare("list_new", list=Handle)
 list_push = declare("list_push", list=Handle, id=u32)
 list_len = declare("list_len", list=Handle, len=ctypes.POINTER(u32))
@@ -163,8 +198,15 @@ replay = declare("replay", u32, _long, settings=Settings, trace=ctypes.c_char_p,
                  replayed=Replayed)
 
 
+def message(status: int) -> str:
+    """Returns the message of a status, or "?" for an unknown number."""
+    text = ctypes.create_string_buffer(96)  # FQ_MESSAGE_ROOM
+    status_message(status, text, len(text))
+    return text.value.decode()
+
+
 def differences() -> Iterator[str]:
-    """The structs that the library has otherwise: by their sizes, and by calls whose answers are known."""
+    """The structs that differ in the library: by their sizes, and by calls with known results."""
     yield from (f"the size of {kind.__name__}" for kind, at in NUMBERS.items() if ctypes.sizeof(kind) != struct_size(at))
     limit, refused, state = dql_new(0, 9, 1000, 0), dql_new(2, 1, 1000, 0), napi_new(7)
     dql_queued(limit.dql, 5)

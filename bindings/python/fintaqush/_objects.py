@@ -10,35 +10,45 @@ from ._answers import Fault, Kind, Next, Status, Word
 
 
 class Packet(NamedTuple):
-    """A packet: the caller's own number, and its bytes."""
+    """A packet: a number that the user chooses, and its size in bytes."""
     number: int
     bytes: int
 
 
 class Counts(NamedTuple):
-    """What is counted of a ring's polls."""
+    """The counts of a ring's polls."""
     polls: int
     packets: int
     bytes: int
 
 
+class TxState(NamedTuple):
+    """The state of a transmit ring: all bytes sent and all completed, modulo 2^32, the limit, what may still be sent, and whether
+    the limit has stopped the queue."""
+    queued: int
+    completed: int
+    limit: int
+    avail: int
+    stopped: bool
+
+
 class RunReport(NamedTuple):
-    """What a run did: its polls, their packets, and whether the budget or the window was spent."""
+    """The report of a run: its polls, their packets, and whether the budget or the window was used up."""
     polls: int
     work: int
     squeezed: bool
 
 
 class _One:
-    """What the library has once, so it is neither copied nor pickled."""
+    """An object that exists once in the library, so it is neither copied nor pickled."""
 
     def __reduce__(self) -> NoReturn:
         raise TypeError(f"a {type(self).__name__} isn't copied")
 
 
 class Limit(_One):
-    """A byte queue limit between min and max, which keeps slack for hold_ms (`dql_init`). Moments are milliseconds of a clock of
-    your own. BAD_BOUNDS: min above max, or max above 1879048192."""
+    """A byte queue limit between min and max, with the hold time hold_ms (`dql_init`). Times are milliseconds of a clock that
+    you choose. BAD_BOUNDS: min above max, or max above 1879048192."""
 
     def __init__(self, min: int = 0, max: int = 1879048192, hold_ms: int = 1000, now_ms: int = 0) -> None:
         made = c.dql_new(min, max, hold_ms, now_ms)
@@ -46,25 +56,25 @@ class Limit(_One):
         self._dql = made.dql
 
     def queued(self, count: int) -> None:
-        """So many bytes were given to the device (`dql_queued`). TOO_LARGE, TOO_MUCH_IN_FLIGHT."""
+        """Adds count bytes that were given to the device (`dql_queued`). TOO_LARGE, TOO_MUCH_IN_FLIGHT."""
         c.dql_queued(self._dql, count)
 
     def completed(self, count: int, now_ms: int) -> None:
-        """The device is done with so many, and the limit adapts (`dql_completed`). MORE_THAN_QUEUED."""
+        """Completes count bytes, and adapts the limit (`dql_completed`). MORE_THAN_QUEUED."""
         c.dql_completed(self._dql, count, now_ms)
 
     def reset(self, now_ms: int) -> None:
-        """Forgets what is in flight, and starts over (`dql_reset`)."""
+        """Resets the limit: nothing is in flight (`dql_reset`)."""
         c.dql_reset(self._dql, now_ms)
 
     @property
     def limit(self) -> int:
-        """In bytes."""
+        """The limit in bytes."""
         return int(c.dql_limit(self._dql))
 
     @property
     def avail(self) -> int:
-        """The bytes that may still be given to the device (`dql_avail`); negative: the queue is to be stopped."""
+        """The bytes that may still be given to the device (`dql_avail`); if negative, the queue has to be stopped."""
         return int(c.dql_avail(self._dql))
 
     @property
@@ -74,54 +84,64 @@ class Limit(_One):
 
 
 class Napi(_One):
-    """An instance of one thread (`struct napi_struct`), disabled at first. Who calls is a number, 0 if it isn't said; the
-    controller's is named here. A call that the state doesn't have is NOT_ALLOWED, and changes nothing."""
+    """An instance of one thread (`struct napi_struct`), disabled at first. A caller is a number, 0 by default; the controller's
+    is given here. A call that isn't allowed in the state raises NOT_ALLOWED, and changes nothing."""
 
     def __init__(self, controller: int = 0) -> None:
         self._state = c.napi_new(controller)
 
     def schedule(self, who: int = 0) -> Status:
-        """Asks for a poll (`napi_schedule_prep`): GRANTED, and it is to be handed over; MISSED, DISABLED."""
+        """Requests a poll (`napi_schedule_prep`): returns GRANTED, and the caller has to hand it over; MISSED, or DISABLED."""
         return Status(c.napi_schedule(self._state, who))
 
     def hand(self, who: int = 0, kind: Kind = Kind.LIST) -> None:
-        """Hands a granted instance over (`____napi_schedule`), or a polled one to the list again. BAD_KIND, NOT_ALLOWED."""
+        """Queues a granted instance (`____napi_schedule`), or puts a polled one on the list again. BAD_KIND, NOT_ALLOWED."""
         c.napi_hand(self._state, who, kind)
 
     def take(self, who: int = 0, kind: Kind = Kind.LIST) -> bool:
-        """Takes it from the list or as its thread; False: it wasn't there. BAD_KIND."""
+        """Takes it from the list or as its thread; returns False if it isn't there. BAD_KIND."""
         return bool(c.napi_take(self._state, who, kind) == Status.TAKEN)
 
     def complete(self, who: int = 0) -> Status:
-        """Ends a poll (`napi_complete_done`): RELEASED; AGAIN, and it is to be handed over; HELD of a busy poller. NOT_ALLOWED."""
+        """Ends a poll (`napi_complete_done`): returns RELEASED; AGAIN, and the caller has to hand it over; HELD for a busy
+        poller. NOT_ALLOWED."""
         return Status(c.napi_complete(self._state, who))
 
+    def end(self, full: bool, who: int = 0) -> Next | None:
+        """Ends a poll as the kernel does (`__napi_poll`), and returns what to pass to the run. After a full poll, which returned the whole
+        weight, the instance is on the list again, or stays with its thread (None: poll again), unless a disable is pending. Any other
+        poll is completed, and queued again if a request was missed; after AGAIN_THREAD its thread has to poll. Returns None for a busy
+        poller too. NOT_ALLOWED."""
+        next = c.u32()
+        return None if c.napi_end(self._state, who, full, next) == Status.HELD else Next(next.value)
+
     def busy_take(self, who: int = 0) -> bool:
-        """Takes an idle instance to busy poll it (`napi_busy_loop`); False: it isn't idle."""
+        """Takes an idle instance to busy poll it (`napi_busy_loop`); returns False if it isn't idle."""
         return bool(c.napi_busy_take(self._state, who) == Status.TAKEN)
 
     def busy_stop(self, who: int = 0) -> None:
-        """Stops busy polling, and one poll has to follow (`busy_poll_stop`). NOT_ALLOWED."""
+        """Stops busy polling (`busy_poll_stop`): one poll has to follow. NOT_ALLOWED."""
         c.napi_busy_stop(self._state, who)
 
     def set_threaded(self, threaded: bool, who: int = 0) -> None:
-        """Whether polls are handed to the instance's own thread (`dev_set_threaded`)."""
+        """Sets whether the instance is scheduled on its own thread (`dev_set_threaded`)."""
         c.napi_set_threaded(self._state, who, threaded)
 
     def enable(self, threaded: bool = False, who: int = 0) -> None:
-        """The controller's (`napi_enable`). NOT_ALLOWED."""
+        """For the controller: enables the instance (`napi_enable`). Call `schedule` once after it, because earlier requests aren't polled.
+        NOT_ALLOWED."""
         c.napi_enable(self._state, who, threaded)
 
     def mark_disable(self, who: int = 0) -> None:
-        """The controller's, the first step of `napi_disable`: one is pending. NOT_ALLOWED."""
+        """For the controller, the first step of `napi_disable`: marks a disable as pending. NOT_ALLOWED."""
         c.napi_mark_disable(self._state, who)
 
     def take_disable(self, who: int = 0) -> bool:
-        """The second step, to be tried until it is True; False: somebody has the instance. NOT_ALLOWED."""
+        """The second step, to be repeated until it returns True; False if a caller owns the instance. NOT_ALLOWED."""
         return bool(c.napi_take_disable(self._state, who) == Status.TAKEN)
 
     def unmark(self, who: int = 0) -> None:
-        """The third step: it is pending no more. NOT_ALLOWED."""
+        """The third step: clears the mark. NOT_ALLOWED."""
         c.napi_unmark(self._state, who)
 
     @property
@@ -131,7 +151,7 @@ class Napi(_One):
 
 
 class _Owned(_One):
-    """What the library has on its heap, until nobody has this any more."""
+    """An object on the library's heap, which is freed with this one."""
 
     def __init__(self, make: Callable[..., Any], *values: int) -> None:
         self._at = c.Handle()
@@ -143,13 +163,13 @@ class _Owned(_One):
 
 
 class Ring(_Owned):
-    """A receive ring of 1 to 65536 places. BAD_CAPACITY."""
+    """A receive ring of capacity 1 to 65536. BAD_CAPACITY."""
 
     def __init__(self, capacity: int) -> None:
         super().__init__(c.ring_new, capacity)
 
     def put(self, number: int, bytes: int) -> bool:
-        """Puts a packet in, behind all others; False: the ring is full."""
+        """Puts a packet at the end of the ring; returns False if the ring is full."""
         return bool(c.ring_put(self._at, number, bytes) == Status.OK)
 
     def poll(self, weight: int = 64) -> list[Packet]:
@@ -160,20 +180,44 @@ class Ring(_Owned):
 
     @property
     def counts(self) -> Counts:
-        """What its polls gave so far."""
+        """The counts of its polls so far."""
         counts = c.Counts()
         c.count(self._at, counts)
         return Counts(counts.polls, counts.packets, counts.bytes)
 
 
+class TxRing(_Owned):
+    """A transmit ring of 1 to 65536 packets under a byte queue limit between min and max: it keeps the sizes of the packets that were
+    sent and aren't completed. Times are milliseconds of your own clock. BAD_BOUNDS, BAD_CAPACITY."""
+
+    def __init__(self, capacity: int, min: int = 0, max: int = 1879048192, hold_ms: int = 1000, now_ms: int = 0) -> None:
+        super().__init__(c.tx_new, capacity, min, max, hold_ms, now_ms)
+
+    def send(self, bytes: int) -> Status:
+        """Gives a packet to the device (`netdev_tx_sent_queue`): OK; or, if nothing is sent, STOPPED by the limit, or FULL. TOO_LARGE,
+        TOO_MUCH_IN_FLIGHT."""
+        return Status(c.tx_send(self._at, bytes))
+
+    def done(self, count: int, now_ms: int) -> bool:
+        """Completes the oldest packets (`netdev_tx_completed_queue`); returns False, and completes none, if the device holds fewer."""
+        return bool(c.tx_done(self._at, count, now_ms) == Status.OK)
+
+    @property
+    def state(self) -> TxState:
+        """The state of the ring."""
+        shown = c.TxShown()
+        c.tx_state(self._at, shown)
+        return TxState(shown.queued, shown.completed, shown.limit, shown.avail, shown.stopped)
+
+
 class List(_Owned):
-    """A poll list: numbers of devices, which runs poll in turn."""
+    """A poll list: numbers of devices, which runs poll in order."""
 
     def __init__(self) -> None:
         super().__init__(c.list_new)
 
     def push(self, id: int) -> bool:
-        """Puts a number at the list's tail; False: list and run hold 64. IN_USE: it is listed already."""
+        """Appends a number to the list; returns False if list and run hold 64. IN_USE: it is in the list already."""
         return bool(c.list_push(self._at, id) == Status.OK)
 
     def __len__(self) -> int:
@@ -184,11 +228,12 @@ class List(_Owned):
 
     def run(self, poll: Callable[[int, int], tuple[int, Next]], budget: int = 300, weight: int = 64,
             window: int = 1024) -> RunReport:
-        """A run (`net_rx_action`): calls poll(id, weight) for what is listed, until nothing is, or budget or window is spent. It
-        answers the packets that the poll gave and how it ended, and may push others. BAD_BUDGET, BAD_WEIGHT; NOT_ALLOWED in a run
-        of this list; BAD_WORK, more packets than the weight; IN_USE, to be listed a second time.
+        """Makes a run (`net_rx_action`): calls poll(id, weight) for the listed devices, until none is listed, or budget or
+        window is used up. poll returns the packets that it processed and how it ended, and may push others. BAD_BUDGET,
+        BAD_WEIGHT; NOT_ALLOWED in a run of this list; BAD_WORK, more packets than the weight; IN_USE, if it asks to be
+        listed twice.
 
-        Where the poll raises, or its answer is refused, the run is ended, that device is listed no more, and all others are."""
+        If poll raises, or its result is invalid, the run ends; that device isn't listed any more, all others are."""
         c.run_begin(self._at, budget, weight, window)
         id, report = c.u32(), c.RunReport()
         try:

@@ -1,4 +1,4 @@
-"""The whole replay of a trace on one thread, with its report as objects. docs/FORMATS.md has traces, reports and faults."""
+"""The whole replay of a trace on one thread, with its report as objects. docs/FORMATS.md describes traces, reports and errors."""
 from __future__ import annotations
 
 import ctypes
@@ -9,7 +9,7 @@ from ._answers import Status, TraceFault, Word
 
 
 class Turn(NamedTuple):
-    """What a softirq, kthread or busy row did; the device of a softirq is 0, and it alone is squeezed."""
+    """What a softirq, kthread or busy row did; the device of a softirq is 0, and only a softirq can be squeezed."""
     event: str
     row: int
     polls: int
@@ -50,7 +50,8 @@ class Device(NamedTuple):
 
 
 class Report(NamedTuple):
-    """A report: what each row did that polls, the devices by number, the poll list, the sums over the softirq runs, and the text."""
+    """A report: what each row did that polls, the devices by number, the poll list, the sums over the softirq runs, and the
+    text."""
     turns: list[Turn]
     devices: dict[int, Device]
     listed: list[int]
@@ -62,7 +63,7 @@ class Report(NamedTuple):
 
 
 def replay(trace: bytes, budget: int = 300, weight: int = 64, window: int = 1024) -> Report:
-    """Replays the bytes of a trace (napi_replay --mode=serial). TraceFault; BAD_WEIGHT, else BAD_BUDGET."""
+    """Replays the bytes of a trace (napi_replay --mode=serial). TraceFault; BAD_WEIGHT, otherwise BAD_BUDGET."""
     if not isinstance(trace, bytes):
         raise TypeError("a trace is bytes")
     settings = c.Settings(c.number(budget, "budget"), c.number(weight, "weight"), c.number(window, "window"))
@@ -83,7 +84,7 @@ def _text_of(trace: bytes, settings: c.Settings) -> str:
 
 
 def _fields(words: list[str], **kinds: Callable[[int], Any]) -> dict[str, Any]:
-    """The numbers of a line by their names, some of another kind."""
+    """The numbers of a line by name, some converted."""
     return {name: kinds.get(name, int)(int(word)) for name, word in zip(words[::2], words[1::2])}
 
 

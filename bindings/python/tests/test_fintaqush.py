@@ -1,4 +1,4 @@
-"""The package fintaqush. What is expected stands in include/fintaqush.h, docs/FORMATS.md, examples/ and the outputs of examples/c."""
+"""The package fintaqush. Expected values are from include/fintaqush.h, docs/FORMATS.md, examples/ and the outputs of examples/c."""
 import copy
 import ctypes
 import inspect
@@ -13,7 +13,8 @@ import threading
 import unittest
 
 import fintaqush
-from fintaqush import Fault, Kind, Limit, List, Napi, Next, Packet, Ring, Status, TraceFault, Transmit, Turn, Word, _library, replay
+from fintaqush import (Fault, Kind, Limit, List, Napi, Next, Packet, Ring, Status, TraceFault, Transmit, Turn, TxRing, TxState, Word, _library,
+                       replay, shared)
 
 TOP = pathlib.Path(__file__).resolve().parents[3]
 HEADER = re.sub(r"/\*.*?\*/", "", (TOP / "include/fintaqush.h").read_text(), flags=re.S)
@@ -33,12 +34,12 @@ def c_type(kind):
     if hasattr(kind, "contents"):
         return f"{c_type(kind._type_)} *"
     return {_library.u32: "uint32_t", _library.u64: "uint64_t", ctypes.c_int64: "int64_t", ctypes.c_bool: "bool", None: "void",
-            ctypes.c_char_p: "uint8_t *"}[kind]
+            ctypes.c_char_p: "char *"}[kind]
 
 
 class TestHeader(unittest.TestCase):
     def numbers(self, enum):
-        body = re.search(rf"enum {enum} \{{(.*?)\}}", HEADER, re.S)[1]
+        body = re.search(rf"enum {enum} (?:FQ_NUMBER )?\{{(.*?)\}}", HEADER, re.S)[1]
         return {name: int(value) for name, value in re.findall(r"FQ_(\w+) = (\d+)", body)}
 
     def test_numbers(self):
@@ -51,12 +52,12 @@ class TestHeader(unittest.TestCase):
         self.assertIn(f'#define FQ_VERSION "{fintaqush.__version__}"\n', HEADER)
 
     def test_calls(self):
-        """Each call that is declared has the header's answer and arguments."""
+        """Each call that is declared has the header's result and arguments."""
         self.assertGreater(len(_library.DECLARED), 30)
         for name, (answer, arguments) in _library.DECLARED.items():
-            said, told = re.search(rf"^(?:FQ_\w+ )?((?:struct )?\w+) fq_{name}\((.*)\);", HEADER, re.M).groups()
-            told = re.sub(r"const |FQ_RESTRICT ", "", told).replace("size_t", "uint64_t")
-            self.assertEqual(said.replace("size_t", "uint64_t"), c_type(answer), name)
+            said, told = re.search(rf"^(?:FQ_\w+ )?((?:struct |enum )?\w+) fq_{name}\((.*)\);", HEADER, re.M).groups()
+            told = re.sub(r"const |FQ_RESTRICT ", "", told).replace("size_t", "uint64_t").replace("uint8_t *", "char *")
+            self.assertEqual(said.replace("size_t", "uint64_t").replace("enum fq_status", "uint32_t"), c_type(answer), name)
             pointed = [f"{c_type(kind)}{' *' if kind in _library.STRUCTS else ' '}{name}" for name, kind in arguments.items()]
             self.assertEqual(told, ", ".join(one.replace("* ", "*") for one in pointed), name)
 
@@ -119,14 +120,14 @@ class TestLimit(Refusals):
                 call(*values)
 
     def test_nothing_is_copied(self):
-        for one in Limit(), Napi(), Ring(1), List():
+        for one in Limit(), Napi(), Ring(1), List(), TxRing(1), *shared(1)[:2], *shared(1)[2]:
             for copied in copy.copy, copy.deepcopy, pickle.dumps:
                 with self.assertRaisesRegex(TypeError, "isn't copied"):
                     copied(one)
 
 
 class TestNapi(Refusals):
-    """The words are those of the table in docs/FORMATS.md."""
+    """The state words are those of the table in docs/FORMATS.md."""
 
     def test_a_turn(self):
         napi = Napi(controller=1)
@@ -189,6 +190,29 @@ class TestNapi(Refusals):
         napi.unmark()
         self.assertEqual(napi.word, 9)
 
+    def test_a_full_poll_under_a_disable(self):
+        napi = Napi()
+        self.refused(Status.NOT_ALLOWED, napi.end, True)
+        napi.enable()
+        self.assertEqual(napi.schedule(), Status.GRANTED)
+        napi.hand()
+        self.assertEqual((napi.take(), napi.end(True), napi.take()), (True, Next.REPOLL, True))
+        napi.mark_disable()
+        self.assertEqual((napi.take_disable(), napi.end(True), napi.take_disable()), (False, Next.GONE, True))
+
+    def test_an_end_goes_by_the_word(self):
+        napi = Napi()
+        napi.enable(threaded=True)
+        self.assertEqual(napi.schedule(), Status.GRANTED)
+        napi.hand(kind=Kind.THREAD)
+        self.assertEqual((napi.take(kind=Kind.THREAD), napi.end(True), napi.schedule()), (True, None, Status.MISSED))
+        self.assertEqual((napi.end(False), napi.take(kind=Kind.THREAD), napi.end(False)), (Next.AGAIN_THREAD, True, Next.GONE))
+
+    def test_a_fault_says_what_it_means(self):
+        with self.assertRaises(Fault) as raised:
+            Napi().end(True)
+        self.assertEqual(raised.exception.message, "the state of the object does not allow this call")
+
 
 class TestRing(Refusals):
     def test_order_and_room(self):
@@ -222,6 +246,90 @@ class TestRing(Refusals):
         self.assertEqual(ring.counts.packets, 30000)
 
 
+class TestTx(Refusals):
+    def test_it_is_stopped_and_started(self):
+        ring = TxRing(2, 1000, 1000)
+        self.assertEqual(ring.send(600), Status.OK)
+        self.assertEqual(ring.state, TxState(600, 0, 1000, 400, False))
+        self.assertEqual(ring.send(600), Status.OK)
+        self.assertEqual((ring.send(1), ring.done(3, 1)), (Status.STOPPED, False))
+        self.assertEqual(ring.state, TxState(1200, 0, 1000, -200, True))
+        self.assertTrue(ring.done(1, 1))
+        self.assertEqual((ring.send(100), ring.send(100)), (Status.OK, Status.FULL))
+
+    def test_what_is_refused(self):
+        self.refused(Status.BAD_BOUNDS, TxRing, 2, 2, 1)
+        self.refused(Status.BAD_CAPACITY, TxRing, 0)
+        self.refused(Status.TOO_LARGE, TxRing(2).send, 268435456)
+
+
+class TestShared(Refusals):
+    def test_an_open_asks_once(self):
+        for threaded, again in (False, Next.AGAIN), (True, Next.AGAIN_THREAD):
+            _, control, (interrupts, poller) = shared(4)
+            self.assertEqual(interrupts.request(), (Status.MISSED, Next.GONE))
+            masks = []
+            self.assertEqual(control.open(poller, threaded, lambda: masks.append(1)), (Status.GRANTED, again))
+            self.assertEqual(masks, [1])
+            self.refused(Status.NOT_ALLOWED, control.enable)
+            self.assertTrue(poller.take(Kind.THREAD if threaded else Kind.LIST))
+            self.assertEqual(poller.end(False), Next.GONE)
+
+    def test_ends_of_polls(self):
+        input, control, (interrupts, poller) = shared(8)
+        control.enable()
+        self.assertEqual([input.put(number, 60) for number in range(9)], [True] * 8 + [False])
+        self.assertEqual((input.count, interrupts.request()), (8, (Status.GRANTED, Next.AGAIN)))
+        self.refused(Status.NOT_ALLOWED, poller.poll)
+        self.assertEqual((poller.take(), [one.number for one in poller.poll(4)]), (True, [0, 1, 2, 3]))
+        self.assertEqual((poller.end(True), poller.take(), len(poller.poll())), (Next.REPOLL, True, 4))
+        self.assertEqual((poller.counts.polls, poller.counts.packets), (2, 8))
+        interrupts.set_threaded(True)
+        self.assertEqual((interrupts.request()[0], poller.end(False)), (Status.MISSED, Next.AGAIN_THREAD))
+        self.assertEqual((poller.take(), poller.take(Kind.THREAD)), (False, True))
+        self.assertEqual(poller.end(True), None)
+        control.mark()
+        self.assertEqual((control.try_take(), poller.end(True), control.try_take()), (False, Next.GONE, True))
+        self.assertEqual(interrupts.answers[:3], (1, 1, 0))
+        control.enable()
+        self.assertEqual((poller.busy_take(), poller.end(False), poller.busy_stop(), poller.end(False)), (True, None, None, Next.GONE))
+
+    def test_what_is_refused(self):
+        for count in 1, 9:
+            self.refused(Status.BAD_COUNT, shared, 4, count)
+        self.refused(Status.BAD_CAPACITY, shared, 0)
+
+    def test_threads(self):
+        """Each packet is polled once and in order: one thread has the input and an interrupt's seat, another polls."""
+        input, control, (interrupts, poller) = shared(64)
+        polled, due, packets = [], threading.Semaphore(0), 2000
+
+        def arrive():
+            for number in range(packets):
+                while not input.put(number, 60):
+                    pass
+                if interrupts.request()[0] == Status.GRANTED:
+                    due.release()
+
+        def poll():
+            while len(polled) < packets:
+                due.acquire()
+                while True:
+                    poller.take()
+                    given = poller.poll(16)
+                    polled.extend(one.number for one in given)
+                    if poller.end(len(given) == 16) == Next.GONE:
+                        break
+
+        control.enable()
+        threads = [threading.Thread(target=call, daemon=True) for call in (arrive, poll)]
+        for thread in threads:
+            thread.start()
+        for thread in threads:
+            thread.join(60)
+        self.assertEqual(polled, list(range(packets)))
+
+
 class TestRuns(Refusals):
     def test_four_devices(self):
         """As examples/c/run.c."""
@@ -253,7 +361,7 @@ class TestRuns(Refusals):
         self.assertEqual(len(softirq), 64)
 
     def wrecked(self, fault, poll):
-        """What a run leaves whose poll of device 2 of three fails: the list is whole without it, and runs again."""
+        """After a run whose poll of device 2 of three fails, the list has the others, and runs again."""
         softirq = List()
         for device in 1, 2, 3:
             softirq.push(device)
@@ -297,7 +405,7 @@ class TestRuns(Refusals):
 
 class TestReplay(Refusals):
     def test_two_packets(self):
-        """The report that docs/FORMATS.md tells of."""
+        """The report that docs/FORMATS.md shows."""
         report = replay((TOP / "examples/two-packets.csv").read_bytes())
         shown = re.search(r"The report:\n\n(.*?)\n\n", (TOP / "docs/FORMATS.md").read_text(), re.S)[1]
         self.assertEqual(report.text, re.sub(r"^    ", "", shown, flags=re.M) + "\n")
@@ -344,7 +452,7 @@ class TestReplay(Refusals):
             self.assertEqual(([turn._asdict() for turn in report.turns], report.listed), (turns, listed))
 
     def test_a_long_report(self):
-        """Longer than the room that is guessed first."""
+        """Longer than the buffer that is tried first."""
         rows = "0,1,open,1\n" + "".join(f"0,{device},open,1\n" for device in range(2, 17)) + "0,0,softirq,0\n" * 99000
         report = replay(("moment,device,event,value\n" + rows).encode())
         self.assertEqual((len(report.turns), report.runs, len(report.devices)), (99000, 99000, 16))

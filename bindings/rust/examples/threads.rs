@@ -1,5 +1,5 @@
-//! An interrupt thread and a poller thread share an instance: 200000 packets, or as many as the
-//! first argument says, and each is polled once and in order.
+//! An interrupt thread and a poller thread share an instance: 200000 packets, or as many as the first argument says, and each
+//! is polled once and in order.
 use fintaqush::{Batch, Caller, Control, End, Input, Kind, Marked, Off, Packet, Polling};
 use fintaqush::{Shared, TryTake, Weight};
 use std::error::Error;
@@ -20,7 +20,7 @@ fn interrupt(packets: u64, mut input: Input, mut caller: Caller) {
     }
 }
 
-// Ends a poll of what was taken from the list, so that none is held.
+// Ends a poll of an instance that was taken from the list, so `Held` isn't possible.
 fn end_poll(polling: Polling, gave: usize) -> Caller {
     match polling.end(gave == Weight::MAX.get()) {
         End::Over(caller, _) => caller,
@@ -28,7 +28,7 @@ fn end_poll(polling: Polling, gave: usize) -> Caller {
     }
 }
 
-// Polls all packets, and answers whether each came once and in order.
+// Polls all packets, and returns whether each arrived once and in order.
 fn poll_all(packets: u64, mut caller: Caller) -> (bool, Caller) {
     let mut batch = Batch::new();
     let mut next = 0;
@@ -53,7 +53,7 @@ fn poll_all(packets: u64, mut caller: Caller) -> (bool, Caller) {
     (true, caller)
 }
 
-// What lies on the list when a disable is asked for is taken and completed by the poller.
+// The poller takes and completes an instance that is on the list when a disable is requested.
 fn disable(mut marked: Control<Marked>, mut poller: Caller) -> Control<Off> {
     loop {
         marked = match marked.try_take() {

@@ -1,91 +1,91 @@
-//! What the calls on a shared instance answer, with the value that goes on.
+//! The results of the calls on a shared instance, each with the value for the next call.
 use crate::busy::Busy;
 use crate::caller::{Caller, Granted};
 use crate::control::{Control, Marked, Off};
 use crate::polling::Polling;
 use crate::words::Next;
 
-/// The answer to one try to schedule.
+/// The result of one attempt to schedule.
 #[derive(Debug)]
 pub enum TryPrep {
-    /// The instance is this caller's, who has to hand it over (`napi_schedule_prep` answers true).
+    /// The caller owns the instance, and has to hand it over (`napi_schedule_prep` returns true).
     Granted(Granted),
-    /// A poll is asked for already, and one more follows; none while the controller has it.
+    /// A poll is requested already, and another one follows; none while the controller owns it.
     Missed(Caller),
-    /// A disable is pending: nothing is asked for.
+    /// A disable is pending: no poll was requested.
     Disabled(Caller),
-    /// Another thread came between: nothing is decided.
+    /// Another thread interfered: nothing is decided.
     Changed(Caller),
 }
 
-/// The answer to a schedule.
+/// The result of a schedule.
 #[derive(Debug)]
 pub enum Sched {
-    /// The instance is this caller's, who has to hand it over (`napi_schedule_prep` answers true).
+    /// The caller owns the instance, and has to hand it over (`napi_schedule_prep` returns true).
     Granted(Granted),
-    /// A poll is asked for already, and one more follows; none while the controller has it.
+    /// A poll is requested already, and another one follows; none while the controller owns it.
     Missed(Caller),
-    /// A disable is pending: nothing is asked for.
+    /// A disable is pending: no poll was requested.
     Disabled(Caller),
 }
 
-/// The answer to one try to complete.
+/// The result of one attempt to complete.
 #[derive(Debug)]
 pub enum TryDone {
-    /// Nobody has the instance any more (`napi_complete_done` answers true).
+    /// No caller owns the instance any more (`napi_complete_done` returns true).
     Released(Caller),
-    /// A poll was asked for meanwhile: it is this caller's, who has to hand it over again.
+    /// A poll was requested meanwhile: the caller still owns the instance, and has to hand it over again.
     Again(Granted),
-    /// Another thread came between: nothing is decided.
+    /// Another thread interfered: nothing is decided.
     Changed(Polling),
 }
 
-/// The answer to a complete.
+/// The result of a completion.
 #[derive(Debug)]
 pub enum Completed {
-    /// Nobody has the instance any more (`napi_complete_done` answers true).
+    /// No caller owns the instance any more (`napi_complete_done` returns true).
     Released(Caller),
-    /// A poll was asked for meanwhile: it is this caller's, who has to hand it over again.
+    /// A poll was requested meanwhile: the caller still owns the instance, and has to hand it over again.
     Again(Granted),
 }
 
-/// The answer to the end of a poll as the kernel ends it.
+/// The result of ending a poll as the kernel ends it.
 #[derive(Debug)]
 #[must_use = "a poller that is dropped polls no more"]
 pub enum End {
-    /// The caller at rest, and what a run is told.
+    /// The caller, which owns nothing, and how the poll ended, for a run.
     Over(Caller, Next),
-    /// A full poll of a thread, which polls on, at once.
+    /// A full poll by a thread, which polls again at once.
     Held(Polling),
 }
 
-/// The answer to one try to busy poll.
+/// The result of one attempt to busy poll.
 #[derive(Debug)]
 pub enum TryBusy {
-    /// The instance is this caller's, who busy polls it.
+    /// The caller owns the instance, and busy polls it.
     Taken(Busy),
-    /// A poll is asked for or under way, or the instance is disabled, or a disable is pending.
+    /// A poll is requested or in progress, or the instance is disabled, or a disable is pending.
     Refused(Caller),
-    /// Another thread came between: nothing is decided.
+    /// Another thread interfered: nothing is decided.
     Changed(Caller),
 }
 
-/// The answer to one try to stop busy polling.
+/// The result of one attempt to stop busy polling.
 #[derive(Debug)]
 pub enum TryStop {
     /// The caller polls the instance once more.
     Stopped(Polling),
-    /// Another thread came between: nothing is decided.
+    /// Another thread interfered: nothing is decided.
     Changed(Busy),
 }
 
-/// The answer to one try to take the instance for a disable.
+/// The result of one attempt to take the instance for a disable.
 #[derive(Debug)]
 pub enum TryTake {
-    /// The instance is disabled, and the disable is pending no more.
+    /// The instance is disabled, and the disable isn't pending any more.
     Taken(Control<Off>),
-    /// A poll is asked for or under way.
+    /// A poll is requested or in progress.
     Busy(Control<Marked>),
-    /// Another thread came between: nothing is decided.
+    /// Another thread interfered: nothing is decided.
     Changed(Control<Marked>),
 }

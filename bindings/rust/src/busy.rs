@@ -6,8 +6,8 @@ use crate::packets::{Answers, Batch, Counts, Packet, Weight};
 use crate::polling::{self, Polling};
 use crate::sys;
 
-/// A caller that busy polls the instance. Whoever schedules meanwhile is answered by one more poll
-/// of its, as [`Polling`], behind the stop.
+/// A caller that busy polls the instance. After the stop it polls once more, as [`Polling`], which serves all requests that
+/// came meanwhile.
 #[derive(Debug)]
 #[must_use = "an instance whose poller is dropped is polled by nobody"]
 pub struct Busy {
@@ -20,34 +20,34 @@ impl Busy {
         polling::poll(&mut self.at, weight, batch)
     }
 
-    /// What the state word tells, of the `FQ_BIT_..` of [`sys`].
+    /// Reads the state word: a sum of the `FQ_BIT_..` of [`sys`].
     pub fn look(&mut self) -> u64 {
         self.at.look()
     }
 
-    /// How often its calls were answered what, since the instance was made.
+    /// The counts of the results of its calls, since the instance was made.
     pub fn answers(&mut self) -> Answers {
         self.at.answers()
     }
 
-    /// What is counted of the ring's polls.
+    /// The counts of the ring's polls.
     pub fn counts(&mut self) -> Counts {
         self.at.counts()
     }
 
-    /// Completes a poll below its weight (`napi_complete_done`, which does nothing under
-    /// `IN_BUSY_POLL`): the caller busy polls on.
+    /// Completes a poll below its weight (`napi_complete_done`, which does nothing under `IN_BUSY_POLL`): the caller keeps busy
+    /// polling.
     pub fn complete_held(&mut self) {
-        // SAFETY: the handle is this poller's alone.
+        // SAFETY: only this poller has the handle.
         match unsafe { sys::fq_seat_complete(self.at.raw()) } {
             sys::FQ_HELD => {}
             said => unexpected("seat_complete", said),
         }
     }
 
-    /// Stops busy polling, in one try (`busy_poll_stop`). It doesn't wait.
+    /// Tries once to stop busy polling (`busy_poll_stop`). It doesn't wait.
     pub fn try_stop(mut self) -> TryStop {
-        // SAFETY: the handle is this poller's alone.
+        // SAFETY: only this poller has the handle.
         match unsafe { sys::fq_seat_busy_stop(self.at.raw()) } {
             sys::FQ_OK => TryStop::Stopped(Polling { at: self.at }),
             sys::FQ_CHANGED => TryStop::Changed(self),
@@ -55,7 +55,7 @@ impl Busy {
         }
     }
 
-    /// Stops busy polling, try after try until one decides (`busy_poll_stop`).
+    /// Stops busy polling, and retries until an attempt decides (`busy_poll_stop`).
     pub fn stop(self) -> Polling {
         let mut busy = self;
         loop {

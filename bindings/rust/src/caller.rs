@@ -1,4 +1,4 @@
-//! A caller of a shared instance at rest, and one to whom the instance was granted.
+//! A caller of a shared instance that owns nothing, and one that was granted the instance.
 use crate::answers::{Sched, TryBusy, TryPrep};
 use crate::busy::Busy;
 use crate::card::Card;
@@ -7,9 +7,9 @@ use crate::handle::Handle;
 use crate::packets::Answers;
 use crate::polling::Polling;
 use crate::sys;
-use crate::words::{Kind, Prep};
+use crate::words::{Kind, Next, Prep};
 
-/// A caller that owns nothing: an interrupt, a poller or a thread poller at rest.
+/// A caller that owns nothing: an interrupt handler, or a poller or thread that isn't polling.
 ///
 /// A caller has no poll context, so it can't poll:
 ///
@@ -20,7 +20,7 @@ use crate::words::{Kind, Prep};
 /// }
 /// ```
 ///
-/// What was spent on a call is gone, so nobody is two callers at a time:
+/// A value that was passed to a call is gone, so there is never a second one for the same caller:
 ///
 /// ```compile_fail,E0382
 /// use fintaqush::{Caller, Kind, Sched};
@@ -38,7 +38,7 @@ use crate::words::{Kind, Prep};
 /// }
 /// ```
 ///
-/// It goes to a thread of its own, and isn't used by two:
+/// It can be sent to another thread, but not shared by two:
 ///
 /// ```
 /// fn goes_to_a_thread<T: Send>() {}
@@ -58,9 +58,9 @@ pub struct Caller {
 }
 
 impl Caller {
-    /// Asks for a poll, once (`napi_schedule_prep`). It doesn't wait.
+    /// Tries once to request a poll (`napi_schedule_prep`). It doesn't wait.
     pub fn try_schedule(mut self) -> TryPrep {
-        // SAFETY: the handle is this caller's alone.
+        // SAFETY: only this caller has the handle.
         let said = unsafe { sys::fq_seat_schedule(self.at.raw()) };
         match Prep::of("seat_schedule", said) {
             Some(Prep::Granted) => TryPrep::Granted(Granted { at: self.at }),
@@ -70,10 +70,10 @@ impl Caller {
         }
     }
 
-    /// Asks for a poll, try after try until one decides (`napi_schedule_prep`).
+    /// Requests a poll, and retries until an attempt decides (`napi_schedule_prep`).
     ///
-    /// While a disable is pending nothing is asked for, and while the instance is disabled no poll
-    /// follows: schedule once behind each [`enable`](crate::Control::enable).
+    /// While a disable is pending no poll is requested, and while the instance is disabled no poll follows: schedule once after
+    /// each [`enable`](crate::Control::enable).
     pub fn schedule(self) -> Sched {
         let mut caller = self;
         loop {
@@ -86,9 +86,9 @@ impl Caller {
         }
     }
 
-    /// An interrupt: schedules, and hands over where it was granted.
+    /// An interrupt: schedules, and hands the instance over if it is granted.
     pub fn interrupt(&mut self, kind: Kind) -> Prep {
-        // SAFETY: the handle is this caller's alone.
+        // SAFETY: only this caller has the handle.
         let said = unsafe { sys::fq_seat_interrupt(self.at.raw(), kind.number()) };
         match Prep::of("seat_interrupt", said) {
             Some(prep) => prep,
@@ -96,13 +96,13 @@ impl Caller {
         }
     }
 
-    /// The same, with [`mask`](Card::mask) between the grant and the hand-over, where the kernel
-    /// masks: behind the hand-over the card stays masked where the poller is faster.
+    /// The same, with [`mask`](Card::mask) between the grant and the hand-over, where the kernel masks: after the hand-over a
+    /// faster poller could unmask first, and the card would stay masked.
     ///
-    /// Where `mask` panics nobody polls the instance again.
+    /// If `mask` panics, the instance is never polled again.
     pub fn interrupt_masked(&mut self, kind: Kind, card: &mut impl Card) -> Prep {
         let prep = loop {
-            // SAFETY: the handle is this caller's alone.
+            // SAFETY: only this caller has the handle.
             let said = unsafe { sys::fq_seat_schedule(self.at.raw()) };
             if let Some(prep) = Prep::of("seat_schedule", said) {
                 break prep;
@@ -110,7 +110,7 @@ impl Caller {
         };
         if prep == Prep::Granted {
             card.mask();
-            // SAFETY: the handle is this caller's alone.
+            // SAFETY: only this caller has the handle.
             match unsafe { sys::fq_seat_hand(self.at.raw(), kind.number()) } {
                 sys::FQ_OK => {}
                 said => unexpected("seat_hand", said),
@@ -119,15 +119,49 @@ impl Caller {
         prep
     }
 
-    /// What the state word tells, of the `FQ_BIT_..` of [`sys`].
+    /// Requests a poll (`napi_schedule`), from an interrupt, a timer or a driver's open. A granted
+    /// request queues the instance where the state word says: [`Next::Again`] says where, and the
+    /// caller puts the number on the list or wakes the thread. Otherwise returns [`Next::Gone`].
+    pub fn request(&mut self) -> (Prep, Next) {
+        self.request_and(|| {})
+    }
+
+    /// Like [`request`](Caller::request), with [`mask`](Card::mask) between the grant and the queuing.
+    ///
+    /// If `mask` panics, the instance is never polled again.
+    pub fn request_masked(&mut self, card: &mut impl Card) -> (Prep, Next) {
+        self.request_and(|| card.mask())
+    }
+
+    fn request_and(&mut self, mask: impl FnOnce()) -> (Prep, Next) {
+        let prep = loop {
+            // SAFETY: the handle is this caller's alone.
+            let said = unsafe { sys::fq_seat_schedule(self.at.raw()) };
+            if let Some(prep) = Prep::of("seat_schedule", said) {
+                break prep;
+            }
+        };
+        if prep != Prep::Granted {
+            return (prep, Next::Gone);
+        }
+        mask();
+        let mut next = sys::FQ_NEXT_GONE;
+        // SAFETY: the handle is this caller's alone, and the number lies elsewhere.
+        match unsafe { sys::fq_seat_hand_again(self.at.raw(), &mut next) } {
+            sys::FQ_OK => (prep, Next::of("seat_hand_again", next)),
+            said => unexpected("seat_hand_again", said),
+        }
+    }
+
+    /// Reads the state word: a sum of the `FQ_BIT_..` of [`sys`].
     pub fn look(&mut self) -> u64 {
         self.at.look()
     }
 
-    /// Takes the instance from the list or the thread to which it was handed, with its poll context
-    /// (`net_rx_action`, `napi_thread_wait`). `Err`: it wasn't there, and nothing changed.
+    /// Takes the instance from the list or from its thread's queue, with its poll context (`net_rx_action`,
+    /// `napi_thread_wait`). Returns `Err`, and changes nothing, if it isn't there.
     pub fn take(mut self, kind: Kind) -> Result<Polling, Caller> {
-        // SAFETY: the handle is this caller's alone.
+        // SAFETY: only this caller has the handle.
         match unsafe { sys::fq_seat_take(self.at.raw(), kind.number()) } {
             sys::FQ_TAKEN => Ok(Polling { at: self.at }),
             sys::FQ_NOT_THERE => Err(self),
@@ -135,14 +169,14 @@ impl Caller {
         }
     }
 
-    /// How often its calls were answered what, since the instance was made.
+    /// The counts of the results of its calls, since the instance was made.
     pub fn answers(&mut self) -> Answers {
         self.at.answers()
     }
 
-    /// Takes an idle instance to busy poll it, once (`napi_busy_loop`). It doesn't wait.
+    /// Tries once to take an idle instance to busy poll it (`napi_busy_loop`). It doesn't wait.
     pub fn try_busy(mut self) -> TryBusy {
-        // SAFETY: the handle is this caller's alone.
+        // SAFETY: only this caller has the handle.
         match unsafe { sys::fq_seat_busy_take(self.at.raw()) } {
             sys::FQ_TAKEN => TryBusy::Taken(Busy { at: self.at }),
             sys::FQ_BUSY => TryBusy::Refused(self),
@@ -151,8 +185,8 @@ impl Caller {
         }
     }
 
-    /// Takes an idle instance to busy poll it, try after try until one decides (`napi_busy_loop`).
-    /// `Err`: it was refused.
+    /// Takes an idle instance to busy poll it, and retries until an attempt decides (`napi_busy_loop`). Returns `Err` if it
+    /// isn't idle.
     pub fn busy(self) -> Result<Busy, Caller> {
         let mut caller = self;
         loop {
@@ -164,10 +198,9 @@ impl Caller {
         }
     }
 
-    /// Says whether polls are from now on handed to the instance's own thread
-    /// (`dev_set_threaded`). Allowed in any state.
+    /// Sets whether the instance is scheduled on its own thread from now on (`dev_set_threaded`). Allowed in any state.
     pub fn set_threaded(&mut self, threaded: bool) {
-        // SAFETY: the handle is this caller's alone.
+        // SAFETY: only this caller has the handle.
         match unsafe { sys::fq_seat_set_threaded(self.at.raw(), threaded) } {
             sys::FQ_OK => {}
             said => unexpected("seat_set_threaded", said),
@@ -175,8 +208,7 @@ impl Caller {
     }
 }
 
-/// A caller to whom the instance was granted, and who has to hand it over: without that nobody
-/// polls it again.
+/// A caller that was granted the instance, and has to hand it over: otherwise it is never polled again.
 #[derive(Debug)]
 #[must_use = "an instance that is granted and not handed over is polled by nobody"]
 pub struct Granted {
@@ -184,14 +216,14 @@ pub struct Granted {
 }
 
 impl Granted {
-    /// What the state word tells, of the `FQ_BIT_..` of [`sys`].
+    /// Reads the state word: a sum of the `FQ_BIT_..` of [`sys`].
     pub fn look(&mut self) -> u64 {
         self.at.look()
     }
 
-    /// Hands the instance over to the list or to its thread (`____napi_schedule`).
+    /// Queues the instance on the list or for its thread (`____napi_schedule`).
     pub fn hand(mut self, kind: Kind) -> Caller {
-        // SAFETY: the handle is this caller's alone.
+        // SAFETY: only this caller has the handle.
         match unsafe { sys::fq_seat_hand(self.at.raw(), kind.number()) } {
             sys::FQ_OK => Caller { at: self.at },
             said => unexpected("seat_hand", said),

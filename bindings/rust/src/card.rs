@@ -1,21 +1,21 @@
-//! What the ends of a poll do with its card.
+//! What the functions that end a poll do with its card.
 
 /// A card whose interrupt is masked while its instance is polled.
 pub trait Card {
-    /// It interrupts no more.
+    /// Masks its interrupt.
     fn mask(&mut self);
-    /// It interrupts again.
+    /// Unmasks its interrupt.
     fn unmask(&mut self);
 }
 
-/// A card that can be looked at.
+/// A card that can be checked for packets.
 pub trait Look: Card {
-    /// Whether something is there to be polled. A fence stands before it.
+    /// Returns whether there is something to poll. A fence comes before it.
     fn look(&mut self) -> bool;
 }
 
-/// A card that can be polled alone.
+/// A card that can be polled without its instance.
 pub trait Poll: Card {
-    /// Polls at most so many packets, and answers how many.
+    /// Polls at most this many packets, and returns how many.
     fn poll(&mut self, most: usize) -> usize;
 }

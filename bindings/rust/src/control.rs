@@ -1,9 +1,12 @@
-//! The controller of a shared instance, who enables and disables it.
+//! The controller of a shared instance, which enables and disables it.
 use crate::answers::TryTake;
+use crate::caller::Caller;
+use crate::card::Card;
 use crate::fault::unexpected;
 use crate::handle::Handle;
 use crate::packets::Counts;
 use crate::sys;
+use crate::words::{Next, Prep};
 use std::marker::PhantomData;
 use std::thread;
 
@@ -15,7 +18,7 @@ pub enum Off {}
 #[derive(Debug)]
 pub enum On {}
 
-/// A disable is pending: the instance is to be taken as soon as whoever has it releases it.
+/// A disable is pending: the controller takes the instance as soon as its owner releases it.
 #[derive(Debug)]
 pub enum Marked {}
 
@@ -26,7 +29,7 @@ mod sealed {
     impl Sealed for super::Marked {}
 }
 
-/// What the controller has done with the instance last: [`Off`], [`On`] or [`Marked`].
+/// What the controller did last with the instance: [`Off`], [`On`] or [`Marked`].
 pub trait Mode: sealed::Sealed {}
 impl Mode for Off {}
 impl Mode for On {}
@@ -59,15 +62,15 @@ impl<M: Mode> Control<M> {
 }
 
 impl Control<Off> {
-    /// What is counted of the ring's polls.
+    /// The counts of the ring's polls.
     pub fn counts(&mut self) -> Counts {
         self.at.counts()
     }
 
-    /// Enables the instance, in one try, and says whether its polls are handed to its own thread
-    /// (`napi_enable`). It doesn't wait. `Err`: another thread came between, nothing is decided.
+    /// Tries once to enable the instance, and sets whether it is scheduled on its own thread (`napi_enable`). It doesn't wait.
+    /// Returns `Err` if another thread interfered; nothing is decided then.
     pub fn try_enable(mut self, threaded: bool) -> Result<Control<On>, Control<Off>> {
-        // SAFETY: the handle is this controller's alone.
+        // SAFETY: only this controller has the handle.
         match unsafe { sys::fq_control_enable(self.at.raw(), threaded) } {
             sys::FQ_OK => Ok(Control::of(self.at)),
             sys::FQ_CHANGED => Err(self),
@@ -75,8 +78,9 @@ impl Control<Off> {
         }
     }
 
-    /// Enables the instance, try after try until one decides (`napi_enable`). What came while it
-    /// was off is polled once somebody schedules.
+    /// Enables the instance, and retries until an attempt decides (`napi_enable`). Packets that arrived while it was disabled
+    /// are polled after the next schedule, so schedule once after this call, or enable by [`open`](Control::open). Otherwise a
+    /// card that is masked and whose ring is full is never polled again.
     pub fn enable(self, threaded: bool) -> Control<On> {
         let mut control = self;
         loop {
@@ -86,22 +90,34 @@ impl Control<Off> {
             }
         }
     }
+
+    /// A driver's open: enables, and asks once by this caller, with [`mask`](Card::mask) where that
+    /// is granted. The answers are those of [`request_masked`](Caller::request_masked).
+    pub fn open(
+        self,
+        threaded: bool,
+        caller: &mut Caller,
+        card: &mut impl Card,
+    ) -> (Control<On>, Prep, Next) {
+        let on = self.enable(threaded);
+        let (prep, next) = caller.request_masked(card);
+        (on, prep, next)
+    }
 }
 
 impl Control<On> {
-    /// Marks that a disable is pending (the first step of `napi_disable`): from now on schedules
-    /// are refused.
+    /// Marks a disable as pending (the first step of `napi_disable`): from now on requests for a poll fail.
     pub fn mark(mut self) -> Control<Marked> {
-        // SAFETY: the handle is this controller's alone.
+        // SAFETY: only this controller has the handle.
         match unsafe { sys::fq_control_mark(self.at.raw()) } {
             sys::FQ_OK => Control::of(self.at),
             said => unexpected("control_mark", said),
         }
     }
 
-    /// Disables the instance (`napi_disable`): marks it, and tries until whoever has it has
-    /// released it. Between tries it leaves the processor to others. What lies on a list has to be
-    /// taken and completed by a poller, else this never ends.
+    /// Disables the instance (`napi_disable`): marks it, and retries until its owner has released it. Between attempts it
+    /// yields the processor. An instance that is on a list has to be taken and completed by a poller; otherwise this never
+    /// returns.
     pub fn disable(self) -> Control<Off> {
         let mut control = self.mark();
         loop {
@@ -118,10 +134,10 @@ impl Control<On> {
 }
 
 impl Control<Marked> {
-    /// Takes the instance where nobody has it, in one try, and clears the mark (the second and the
-    /// third step of `napi_disable`). It doesn't wait.
+    /// Tries once to take the instance, if no caller owns it, and clears the mark (the second and third step of
+    /// `napi_disable`). It doesn't wait.
     pub fn try_take(mut self) -> TryTake {
-        // SAFETY: the handle is this controller's alone.
+        // SAFETY: only this controller has the handle.
         match unsafe { sys::fq_control_try_take(self.at.raw()) } {
             sys::FQ_TAKEN => TryTake::Taken(Control::of(self.at)),
             sys::FQ_BUSY => TryTake::Busy(self),

@@ -36,10 +36,10 @@ pub struct Dql {
 }
 
 impl Dql {
-    /// A new limit between `min` and `max`, which keeps slack for `hold_ms` (`dql_init`).
+    /// Returns a new limit between `min` and `max`, with the hold time `hold_ms` (`dql_init`). Fails with
     /// [`BAD_BOUNDS`](Fault::BAD_BOUNDS).
     pub fn new(min: u32, max: u32, hold_ms: u64, now_ms: u64) -> Result<Dql, Fault> {
-        // SAFETY: it takes numbers alone.
+        // SAFETY: it takes only numbers.
         let made = unsafe { sys::fq_dql_new(min, max, hold_ms, now_ms) };
         Fault::unless_made(made.status)?;
         Ok(Dql {
@@ -48,21 +48,21 @@ impl Dql {
         })
     }
 
-    /// An object of so many bytes was given to the device (`dql_queued`).
-    /// [`TOO_LARGE`](Fault::TOO_LARGE), [`TOO_MUCH_IN_FLIGHT`](Fault::TOO_MUCH_IN_FLIGHT).
+    /// Adds an object of `count` bytes that was given to the device (`dql_queued`). Fails with [`TOO_LARGE`](Fault::TOO_LARGE)
+    /// or [`TOO_MUCH_IN_FLIGHT`](Fault::TOO_MUCH_IN_FLIGHT).
     pub fn queued(&mut self, count: u32) -> Result<(), Fault> {
-        // SAFETY: the limit was made by the library, and is borrowed by this call alone.
+        // SAFETY: the library made the limit, and only this call borrows it.
         Fault::unless_made(unsafe { sys::fq_dql_queued(&mut self.raw, count) })
     }
 
-    /// The device is done with so many bytes, and the limit adapts (`dql_completed`).
+    /// Completes `count` bytes, and adapts the limit (`dql_completed`). Fails with
     /// [`MORE_THAN_QUEUED`](Fault::MORE_THAN_QUEUED).
     pub fn completed(&mut self, count: u32, now_ms: u64) -> Result<(), Fault> {
         // SAFETY: as in `queued`.
         Fault::unless_made(unsafe { sys::fq_dql_completed(&mut self.raw, count, now_ms) })
     }
 
-    /// Forgets what is in flight, and starts over (`dql_reset`).
+    /// Resets the limit: nothing is in flight (`dql_reset`).
     pub fn reset(&mut self, now_ms: u64) {
         // SAFETY: as in `queued`.
         unsafe { sys::fq_dql_reset(&mut self.raw, now_ms) }
@@ -70,19 +70,17 @@ impl Dql {
 
     /// The limit in bytes.
     pub fn limit(&self) -> u32 {
-        // SAFETY: the limit was made by the library, which reads it; no other thread does, as it
-        // isn't `Sync`.
+        // SAFETY: the library made the limit and only reads it; no other thread does, because it isn't `Sync`.
         unsafe { sys::fq_dql_limit(&self.raw) }
     }
 
-    /// The bytes that may still be given to the device (`dql_avail`); negative: the queue is to be
-    /// stopped.
+    /// The bytes that may still be given to the device (`dql_avail`); if negative, the queue has to be stopped.
     pub fn avail(&self) -> i64 {
         // SAFETY: as in `limit`.
         unsafe { sys::fq_dql_avail(&self.raw) }
     }
 
-    /// The bytes that the device has.
+    /// The bytes in flight.
     pub fn in_flight(&self) -> u32 {
         // SAFETY: as in `limit`.
         unsafe { sys::fq_dql_in_flight(&self.raw) }

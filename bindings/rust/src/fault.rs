@@ -1,4 +1,4 @@
-//! Why a call was not made.
+//! Why a call failed.
 use crate::sys;
 use std::error::Error;
 use std::fmt;
@@ -16,27 +16,27 @@ use std::fmt;
 pub struct Fault(u32);
 
 impl Fault {
-    /// Limit: the least is above the greatest, or that one above 1879048192.
+    /// Limit: the least is greater than the greatest, or that one over 1879048192.
     pub const BAD_BOUNDS: Fault = Fault(sys::FQ_BAD_BOUNDS);
-    /// Limit: an object above 268435455 bytes.
+    /// Limit: an object of more than 268435455 bytes.
     pub const TOO_LARGE: Fault = Fault(sys::FQ_TOO_LARGE);
     /// Limit: more than it can count would be in flight.
     pub const TOO_MUCH_IN_FLIGHT: Fault = Fault(sys::FQ_TOO_MUCH_IN_FLIGHT);
-    /// Limit: more completed than is in flight.
+    /// Limit: more bytes completed than are in flight.
     pub const MORE_THAN_QUEUED: Fault = Fault(sys::FQ_MORE_THAN_QUEUED);
     /// There is no room.
     pub const FULL: Fault = Fault(sys::FQ_FULL);
     /// Transmit ring: the limit has stopped the queue.
     pub const STOPPED: Fault = Fault(sys::FQ_STOPPED);
-    /// Transmit ring: more packets are done than it holds.
+    /// Transmit ring: more packets complete than it holds.
     pub const MORE_THAN_SENT: Fault = Fault(sys::FQ_MORE_THAN_SENT);
-    /// The object's state doesn't have this call.
+    /// The call isn't allowed in the object's state.
     pub const NOT_ALLOWED: Fault = Fault(sys::FQ_NOT_ALLOWED);
-    /// List: it has the number already.
+    /// List: the number is in it already.
     pub const IN_USE: Fault = Fault(sys::FQ_IN_USE);
-    /// Memory is out.
+    /// Out of memory.
     pub const OUT_OF_MEMORY: Fault = Fault(sys::FQ_OUT_OF_MEMORY);
-    /// A receive or a transmit ring has 1 to 65536 places.
+    /// A receive or a transmit ring has a capacity of 1 to 65536.
     pub const BAD_CAPACITY: Fault = Fault(sys::FQ_BAD_CAPACITY);
     /// A weight is 1 to 64.
     pub const BAD_WEIGHT: Fault = Fault(sys::FQ_BAD_WEIGHT);
@@ -44,7 +44,7 @@ impl Fault {
     pub const BAD_BUDGET: Fault = Fault(sys::FQ_BAD_BUDGET);
     /// A shared instance has 2 to 8 callers.
     pub const BAD_COUNT: Fault = Fault(sys::FQ_BAD_COUNT);
-    /// Run: a poll told of more packets than the weight.
+    /// Run: a poll reported more packets than the weight.
     pub const BAD_WORK: Fault = Fault(sys::FQ_BAD_WORK);
 
     /// Its number.
@@ -57,7 +57,17 @@ impl Fault {
         sys::fq_status_name(self.0)
     }
 
-    // The answer of a call that is made if it says `FQ_OK`.
+    /// Returns its message, as `"a weight is 1 to 64 packets"`.
+    pub fn message(self) -> String {
+        let mut text = vec![0; sys::FQ_MESSAGE_ROOM];
+        // SAFETY: the array has so many bytes, and is this call's alone.
+        let length =
+            unsafe { sys::fq_status_message(self.0, text.as_mut_ptr().cast(), text.len()) };
+        text.truncate(length);
+        String::from_utf8_lossy(&text).into_owned()
+    }
+
+    // The result of a call that succeeds if it returns `FQ_OK`.
     pub(crate) fn unless_made(status: u32) -> Result<(), Fault> {
         match status {
             sys::FQ_OK => Ok(()),
@@ -80,7 +90,7 @@ impl fmt::Debug for Fault {
 
 impl Error for Fault {}
 
-// A number that the header doesn't name for this call: library and header aren't of one version.
+// A number that the header doesn't name for this call: library and header aren't of the same version.
 #[cold]
 pub(crate) fn unexpected(call: &str, status: u32) -> ! {
     panic!(

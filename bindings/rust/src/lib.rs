@@ -1,14 +1,14 @@
 //! The packet polling core of Linux 6.6 (NAPI) and byte queue limits, over `libfintaqush.a`, whose
-//! functions are proved; `docs/C.md` of the repository says what of them.
+//! functions are proved; `docs/C.md` of the repository says what is proved.
 //!
 //! - [`Dql`]: a byte queue limit.
 //! - [`SerialNapi`]: an instance of one thread.
 //! - [`Shared`]: an instance that threads share, with its input, its controller and its callers.
-//!   Which call is allowed is shown by types: a call takes the value on which it is made, and gives
-//!   the next one.
-//! - [`Bare`]: such an instance over no ring.
+//!   Types show which call is allowed: a call takes the value on which it is made, and returns the
+//!   next one.
+//! - [`Bare`]: such an instance without a ring.
 //! - [`Ring`]: a receive ring, without an instance.
-//! - [`Word`]: pending bits, by which other threads tell a list's poller.
+//! - [`Word`]: pending bits, which other threads raise for a list's poller.
 //! - [`TxRing`]: a transmit ring under a byte queue limit.
 //! - [`List`]: a poll list, and runs over it.
 //! - [`replay`]: the whole replay of a trace, on one thread.
@@ -21,7 +21,7 @@
 //! ```
 //! use fintaqush::{Done, Kind, Prep, SerialNapi};
 //!
-//! // Whoever calls an instance bears a number; the controller's is named when it is made.
+//! // Each caller of an instance has a number; the controller's is named when the instance is made.
 //! const INTERRUPT: u32 = 0;
 //! const POLLER: u32 = 1;
 //! const CONTROLLER: u32 = 2;

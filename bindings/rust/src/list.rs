@@ -5,63 +5,61 @@ use crate::packets::Weight;
 use crate::sys;
 use crate::words::Next;
 
-/// What a run did: its polls, their packets, and whether the budget or the window was spent.
+/// The report of a run: its polls, their packets, and whether the budget or the window was used up.
 pub use crate::sys::fq_run_report as RunReport;
 
-/// What one poll of a run did.
+/// The outcome of one poll of a run.
 #[derive(Clone, Copy, Debug, PartialEq, Eq)]
 pub struct Polled {
-    /// The packets that it gave, at most the weight.
+    /// The packets that it processed, at most the weight.
     pub work: u32,
     /// How it ended.
     pub next: Next,
 }
 
-/// A poll list of one thread: numbers of devices, which runs of the softirq poll in turn.
+/// A poll list of one thread: numbers of devices, which runs of the softirq poll in order.
 #[derive(Debug)]
 pub struct List {
     at: Handle,
 }
 
 impl List {
-    /// An empty list. [`OUT_OF_MEMORY`](Fault::OUT_OF_MEMORY).
+    /// Returns an empty list. Fails with [`OUT_OF_MEMORY`](Fault::OUT_OF_MEMORY).
     pub fn new() -> Result<List, Fault> {
         let mut at = Handle::NONE;
-        // SAFETY: the handle is this call's alone.
+        // SAFETY: only this call has the handle.
         Fault::unless_made(unsafe { sys::fq_list_new(at.raw()) })?;
         Ok(List { at })
     }
 
-    /// Puts a number at the list's tail. [`IN_USE`](Fault::IN_USE) where it is listed already,
-    /// [`FULL`](Fault::FULL) where list and run hold 64.
+    /// Appends a number to the list. Fails with [`IN_USE`](Fault::IN_USE) if it is in the list already, with
+    /// [`FULL`](Fault::FULL) if list and run hold 64.
     pub fn push(&mut self, id: u32) -> Result<(), Fault> {
-        // SAFETY: the handle is this list's alone.
+        // SAFETY: only this list has the handle.
         Fault::unless_made(unsafe { sys::fq_list_push(self.at.raw(), id) })
     }
 
-    /// How many numbers it holds, with those of a run over it.
+    /// How many numbers it holds, including those of a run over it.
     pub fn len(&mut self) -> usize {
         let mut len = 0;
-        // SAFETY: the handle is this list's alone, and the number lies elsewhere.
+        // SAFETY: only this list has the handle, and the number is elsewhere.
         match unsafe { sys::fq_list_len(self.at.raw(), &mut len) } {
             sys::FQ_OK => len as usize,
             said => unexpected("list_len", said),
         }
     }
 
-    /// Whether it holds none.
+    /// Returns whether it is empty.
     pub fn is_empty(&mut self) -> bool {
         self.len() == 0
     }
 
-    /// A run (`net_rx_action`): polls what is listed, in turn, until the list is empty or budget or
-    /// window is spent. Budget and window are 1 to 65535, packets and polls:
-    /// [`BAD_BUDGET`](Fault::BAD_BUDGET).
+    /// Makes a run (`net_rx_action`): polls the listed devices in order, until the list is empty or budget or window is used
+    /// up. Budget (packets) and window (polls) are 1 to 65535: otherwise it fails with [`BAD_BUDGET`](Fault::BAD_BUDGET).
     ///
-    /// `poll` polls the device of that number, and may list others. Where it answers more packets
-    /// than the weight, the run ends with [`BAD_WORK`](Fault::BAD_WORK); where it asks to be listed
-    /// again though it has listed itself, with [`IN_USE`](Fault::IN_USE); and where it panics, the
-    /// run ends too: the device's answer lists it no more, all others are listed.
+    /// `poll` polls the device with that number, and may list others. If it returns more packets than the weight, the run ends
+    /// with [`BAD_WORK`](Fault::BAD_WORK); if it asks to be listed again though it has listed itself, with
+    /// [`IN_USE`](Fault::IN_USE). If it panics, the run ends too: the device's own request isn't listed, all others are.
     pub fn run<F>(
         &mut self,
         budget: u32,
@@ -88,13 +86,13 @@ pub struct Pushes<'l> {
 }
 
 impl Pushes<'_> {
-    /// As [`List::push`].
+    /// Like [`List::push`].
     pub fn push(&mut self, id: u32) -> Result<(), Fault> {
         self.list.push(id)
     }
 }
 
-// A run under way; dropped, it ends.
+// A run in progress; its drop ends it.
 struct Run<'l> {
     list: &'l mut List,
 }
@@ -102,7 +100,7 @@ struct Run<'l> {
 impl<'l> Run<'l> {
     fn begin(list: &'l mut List, budget: u32, weight: Weight, window: u32) -> Result<Self, Fault> {
         let weight = weight.get() as u32;
-        // SAFETY: the handle is this list's alone.
+        // SAFETY: only this list has the handle.
         let said = unsafe { sys::fq_run_begin(list.at.raw(), budget, weight, window) };
         Fault::unless_made(said)?;
         Ok(Run { list })
@@ -110,7 +108,7 @@ impl<'l> Run<'l> {
 
     fn next(&mut self) -> Option<u32> {
         let mut id = 0;
-        // SAFETY: the handle is this list's alone, and the number lies elsewhere.
+        // SAFETY: only this list has the handle, and the number is elsewhere.
         match unsafe { sys::fq_run_next(self.list.at.raw(), &mut id) } {
             sys::FQ_OK => Some(id),
             sys::FQ_DONE => None,
@@ -120,14 +118,14 @@ impl<'l> Run<'l> {
 
     fn polled(&mut self, polled: Polled) -> Result<(), Fault> {
         let Polled { work, next } = polled;
-        // SAFETY: the handle is this list's alone.
+        // SAFETY: only this list has the handle.
         let said = unsafe { sys::fq_run_polled(self.list.at.raw(), work, next.number()) };
         Fault::unless_made(said)
     }
 
     fn end(&mut self) -> Result<RunReport, Fault> {
         let mut report = RunReport::default();
-        // SAFETY: the handle is this list's alone, and the report lies elsewhere.
+        // SAFETY: only this list has the handle, and the report is elsewhere.
         let said = unsafe { sys::fq_run_end(self.list.at.raw(), &mut report) };
         Fault::unless_made(said)?;
         Ok(report)
@@ -135,7 +133,7 @@ impl<'l> Run<'l> {
 }
 
 impl Drop for Run<'_> {
-    // Each call is refused, and changes nothing, where there is nothing left to end.
+    // Each call fails, and changes nothing, if there is nothing left to end.
     fn drop(&mut self) {
         let _ = self.polled(Polled {
             work: 0,

@@ -1,26 +1,26 @@
-//! Packets, and what a poll asks for and gives.
+//! Packets, and the arguments and results of polls.
 use crate::fault::{unexpected, Fault};
 use crate::sys;
 use std::fmt;
 
-/// A packet: a number of the user's own, as an index of a buffer, and its bytes.
+/// A packet: a number that the user chooses, for example the index of a buffer, and its size in bytes.
 pub use crate::sys::fq_packet as Packet;
-/// What is counted of a ring's polls.
+/// The counts of a ring's polls.
 pub use crate::sys::fq_counts as Counts;
 /// What is counted of a whole ring.
 pub use crate::sys::fq_answers as Answers;
 pub use crate::sys::fq_ring_shown as RingShown;
 pub use crate::sys::fq_totals as Totals;
 
-/// The most packets that one poll gives, 1 to 64.
+/// The most packets that one poll processes, 1 to 64.
 #[derive(Clone, Copy, Debug, PartialEq, Eq, PartialOrd, Ord)]
 pub struct Weight(usize);
 
 impl Weight {
-    /// The greatest, which is the kernel's usual one (`NAPI_POLL_WEIGHT`): 64.
+    /// The greatest, which is the kernel's default (`NAPI_POLL_WEIGHT`): 64.
     pub const MAX: Weight = Weight(64);
 
-    /// Of a number from 1 to 64, else [`BAD_WEIGHT`](Fault::BAD_WEIGHT).
+    /// Returns the weight of a number from 1 to 64. Otherwise it fails with [`BAD_WEIGHT`](Fault::BAD_WEIGHT).
     pub fn new(packets: usize) -> Result<Weight, Fault> {
         match packets {
             1..=64 => Ok(Weight(packets)),
@@ -34,7 +34,7 @@ impl Weight {
     }
 }
 
-/// Room for the packets of one poll.
+/// A buffer for the packets of one poll.
 #[derive(Clone)]
 pub struct Batch {
     packets: [Packet; 64],
@@ -42,7 +42,7 @@ pub struct Batch {
 }
 
 impl Batch {
-    /// An empty one.
+    /// Returns an empty buffer.
     pub fn new() -> Batch {
         Batch {
             packets: [Packet::default(); 64],
@@ -50,12 +50,12 @@ impl Batch {
         }
     }
 
-    /// What the last poll into it gave.
+    /// The packets of the last poll into it.
     pub fn as_slice(&self) -> &[Packet] {
         &self.packets[..self.count]
     }
 
-    // Lets a poll write at most 64 packets to the place that it is given, and their count.
+    // Lets a poll write at most 64 packets to the buffer, and their count.
     pub(crate) fn filled_by<F>(&mut self, poll: F) -> &[Packet]
     where
         F: FnOnce(*mut Packet, usize, *mut usize) -> u32,

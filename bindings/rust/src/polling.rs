@@ -1,4 +1,4 @@
-//! A poller, who has the poll context.
+//! A poller, which has the poll context.
 use crate::answers::{Completed, End, Sched, TryDone};
 use crate::caller::{Caller, Granted};
 use crate::card::{Look, Poll};
@@ -28,42 +28,41 @@ pub struct Polling {
 }
 
 impl Polling {
-    /// Polls once: the ring's next packets, at most the weight.
+    /// Polls once: takes the ring's next packets, at most the weight.
     pub fn poll<'b>(&mut self, weight: Weight, batch: &'b mut Batch) -> &'b [Packet] {
         poll(&mut self.at, weight, batch)
     }
 
-    /// What the state word tells, of the `FQ_BIT_..` of [`sys`].
+    /// Reads the state word: a sum of the `FQ_BIT_..` of [`sys`].
     pub fn look(&mut self) -> u64 {
         self.at.look()
     }
 
-    /// How often its calls were answered what, since the instance was made.
+    /// The counts of the results of its calls, since the instance was made.
     pub fn answers(&mut self) -> Answers {
         self.at.answers()
     }
 
-    /// What is counted of the ring's polls.
+    /// The counts of the ring's polls.
     pub fn counts(&mut self) -> Counts {
         self.at.counts()
     }
 
-    /// The instance is on the list again, behind all others (`net_rx_action`, behind a poll of the
-    /// whole weight).
+    /// Queues the instance at the end of the list again (`net_rx_action`, after a poll of the whole weight).
     pub fn requeue(mut self) -> Caller {
-        // SAFETY: the handle is this poller's alone.
+        // SAFETY: only this poller has the handle.
         match unsafe { sys::fq_seat_requeue(self.at.raw()) } {
             sys::FQ_OK => Caller { at: self.at },
             said => unexpected("seat_requeue", said),
         }
     }
 
-    /// Ends the poll as the kernel does (`__napi_poll`): after a full one, which gave its whole
-    /// weight, where no disable is pending, it is requeued, or stays with its thread; else it is
-    /// completed, and handed over again where a request was missed.
+    /// Ends the poll as the kernel does (`__napi_poll`): after a full one, which used its whole weight, if no disable is
+    /// pending, the instance is requeued, or stays with its thread; otherwise it is completed, and queued again if a
+    /// request was missed. After [`Next::Again`] of [`Kind::Thread`] the caller wakes its thread, also if the list polled.
     pub fn end(mut self, full: bool) -> End {
         let mut next = 0;
-        // SAFETY: the handle is this poller's alone, and the number lies elsewhere.
+        // SAFETY: only this poller has the handle, and the number is elsewhere.
         match unsafe { sys::fq_seat_end(self.at.raw(), full, &mut next) } {
             sys::FQ_OK => End::Over(Caller { at: self.at }, Next::of("seat_end", next)),
             sys::FQ_HELD => End::Held(self),
@@ -71,9 +70,10 @@ impl Polling {
         }
     }
 
-    /// Ends the poll of a card that can be looked at: as [`end`](Polling::end), and where the
-    /// instance was released it unmasks, looks, and if something is there asks for a poll itself,
-    /// masks and hands over. An interrupt of an edge is lost without this look.
+    /// Ends the poll of a card that can be checked for packets: like [`end`](Polling::end); if that releases the instance, it
+    /// unmasks, checks, and if there are packets requests a poll itself, masks and queues. Without this check an
+    /// edge-triggered interrupt could be lost. It may queue for the thread, which the caller wakes then, as after
+    /// [`end`](Polling::end).
     pub fn end_watched(self, full: bool, card: &mut impl Look) -> End {
         let caller = match self.end(full) {
             End::Over(caller, Next::Gone) => caller,
@@ -93,9 +93,9 @@ impl Polling {
         }
     }
 
-    /// Ends the poll of a card that can't be looked at, which gave `work` packets so far: unmasks
-    /// while it polls still, polls the rest of the weight, which `work` then counts too, and ends
-    /// as [`end`](Polling::end). The card is masked where one more poll follows.
+    /// Ends the poll of a card that can't be checked, with `work` packets so far: unmasks while it still polls, polls the rest
+    /// of the weight, which it adds to `work`, and ends like [`end`](Polling::end). The card is masked if one more poll
+    /// follows.
     pub fn end_unmasked(self, card: &mut impl Poll, weight: Weight, work: &mut usize) -> End {
         if *work < weight.get() {
             card.unmask();
@@ -116,9 +116,9 @@ impl Polling {
         }
     }
 
-    /// Ends the poll, in one try (`napi_complete_done`). It doesn't wait.
+    /// Tries once to end the poll (`napi_complete_done`). It doesn't wait.
     pub fn try_complete(mut self) -> TryDone {
-        // SAFETY: the handle is this poller's alone.
+        // SAFETY: only this poller has the handle.
         match unsafe { sys::fq_seat_complete(self.at.raw()) } {
             sys::FQ_RELEASED => TryDone::Released(Caller { at: self.at }),
             sys::FQ_AGAIN => TryDone::Again(Granted { at: self.at }),
@@ -127,7 +127,7 @@ impl Polling {
         }
     }
 
-    /// Ends the poll, try after try until one decides (`napi_complete_done`).
+    /// Ends the poll, and retries until an attempt decides (`napi_complete_done`).
     pub fn complete(self) -> Completed {
         let mut polling = self;
         loop {
@@ -140,7 +140,7 @@ impl Polling {
     }
 }
 
-// Hands over to where `FQ_BIT_THREADED` tells.
+// Hands over to the thread if `FQ_BIT_THREADED` is set, otherwise to the list.
 fn hand_again(mut granted: Granted) -> End {
     let kind = match granted.look() & sys::FQ_BIT_THREADED {
         0 => Kind::List,
@@ -149,11 +149,11 @@ fn hand_again(mut granted: Granted) -> End {
     End::Over(granted.hand(kind), Next::Again(kind))
 }
 
-// The poll of a handle that has the poll context.
+// Polls with a handle that has the poll context.
 pub(crate) fn poll<'b>(at: &mut Handle, weight: Weight, batch: &'b mut Batch) -> &'b [Packet] {
     let at = at.raw();
     batch.filled_by(|out, len, count| {
-        // SAFETY: handle, packets and count are this call's alone, each in a place of its own.
+        // SAFETY: only this call has the handle, the packets and the count, each at a different place.
         unsafe { sys::fq_seat_poll(at, weight.get(), out, len, count) }
     })
 }

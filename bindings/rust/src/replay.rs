@@ -4,11 +4,11 @@ use crate::sys;
 use std::error::Error;
 use std::fmt;
 
-/// How a replay polls: the budget and the window of a run, and the weight of a poll.
+/// The settings of a replay: the budget and the window of a run, and the weight of a poll.
 pub use crate::sys::fq_settings as Settings;
 
 impl Default for Settings {
-    /// Those of `napi_replay` where it is given none.
+    /// Returns the defaults of `napi_replay`.
     fn default() -> Settings {
         Settings {
             budget: 300,
@@ -21,11 +21,11 @@ impl Default for Settings {
 /// Why a trace has no report.
 #[derive(Clone, Copy, Debug, PartialEq, Eq)]
 pub enum NoReport {
-    /// The bytes are no trace, or a row of it can't be played.
+    /// The bytes aren't a trace, or a row of it can't be processed.
     Trace {
-        /// The number of the fault, 1 to 12.
+        /// The number of the error, 1 to 12.
         fault: u32,
-        /// The row that it names, counted from 1; 0 where it names none.
+        /// The row that it names, counted from 1; 0 if it names none.
         row: u32,
     },
     /// [`BAD_WEIGHT`](Fault::BAD_WEIGHT), [`BAD_BUDGET`](Fault::BAD_BUDGET) or
@@ -64,7 +64,7 @@ pub fn replay(trace: &[u8], settings: &Settings) -> Result<Vec<u8>, NoReport> {
     let mut report = vec![0; 4096];
     loop {
         let mut replayed = sys::fq_replayed::default();
-        // SAFETY: each pointer leads to as many bytes as are told, and no two to the same.
+        // SAFETY: each pointer leads to as many bytes as are given, and no two to the same.
         let said = unsafe {
             sys::fq_replay(
                 settings,

@@ -28,21 +28,21 @@ pub struct Ring {
 }
 
 impl Ring {
-    /// A ring of 1 to 65536 places. [`BAD_CAPACITY`](Fault::BAD_CAPACITY),
+    /// Returns a ring with a capacity of 1 to 65536. Fails with [`BAD_CAPACITY`](Fault::BAD_CAPACITY) or
     /// [`OUT_OF_MEMORY`](Fault::OUT_OF_MEMORY).
     pub fn new(capacity: usize) -> Result<Ring, Fault> {
         let mut at = Handle::NONE;
-        // SAFETY: the handle is this call's alone.
+        // SAFETY: only this call has the handle.
         Fault::unless_made(unsafe { sys::fq_ring_new(at.raw(), capacity) })?;
         Ok(Ring { at })
     }
 
-    /// Puts a packet in, behind all others. [`FULL`](Fault::FULL).
+    /// Puts a packet at the end of the ring. Fails with [`FULL`](Fault::FULL).
     pub fn put(&mut self, packet: Packet) -> Result<(), Fault> {
         put(&mut self.at, packet)
     }
 
-    /// Puts as many of the first packets in as fit, behind all others, and answers how many.
+    /// Puts as many of the first packets as fit at the end of the ring, and returns how many.
     ///
     /// ```
     /// use fintaqush::{Fault, Packet, Ring};
@@ -65,12 +65,12 @@ impl Ring {
         poll(&mut self.at, weight, batch)
     }
 
-    /// Its places, and how many packets were put.
+    /// Its capacity, and how many packets were put.
     pub fn shown(&mut self) -> RingShown {
         self.at.shown()
     }
 
-    /// What is counted of the ring's polls.
+    /// The counts of the ring's polls.
     pub fn counts(&mut self) -> Counts {
         self.at.counts()
     }
@@ -91,15 +91,15 @@ impl Ring {
     /// ```
     pub fn split(mut self) -> Result<(Input, Output), Fault> {
         let mut out = Handle::NONE;
-        // SAFETY: both handles are this call's alone, each in a place of its own.
+        // SAFETY: only this call has both handles, each at a different place.
         Fault::unless_made(unsafe { sys::fq_ring_split(self.at.raw(), out.raw()) })?;
         Ok((Input { at: self.at }, Output { at: out }))
     }
 
-    /// Its end, with its totals.
+    /// Finishes the ring, and returns its totals.
     pub fn finish(mut self) -> Totals {
         let mut totals = Totals::default();
-        // SAFETY: the handle is this ring's alone, and the totals lie elsewhere.
+        // SAFETY: only this ring has the handle, and the totals are elsewhere.
         match unsafe { sys::fq_ring_finish(self.at.raw(), &mut totals) } {
             sys::FQ_OK => totals,
             said => unexpected("ring_finish", said),
@@ -107,7 +107,7 @@ impl Ring {
     }
 }
 
-/// The other end of a ring that was split.
+/// The consumer's end of a ring that was split.
 #[derive(Debug)]
 pub struct Output {
     at: Handle,
@@ -119,34 +119,34 @@ impl Output {
         poll(&mut self.at, weight, batch)
     }
 
-    /// What is counted of the ring's polls.
+    /// The counts of the ring's polls.
     pub fn counts(&mut self) -> Counts {
         self.at.counts()
     }
 }
 
-/// The input end of a ring, of an instance or one that was split.
+/// The producer's end of a ring, of an instance's or of one that was split.
 #[derive(Debug)]
 pub struct Input {
     pub(crate) at: Handle,
 }
 
 impl Input {
-    /// Its places, and how many packets were put.
+    /// Its capacity, and how many packets were put.
     pub fn shown(&mut self) -> RingShown {
         self.at.shown()
     }
 
-    /// Puts a packet in, behind all others. [`FULL`](Fault::FULL).
+    /// Puts a packet at the end of the ring. Fails with [`FULL`](Fault::FULL).
     ///
-    /// What this thread wrote before, the thread sees whose poll gives the packet. What was done
-    /// before a poll, the put sees that finds a place free which that poll emptied.
+    /// What this thread wrote before the put is visible to the thread whose poll returns the packet. What was done before a
+    /// poll is visible after a put into a slot that the poll freed.
     pub fn put(&mut self, packet: Packet) -> Result<(), Fault> {
         put(&mut self.at, packet)
     }
 
-    /// Puts as many of the first packets in as fit, behind all others, and answers how many. A poll
-    /// sees all of them at once; what each thread sees then is as for [`put`](Input::put).
+    /// Puts as many of the first packets as fit at the end of the ring, and returns how many. A poll sees all of them at once;
+    /// what each thread sees then is as for [`put`](Input::put).
     pub fn put_all(&mut self, packets: &[Packet]) -> usize {
         put_all(&mut self.at, packets)
     }
@@ -155,13 +155,13 @@ impl Input {
 fn poll<'b>(ring: &mut Handle, weight: Weight, batch: &'b mut Batch) -> &'b [Packet] {
     let at = ring.raw();
     batch.filled_by(|out, len, count| {
-        // SAFETY: handle, packets and count are this call's alone, each in a place of its own.
+        // SAFETY: only this call has the handle, the packets and the count, each at a different place.
         unsafe { sys::fq_ring_poll(at, weight.get(), out, len, count) }
     })
 }
 
 fn put(ring: &mut Handle, packet: Packet) -> Result<(), Fault> {
-    // SAFETY: the handle is this call's alone.
+    // SAFETY: only this call has the handle.
     match unsafe { sys::fq_ring_put(ring.raw(), packet.number, packet.bytes) } {
         said @ (sys::FQ_OK | sys::FQ_FULL) => Fault::unless_made(said),
         said => unexpected("ring_put", said),
@@ -171,7 +171,7 @@ fn put(ring: &mut Handle, packet: Packet) -> Result<(), Fault> {
 fn put_all(ring: &mut Handle, packets: &[Packet]) -> usize {
     let mut count = 0;
     let (first, len) = (packets.as_ptr().cast(), packets.len());
-    // SAFETY: handle and count are this call's alone, and the packets are only read.
+    // SAFETY: only this call has the handle and the count, and the packets are only read.
     match unsafe { sys::fq_ring_put_all(ring.raw(), first, len, &mut count) } {
         sys::FQ_OK | sys::FQ_FULL => count,
         said => unexpected("ring_put_all", said),

@@ -1,13 +1,12 @@
 //! Instances of one thread.
 use crate::fault::{unexpected, Fault};
 use crate::sys;
-use crate::words::{Done, Kind, Prep};
+use crate::words::{Done, Kind, Next, Prep};
 use std::cell::Cell;
 use std::marker::PhantomData;
 
-/// An instance of one thread (`struct napi_struct`). Whoever calls bears a number, and the
-/// controller's is named when it is made. A call that the state doesn't have answers
-/// [`NOT_ALLOWED`](Fault::NOT_ALLOWED) and changes nothing.
+/// An instance of one thread (`struct napi_struct`). Every caller has a number, and the controller's is given when the instance
+/// is made. A call that isn't allowed in the state fails with [`NOT_ALLOWED`](Fault::NOT_ALLOWED) and changes nothing.
 #[derive(Clone, Debug)]
 pub struct SerialNapi {
     raw: sys::fq_napi,
@@ -16,18 +15,18 @@ pub struct SerialNapi {
 }
 
 impl SerialNapi {
-    /// A new instance (`netif_napi_add`): disabled.
+    /// Returns a new instance (`netif_napi_add`): disabled.
     pub fn new(controller: u32) -> SerialNapi {
         SerialNapi {
-            // SAFETY: it takes a number alone.
+            // SAFETY: it takes only a number.
             raw: unsafe { sys::fq_napi_new(controller) },
             by_one: PhantomData,
         }
     }
 
-    /// Asks for a poll (`napi_schedule_prep`).
+    /// Requests a poll (`napi_schedule_prep`).
     pub fn schedule(&mut self, who: u32) -> Prep {
-        // SAFETY: the instance is borrowed by this call alone.
+        // SAFETY: only this call borrows the instance.
         let said = unsafe { sys::fq_napi_schedule(&mut self.raw, who) };
         match Prep::of("napi_schedule", said) {
             Some(prep) => prep,
@@ -35,22 +34,22 @@ impl SerialNapi {
         }
     }
 
-    /// Hands a granted instance over (`____napi_schedule`), or a polled one to the list again.
+    /// Queues a granted instance (`____napi_schedule`), or puts a polled one on the list again.
     pub fn hand(&mut self, who: u32, kind: Kind) -> Result<(), Fault> {
-        // SAFETY: the instance is borrowed by this call alone.
+        // SAFETY: only this call borrows the instance.
         Fault::unless_made(unsafe { sys::fq_napi_hand(&mut self.raw, who, kind.number()) })
     }
 
-    /// Takes it from the list or as its thread; false: it wasn't there.
+    /// Takes it from the list or as its thread; returns false if it isn't there.
     pub fn take(&mut self, who: u32, kind: Kind) -> bool {
-        // SAFETY: the instance is borrowed by this call alone.
+        // SAFETY: only this call borrows the instance.
         let said = unsafe { sys::fq_napi_take(&mut self.raw, who, kind.number()) };
         said == sys::FQ_TAKEN
     }
 
     /// Ends a poll (`napi_complete_done`).
     pub fn complete(&mut self, who: u32) -> Result<Done, Fault> {
-        // SAFETY: the instance is borrowed by this call alone.
+        // SAFETY: only this call borrows the instance.
         match unsafe { sys::fq_napi_complete(&mut self.raw, who) } {
             sys::FQ_RELEASED => Ok(Done::Released),
             sys::FQ_AGAIN => Ok(Done::Again),
@@ -60,34 +59,49 @@ impl SerialNapi {
         }
     }
 
-    /// Takes an idle instance to busy poll it (`napi_busy_loop`); false: it isn't idle.
+    /// Ends a poll as the kernel does (`__napi_poll`): after a full one, which used its whole weight,
+    /// the instance is on the list again, or stays with its thread, unless a disable is pending;
+    /// otherwise it is completed, and queued again if a request was missed. `None`: the caller polls
+    /// again. After [`Next::Again`] of [`Kind::Thread`] the caller wakes its thread.
+    pub fn end(&mut self, who: u32, full: bool) -> Result<Option<Next>, Fault> {
+        let mut next = sys::FQ_NEXT_GONE;
+        // SAFETY: the instance is borrowed by this call alone, and the number lies elsewhere.
+        match unsafe { sys::fq_napi_end(&mut self.raw, who, full, &mut next) } {
+            sys::FQ_OK => Ok(Some(Next::of("napi_end", next))),
+            sys::FQ_HELD => Ok(None),
+            sys::FQ_NOT_ALLOWED => Err(Fault::NOT_ALLOWED),
+            said => unexpected("napi_end", said),
+        }
+    }
+
+    /// Takes an idle instance to busy poll it (`napi_busy_loop`); returns false if it isn't idle.
     pub fn busy_take(&mut self, who: u32) -> bool {
-        // SAFETY: the instance is borrowed by this call alone.
+        // SAFETY: only this call borrows the instance.
         let said = unsafe { sys::fq_napi_busy_take(&mut self.raw, who) };
         said == sys::FQ_TAKEN
     }
 
     /// Stops busy polling (`busy_poll_stop`): one poll has to follow.
     pub fn busy_stop(&mut self, who: u32) -> Result<(), Fault> {
-        // SAFETY: the instance is borrowed by this call alone.
+        // SAFETY: only this call borrows the instance.
         Fault::unless_made(unsafe { sys::fq_napi_busy_stop(&mut self.raw, who) })
     }
 
-    /// Whether polls are handed to the instance's own thread (`dev_set_threaded`).
+    /// Sets whether the instance is scheduled on its own thread (`dev_set_threaded`).
     pub fn set_threaded(&mut self, who: u32, threaded: bool) {
-        // SAFETY: the instance is borrowed by this call alone.
+        // SAFETY: only this call borrows the instance.
         unsafe { sys::fq_napi_set_threaded(&mut self.raw, who, threaded) }
     }
 
-    /// The controller's: a disable is pending from now on (the first step of `napi_disable`).
+    /// For the controller: marks a disable as pending (the first step of `napi_disable`).
     pub fn mark_disable(&mut self, who: u32) -> Result<(), Fault> {
-        // SAFETY: the instance is borrowed by this call alone.
+        // SAFETY: only this call borrows the instance.
         Fault::unless_made(unsafe { sys::fq_napi_mark_disable(&mut self.raw, who) })
     }
 
-    /// The controller's: takes a marked instance (the second step); false: somebody has it.
+    /// For the controller: takes a marked instance (the second step); returns false if a caller owns it.
     pub fn take_disable(&mut self, who: u32) -> Result<bool, Fault> {
-        // SAFETY: the instance is borrowed by this call alone.
+        // SAFETY: only this call borrows the instance.
         match unsafe { sys::fq_napi_take_disable(&mut self.raw, who) } {
             sys::FQ_TAKEN => Ok(true),
             sys::FQ_BUSY => Ok(false),
@@ -96,21 +110,22 @@ impl SerialNapi {
         }
     }
 
-    /// The controller's: the disable is pending no more (the third step).
+    /// For the controller: clears the mark (the third step).
     pub fn unmark(&mut self, who: u32) -> Result<(), Fault> {
-        // SAFETY: the instance is borrowed by this call alone.
+        // SAFETY: only this call borrows the instance.
         Fault::unless_made(unsafe { sys::fq_napi_unmark(&mut self.raw, who) })
     }
 
-    /// The controller's: enables it (`napi_enable`).
+    /// For the controller: enables the instance (`napi_enable`). Call [`schedule`](SerialNapi::schedule) once after it, because
+    /// earlier requests aren't polled.
     pub fn enable(&mut self, who: u32, threaded: bool) -> Result<(), Fault> {
-        // SAFETY: the instance is borrowed by this call alone.
+        // SAFETY: only this call borrows the instance.
         Fault::unless_made(unsafe { sys::fq_napi_enable(&mut self.raw, who, threaded) })
     }
 
-    /// The state word, of the [`sys`] constants `FQ_BIT_..` that are set.
+    /// The state word, a sum of the [`sys`] constants `FQ_BIT_..`.
     pub fn word(&self) -> u64 {
-        // SAFETY: the library reads it; no other thread does, as it isn't `Sync`.
+        // SAFETY: the library only reads it; no other thread does, because it isn't `Sync`.
         unsafe { sys::fq_napi_word(&self.raw) }
     }
 }

@@ -33,20 +33,20 @@ pub struct Shared<const CALLERS: usize> {
     pub input: Input,
     /// Its controller. The instance is disabled.
     pub control: Control<Off>,
-    /// Its callers, all at rest.
+    /// Its callers, which own nothing yet.
     pub callers: [Caller; CALLERS],
 }
 
 impl<const CALLERS: usize> Shared<CALLERS> {
-    /// Over a ring of 1 to 65536 places, with 2 to 8 callers. [`BAD_CAPACITY`](Fault::BAD_CAPACITY),
-    /// [`BAD_COUNT`](Fault::BAD_COUNT), [`OUT_OF_MEMORY`](Fault::OUT_OF_MEMORY).
+    /// Makes an instance with a ring of capacity 1 to 65536, and 2 to 8 callers. Fails with
+    /// [`BAD_CAPACITY`](Fault::BAD_CAPACITY), [`BAD_COUNT`](Fault::BAD_COUNT) or [`OUT_OF_MEMORY`](Fault::OUT_OF_MEMORY).
     pub fn new(capacity: usize) -> Result<Shared<CALLERS>, Fault> {
         let mut ring = Ring::new(capacity)?;
         let mut control = Handle::NONE;
         let mut seats = [Handle::NONE; CALLERS];
         let first = seats.as_mut_ptr().cast::<sys::fq_handle>();
-        // SAFETY: all handles are this call's alone, each in a place of its own; a `Handle` is a
-        // `fq_handle` and nothing else, and there are so many.
+        // SAFETY: only this call has the handles, each at a different place; a `Handle` is a `fq_handle` and nothing else, and
+        // their number is given.
         Fault::unless_made(unsafe {
             sys::fq_shared_new(ring.at.raw(), control.raw(), first, CALLERS)
         })?;
@@ -58,18 +58,19 @@ impl<const CALLERS: usize> Shared<CALLERS> {
     }
 }
 
-/// A new instance over no ring, whose polls read what they will: its controller, and its callers, 2
-/// to 8. A [`poll`](crate::Polling::poll) gives no packets there.
+/// A new instance without a ring, for a card that polls its own: its controller, and its callers, 2 to 8. A
+/// [`poll`](crate::Polling::poll) returns no packets there.
 #[derive(Debug)]
 pub struct Bare<const CALLERS: usize> {
     /// Its controller. The instance is disabled.
     pub control: Control<Off>,
-    /// Its callers, all at rest.
+    /// Its callers, which own nothing yet.
     pub callers: [Caller; CALLERS],
 }
 
 impl<const CALLERS: usize> Bare<CALLERS> {
-    /// With 2 to 8 callers. [`BAD_COUNT`](Fault::BAD_COUNT), [`OUT_OF_MEMORY`](Fault::OUT_OF_MEMORY).
+    /// Makes an instance with 2 to 8 callers. Fails with [`BAD_COUNT`](Fault::BAD_COUNT) or
+    /// [`OUT_OF_MEMORY`](Fault::OUT_OF_MEMORY).
     pub fn new() -> Result<Bare<CALLERS>, Fault> {
         let mut control = Handle::NONE;
         let mut seats = [Handle::NONE; CALLERS];

@@ -1,5 +1,5 @@
-//! `include/fintaqush.h` word for word: its numbers, structs and functions. The header says what
-//! each does, and what it wants of its caller; the modules beside this one keep to it.
+//! `include/fintaqush.h` word for word: its numbers, structs and functions. The header says what each does, and what it
+//! requires of its caller; the other modules meet that.
 #![allow(non_camel_case_types)]
 
 use std::os::raw::{c_char, c_void};
@@ -12,7 +12,7 @@ macro_rules! statuses {
             pub const $name: u32 = $number;
         )*
 
-        /// The name of a status, as "FQ_GRANTED"; "?" of a number that is none.
+        /// The name of a status, as "FQ_GRANTED"; "?" for a number that isn't one.
         pub fn fq_status_name(status: u32) -> &'static str {
             match status {
                 $($number => stringify!($name),)*
@@ -56,6 +56,9 @@ statuses! {
     FQ_BAD_WORK = 119,
     FQ_BAD_TRACE = 120,
 }
+
+/// Room for each text of the library, with the 0 behind it.
+pub const FQ_MESSAGE_ROOM: usize = 96;
 
 /// The number of `struct fq_handle` for [`fq_struct_size`].
 pub const FQ_STRUCT_HANDLE: u32 = 0;
@@ -110,10 +113,10 @@ pub const FQ_BIT_IN_BUSY_POLL: u64 = 1 << 6;
 pub const FQ_BIT_THREADED: u64 = 1 << 8;
 /// `NAPI_STATE_SCHED_THREADED`.
 pub const FQ_BIT_SCHED_THREADED: u64 = 1 << 9;
-/// The library's own: the instance is on a list, and wasn't taken yet. Reports as JSON call it `QUEUED`. It isn't the kernel's
+/// The library's own: the instance is on a list, and wasn't taken yet. JSON reports call it `QUEUED`. It isn't the kernel's
 /// `NAPI_STATE_LISTED`, which is bit 4 and isn't here.
 pub const FQ_BIT_LISTED: u64 = 1 << 32;
-/// The library's own: the instance was handed to its thread, and wasn't taken yet. Reports as JSON call it `TO_THREAD`.
+/// The library's own: the instance was handed to its thread, and wasn't taken yet. JSON reports call it `TO_THREAD`.
 pub const FQ_BIT_WITH_THREAD: u64 = 1 << 33;
 
 /// A byte queue limit. It isn't copied, and only calls write its fields.
@@ -126,11 +129,11 @@ pub struct fq_dql {
     private_d: u64,
 }
 
-/// What [`fq_dql_new`] answers.
+/// The result of [`fq_dql_new`].
 #[repr(C)]
 #[derive(Debug)]
 pub struct fq_dql_made {
-    /// The limit; one of 0 where it is refused.
+    /// The limit; zeros if the call failed.
     pub dql: fq_dql,
     /// `FQ_OK` or `FQ_BAD_BOUNDS`.
     pub status: u32,
@@ -154,16 +157,15 @@ pub struct fq_napi {
     pub threaded: u8,
     /// `NAPI_STATE_SCHED_THREADED`.
     pub sched_threaded: u8,
-    /// 0 nobody, 1 granted, 2 listed, 3 to its thread, 4 polled, else the controller.
+    /// 0 no owner, 1 granted, 2 listed, 3 to its thread, 4 polled, otherwise the controller.
     pub place: u8,
-    /// Who owns it there.
+    /// The number of its owner.
     pub owner: u32,
-    /// Who may enable and disable it.
+    /// The number of the caller that may enable and disable it.
     pub controller: u32,
 }
 
-/// What leads to a value of the library's on the heap. It isn't copied, and only calls write its
-/// fields.
+/// A handle to an object of the library on the heap. It isn't copied, and only calls write its fields.
 #[repr(C)]
 #[derive(Debug)]
 pub struct fq_handle {
@@ -171,7 +173,7 @@ pub struct fq_handle {
     pub(crate) private_at: *mut c_void,
 }
 
-/// A handle that leads to nothing.
+/// A handle to nothing.
 pub const FQ_NONE: fq_handle = fq_handle {
     private_set: false,
     private_at: std::ptr::null_mut(),
@@ -181,31 +183,31 @@ pub const FQ_NONE: fq_handle = fq_handle {
 #[repr(C)]
 #[derive(Clone, Copy, Debug, Default, PartialEq, Eq)]
 pub struct fq_packet {
-    /// The user's own: an index, a pointer.
+    /// A number that the user chooses: an index, a pointer.
     pub number: u64,
-    /// Its bytes.
+    /// Its size in bytes.
     pub bytes: u32,
 }
 
-/// What is counted of a ring's polls. Each count stays at its greatest value.
+/// The counts of a ring's polls. Each count saturates.
 #[repr(C)]
 #[derive(Clone, Copy, Debug, Default, PartialEq, Eq)]
 pub struct fq_counts {
     /// The polls.
     pub polls: u64,
-    /// The packets that they gave.
+    /// The packets that they returned.
     pub packets: u64,
     /// The bytes of these.
     pub bytes: u64,
 }
 
-/// What is counted of a whole ring. Each count stays at its greatest value.
+/// The counts of a whole ring. Each count saturates.
 #[repr(C)]
 #[derive(Clone, Copy, Debug, Default, PartialEq, Eq)]
 pub struct fq_totals {
     /// The packets that were put.
     pub put: u64,
-    /// The packets that polls gave.
+    /// The packets that polls returned.
     pub polled: u64,
     /// The packets that were left in the ring.
     pub left: u64,
@@ -213,17 +215,17 @@ pub struct fq_totals {
     pub bytes: u64,
 }
 
-/// What the input of a ring shows.
+/// The state of the input of a ring.
 #[repr(C)]
 #[derive(Clone, Copy, Debug, Default, PartialEq, Eq)]
 pub struct fq_ring_shown {
-    /// The packets that were put so far; it stays at its greatest value.
+    /// The packets that were put so far; it saturates.
     pub put: u64,
     /// How many packets the ring can hold.
     pub places: usize,
 }
 
-/// How often the calls of a caller were answered what. Each count stays at its greatest value.
+/// The counts of the results of a caller's calls. Each count saturates.
 #[repr(C)]
 #[derive(Clone, Copy, Debug, Default, PartialEq, Eq)]
 pub struct fq_answers {
@@ -239,11 +241,11 @@ pub struct fq_answers {
     pub again: u64,
     /// Completions of a busy poller.
     pub held: u64,
-    /// Tries of any call that came to nothing.
+    /// Attempts of any call that decided nothing.
     pub changed: u64,
 }
 
-/// What a transmit ring shows.
+/// The state of a transmit ring.
 #[repr(C)]
 #[derive(Clone, Copy, Debug, Default, PartialEq, Eq)]
 pub struct fq_tx_shown {
@@ -253,20 +255,20 @@ pub struct fq_tx_shown {
     pub completed: u32,
     /// The limit in bytes.
     pub limit: u32,
-    /// The bytes that may still be sent, negative where the queue is over its limit.
+    /// The bytes that may still be sent, negative if the queue is over its limit.
     pub avail: i64,
     /// Whether the queue is stopped.
     pub stopped: bool,
 }
 
-/// A word of pending bits, for threads beside a list's poller.
+/// A word of pending bits, for other threads than a list's poller.
 #[repr(C)]
 #[derive(Debug, Default)]
 pub struct fq_word {
     private_bits: AtomicU64,
 }
 
-/// What a driver's timer keeps of a transmit ring, all 0 at first.
+/// What a driver's timer keeps for a transmit ring, all 0 at first.
 #[repr(C)]
 #[derive(Clone, Copy, Debug, Default, PartialEq, Eq)]
 pub struct fq_tx_watchdog {
@@ -275,39 +277,39 @@ pub struct fq_tx_watchdog {
     private_since: u64,
 }
 
-/// What a polling run did.
+/// The report of a polling run.
 #[repr(C)]
 #[derive(Clone, Copy, Debug, Default, PartialEq, Eq)]
 pub struct fq_run_report {
-    /// The polls that were made, at most the window.
+    /// The number of polls, at most the window.
     pub polls: u32,
-    /// The packets that they gave together.
+    /// The packets of all polls together.
     pub work: u32,
-    /// Whether budget or window was spent.
+    /// Whether budget or window was used up.
     pub squeezed: bool,
 }
 
-/// How a replay polls.
+/// The settings of a replay.
 #[repr(C)]
 #[derive(Clone, Copy, Debug, PartialEq, Eq)]
 pub struct fq_settings {
     /// The packets that a run polls before it is squeezed, 1 to 65535.
     pub budget: u32,
-    /// The packets that one poll gives at most, 1 to 64.
+    /// The most packets that one poll processes, 1 to 64.
     pub weight: u32,
     /// The polls that a run makes before it is squeezed, 1 to 65535.
     pub window: u32,
 }
 
-/// What a replay tells beside its status.
+/// The result of a replay besides its status.
 #[repr(C)]
 #[derive(Clone, Copy, Debug, Default, PartialEq, Eq)]
 pub struct fq_replayed {
-    /// The bytes of the report, also where there is no room for it; 0 where there is none.
+    /// The length of the report in bytes, even if there is no room for it; 0 if there is none.
     pub length: usize,
-    /// The number of the trace's fault; 0 where it has none.
+    /// The number of the trace's error; 0 if it has none.
     pub fault: u32,
-    /// The row that the fault names; 0 where it names none.
+    /// The row that the error names; 0 if it names none.
     pub row: u32,
 }
 
@@ -315,6 +317,7 @@ pub struct fq_replayed {
 extern "C" {
     pub fn fq_version(to: *mut c_char, room: usize) -> usize;
     pub fn fq_status_text(status: u32, to: *mut c_char, room: usize) -> usize;
+    pub fn fq_status_message(status: u32, to: *mut c_char, room: usize) -> usize;
     pub fn fq_fault_text(fault: u32, to: *mut c_char, room: usize) -> usize;
     pub fn fq_struct_size(which: u32) -> usize;
 
@@ -339,6 +342,7 @@ extern "C" {
     pub fn fq_napi_hand(napi: *mut fq_napi, who: u32, kind: u32) -> u32;
     pub fn fq_napi_take(napi: *mut fq_napi, who: u32, kind: u32) -> u32;
     pub fn fq_napi_complete(napi: *mut fq_napi, who: u32) -> u32;
+    pub fn fq_napi_end(napi: *mut fq_napi, who: u32, full: bool, next: *mut u32) -> u32;
     pub fn fq_napi_busy_take(napi: *mut fq_napi, who: u32) -> u32;
     pub fn fq_napi_busy_stop(napi: *mut fq_napi, who: u32) -> u32;
     pub fn fq_napi_set_threaded(napi: *mut fq_napi, who: u32, threaded: bool);
@@ -433,7 +437,7 @@ extern "C" {
 
 // What the header defines inline.
 
-/// The name of a trace's fault, as "BadHeader"; "?" of a number that is none.
+/// The name of a trace's error, as "BadHeader"; "?" for a number that isn't one.
 pub fn fq_fault_name(fault: u32) -> &'static str {
     match fault {
         1 => "BadHeader",
@@ -452,14 +456,13 @@ pub fn fq_fault_name(fault: u32) -> &'static str {
     }
 }
 
-/// A new limit, into the caller's struct.
+/// Writes a new limit into the caller's struct.
 ///
-/// # Safety
-/// `dql` leads to memory of its type.
+/// # Safety `dql` leads to memory of its type.
 pub unsafe fn fq_dql_init(dql: *mut fq_dql, min: u32, max: u32, hold_ms: u64, now_ms: u64) -> u32 {
-    // SAFETY: it takes numbers alone.
+    // SAFETY: it takes only numbers.
     let made = unsafe { fq_dql_new(min, max, hold_ms, now_ms) };
-    // SAFETY: the caller says where it leads; what lay there has nothing to be dropped.
+    // SAFETY: the caller says where it leads; what was there needs no drop.
     unsafe { dql.write(made.dql) };
     made.status
 }
@@ -482,29 +485,26 @@ pub unsafe fn fq_dql_in_flight_here(dql: *const fq_dql) -> u32 {
     unsafe { (*dql).private_a[0].wrapping_sub((*dql).private_a[1]) }
 }
 
-/// What may still be given to the device, read in place.
+/// The bytes that may still be given to the device, read in place.
 ///
-/// # Safety
-/// `dql` leads to a limit.
+/// # Safety `dql` leads to a limit.
 pub unsafe fn fq_dql_avail_here(dql: *const fq_dql) -> i64 {
     // SAFETY: as the caller says.
     unsafe { i64::from(fq_dql_limit_here(dql)) - i64::from(fq_dql_in_flight_here(dql)) }
 }
 
-/// Raises a bit, 0 to 63, and answers whether the word was 0.
+/// Raises a bit, 0 to 63, and returns whether the word was 0.
 ///
-/// # Safety
-/// `word` leads to a word.
+/// # Safety `word` leads to a word.
 pub unsafe fn fq_word_raise(word: *mut fq_word, bit: u32) -> bool {
     // SAFETY: as the caller says.
     let bits = unsafe { &(*word).private_bits };
     bits.fetch_or(1 << (bit & 63), Ordering::SeqCst) == 0
 }
 
-/// Whether a bit is raised.
+/// Returns whether a bit is raised.
 ///
-/// # Safety
-/// As for [`fq_word_raise`].
+/// # Safety As for [`fq_word_raise`].
 pub unsafe fn fq_word_any(word: *const fq_word) -> bool {
     // SAFETY: as the caller says.
     unsafe { (*word).private_bits.load(Ordering::SeqCst) != 0 }
@@ -512,18 +512,15 @@ pub unsafe fn fq_word_any(word: *const fq_word) -> bool {
 
 /// Takes all bits, which are 0 then.
 ///
-/// # Safety
-/// As for [`fq_word_raise`].
+/// # Safety As for [`fq_word_raise`].
 pub unsafe fn fq_word_take(word: *mut fq_word) -> u64 {
     // SAFETY: as the caller says.
     unsafe { (*word).private_bits.swap(0, Ordering::SeqCst) }
 }
 
-/// Looks at a transmit ring in each tick of a timer: whether it has been stopped, with no byte
-/// completed, for so long.
+/// Checks a transmit ring in each tick of a timer: whether it has been stopped, with no byte completed, for this long.
 ///
-/// # Safety
-/// As for [`fq_tx_state`]; the watchdog and the answer lie elsewhere.
+/// # Safety As for [`fq_tx_state`]; the watchdog and the result are elsewhere.
 pub unsafe fn fq_tx_watch(
     tx: *mut fq_handle,
     watchdog: *mut fq_tx_watchdog,
@@ -532,7 +529,7 @@ pub unsafe fn fq_tx_watch(
     stuck: *mut bool,
 ) -> u32 {
     let mut state = fq_tx_shown::default();
-    // SAFETY: as the caller says; the state lies here.
+    // SAFETY: as the caller says; the state is here.
     let said = unsafe { fq_tx_state(tx, &mut state) };
     // SAFETY: as the caller says.
     let watchdog = unsafe { &mut *watchdog };
@@ -550,11 +547,9 @@ pub unsafe fn fq_tx_watch(
     said
 }
 
-/// One step of a driver's open or stop: `FQ_BUSY` where who has the instance has to complete it
-/// first.
+/// Makes one step of a driver's open or stop; returns `FQ_BUSY` if the owner of the instance has to complete it first.
 ///
-/// # Safety
-/// As for [`fq_control_mark`].
+/// # Safety As for [`fq_control_mark`].
 pub unsafe fn fq_control_step(control: *mut fq_handle, on: bool, threaded: bool) -> u32 {
     if !on {
         // SAFETY: as the caller says.
@@ -581,10 +576,9 @@ pub unsafe fn fq_control_step(control: *mut fq_handle, on: bool, threaded: bool)
     }
 }
 
-/// An interrupt: schedules, try after try until one decides, and hands over where it was granted.
+/// An interrupt: schedules, retries until an attempt decides, and hands over if the instance was granted.
 ///
-/// # Safety
-/// As for [`fq_seat_schedule`] and [`fq_seat_hand`].
+/// # Safety As for [`fq_seat_schedule`] and [`fq_seat_hand`].
 pub unsafe fn fq_seat_interrupt(seat: *mut fq_handle, kind: u32) -> u32 {
     if kind > FQ_THREAD {
         return FQ_BAD_KIND;
@@ -603,13 +597,12 @@ pub unsafe fn fq_seat_interrupt(seat: *mut fq_handle, kind: u32) -> u32 {
     }
 }
 
-/// Hands an instance that was granted over: to its thread where `FQ_BIT_THREADED` is set.
+/// Hands over an instance that was granted: to its thread if `FQ_BIT_THREADED` is set, otherwise to the list.
 ///
-/// # Safety
-/// As for [`fq_seat_look`], whose word is `next` here.
+/// # Safety As for [`fq_seat_look`], whose word is `next` here.
 pub unsafe fn fq_seat_hand_again(seat: *mut fq_handle, next: *mut u32) -> u32 {
     let mut word = 0;
-    // SAFETY: as the caller says; the word lies here.
+    // SAFETY: as the caller says; the word is here.
     let said = unsafe { fq_seat_look(seat, &mut word) };
     let (kind, how) = if said == FQ_OK && word & FQ_BIT_THREADED != 0 {
         (FQ_THREAD, FQ_NEXT_AGAIN_THREAD)
@@ -627,17 +620,15 @@ pub unsafe fn fq_seat_hand_again(seat: *mut fq_handle, next: *mut u32) -> u32 {
     }
 }
 
-/// The end of a poll, as the kernel ends it: after a full one, where no disable is pending, the
-/// instance is on the list again, or stays with its thread (`FQ_HELD`); else it is completed, and
-/// handed over again where a request was missed.
+/// Ends a poll as the kernel does: after a full one, if no disable is pending, the instance goes on the list again, or stays
+/// with its thread (`FQ_HELD`); otherwise it is completed, and handed over again if a request was missed.
 ///
-/// # Safety
-/// As for [`fq_seat_look`], whose word is `next` here.
+/// # Safety As for [`fq_seat_look`], whose word is `next` here.
 pub unsafe fn fq_seat_end(seat: *mut fq_handle, full: bool, next: *mut u32) -> u32 {
     // SAFETY: as the caller says.
     unsafe { next.write(FQ_NEXT_GONE) };
     let mut word = 0;
-    // SAFETY: as the caller says; the word lies here.
+    // SAFETY: as the caller says; the word is here.
     let said = unsafe { fq_seat_look(seat, &mut word) };
     if said != FQ_OK {
         return said;
@@ -662,7 +653,7 @@ pub unsafe fn fq_seat_end(seat: *mut fq_handle, full: bool, next: *mut u32) -> u
 unsafe fn end_full(seat: *mut fq_handle, is_thread: bool, next: *mut u32) -> u32 {
     if is_thread {
         let mut counts = fq_counts::default();
-        // SAFETY: as the caller says; the counts, of a seat that polls alone, lie here.
+        // SAFETY: as the caller says; the counts, of a seat that polls, are here.
         return match unsafe { fq_count(seat, &mut counts) } {
             FQ_OK => FQ_HELD,
             said => said,

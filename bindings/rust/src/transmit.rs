@@ -3,10 +3,10 @@ use crate::fault::{unexpected, Fault};
 use crate::handle::Handle;
 use crate::sys;
 
-/// What a transmit ring shows: bytes queued and completed (modulo 2^32), the limit, what may still
-/// be sent, and whether the queue is stopped.
+/// The state of a transmit ring: bytes queued and completed (modulo 2^32), the limit, the bytes that may still be sent, and
+/// whether the queue is stopped.
 pub use crate::sys::fq_tx_shown as TxState;
-/// What a timer keeps of a transmit ring that it watches; `TxWatchdog::default()` at first.
+/// What a timer keeps for a transmit ring that it watches; `TxWatchdog::default()` at first.
 pub use crate::sys::fq_tx_watchdog as TxWatchdog;
 
 /// A transmit ring (`netdev_tx_sent_queue`, `netdev_tx_completed_queue`): the sizes of the packets
@@ -34,9 +34,9 @@ pub struct TxRing {
 }
 
 impl TxRing {
-    /// A ring of 1 to 65536 packets, not stopped, over a new limit between `min` and `max`, which
-    /// keeps slack for `hold_ms` (`dql_init`). [`BAD_CAPACITY`](Fault::BAD_CAPACITY),
-    /// [`BAD_BOUNDS`](Fault::BAD_BOUNDS), [`OUT_OF_MEMORY`](Fault::OUT_OF_MEMORY).
+    /// Returns a ring for 1 to 65536 packets, not stopped, with a new limit between `min` and `max`, and the hold time
+    /// `hold_ms` (`dql_init`). Fails with [`BAD_CAPACITY`](Fault::BAD_CAPACITY), [`BAD_BOUNDS`](Fault::BAD_BOUNDS) or
+    /// [`OUT_OF_MEMORY`](Fault::OUT_OF_MEMORY).
     pub fn new(
         capacity: usize,
         min: u32,
@@ -45,43 +45,42 @@ impl TxRing {
         now_ms: u64,
     ) -> Result<TxRing, Fault> {
         let mut at = Handle::NONE;
-        // SAFETY: the handle is this call's alone.
+        // SAFETY: only this call has the handle.
         let said = unsafe { sys::fq_tx_new(at.raw(), capacity, min, max, hold_ms, now_ms) };
         Fault::unless_made(said)?;
         Ok(TxRing { at })
     }
 
-    /// Gives a packet of so many bytes to the device, and stops the queue where less than nothing
-    /// is available then. Nothing is sent: [`STOPPED`](Fault::STOPPED), else
-    /// [`FULL`](Fault::FULL), else [`TOO_LARGE`](Fault::TOO_LARGE), else
-    /// [`TOO_MUCH_IN_FLIGHT`](Fault::TOO_MUCH_IN_FLIGHT).
+    /// Sends a packet of `bytes` bytes, and stops the queue if the bytes available become negative. Fails, in this order, with
+    /// [`STOPPED`](Fault::STOPPED), [`FULL`](Fault::FULL), [`TOO_LARGE`](Fault::TOO_LARGE) or
+    /// [`TOO_MUCH_IN_FLIGHT`](Fault::TOO_MUCH_IN_FLIGHT); nothing is sent then.
     pub fn send(&mut self, bytes: u32) -> Result<(), Fault> {
-        // SAFETY: the handle is this ring's alone.
+        // SAFETY: only this ring has the handle.
         Fault::unless_made(unsafe { sys::fq_tx_send(self.at.raw(), bytes) })
     }
 
-    /// The device is done with so many packets, the oldest ones: the limit adapts, and where it has
-    /// room again the queue is started. [`MORE_THAN_SENT`](Fault::MORE_THAN_SENT): nothing is done.
+    /// Completes the `count` oldest packets: the limit adapts, and the queue is started if the limit has room again. Fails with
+    /// [`MORE_THAN_SENT`](Fault::MORE_THAN_SENT), and then completes nothing.
     pub fn done(&mut self, count: u32, now_ms: u64) -> Result<(), Fault> {
-        // SAFETY: the handle is this ring's alone.
+        // SAFETY: only this ring has the handle.
         Fault::unless_made(unsafe { sys::fq_tx_done(self.at.raw(), count, now_ms) })
     }
 
-    /// Whether it has been stopped, with no byte completed, for `limit_ms` since the first look that
-    /// found it so (`dev_watchdog`): a look in each tick of a timer.
+    /// Returns whether it has been stopped, with no byte completed, for `limit_ms` since the first call that found it stopped
+    /// (`dev_watchdog`): call it in each tick of a timer.
     pub fn watch(&mut self, watchdog: &mut TxWatchdog, limit_ms: u64, now_ms: u64) -> bool {
         let (at, mut stuck) = (self.at.raw(), false);
-        // SAFETY: the handle is this ring's alone; watchdog and answer lie elsewhere.
+        // SAFETY: only this ring has the handle; watchdog and result are elsewhere.
         match unsafe { sys::fq_tx_watch(at, watchdog, limit_ms, now_ms, &mut stuck) } {
             sys::FQ_OK => stuck,
             said => unexpected("tx_watch", said),
         }
     }
 
-    /// What it shows.
+    /// Its state.
     pub fn state(&mut self) -> TxState {
         let mut state = TxState::default();
-        // SAFETY: the handle is this ring's alone, and the state lies elsewhere.
+        // SAFETY: only this ring has the handle, and the state is elsewhere.
         match unsafe { sys::fq_tx_state(self.at.raw(), &mut state) } {
             sys::FQ_OK => state,
             said => unexpected("tx_state", said),

@@ -11,14 +11,14 @@ impl Word {
         word as *mut sys::fq_word
     }
 
-    /// Of no bits.
+    /// Returns a word without bits.
     pub fn new() -> Word {
         Word::default()
     }
 
-    /// Raises a bit, 0 to 63, and answers whether the word was 0: then the poller is to be woken.
+    /// Raises a bit, 0 to 63, and returns whether the word was 0: then wake the poller.
     pub fn raise(&self, bit: u32) -> bool {
-        // SAFETY: the word is there, and an atomic.
+        // SAFETY: the word exists, and is atomic.
         unsafe { sys::fq_word_raise(self.raw(), bit) }
     }
 
@@ -28,7 +28,7 @@ impl Word {
         unsafe { sys::fq_word_take(self.raw()) }
     }
 
-    /// Whether a bit is raised: the poller's look before it sleeps.
+    /// Returns whether a bit is raised; the poller checks this before it sleeps.
     pub fn any(&self) -> bool {
         // SAFETY: as for `raise`.
         unsafe { sys::fq_word_any(self.raw()) }

@@ -1,8 +1,8 @@
-//! Replies and choices that more than one kind of call has.
+//! Replies and choices that several kinds of calls share.
 use crate::fault::unexpected;
 use crate::sys;
 
-/// To whom an instance is handed.
+/// The queue for a scheduled instance.
 #[derive(Clone, Copy, Debug, PartialEq, Eq)]
 pub enum Kind {
     /// The poll list of the softirq.
@@ -25,14 +25,14 @@ impl Kind {
 pub enum Prep {
     /// The instance was granted.
     Granted,
-    /// A poll is asked for already, and one more follows; none while the controller has it.
+    /// A poll is requested already, and another one follows; none while the controller owns it.
     Missed,
-    /// A disable is pending: nothing is asked for.
+    /// A disable is pending: no poll was requested.
     Disabled,
 }
 
 impl Prep {
-    // None of the number of a try that decided nothing.
+    // Returns the reply, or `None` for the number of an attempt that decided nothing.
     pub(crate) fn of(call: &str, status: u32) -> Option<Prep> {
         match status {
             sys::FQ_GRANTED => Some(Prep::Granted),
@@ -47,11 +47,11 @@ impl Prep {
 /// The reply to the end of a poll (`napi_complete_done`).
 #[derive(Clone, Copy, Debug, PartialEq, Eq)]
 pub enum Done {
-    /// Nobody has the instance any more.
+    /// No caller owns the instance any more.
     Released,
-    /// A request was missed: it is this caller's, who has to hand it over again.
+    /// A request was missed: the caller still owns the instance, and has to hand it over again.
     Again,
-    /// It is busy polled, and the caller polls on.
+    /// It is busy polled, and the caller keeps polling.
     Held,
 }
 
@@ -62,9 +62,9 @@ pub enum Next {
     Gone,
     /// A request was missed: it was handed over again, to the list or to its thread.
     Again(Kind),
-    /// It gave its whole weight, and is polled again behind all others.
+    /// It used its whole weight, and is polled again after all others.
     Repoll,
-    /// It wasn't there.
+    /// It wasn't on the list.
     Absent,
 }
 

@@ -1,4 +1,4 @@
-//! The safe calls, on worked cases: what each kind of value does, and what is refused.
+//! The safe calls, on worked cases: what each kind of value does, and what fails.
 use fintaqush::sys::{FQ_BIT_DISABLE, FQ_BIT_LISTED, FQ_BIT_NPSVC, FQ_BIT_SCHED, FQ_BIT_THREADED};
 use fintaqush::*;
 use std::fmt::Write;
@@ -241,7 +241,7 @@ fn a_disable_waits_for_the_poller_and_refuses_requests() {
         TryTake::Taken(off) => off,
         other => panic!("{other:?}"),
     };
-    // while it is off a request is missed, and no poll follows
+    // while it is disabled a request is missed, and no poll follows
     assert!(matches!(interrupts.schedule(), Sched::Missed(_)));
     drop(off.enable(false));
 }
@@ -262,7 +262,7 @@ fn what_comes_under_busy_polling_is_polled_behind_the_stop() {
     };
     let mut polling = busy.stop();
     assert_eq!(numbers(polling.poll(Weight::MAX, &mut batch)), [7]);
-    // that poll was the request's (busy_poll_stop clears MISSED)
+    // that poll served the request (busy_poll_stop clears MISSED)
     assert!(matches!(polling.complete(), Completed::Released(_)));
     drop((on.disable(), interrupts));
 }
@@ -273,7 +273,7 @@ fn what_is_dropped_is_given_up() {
     input.put(packet(1)).unwrap();
     assert_eq!(interrupts.interrupt(Kind::List), Prep::Granted);
     drop(take(poller));
-    // its poller is gone, so nobody polls it again
+    // its poller is gone, so it is never polled again
     assert_eq!(interrupts.interrupt(Kind::List), Prep::Missed);
     assert!(interrupts.take(Kind::List).is_err());
     assert!(matches!(on.mark().try_take(), TryTake::Busy(_)));
@@ -451,6 +451,72 @@ fn a_poll_that_panics_ends_the_run() {
     assert_eq!(listed(&mut list), [2]);
 }
 
+// ---- ends of polls on one thread, requests, opens
+
+#[test]
+fn a_full_poll_under_a_disable_is_completed() {
+    let mut napi = SerialNapi::new(CONTROLLER);
+    napi.enable(CONTROLLER, false).unwrap();
+    assert_eq!(napi.schedule(INTERRUPT), Prep::Granted);
+    napi.hand(INTERRUPT, Kind::List).unwrap();
+    assert!(napi.take(POLLER, Kind::List));
+    assert_eq!(napi.end(INTERRUPT, true), Err(Fault::NOT_ALLOWED));
+    assert_eq!(napi.end(POLLER, true), Ok(Some(Next::Repoll)));
+    napi.mark_disable(CONTROLLER).unwrap();
+    assert!(napi.take(POLLER, Kind::List));
+    assert_eq!(napi.end(POLLER, true), Ok(Some(Next::Gone)));
+    assert_eq!(napi.take_disable(CONTROLLER), Ok(true));
+}
+
+#[test]
+fn an_end_on_one_thread_goes_by_the_word() {
+    let mut napi = SerialNapi::new(CONTROLLER);
+    napi.enable(CONTROLLER, true).unwrap();
+    assert_eq!(napi.schedule(INTERRUPT), Prep::Granted);
+    napi.hand(INTERRUPT, Kind::Thread).unwrap();
+    assert!(napi.take(POLLER, Kind::Thread));
+    assert_eq!(napi.end(POLLER, true), Ok(None));
+    assert_eq!(napi.schedule(INTERRUPT), Prep::Missed);
+    let again = Some(Next::Again(Kind::Thread));
+    assert_eq!(napi.end(POLLER, false), Ok(again));
+    assert!(napi.take(POLLER, Kind::Thread));
+    assert_eq!(napi.end(POLLER, false), Ok(Some(Next::Gone)));
+}
+
+#[test]
+fn an_open_asks_once_and_a_request_goes_by_the_word() {
+    for threaded in [false, true] {
+        let Shared {
+            input: _input,
+            control,
+            callers: [mut interrupts, mut poller],
+        } = Shared::<2>::new(4).unwrap();
+        assert_eq!(interrupts.request(), (Prep::Missed, Next::Gone));
+        let mut card = Model::default();
+        let kind = if threaded { Kind::Thread } else { Kind::List };
+        let (_on, prep, next) = control.open(threaded, &mut poller, &mut card);
+        assert_eq!((prep, next), (Prep::Granted, Next::Again(kind)));
+        assert!(card.masked);
+        assert_eq!(interrupts.request(), (Prep::Missed, Next::Gone));
+        let polling = poller.take(kind).expect("it was asked for");
+        let End::Over(poller, next) = polling.end(false) else {
+            panic!("it is over")
+        };
+        assert_eq!(next, Next::Again(kind));
+        let polling = poller.take(kind).expect("again");
+        assert!(matches!(polling.end(false), End::Over(_, Next::Gone)));
+        interrupts.set_threaded(!threaded);
+        let other = if threaded { Kind::List } else { Kind::Thread };
+        assert_eq!(interrupts.request(), (Prep::Granted, Next::Again(other)));
+    }
+}
+
+#[test]
+fn a_fault_says_what_it_means() {
+    assert_eq!(Fault::BAD_WEIGHT.message(), "a weight is 1 to 64 packets");
+    assert_eq!(Fault::OUT_OF_MEMORY.message(), "out of memory");
+}
+
 // ---- faults
 
 #[test]
@@ -462,9 +528,9 @@ fn faults_have_numbers_and_names() {
     assert_eq!(sys::fq_status_name(5), "?");
 }
 
-// ---- ends of polls that mind a card
+// ---- ends of polls that handle a card
 
-// A card: what is there, what comes behind its next unmask, and whether it is masked.
+// A card: its packets, those that arrive after its next unmask, and whether it is masked.
 #[derive(Default)]
 struct Model {
     there: usize,
@@ -589,7 +655,7 @@ fn a_full_poll_stays_with_its_thread() {
     assert!(matches!(marked.try_take(), TryTake::Taken(_)));
 }
 
-// ---- what else is counted and told
+// ---- other counts and results
 
 #[test]
 fn polls_are_counted_of_whoever_has_them() {

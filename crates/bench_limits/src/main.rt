@@ -1,11 +1,11 @@
-//! Times pairs of `queued` and `completed` on a `Dql`: what is counted goes to standard output, the time to standard
-//! error. The word is the number of pairs. `bench/limits.sh` compares it with a plain fold of the same rules.
+//! Times pairs of `queued` and `completed` on a `Dql`: counts go to standard output, the time to standard error. The argument
+//! is the number of pairs. `bench/limits.sh` compares it with a plain fold over the same rules.
 #![tactic(auto)]
 
 mod pattern;
 
 use anyhow::{Context, Result};
-use pattern::{Tally, run_pairs};
+use pattern::{LimitCounts, run_pairs};
 use std::env;
 use std::time::Instant;
 
@@ -15,7 +15,7 @@ fn main(rt: HostRuntime) -> Result<()> {
         .context("a number of pairs is wanted")?;
     let pairs: u64 = word.as_str().parse().context("the number of pairs")?;
     let start = Instant::now(&rt)?;
-    let Tally {
+    let LimitCounts {
         limits,
         over,
         queued,

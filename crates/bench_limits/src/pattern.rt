@@ -2,15 +2,15 @@
 
 use dql_core::{Dql, DqlFault, MAX_LIMIT};
 
-/// How many pairs a phase has.
+/// The number of pairs in a phase.
 const PHASE: u64 = 64;
 
-/// How long slack is held before the limit shrinks, in milliseconds; each pair takes one.
+/// How long slack has to last before the limit shrinks, in milliseconds; each pair takes one millisecond.
 const HOLD: u64 = 4;
 
-/// What the pairs did. The sums wrap.
+/// The counts of the pairs. The sums wrap.
 #[derive(Clone, Copy)]
-pub struct Tally {
+pub struct LimitCounts {
     /// The sum of the limits after each pair.
     pub limits: u64,
     /// How many objects were queued over the limit.
@@ -21,10 +21,10 @@ pub struct Tally {
     pub limit: u32,
 }
 
-/// Queues an object and completes bytes, so many times: ever larger objects and all that is in flight in a phase that
-/// starves the queue, small ones and a quarter of what is in flight in a phase with slack. One pair in nine raises the
+/// Queues an object and completes bytes, this many times: ever larger objects, and all that is in flight, in a phase that
+/// starves the queue; small objects, and a quarter of what is in flight, in a phase with slack. One pair in nine raises the
 /// limit and one in 64 lowers it.
-pub fn run_pairs(pairs: u64) -> Result<Tally, DqlFault> {
+pub fn run_pairs(pairs: u64) -> Result<LimitCounts, DqlFault> {
     let mut dql = Dql::new(0, MAX_LIMIT, HOLD, 0)?;
     let mut limits = 0u64;
     let mut over = 0u64;
@@ -40,7 +40,7 @@ pub fn run_pairs(pairs: u64) -> Result<Tally, DqlFault> {
         dql.completed(if starves { in_flight } else { in_flight / 4 }, pair)?;
         limits = limits.wrapping_add(u64::from(dql.limit()));
     }
-    Ok(Tally {
+    Ok(LimitCounts {
         limits,
         over,
         queued: dql.total_queued(),

@@ -1,7 +1,7 @@
 //! Times packets on their way from one thread to another: through an instance that both share, where each packet comes with a
-//! request for a poll, and through a ring of `rtrb` alone, at which the second thread looks all the time. What is counted goes
-//! to standard output, the times to standard error. The word is the number of packets. `bench/pair.sh` shows the time for each,
-//! beside a queue behind a mutex in C++.
+//! request for a poll, and through a bare ring of `rtrb`, which the second thread reads all the time. Counts go to standard
+//! output, the times to standard error. The argument is the number of packets. `bench/pair.sh` compares both times with those
+//! of a queue with a mutex in C++.
 #![tactic(auto)]
 
 mod plain;
@@ -13,7 +13,7 @@ use plain::pass_plainly;
 use shared::pass_shared;
 use std::env;
 use std::time::Instant;
-use tally::Tally;
+use tally::ReceivedCounts;
 
 fn main(rt: HostRuntime) -> Result<()> {
     let word = env::args(&rt)?
@@ -22,13 +22,13 @@ fn main(rt: HostRuntime) -> Result<()> {
     let packets: u64 = word.as_str().parse().context("the number of packets")?;
 
     let start = Instant::now(&rt)?;
-    let Tally { in_turn, bytes } = pass_shared(rt, rt.alloc(), packets)?;
+    let ReceivedCounts { in_turn, bytes } = pass_shared(rt, rt.alloc(), packets)?;
     let spent = start.elapsed(&rt)?.as_nanos();
     println!(rt; "shared in turn {in_turn} bytes {bytes}")?;
     eprintln!(rt; "shared {spent} ns")?;
 
     let start = Instant::now(&rt)?;
-    let Tally { in_turn, bytes } = pass_plainly(rt, rt.alloc(), packets)?;
+    let ReceivedCounts { in_turn, bytes } = pass_plainly(rt, rt.alloc(), packets)?;
     let spent = start.elapsed(&rt)?.as_nanos();
     println!(rt; "rtrb in turn {in_turn} bytes {bytes}")?;
     eprintln!(rt; "rtrb {spent} ns")?;

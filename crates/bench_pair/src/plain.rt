@@ -1,6 +1,6 @@
-//! A ring of `rtrb` alone.
+//! A bare ring of `rtrb`.
 
-use crate::tally::{PLACES, Tally, packet};
+use crate::tally::{PLACES, ReceivedCounts, packet};
 use anyhow::Result;
 use rtrb::{Consumer, Producer, RingBuffer};
 use rx_ring::Packet;
@@ -8,7 +8,7 @@ use std::alloc::Global;
 use std::sync::Wait;
 use std::thread::{Threads, join, yield_now};
 
-// Puts so many packets in, and waits where the ring is full.
+// Puts this many packets into the ring, and waits while it is full.
 fn put_all(rt: &impl Wait, mut producer: Producer<Packet>, packets: u64) {
     let mut number = 0u64;
     for _ in rt.forever() {
@@ -22,9 +22,9 @@ fn put_all(rt: &impl Wait, mut producer: Producer<Packet>, packets: u64) {
     }
 }
 
-// Takes so many packets out.
-fn take_all(rt: &impl Wait, mut consumer: Consumer<Packet>, packets: u64) -> Tally {
-    let mut tally = Tally::new();
+// Takes this many packets out.
+fn take_all(rt: &impl Wait, mut consumer: Consumer<Packet>, packets: u64) -> ReceivedCounts {
+    let mut tally = ReceivedCounts::new();
     let mut count = 0u64;
     for _ in rt.forever() {
         if count == packets {
@@ -41,17 +41,17 @@ fn take_all(rt: &impl Wait, mut consumer: Consumer<Packet>, packets: u64) -> Tal
     tally
 }
 
-/// Passes so many packets on to a second thread.
+/// Passes this many packets to a second thread.
 pub fn pass_plainly<R: Threads + Wait + Copy + Drop + Send>(
     rt: R,
     alloc: Global,
     packets: u64,
-) -> Result<Tally> {
+) -> Result<ReceivedCounts> {
     let (producer, consumer) = RingBuffer::new(alloc, PLACES)?;
-    // Where no thread can be made, the second closure is called first, and waits for ever once the ring is full.
+    // If no thread can be started, the second closure is called first, and waits forever once the ring is full.
     let (tally, ()) = join(
         &rt,
-        move || -> Tally { take_all(&rt, consumer, packets) },
+        move || -> ReceivedCounts { take_all(&rt, consumer, packets) },
         move || { put_all(&rt, producer, packets) },
     );
     Ok(tally)

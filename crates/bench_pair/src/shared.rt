@@ -1,8 +1,8 @@
-//! An instance that both threads share: the first puts and asks, the second polls.
+//! An instance that both threads share: the first puts packets and requests polls, the second polls.
 ghost use Rattle.napi_word.specs.Passes.{SameTable};
 ghost use Rattle.napi_calls.specs.Instance.{IsSeatOf};
 
-use crate::tally::{PLACES, Tally, packet};
+use crate::tally::{PLACES, ReceivedCounts, packet};
 use anyhow::Result;
 use napi_calls::{Caller, Completed, Kept, Napi, NewBack, Polling, Sched, next_caller};
 use napi_model::Kind;
@@ -14,7 +14,7 @@ use std::thread::{Threads, join, yield_now};
 
 const WEIGHT: usize = 64;
 
-// Puts the packet in, and waits where the ring is full.
+// Puts the packet into the ring, and waits while it is full.
 fn put(rt: &impl Wait, input: &mut RxIn, mut packet: Packet) {
     for _ in rt.forever() {
         match input.put(packet) {
@@ -25,7 +25,7 @@ fn put(rt: &impl Wait, input: &mut RxIn, mut packet: Packet) {
     }
 }
 
-// Asks for a poll, and hands the instance to the list where that is granted.
+// Requests a poll, and queues the instance on the list if it is granted.
 fn ask(rt: &impl Wait, napi: &Napi, caller: Caller) -> Caller
     requires { IsSeatOf napi.now caller.pass }
     ensures { IsSeatOf napi.now result.pass }
@@ -36,7 +36,7 @@ fn ask(rt: &impl Wait, napi: &Napi, caller: Caller) -> Caller
     }
 }
 
-// The interrupt: so many packets, each with a request behind it.
+// The interrupt thread: this many packets, each followed by a request.
 fn interrupt(
     rt: &impl Wait,
     napi: &Napi,
@@ -56,7 +56,7 @@ fn interrupt(
     caller
 }
 
-// Polls once. A poll that used its whole weight is followed by another, any other ends, unless a request was missed.
+// Polls once. A poll that used its whole weight is followed by another; any other one ends, unless a request was missed.
 fn poll(rt: &impl Wait, napi: &Napi, mut polling: Polling, batch: &mut Batch) -> Caller
     requires { IsSeatOf napi.now polling.pass }
     ensures { IsSeatOf napi.now result.pass }
@@ -70,19 +70,24 @@ fn poll(rt: &impl Wait, napi: &Napi, mut polling: Polling, batch: &mut Batch) ->
     }
 }
 
-fn add_all(tally: &mut Tally, batch: &Batch) {
+fn add_all(tally: &mut ReceivedCounts, batch: &Batch) {
     for packet in batch.as_slice() {
         tally.add(packet);
     }
 }
 
-// The poller: polls whenever the instance is on the list, until the interrupt has ended and it isn't there any more.
-fn poll_all(rt: &impl Wait, napi: &Napi, mut caller: Caller, ended: &AtomicBool) -> (Caller, Tally)
+// The poller: polls whenever the instance is on the list, until the interrupt thread has ended and it isn't there any more.
+fn poll_all(
+    rt: &impl Wait,
+    napi: &Napi,
+    mut caller: Caller,
+    ended: &AtomicBool,
+) -> (Caller, ReceivedCounts)
     requires { IsSeatOf napi.now caller.pass }
     ensures { IsSeatOf napi.now result.0.pass }
 {
     let mut batch = Batch::new();
-    let mut tally = Tally::new();
+    let mut tally = ReceivedCounts::new();
     for _ in rt.forever() {
         let last = ended.load(Ordering::SeqCst);
         match caller.take(napi, Kind::List) {
@@ -100,14 +105,14 @@ fn poll_all(rt: &impl Wait, napi: &Napi, mut caller: Caller, ended: &AtomicBool)
     unreachable!()
 }
 
-// The interrupt and the poller, each in a thread of its own.
+// Runs the interrupt thread and the poller.
 fn serve<R: Threads + Wait + Copy + Drop + Send>(
     rt: R,
     napi: &Napi,
     seats: (Caller, Caller),
     input: RxIn,
     packets: u64,
-) -> (Caller, Caller, Tally)
+) -> (Caller, Caller, ReceivedCounts)
     requires { IsSeatOf napi.now seats.0.pass × IsSeatOf napi.now seats.1.pass }
     ensures { IsSeatOf napi.now result.0.pass × IsSeatOf napi.now result.1.pass }
 {
@@ -116,10 +121,10 @@ fn serve<R: Threads + Wait + Copy + Drop + Send>(
     let end = &ended;
     let first = Kept::new(rt, first);
     let poller = Kept::new(rt, poller);
-    // Where no thread can be made, the second closure is called first, and waits for ever once the ring is full.
+    // If no thread can be started, the second closure is called first, and waits forever once the ring is full.
     let ((poller, tally), first) = join(
         &rt,
-        move || -> (Caller, Tally)
+        move || -> (Caller, ReceivedCounts)
             requires { IsSeatOf napi.now poller.value.pass }
             ensures { SameTable poller.value.pass result.0.pass }
         { poll_all(&rt, napi, poller.open(), end) },
@@ -131,12 +136,12 @@ fn serve<R: Threads + Wait + Copy + Drop + Send>(
     (first, poller, tally)
 }
 
-/// Passes so many packets on to a second thread.
+/// Passes this many packets to a second thread.
 pub fn pass_shared<R: Threads + Wait + Copy + Drop + Send>(
     rt: R,
     alloc: Global,
     packets: u64,
-) -> Result<Tally> {
+) -> Result<ReceivedCounts> {
     let (input, ctx) = ring(alloc, PLACES)?;
     let (napi, mut callers, control) = match Napi::new(alloc, ctx, 2) {
         Ok(made) => made,

@@ -1,29 +1,29 @@
-//! What comes out at the other thread.
+//! What arrives at the other thread.
 
 use rx_ring::Packet;
 
-/// The places of each ring.
+/// The capacity of each ring.
 pub const PLACES: usize = 1024;
 
-/// What came. The counts wrap.
+/// The counts of what arrived. They wrap.
 #[derive(Clone, Copy)]
-pub struct Tally {
-    /// The packets that came in their turn.
+pub struct ReceivedCounts {
+    /// The packets that arrived in order.
     pub in_turn: u64,
     /// The bytes of all.
     pub bytes: u64,
 }
 
-impl Tally {
-    /// Nothing.
-    pub fn new() -> Tally {
-        Tally {
+impl ReceivedCounts {
+    /// Returns zero counts.
+    pub fn new() -> ReceivedCounts {
+        ReceivedCounts {
             in_turn: 0,
             bytes: 0,
         }
     }
 
-    /// One more packet came.
+    /// Counts one more packet.
     pub fn add(&mut self, packet: &Packet) {
         self.in_turn = self
             .in_turn
@@ -32,7 +32,7 @@ impl Tally {
     }
 }
 
-/// The packet of this number.
+/// Returns the packet with this number.
 pub fn packet(number: u64) -> Packet {
     Packet { number, bytes: 60 }
 }

@@ -1,12 +1,12 @@
-//! Times polls of a receive ring, for the weights 1, 16 and 64, beside a plain loop over the `pop` of `rtrb`: what is
-//! counted goes to standard output, the times to standard error. The word is the number of rounds: each fills a ring of
-//! 4096 packets and empties it, and only the emptying is timed. `bench/receive.sh` shows the time for each packet.
+//! Times polls of a receive ring, for the weights 1, 16 and 64, compared with a plain loop over the `pop` of `rtrb`: counts go
+//! to standard output, the times to standard error. The argument is the number of rounds: each fills a ring of 4096 packets and
+//! empties it, and only the emptying is timed. `bench/receive.sh` prints the time per packet.
 #![tactic(auto)]
 
 mod rounds;
 
 use anyhow::{Context, Result};
-use rounds::{Spent, time_polls, time_pops};
+use rounds::{ReceiveTimes, time_polls, time_pops};
 use std::env;
 
 fn main(rt: HostRuntime) -> Result<()> {
@@ -20,7 +20,7 @@ fn main(rt: HostRuntime) -> Result<()> {
         ("weight-16", time_polls(&rt, rt.alloc(), rounds, 16)?),
         ("weight-64", time_polls(&rt, rt.alloc(), rounds, 64)?),
     ] {
-        let Spent {
+        let ReceiveTimes {
             nanos,
             packets,
             bytes,

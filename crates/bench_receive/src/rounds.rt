@@ -1,4 +1,4 @@
-//! The rounds: a ring is filled, and then emptied in the time that is taken.
+//! The rounds: a ring is filled, and then emptied while the clock runs.
 
 ghost use Rattle.std.specs.Prelude.{◌≤◌};
 
@@ -8,12 +8,12 @@ use rx_ring::{Batch, Packet, ring};
 use std::alloc::Global;
 use std::time::{Clock, Instant};
 
-// How many packets a round has, which is the capacity of its ring.
+// The number of packets in a round, which is the capacity of its ring.
 const PACKETS: u32 = 4096;
 
-/// What the rounds took and gave. The sums wrap.
+/// The time and the counts of the rounds. The sums wrap.
 #[derive(Clone, Copy)]
-pub struct Spent {
+pub struct ReceiveTimes {
     /// The time in nanoseconds.
     pub nanos: u128,
     /// How many packets came out.
@@ -24,9 +24,9 @@ pub struct Spent {
     pub sum: u64,
 }
 
-impl Spent {
-    fn new() -> Spent {
-        Spent {
+impl ReceiveTimes {
+    fn new() -> ReceiveTimes {
+        ReceiveTimes {
             nanos: 0,
             packets: 0,
             bytes: 0,
@@ -48,13 +48,13 @@ fn packet(round: u32, k: u32) -> Packet {
     }
 }
 
-/// Empties a receive ring by polls of one weight, so many times.
-pub fn time_polls(rt: &impl Clock, alloc: Global, rounds: u32, weight: u32) -> Result<Spent>
+/// Empties a receive ring by polls with one weight, this many times.
+pub fn time_polls(rt: &impl Clock, alloc: Global, rounds: u32, weight: u32) -> Result<ReceiveTimes>
     requires { (1 ≤ weight) × (weight ≤ 64) }
 {
     let (mut input, mut ctx) = ring(alloc, PACKETS as usize)?;
     let mut batch = Batch::new();
-    let mut spent = Spent::new();
+    let mut spent = ReceiveTimes::new();
     for round in 0..rounds {
         for k in 0..PACKETS {
             let _ = input.put(packet(round, k));
@@ -71,10 +71,10 @@ pub fn time_polls(rt: &impl Clock, alloc: Global, rounds: u32, weight: u32) -> R
     Ok(spent)
 }
 
-/// Empties a ring of `rtrb` by its own `pop`, so many times.
-pub fn time_pops(rt: &impl Clock, alloc: Global, rounds: u32) -> Result<Spent> {
+/// Empties a ring of `rtrb` by its own `pop`, this many times.
+pub fn time_pops(rt: &impl Clock, alloc: Global, rounds: u32) -> Result<ReceiveTimes> {
     let (mut producer, mut consumer) = RingBuffer::new(alloc, PACKETS as usize)?;
-    let mut spent = Spent::new();
+    let mut spent = ReceiveTimes::new();
     for round in 0..rounds {
         for k in 0..PACKETS {
             let _ = producer.push(packet(round, k));

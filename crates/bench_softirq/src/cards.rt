@@ -1,4 +1,4 @@
-//! The devices, and the bench that polls them. It states nothing of its polls.
+//! The devices, and the bench that polls them. It states nothing about its polls.
 
 ghost use Rattle.std.specs.Prelude.{◌≡◌, ◌≤◌, false};
 ghost use Rattle.napi_model.specs.Serial.{state_of};
@@ -9,10 +9,10 @@ use poll_engine::{Bench, BusyReport, Next, Once, ThreadReport};
 use rx_ring::{Batch, Packet, RxCtx, RxIn, ring};
 use std::alloc::Global;
 
-/// How many devices there are.
+/// The number of devices.
 pub const DEVICES: u32 = 16;
 
-// The places of a device's ring.
+// The capacity of a device's ring.
 const PLACES: usize = 256;
 
 // The callers of an instance.
@@ -31,7 +31,7 @@ struct Card {
 }
 
 impl Card {
-    // One whose instance is enabled.
+    // Returns a card whose instance is enabled.
     fn new(alloc: Global) -> Result<Card> {
         let (input, ctx) = ring(alloc, PLACES)?;
         let mut napi = SerialNapi::new(CONTROLLER);
@@ -70,7 +70,7 @@ impl Card {
     }
 }
 
-/// The devices, with the batch into which they are polled.
+/// The devices, with the batch into which their packets are polled.
 #[derive(Drop)]
 pub struct Cards {
     cards: Vec<Card>,
@@ -78,7 +78,7 @@ pub struct Cards {
 }
 
 impl Cards {
-    /// All of them, with empty rings.
+    /// Returns all devices, with empty rings.
     pub fn new(alloc: Global) -> Result<Cards> {
         let mut cards = Vec::new(alloc);
         for _ in 0..DEVICES {
@@ -90,7 +90,7 @@ impl Cards {
         })
     }
 
-    /// The receive interrupt of a device: whether its number is to be pushed to the list.
+    /// The receive interrupt of a device. Returns whether its number has to be pushed to the list.
     pub fn receive(&mut self, id: u32, packet: Packet) -> bool {
         let Some(card) = self.cards.get_mut(id as usize) else {
             return false;

@@ -1,13 +1,14 @@
-//! Times runs of the softirq over 16 devices, for 1, 8, 64 and 256 packets in the ring of each: what is counted goes to standard
-//! output, the times to standard error. The word is the number of rounds: in each the devices' interrupts fill their rings, and
-//! only the runs that empty them are timed. `bench/softirq.sh` shows the time for each packet, beside the same runs by hand.
+//! Times runs of the softirq over 16 devices, for 1, 8, 64 and 256 packets in the ring of each: counts go to standard output,
+//! the times to standard error. The argument is the number of rounds: in each, the devices' interrupts fill their rings, and
+//! only the runs that empty them are timed. `bench/softirq.sh` prints the time per packet, compared with the same runs in plain
+//! C++.
 #![tactic(auto)]
 
 mod cards;
 mod rounds;
 
 use anyhow::{Context, Result};
-use rounds::{Spent, time_runs};
+use rounds::{SoftirqTimes, time_runs};
 use std::env;
 
 fn main(rt: HostRuntime) -> Result<()> {
@@ -16,7 +17,7 @@ fn main(rt: HostRuntime) -> Result<()> {
         .context("a number of rounds is wanted")?;
     let rounds: u32 = word.as_str().parse().context("the number of rounds")?;
     for packets in [1u32, 8, 64, 256] {
-        let Spent {
+        let SoftirqTimes {
             nanos,
             runs,
             polls,

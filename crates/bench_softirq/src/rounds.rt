@@ -1,4 +1,4 @@
-//! The rounds: interrupts fill the rings, and then runs of the softirq empty them in the time that is taken.
+//! The rounds: interrupts fill the rings, and then runs of the softirq empty them while the clock runs.
 
 use crate::cards::{Cards, DEVICES};
 use anyhow::Result;
@@ -7,34 +7,34 @@ use rx_ring::Packet;
 use std::alloc::Global;
 use std::time::{Clock, Instant};
 
-// The kernel's usual numbers (`net.core.netdev_budget`, `NAPI_POLL_WEIGHT`), and polls in place of its 2 ms.
+// The kernel's defaults (`net.core.netdev_budget`, `NAPI_POLL_WEIGHT`), and a number of polls in place of its 2 ms.
 const BUDGET: u32 = 300;
 
 const WEIGHT: u32 = 64;
 
 const WINDOW: u32 = 1024;
 
-// More runs than a round has: each but the last spends its budget.
+// More runs than a round has: each but the last uses up its budget.
 const MOST_RUNS: u32 = 64;
 
-/// What the runs took and did. The counts wrap.
+/// The time and the counts of the runs. The counts wrap.
 #[derive(Clone, Copy)]
-pub struct Spent {
+pub struct SoftirqTimes {
     /// The time in nanoseconds.
     pub nanos: u128,
     /// The runs.
     pub runs: u64,
     /// Their polls.
     pub polls: u64,
-    /// The packets that these gave.
+    /// The packets that these processed.
     pub work: u64,
     /// The runs that were squeezed.
     pub squeezed: u64,
 }
 
-impl Spent {
-    fn new() -> Spent {
-        Spent {
+impl SoftirqTimes {
+    fn new() -> SoftirqTimes {
+        SoftirqTimes {
             nanos: 0,
             runs: 0,
             polls: 0,
@@ -44,7 +44,7 @@ impl Spent {
     }
 }
 
-// So many packets come to each device, one device after the other.
+// Delivers this many packets to each device, one device after the other.
 fn fill(cards: &mut Cards, list: &mut PlainList, packets: u32) {
     for id in 0..DEVICES {
         for number in 0..packets {
@@ -59,8 +59,8 @@ fn fill(cards: &mut Cards, list: &mut PlainList, packets: u32) {
     }
 }
 
-// Runs until nothing is left on the list.
-fn empty(cards: &mut Cards, list: &mut PlainList, spent: &mut Spent) {
+// Makes runs until the list is empty.
+fn empty(cards: &mut Cards, list: &mut PlainList, spent: &mut SoftirqTimes) {
     for _ in 0..MOST_RUNS {
         if list.ids().is_empty() {
             return;
@@ -73,11 +73,16 @@ fn empty(cards: &mut Cards, list: &mut PlainList, spent: &mut Spent) {
     }
 }
 
-/// Fills and empties the rings so many times.
-pub fn time_runs(rt: &impl Clock, alloc: Global, rounds: u32, packets: u32) -> Result<Spent> {
+/// Fills and empties the rings this many times.
+pub fn time_runs(
+    rt: &impl Clock,
+    alloc: Global,
+    rounds: u32,
+    packets: u32,
+) -> Result<SoftirqTimes> {
     let mut cards = Cards::new(alloc)?;
     let mut list = PlainList::new();
-    let mut spent = Spent::new();
+    let mut spent = SoftirqTimes::new();
     for _ in 0..rounds {
         fill(&mut cards, &mut list, packets);
         let start = Instant::now(rt)?;

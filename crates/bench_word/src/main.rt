@@ -1,7 +1,8 @@
-//! Times turns of an instance by its state word: schedule, hand to the list, take, the context out of its slot and back,
+//! Times cycles of an instance by its state word: schedule, queue on the list, take, move the context out of its slot and back,
 //! complete. Once by one thread, once while a second thread schedules all the time, and once by one thread with the typed
-//! calls that stand on these steps; and turns of busy polling by the typed calls. What is the same each time goes to standard output, times and the rest to standard error.
-//! The word is the number of turns. `bench/word.sh` compares it with the same turns by hand.
+//! calls, which are based on these steps; and cycles of busy polling by the typed calls. What is the same each time goes to
+//! standard output, times and the rest to standard error. The argument is the number of cycles. `bench/word.sh` compares it
+//! with the same cycles in plain C++.
 #![tactic(auto)]
 
 mod opened;

@@ -13,9 +13,9 @@ use std::alloc::Global;
 pub struct Opened {
     /// The instance's state word, and the slot of its poll context.
     pub table: StateTable,
-    /// Who makes the turns.
+    /// The pass that makes the cycles.
     pub poller: Pass,
-    /// Who schedules all the time.
+    /// The pass that schedules all the time.
     pub scheduler: Pass,
     control: Pass,
 }
@@ -45,7 +45,7 @@ impl Opened {
         })
     }
 
-    /// Makes a table of three passes, and enables it by the last of them. `None`: there was no memory.
+    /// Makes a table of three passes, and enables it by the last of them. Returns `None` if an allocation fails.
     pub fn enabled(alloc: Global, ctx: RxCtx) -> Option<Opened>
         ensures poller { IfSome result (λ o. IsReady o.table o.poller) }
         ensures scheduler { IfSome result (λ o. IsReady o.table o.scheduler) }

@@ -1,4 +1,4 @@
-//! The turns: each asks for a poll, and polls where the instance waits on the list.
+//! The cycles: each requests a poll, and polls if the instance waits on the list.
 ghost use Rattle.std.specs.Prelude.{false};
 ghost use Rattle.napi_word.specs.Passes.{IsWithin, Polls};
 ghost use Rattle.bench_word.specs.Ready.{IsReady};
@@ -8,21 +8,21 @@ use napi_word::{Pass, StateTable};
 use std::sync::atomic::{AtomicBool, Ordering};
 use std::thread::{Threads, join};
 
-// How many schedules the second thread makes at most for each turn of the first.
+// How many schedules the second thread makes at most for each cycle of the first.
 const SCHEDULES: u64 = 1000;
 
-/// What became of turns. The counts wrap.
+/// The counts of the cycles. They wrap.
 #[derive(Clone, Copy)]
 pub struct Tally {
     /// The polls.
     pub polls: u64,
-    /// How many of them were answered that another follows.
+    /// How many of them completed with a request missed, so that another one follows.
     pub again: u64,
-    /// The exchanges of the word that were lost, since another step came between.
+    /// The exchanges of the word that failed, because another step changed it.
     pub lost: u64,
 }
 
-// Asks for a poll once, and hands over what was granted.
+// Requests a poll once, and queues the instance if it is granted.
 fn schedule(table: &StateTable, pass: &mut Pass, tally: &mut Tally)
     requires { IsReady table.now pass.old }
     ensures { IsReady table.now pass.new }
@@ -37,8 +37,8 @@ fn schedule(table: &StateTable, pass: &mut Pass, tally: &mut Tally)
     }
 }
 
-// Ends a poll. At most one exchange is lost: once MISSED is set, a schedule changes nothing more. Were both lost, the
-// instance would go back on the list.
+// Ends a poll. At most one exchange fails: once MISSED is set, a schedule changes nothing more. If both failed, the instance
+// would go back on the list.
 fn complete(table: &StateTable, pass: &mut Pass, tally: &mut Tally)
     requires ready { IsReady table.now pass.old }
     requires polls { Polls false pass.old }
@@ -63,7 +63,7 @@ fn complete(table: &StateTable, pass: &mut Pass, tally: &mut Tally)
     table.hand(pass, Kind::List);
 }
 
-// A schedule, and a poll where the instance waits on the list.
+// Makes a schedule, and a poll if the instance waits on the list.
 fn turn(table: &StateTable, pass: &mut Pass, tally: &mut Tally)
     requires { IsReady table.now pass.old }
     ensures { IsReady table.now pass.new }
@@ -77,7 +77,7 @@ fn turn(table: &StateTable, pass: &mut Pass, tally: &mut Tally)
     }
 }
 
-/// Makes so many turns.
+/// Makes this many cycles.
 pub fn make_turns(table: &StateTable, pass: &mut Pass, turns: u64) -> Tally
     requires { IsReady table.now pass.old }
     ensures { IsReady table.now pass.new }
@@ -93,7 +93,7 @@ pub fn make_turns(table: &StateTable, pass: &mut Pass, turns: u64) -> Tally
     tally
 }
 
-// Schedules until it is over, and at most so often.
+// Schedules until `over` is set, at most `most` times.
 fn keep_scheduling(table: &StateTable, pass: &mut Pass, most: u64, over: &AtomicBool)
     requires { IsReady table.now pass.old }
 {
@@ -110,7 +110,7 @@ fn keep_scheduling(table: &StateTable, pass: &mut Pass, most: u64, over: &Atomic
     }
 }
 
-/// Makes so many turns while a second thread schedules all the time.
+/// Makes this many cycles while a second thread schedules all the time.
 pub fn make_turns_beside<R: Threads>(
     rt: &R,
     table: &StateTable,

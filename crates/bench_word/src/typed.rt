@@ -1,4 +1,4 @@
-//! The same turns by the typed calls, which stand on the steps, and turns of busy polling.
+//! The same cycles by the typed calls, which are based on the steps, and cycles of busy polling.
 ghost use Rattle.napi_calls.specs.Instance.{IsSeatOf};
 
 use crate::turns::Tally;
@@ -10,16 +10,16 @@ use rx_ring::RxCtx;
 use std::alloc::Global;
 use std::sync::Wait;
 
-/// How a turn polls.
+/// How a cycle polls.
 #[derive(Clone, Copy)]
 pub enum Round {
-    /// By the list, on which a schedule puts the instance.
+    /// From the list, on which a schedule puts the instance.
     Listed,
     /// By busy polling: a completion that is held, the stop, and a completion.
     Busy,
 }
 
-// Asks for a poll once, and hands over what was granted.
+// Requests a poll once, and queues the instance if it is granted.
 fn schedule(napi: &Napi, caller: Caller, tally: &mut Tally) -> Caller
     requires { IsSeatOf napi.now caller.pass }
     ensures { IsSeatOf napi.now result.pass }
@@ -34,7 +34,7 @@ fn schedule(napi: &Napi, caller: Caller, tally: &mut Tally) -> Caller
     }
 }
 
-// Ends a poll. Were two tries lost, the instance would go back on the list.
+// Ends a poll. If two attempts failed, the instance would go back on the list.
 fn complete(napi: &Napi, mut polling: Polling, tally: &mut Tally) -> Caller
     requires { IsSeatOf napi.now polling.pass }
     ensures { IsSeatOf napi.now result.pass }
@@ -55,7 +55,7 @@ fn complete(napi: &Napi, mut polling: Polling, tally: &mut Tally) -> Caller
     polling.requeue(napi)
 }
 
-// A schedule, and a poll where the instance waits on the list.
+// Makes a schedule, and a poll if the instance waits on the list.
 fn turn(napi: &Napi, caller: Caller, tally: &mut Tally) -> Caller
     requires { IsSeatOf napi.now caller.pass }
     ensures { IsSeatOf napi.now result.pass }
@@ -70,7 +70,7 @@ fn turn(napi: &Napi, caller: Caller, tally: &mut Tally) -> Caller
     }
 }
 
-// A turn of busy polling, where the instance is idle.
+// Makes a cycle of busy polling, if the instance is idle.
 fn busy_turn(rt: &impl Wait, napi: &Napi, caller: Caller, tally: &mut Tally) -> Caller
     requires { IsSeatOf napi.now caller.pass }
     ensures { IsSeatOf napi.now result.pass }
@@ -113,7 +113,7 @@ fn make_turns(
     (caller, tally)
 }
 
-/// Makes an instance over this context, so many turns of this kind by one caller, and closes it.
+/// Makes an instance with this context, makes this many cycles of this kind by one caller, and closes it.
 pub fn make_typed_turns(
     rt: &impl Wait,
     alloc: Global,

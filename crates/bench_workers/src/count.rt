@@ -1,4 +1,4 @@
-//! What came of a run's packets.
+//! The counts of a run's packets.
 
 use crate::load::Share;
 use rx_ring::Totals;
@@ -8,7 +8,7 @@ use rx_ring::Totals;
 pub struct Count {
     /// Packets that were put into their rings.
     pub packets: u64,
-    /// Packets that came and were neither polled nor left.
+    /// Packets that arrived and were neither polled nor left.
     pub lost: u64,
     /// Packets that were polled or left more than once.
     pub doubled: u64,
@@ -17,8 +17,8 @@ pub struct Count {
 }
 
 impl Count {
-    /// Counts what came of one device's packets. Where as many were polled and left as came, and their bytes differ, one was
-    /// lost and another doubled: all packets of a device have different sizes.
+    /// Counts one device's packets. If as many were polled and left as arrived, but their bytes differ, one was lost and
+    /// another doubled: all packets of a device have different sizes.
     pub fn add(&mut self, share: Share, totals: Totals) {
         let counted = totals.polled.saturating_add(totals.left);
         let mistaken = u64::from(counted == share.packets && totals.bytes != share.bytes);

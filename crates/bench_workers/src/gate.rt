@@ -4,7 +4,7 @@ use poll_engine::Gate;
 use std::thread;
 use std::time::{Clock, Duration};
 
-/// Holds the worker of device 1 before its first act.
+/// Delays the worker of device 1 before its first act.
 #[derive(Drop)]
 pub struct HoldsFirst<R> {
     rt: R,
@@ -12,7 +12,7 @@ pub struct HoldsFirst<R> {
 }
 
 impl<R: Clock> HoldsFirst<R> {
-    /// Holds it for so long.
+    /// Returns a gate with this delay.
     pub fn new(rt: R, hold: Duration) -> HoldsFirst<R> {
         HoldsFirst { rt, hold }
     }

@@ -1,4 +1,4 @@
-//! What a run is given.
+//! The load of a run.
 
 ghost use Rattle.std.specs.Prelude.{◌≡◌, ◌≤◌, ◌<◌, ◌+◌, ◌*◌, IfOk, IsTrue, vec_items};
 ghost use Rattle.std.specs.List.{All};
@@ -12,13 +12,13 @@ use std::alloc::{AllocError, Global};
 use std::env::Args;
 use std::time::Duration;
 
-// After so many packets a device is disabled and enabled, and changes who polls it.
+// After this many packets a device is disabled and enabled, and switches between its thread and the list.
 const PERIOD: u64 = 1000;
 
-// The places of the largest ring.
+// The greatest capacity of a ring.
 const MOST_SHARE: u64 = 65_536;
 
-/// The words of a run.
+/// The arguments of a run.
 #[derive(Drop)]
 pub struct Load {
     devices: u32,
@@ -26,29 +26,30 @@ pub struct Load {
     pub pollers: u32,
     /// Packets of all devices.
     pub packets: u64,
-    /// How long the first device is held at its gate.
+    /// How long the gate delays the first device.
     pub hold: Duration,
     ghost some: { (1 ≤ devices) × (devices ≤ 16) },
     ghost polled: { (1 ≤ pollers) × (pollers ≤ 8) },
     ghost room: { packets ≤ devices * 65536 },
 }
 
-/// A device's part of the packets.
+/// One device's share of the packets.
 #[derive(Clone, Copy)]
 pub struct Share {
-    /// How many packets.
+    /// The number of packets.
     pub packets: u64,
     /// Their bytes.
     pub bytes: u64,
 }
 
-// The next word, a number.
+// Returns the next argument, a number.
 fn number(words: &mut Args<Global>, name: &'static str) -> Result<u64> {
     let word = words.next().context(name)?;
     word.as_str().parse().context(name)
 }
 
-// The acts of a device. From time to time it is disabled, polled by its thread or from the list from then on, and enabled.
+// Returns the acts of a device. Every so many packets it is disabled, set to be polled by its thread or from the list, and
+// enabled.
 fn acts(alloc: Global, packets: u64) -> Result<Vec<Act>, AllocError>
     requires { packets ≤ 65536 }
 {
@@ -66,7 +67,7 @@ fn acts(alloc: Global, packets: u64) -> Result<Vec<Act>, AllocError>
 }
 
 impl Load {
-    /// What the words ask for.
+    /// Returns the load that the arguments ask for.
     pub fn of_words(mut words: Args<Global>) -> Result<Load> {
         let _program = words.next();
         let devices = number(&mut words, "how many devices")?;
@@ -90,7 +91,7 @@ impl Load {
         })
     }
 
-    /// The packets of the device of this number. They have 1, 2, 3 .. bytes.
+    /// Returns the packets of the device with this number. They have 1, 2, 3 .. bytes.
     pub fn share(&self, number: u32) -> Share
         ensures { result.packets ≤ 65536 }
     {
@@ -103,7 +104,7 @@ impl Load {
         }
     }
 
-    /// The devices, each with a ring that holds all its packets; every second one has a thread of its own.
+    /// Returns the devices, each with a ring that holds all its packets; every second one has its own thread.
     pub fn stations(&self, alloc: Global) -> Result<Vec<Station<ActList>>, AllocError>
         ensures { IfOk result (λ v. All IsStation (vec_items v)) }
     {

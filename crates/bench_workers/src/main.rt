@@ -1,7 +1,7 @@
-//! Puts packets through devices whose interrupts, pollers and threads run side by side, and counts that none is lost or
-//! doubled. What was counted goes to standard output, times to standard error. The words are how many devices (1 to 16),
-//! pollers (1 to 8) and packets there are (at most 65536 for each device), and, where it is given, for how many milliseconds
-//! the first device is held at its gate before its first act. `bench/workers.sh` runs it.
+//! Puts packets through devices whose interrupts, pollers and threads run concurrently, and checks that none is lost or
+//! doubled. Counts go to standard output, times to standard error. The arguments are the number of devices (1 to 16), of
+//! pollers (1 to 8) and of packets (at most 65536 for each device), and optionally for how many milliseconds the gate delays
+//! the first device before its first act. `bench/workers.sh` runs it.
 #![tactic(auto)]
 
 mod count;

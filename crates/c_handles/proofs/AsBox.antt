@@ -1,4 +1,4 @@
--- A held value and its parts own what a box at the same types owns.
+-- An owning pointer and its parts own what a box at the same types owns.
 use mir.Syntax.{impl, tnil, dnil}
 use mathlib.Core.List.{[]}
 use denote.Signature.{Slot, plain}

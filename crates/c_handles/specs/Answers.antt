@@ -1,4 +1,4 @@
--- How often a seat's calls were answered what: each answer is counted once, and a count stays at its greatest value.
+-- The counts of the results of a seat's calls: each result is counted once, and a count saturates.
 use Rattle.std.specs.Prelude.{ℕ, ◌+◌, ◌==◌, if◌then◌else◌}
 use Rattle.{rx_ring.specs.ReceiveRing.capped, c_handles.specs.Status.{GRANTED, MISSED}}
 use Rattle.c_handles.specs.{Status.{DISABLED, RELEASED, AGAIN, HELD, CHANGED}, declared.answers.FqAnswers.FqAnswers}
@@ -6,7 +6,7 @@ use Rattle.c_handles.specs.{Status.{DISABLED, RELEASED, AGAIN, HELD, CHANGED}, d
 abbrev pub no_answers : FqAnswers
 no_answers = record { granted = 0; missed = 0; disabled = 0; released = 0; again = 0; held = 0; changed = 0 }
 
--- a count of these answers, behind one that was this
+-- the count of one result, after one more call with this result
 abbrev pub one_more : ℕ → ℕ → ℕ → ℕ
 one_more of said count = if said == of then capped (count + 1) else count
 

@@ -1,4 +1,4 @@
--- What may be freed, and what that is answered.
+-- What may be freed, and the status of freeing it.
 use Rattle.std.specs.Prelude.{ℕ, Bool, true, false, not, is_some, if◌then◌else◌, Option, Some, None}
 use Rattle.c_handles.specs.Status.{IN_USE}
 use Rattle.c_handles.specs.{Runs.run_of, declared.{body.Body.Body, hold.Hold.Hold, power.Power.Power}, Status.{OK, NOT_ALLOWED, BAD_HANDLE}}
@@ -14,7 +14,7 @@ abbrev pub is_off : Power → Bool
 is_off (power.Off c) = true
 is_off _ = false
 
--- nobody waits for it: a seat that rests, a controller that is off, a list with no run under way, a ring
+-- no other object depends on it: a seat that owns nothing, the controller of a disabled instance, a list without a run, a ring
 abbrev pub is_freeable : Body → Bool
 is_freeable (body.Seat s) = rests s.hold
 is_freeable (body.Controller c) = is_off c.power
@@ -29,7 +29,7 @@ abbrev pub abandon_status : Option Body → ℕ
 abandon_status None = BAD_HANDLE
 abandon_status (Some x) = OK
 
--- what was led to, and what the other handle led to
+-- by the object of this handle, and that of the other
 abbrev pub move_status : Option Body → Option Body → ℕ
 move_status from (Some y) = IN_USE
 move_status None None = BAD_HANDLE

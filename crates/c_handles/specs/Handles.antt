@@ -1,5 +1,5 @@
--- What calls on handles are answered and leave, by what a handle leads to. One that leads to nothing, or to another kind than the
--- call is for, is answered BAD_HANDLE, and stays as it is.
+-- The status and the effect of calls on handles, by the object of the handle. A handle to nothing, or to another kind of object
+-- than the call is for, gets BAD_HANDLE and is unchanged.
 use Rattle.std.specs.Prelude.{◌≡◌, ◌⊎◌, ℕ, List, Option, Some, None}
 use Rattle.napi_model.specs.{declared.state.Seen.Seen, Word.word_of}
 use Rattle.{rx_ring.specs.declared.packet.Packet.Packet, c_handles.specs.declared.seat.{Seat.Seat, Controller.Controller}}
@@ -8,11 +8,11 @@ use Rattle.c_handles.specs.{declared.power.ControlCall.ControlCall, Answers.coun
 use Rattle.c_handles.specs.SeatCalls.{SeatAnswers, SeatLooks, SeatPolls, ControlAnswers}
 use Rattle.c_handles.specs.declared.body.Body.TheVariants as body
 
--- another kind
+-- another kind of object
 abbrev pub OtherKind : Body → ℕ → Body → Type 0
 OtherKind before n after = (n ≡ BAD_HANDLE) × (after ≡ before)
 
--- what it led to was answered this and changed so, and it leads to that then
+-- the call on the handle's object returned this status and had this effect, and the handle has the new object then
 abbrev pub OnHandle : (Body → ℕ → Body → Type 0) → Option Body → ℕ → Option Body → Type 0
 OnHandle P None n after = (n ≡ BAD_HANDLE) × (after ≡ None)
 OnHandle P (Some x) n None = ⊥
@@ -20,12 +20,12 @@ OnHandle P (Some x) n (Some y) = P x n y
 
 -- ---- callers
 
--- it is a caller with this
+-- it is a caller with this property
 abbrev pub IsSeatWith : (Seat → Type 0) → Body → Type 0
 IsSeatWith P (body.Seat s) = P s
 IsSeatWith P _ = ⊥
 
--- of a caller, this
+-- for a caller, this
 abbrev pub OnSeat : (Seat → ℕ → Body → Type 0) → Body → ℕ → Body → Type 0
 OnSeat P (body.Seat s) n after = P s n after
 OnSeat P other n after = OtherKind other n after
@@ -36,7 +36,7 @@ SeatMakesIn call = OnSeat (λ s n after. IsSeatWith (λ t. SeatAnswers call s.ho
 abbrev pub SeatGivesIn : ℕ → List Packet → Body → ℕ → Body → Type 0
 SeatGivesIn weight given = OnSeat (λ s n after. IsSeatWith (λ t. SeatPolls weight given s.hold n t.hold × (t.answers ≡ s.answers)) after)
 
--- A look shows this word. Of the two words the first was the caller's before, and the second afterwards.
+-- A look shows this word. Of the two words the first is the caller's variable before the call, and the second after it.
 abbrev pub ShowsWord : ℕ → ℕ → Hold → ℕ → Hold → Type 0
 ShowsWord before after h n k = ((n ≡ OK) × ((x : Seen) × SeatLooks h (Some x) k × (after ≡ word_of x))) ⊎ (Refused h n k × (after ≡ before))
 
@@ -54,7 +54,7 @@ SeatGives weight given old n new = OnHandle (SeatGivesIn weight given) old.held.
 
 -- ---- controllers
 
--- it is a controller with this
+-- it is a controller with this property
 abbrev pub IsControllerWith : (Controller → Type 0) → Body → Type 0
 IsControllerWith P (body.Controller c) = P c
 IsControllerWith P _ = ⊥
@@ -63,7 +63,7 @@ abbrev pub LeadsToController : (Controller → Type 0) → Option Body → Type 
 LeadsToController P None = ⊥
 LeadsToController P (Some x) = IsControllerWith P x
 
--- of a controller, this
+-- for a controller, this
 abbrev pub OnController : (Controller → ℕ → Body → Type 0) → Body → ℕ → Body → Type 0
 OnController P (body.Controller c) n after = P c n after
 OnController P other n after = OtherKind other n after
@@ -76,7 +76,7 @@ ControlMakes call old n new = OnHandle (ControlMakesIn call) old.held.body n new
 
 -- ---- lists
 
--- it is a list with this
+-- it is a list with this property
 abbrev pub IsListWith : (Lister → Type 0) → Body → Type 0
 IsListWith P (body.List l) = P l.value
 IsListWith P _ = ⊥
@@ -85,7 +85,7 @@ abbrev pub LeadsToList : (Lister → Type 0) → Option Body → Type 0
 LeadsToList P None = ⊥
 LeadsToList P (Some x) = IsListWith P x
 
--- of a list, this
+-- for a list, this
 abbrev pub OnList : (Lister → ℕ → Body → Type 0) → Body → ℕ → Body → Type 0
 OnList P (body.List l) n after = P l.value n after
 OnList P other n after = OtherKind other n after
@@ -93,6 +93,6 @@ OnList P other n after = OtherKind other n after
 abbrev pub ListMakesIn : (Lister → ℕ → Lister → Type 0) → Body → ℕ → Body → Type 0
 ListMakesIn P = OnList (λ l n after. IsListWith (λ m. P l n m) after)
 
--- of a handle that leads to a list: it was answered this, and leads to that list then
+-- for a handle to a list: the call returned this status, and the handle has that list then
 abbrev pub ListMakes : (Lister → ℕ → Lister → Type 0) → FqHandle → ℕ → FqHandle → Type 0
 ListMakes P old n new = OnHandle (ListMakesIn P) old.held.body n new.held.body

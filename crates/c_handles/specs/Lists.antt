@@ -1,4 +1,5 @@
--- A poll list of one thread and the run over it, as C drives it: what the run, if one is under way, has of the list.
+-- A poll list of one thread and the run over it, whose polls the C caller makes: what the run, if there is one, holds of the
+-- list.
 use Rattle.{std.specs.Prelude.{ℕ, Bool, true, false, Option, Some, None}, poll_runs.specs.Driven.held}
 use Rattle.poll_runs.specs.declared.polling_run.PollingRun.{PollingRun}
 
@@ -7,7 +8,7 @@ abbrev pub held_in : Option PollingRun → ℕ
 held_in None = 0
 held_in (Some run) = held run
 
--- the run that stands there, where it is under way
+-- the stored run, if it is in progress
 abbrev pub run_in : Bool → PollingRun → Option PollingRun
 run_in true place = Some place
 run_in false place = None

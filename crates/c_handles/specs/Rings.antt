@@ -1,4 +1,4 @@
--- What a handle leads to.
+-- The objects of handles.
 use Rattle.rx_ring.specs.{declared.{ends.RxCtx.RxCtx, packet.{Packet.Packet, RxCounts.RxCounts}}, Ends.{GivesNext, SameIn, put_list}}
 use Rattle.{rx_ring.specs.Ends.{capacity_of, received_list}, c_handles.specs.declared.{body.{Ring.Ring, Body.Body}, input.Input.Input}}
 use Rattle.std.specs.Prelude.{◌≡◌, ℕ, ◌==◌, if◌then◌else◌, List, Option, Some, None, [], ◌++◌, length}
@@ -6,21 +6,21 @@ use Rattle.c_handles.specs.Status.{BAD_HANDLE}
 use Rattle.c_handles.specs.{declared.handle.FqHandle.FqHandle, SeatCalls.{ctx_counts, hold_counts, power_counts}, Status.{OK, FULL}}
 use Rattle.c_handles.specs.declared.body.Body.TheVariants as body
 
--- the handle leads to the ring
+-- the handle has this ring
 abbrev pub LeadsTo : FqHandle → Ring → Type 0
 LeadsTo handle ring = handle.held.body ≡ Some (body.Ring ring)
 
--- it is a ring with this
+-- it is a ring with this property
 abbrev pub IsRingWith : (Ring → Type 0) → Body → Type 0
 IsRingWith P (body.Ring ring) = P ring
 IsRingWith P _ = ⊥
 
--- the handle leads to a ring with this
+-- the handle has a ring with this property
 abbrev pub LeadsToRing : (Ring → Type 0) → Option Body → Type 0
 LeadsToRing P None = ⊥
 LeadsToRing P (Some x) = IsRingWith P x
 
--- the input of a ring, and the other end, alone
+-- only the input of a ring, and only the other end
 abbrev pub IsInputWith : (Input → Type 0) → Body → Type 0
 IsInputWith P (body.In input) = P input
 IsInputWith P _ = ⊥
@@ -29,7 +29,7 @@ abbrev pub LeadsToInput : (Input → Type 0) → Option Body → Type 0
 LeadsToInput P None = ⊥
 LeadsToInput P (Some x) = IsInputWith P x
 
--- it has this input, of a whole ring or alone
+-- it has this input, as part of a whole ring or on its own
 abbrev pub HasInput : Input → Body → Type 0
 HasInput i (body.Ring ring) = ring.input ≡ i
 HasInput i (body.In input) = input ≡ i
@@ -47,23 +47,23 @@ abbrev pub LeadsToCtx : (RxCtx → Type 0) → Option Body → Type 0
 LeadsToCtx P None = ⊥
 LeadsToCtx P (Some x) = IsCtxWith P x
 
--- a new ring of so many places
+-- a new ring of this capacity
 pub record IsNewRing (capacity : ℕ) (ring : Ring) : Type 0 where
   pub capacity_is : capacity_of ring.input.end ≡ capacity
   pub nothing_put : put_list ring.input.end ≡ []
   pub nothing_received : received_list ring.ctx ≡ []
 
--- the packets were put in, behind all others and in their order
+-- the packets were put at the end of the ring, in order
 pub record IsAfterPut (before : Ring) (packets : List Packet) (after : Ring) : Type 0 where
   pub put : put_list after.input.end ≡ put_list before.input.end ++ packets
   pub ctx : after.ctx ≡ before.ctx
 
--- the same, where the other end is elsewhere
+-- the same, if the other end is elsewhere
 pub record IsAfterInput (before : Input) (packets : List Packet) (after : Input) : Type 0 where
   pub ring : SameIn before.end after.end
   pub put : put_list after.end ≡ put_list before.end ++ packets
 
--- what a burst is answered, of which so many packets were put
+-- the status of a burst of which this many packets were put
 abbrev pub burst_in : Body → ℕ → List Packet → ℕ
 burst_in (body.Ring ring) count packets = if count == length packets then OK else FULL
 burst_in (body.In input) count packets = if count == length packets then OK else FULL
@@ -73,14 +73,14 @@ abbrev pub burst_status : Option Body → ℕ → List Packet → ℕ
 burst_status None count packets = BAD_HANDLE
 burst_status (Some x) count packets = burst_in x count packets
 
--- a poll of this weight gave these packets
+-- a poll of this weight returned these packets
 pub record IsAfterPoll (weight : ℕ) (before : Ring) (given : List Packet) (after : Ring) : Type 0 where
   pub input : after.input ≡ before.input
   pub next : GivesNext weight before.ctx after.ctx given
 
 -- ---- what is counted
 
--- of the polls, by whoever has the ring's other end: none of one that nobody has there
+-- of the polls, if an object has the ring's poll end
 abbrev pub counts_in : Body → Option RxCounts
 counts_in (body.Ring ring) = Some (ctx_counts ring.ctx)
 counts_in (body.Ctx ctx) = Some (ctx_counts ctx)

@@ -1,5 +1,5 @@
--- What a caller or the controller of a shared instance does with a call, in whatever state it is, told by the clauses of the
--- calls below. A call that its state doesn't have is refused, and leaves all as it was.
+-- The effect of a call on a caller or the controller of a shared instance, in every state, by the contracts of the calls of
+-- `napi_calls`. A call that isn't allowed in the state fails, and changes nothing.
 use Rattle.napi_calls.specs.Packets.{Quiet, HoldsOn, GivesBack, IsSame, PreparesQuietly, TakesFresh, TriesToGiveBack, TriesToBusyPollFresh}
 use Rattle.napi_calls.specs.{Packets.{TriesToStopHolding, TriesToTakeFresh}, Calls.{Prepares, Takes, TriesToComplete, TriesToBusyPoll}}
 use Rattle.napi_calls.specs.{Calls.{TriesToStop, TriesToTake, EnablesAt}, declared.types.{Polling.Polling, Busy.Busy}, Made.{Made, WasLost}}
@@ -18,7 +18,7 @@ use Rattle.c_handles.specs.declared.hold.SeatCall.TheVariants as seat_call
 use Rattle.c_handles.specs.declared.power.Power.TheVariants as power
 use Rattle.c_handles.specs.declared.power.ControlCall.TheVariants as control_call
 
--- ---- what is held then
+-- ---- the state afterwards
 
 abbrev pub RestsWith : (Pass → Type 0) → Hold → Type 0
 RestsWith P (hold.Rests c) = P c.pass
@@ -57,23 +57,23 @@ abbrev pub IfBusy : (Busy → ℕ → Hold → Type 0) → Hold → ℕ → Hold
 IfBusy P (hold.Busy b) n after = P b n after
 IfBusy P other n after = Refused other n after
 
--- the operations of a call in the history, and what it does with the packets: its caller delivers none
+-- the operations of a call in the history, and its effect on the packets: its caller delivers none
 abbrev pub Does : List Operation → Pass → Pass → Type 0
 Does os p q = Made p os q × Quiet p q
 
--- a try that the answer tells, with what it does with the packets
+-- an attempt with this result, and its effect on the packets
 abbrev pub Tries : {A : Type 0} → (Pass → A → Type 0) → (Pass → A → Type 0) → Pass → Option A → Type 0
 Tries events packets p = Is (λ r. events p r × packets p r)
 
--- `napi_complete_done`, which holds an instance that is busy polled. Where it is released or is to be handed over again, what
--- was polled is delivered.
+-- `napi_complete_done`, which returns held while the instance is busy polled. If it is released or has to be handed over again,
+-- what was polled is delivered.
 abbrev pub Completes : Hold → ℕ → Hold → Type 0
 Completes (hold.Polls w) n after = Is (λ r. TriesToComplete w.pass r × TriesToGiveBack w.pass w.ctx r) (completed after n)
 Completes (hold.Busy b) n after =
     (n ≡ HELD) × BusyWith (λ x. Made b.pass (operation.Complete done.Held ∷ []) x.pass × HoldsOn b.pass x.pass × (x.ctx ≡ b.ctx)) after
 Completes other n after = Refused other n after
 
--- `SeatAnswers call before n after`: the call is answered this number, and leaves this
+-- `SeatAnswers call before n after`: the call returns this status, and leaves this state
 abbrev pub SeatAnswers : SeatCall → Hold → ℕ → Hold → Type 0
 SeatAnswers seat_call.Schedule = IfRests (λ p n after. Tries Prepares PreparesQuietly p (scheduled after n))
 SeatAnswers (seat_call.Hand k) = IfGranted (λ p n after. (n ≡ OK) × RestsWith (Does (operation.Hand k ∷ []) p) after)
@@ -86,7 +86,7 @@ SeatAnswers seat_call.BusyStop =
     IfBusy (λ b n after. Is (λ r. TriesToStop b.pass r × TriesToStopHolding b.pass b.ctx r) (busy_stopped after n))
 SeatAnswers (seat_call.SetThreaded b) = IfRests (λ p n after. (n ≡ OK) × RestsWith (Does (operation.SetThreaded b ∷ []) p) after)
 
--- a look tells this, and the caller stays what it is
+-- a look shows this, and the caller's state doesn't change
 abbrev pub SeatLooks : Hold → Option Seen → Hold → Type 0
 SeatLooks (hold.Rests c) (Some x) after = RestsWith (Does (operation.Look x ∷ []) c.pass) after
 SeatLooks (hold.Granted g) (Some x) after = GrantedWith (Does (operation.Look x ∷ []) g.pass) after
@@ -97,7 +97,7 @@ SeatLooks (hold.Busy b) (Some x) after =
 SeatLooks hold.Gone (Some x) after = ⊥
 SeatLooks before None after = (before ≡ hold.Gone) × (after ≡ before)
 
--- ---- what is counted of a ring's polls, by who has its context
+-- ---- the counts of a ring's polls, by the owner of its context
 
 abbrev pub ctx_counts : RxCtx → RxCounts
 ctx_counts ctx = counts_of (polls_of ctx) (received_list ctx)
@@ -117,7 +117,7 @@ abbrev pub MarkedWith : (Pass → Type 0) → Power → Type 0
 MarkedWith P (power.Marked c) = P c.pass
 MarkedWith P _ = ⊥
 
--- `napi_enable`, in one try: what was polled is delivered, or the controller has it still
+-- one attempt at `napi_enable`: what was polled is delivered, or the controller still has it
 abbrev pub EnablesIn : Pass → RxCtx → Bool → ℕ → Power → Type 0
 EnablesIn p ctx threaded n (power.On c) = (n ≡ OK) × EnablesAt threaded p c.pass × GivesBack p ctx c.pass
 EnablesIn p ctx threaded n (power.Off c) =
@@ -143,7 +143,7 @@ ControlAnswers control_call.TryTake = IfMarked (λ p n after. Tries TriesToTake 
 
 -- ---- polls
 
--- a poll of this weight gave these packets, or the caller doesn't poll
+-- a poll of this weight returned these packets, or the caller doesn't poll
 abbrev pub SeatPolls : ℕ → List Packet → Hold → ℕ → Hold → Type 0
 SeatPolls weight given (hold.Polls w) n after = (n ≡ OK) × PollsWith (λ x. GivesNext weight w.ctx x.ctx given × (x.pass ≡ w.pass)) after
 SeatPolls weight given (hold.Busy b) n after = (n ≡ OK) × BusyWith (λ x. GivesNext weight b.ctx x.ctx given × (x.pass ≡ b.pass)) after

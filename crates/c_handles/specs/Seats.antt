@@ -1,10 +1,10 @@
--- The callers and the controller of a shared instance, as handles of C's lead to them.
+-- The callers and the controller of a shared instance, as objects of C's handles.
 use Rattle.{std.proofs.Props.props, napi_calls.specs.{declared.types.Napi.Napi, Instance.IsSeatOf}, c_handles.specs.declared.hold.Hold.Hold}
 use Rattle.c_handles.specs.declared.power.Power.{Power}
 use Rattle.c_handles.specs.declared.hold.Hold.TheVariants as hold
 use Rattle.c_handles.specs.declared.power.Power.TheVariants as power
 
--- the caller is one of the instance's, or in a call
+-- the caller belongs to the instance, or is within a call
 abbrev pub SitsAt : Napi → Hold → Type 0
 SitsAt n (hold.Rests c) = IsSeatOf n c.pass
 SitsAt n (hold.Granted g) = IsSeatOf n g.pass
@@ -19,7 +19,7 @@ sits_prop n (hold.Polls w) = Prim.hlevel props
 sits_prop n (hold.Busy b) = Prim.hlevel props
 sits_prop n hold.Gone = Prim.hlevel props
 
--- what it is
+-- its state
 abbrev pub IsResting : Hold → Type 0
 IsResting (hold.Rests c) = Unit
 IsResting _ = ⊥
@@ -36,7 +36,7 @@ abbrev pub IsBusy : Hold → Type 0
 IsBusy (hold.Busy b) = Unit
 IsBusy _ = ⊥
 
--- the controller is the instance's, or in a call
+-- the controller belongs to the instance, or is within a call
 abbrev pub ControlsAt : Napi → Power → Type 0
 ControlsAt n (power.Off c) = IsSeatOf n c.pass
 ControlsAt n (power.On c) = IsSeatOf n c.pass

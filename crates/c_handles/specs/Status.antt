@@ -1,5 +1,5 @@
--- The numbers that calls answer C, no number twice: 0 where a call was made that has nothing else to say; 1 to 15 the faults
--- of a queue limit, as `DqlFault::number` has them; 16 to 99 what a call found that was made; from 100 on why none was made.
+-- The statuses of calls, no number twice: 0 for a call that succeeded without another result; 1 to 15 for the errors of a queue
+-- limit, as in `DqlFault::number`; 16 to 99 for the result of a call that succeeded; from 100 on for why a call failed.
 use Rattle.{std.specs.Prelude.{ℕ, Option, Some, None}, dql_core.specs.{declared.event.DqlFault.DqlFault, Fault.number_of}}
 
 abbrev pub OK : ℕ
@@ -83,7 +83,7 @@ BAD_NEXT = 118
 abbrev pub BAD_WORK : ℕ
 BAD_WORK = 119
 
--- the number of a queue limit's fault, or that there is none
+-- the number of a queue limit's error, or that there is none
 abbrev pub dql_status : Option DqlFault → ℕ
 dql_status None = OK
 dql_status (Some fault) = number_of fault

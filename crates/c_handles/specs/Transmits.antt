@@ -1,4 +1,4 @@
--- Transmit rings behind handles, and the numbers of what their calls answer.
+-- Transmit rings as objects of handles, and the statuses of their calls.
 use Rattle.{std.specs.Prelude.{ℕ, Option, Some, None}, dql_core.specs.Fault.number_of, tx_ring.specs.{Queue.TransmitQueue, Ring.ShowsQueue}}
 use Rattle.{tx_ring.specs.declared.{event.TxFault.TxFault, ring.TxRing.TxRing}, c_handles.specs.declared.body.Body.Body}
 use Rattle.c_handles.specs.{declared.handle.FqHandle.FqHandle, Status.{OK, FULL, STOPPED, MORE_THAN_SENT, OUT_OF_MEMORY, BAD_CAPACITY}}
@@ -6,7 +6,7 @@ use Rattle.dql_core.specs.declared.event.DqlFault.TheVariants as limit_fault
 use Rattle.tx_ring.specs.declared.event.TxFault.TheVariants as tx_fault
 use Rattle.c_handles.specs.declared.body.Body.TheVariants as body
 
--- it is a transmit ring with this
+-- it is a transmit ring with this property
 abbrev pub IsTxWith : (TxRing → Type 0) → Body → Type 0
 IsTxWith P (body.Tx r) = P r
 IsTxWith P _ = ⊥
@@ -15,11 +15,11 @@ abbrev pub LeadsToTx : (TxRing → Type 0) → Option Body → Type 0
 LeadsToTx P None = ⊥
 LeadsToTx P (Some x) = IsTxWith P x
 
--- the handle leads to a transmit ring that shows this queue
+-- the handle has a transmit ring that represents this queue
 abbrev pub TxShows : FqHandle → TransmitQueue → Type 0
 TxShows handle queue = LeadsToTx (λ r. ShowsQueue r queue) handle.held.body
 
--- the number of a transmit ring's fault, or that there is none
+-- the number of a transmit ring's error, or that there is none
 abbrev pub tx_status : Option TxFault → ℕ
 tx_status None = OK
 tx_status (Some tx_fault.Stopped) = STOPPED

@@ -1,4 +1,4 @@
--- What a call of a seat answers C and what is held then, turned back into the answer of the call below.
+-- The status of a seat's call and the state afterwards, as the result of the call of `napi_calls`.
 use Rattle.std.specs.Prelude.{ℕ, ◌==◌, if◌then◌else◌, Option, Some, None, Result, Ok, Err}
 use Rattle.napi_calls.specs.declared.types.Caller.{Caller}
 use Rattle.napi_calls.specs.declared.{types.Polling.Polling, answers.{TryPrep.TryPrep, TryDone.TryDone, TryBusy.TryBusy, TryStop.TryStop}}
@@ -12,7 +12,7 @@ use Rattle.napi_calls.specs.declared.answers.TryTake.TheVariants as try_take
 use Rattle.c_handles.specs.declared.hold.Hold.TheVariants as hold
 use Rattle.c_handles.specs.declared.power.Power.TheVariants as power
 
--- there is such an answer, and this holds of it
+-- there is such a result, and this holds for it
 abbrev pub Is : {A : Type 0} → (A → Type 0) → Option A → Type 0
 Is P None = ⊥
 Is P (Some r) = P r

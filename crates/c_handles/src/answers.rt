@@ -1,10 +1,10 @@
-//! How often a seat's calls were answered what.
+//! The counts of the results of a seat's calls.
 ghost use Rattle.std.specs.Prelude.{◌≡◌};
 ghost use Rattle.c_handles.specs.Answers.{no_answers, counting};
 
 use crate::status;
 
-/// How often a seat's calls were answered so: `struct fq_answers`. Each stays at its greatest value.
+/// The counts of the results of a seat's calls: `struct fq_answers`. Each saturates.
 #[repr(C)]
 #[derive(Clone, Copy)]
 pub struct FqAnswers {
@@ -20,12 +20,12 @@ pub struct FqAnswers {
     pub again: u64,
     /// Completions of a busy poller.
     pub held: u64,
-    /// Tries of any call between which another thread came.
+    /// Attempts of any call that failed because another thread interfered.
     pub changed: u64,
 }
 
 impl FqAnswers {
-    /// None yet.
+    /// Returns zero counts.
     pub fn none() -> FqAnswers
         ensures { result ≡ no_answers }
     {
@@ -40,7 +40,7 @@ impl FqAnswers {
         }
     }
 
-    /// One more.
+    /// Counts one more result.
     #[inline(always)]
     pub(crate) fn count(&mut self, status: u32)
         ensures { self.new ≡ counting status self.old }

@@ -1,4 +1,4 @@
-//! What C's handles lead to.
+//! The objects of C's handles.
 ghost use Rattle.rx_ring.specs.Ends.{IsOneRing};
 
 use crate::input::Input;
@@ -11,28 +11,28 @@ use tx_ring::TxRing;
 /// Both ends of one ring.
 #[derive(Drop)]
 pub struct Ring {
-    /// The end at which packets are put.
+    /// The producer's end.
     pub input: Input,
-    /// The end at which they are polled.
+    /// The consumer's end, which polls.
     pub ctx: RxCtx,
-    /// They are one ring's.
+    /// They belong to the same ring.
     pub ghost one: { IsOneRing input.end ctx },
 }
 
-/// What a handle leads to.
+/// The object of a handle.
 #[derive(Drop)]
 pub enum Body {
-    /// A ring, of which no instance has an end.
+    /// A ring with both ends, without an instance.
     Ring(Ring),
     /// The input of a ring whose other end an instance has, or another handle.
     In(Input),
-    /// The other end of a ring, where no instance has it.
+    /// The other end of a ring, without an instance.
     Ctx(RxCtx),
     /// A poll list.
     List(Box<Lister, Global>),
     /// A caller of a shared instance.
     Seat(Seat),
-    /// The controller of one.
+    /// The controller of a shared instance.
     Controller(Controller),
     /// A transmit ring.
     Tx(TxRing),

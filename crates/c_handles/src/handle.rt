@@ -8,18 +8,18 @@ use crate::parts::Parts;
 use std::alloc::Global;
 use std::mem;
 
-/// A handle in C's memory: `struct fq_handle`. Bytes that are all 0 are a handle that leads to nothing.
+/// A handle in C's memory: `struct fq_handle`. Bytes that are all 0 are a handle to nothing.
 #[repr(C)]
 #[derive(Drop)]
 pub struct FqHandle {
     set: bool,
-    /// What it leads to.
+    /// Its object.
     pub held: Held,
     ghost is_set: { is_some held.body ≡ set },
 }
 
 impl FqHandle {
-    /// One that leads to nothing.
+    /// Returns a handle to nothing.
     #[inline]
     fn none(alloc: Global) -> FqHandle
         ensures { result.held.body ≡ None }
@@ -30,7 +30,7 @@ impl FqHandle {
         }
     }
 
-    /// One that leads to this.
+    /// Returns a handle to this object.
     #[inline]
     fn of(body: Box<Body, Global>) -> FqHandle
         ensures { result.held.body ≡ Some body.value }
@@ -41,7 +41,7 @@ impl FqHandle {
         }
     }
 
-    /// Whether it leads to something.
+    /// Returns whether it has an object.
     #[inline]
     pub fn is_set(&self) -> bool
         ensures { result ≡ is_some self.now.held.body }
@@ -62,7 +62,7 @@ impl FqHandle {
         }
     }
 
-    /// Takes out what it leads to.
+    /// Takes out its object.
     #[inline]
     pub fn take(&mut self, alloc: Global) -> Option<Box<Body, Global>>
         ensures some { IfSome result (λ b. self.old.held.body ≡ Some b.value) }
@@ -72,7 +72,7 @@ impl FqHandle {
         mem::replace(self, FqHandle::none(alloc)).open()
     }
 
-    /// Lets a handle that leads to nothing lead to this.
+    /// Sets the object of a handle to nothing.
     #[inline]
     pub fn put(&mut self, body: Box<Body, Global>)
         ensures { self.new.held.body ≡ Some body.value }

@@ -1,4 +1,4 @@
-//! A place in C's memory that owns a value on the heap, or nothing.
+//! A pointer in C's memory that owns a value on the heap, or nothing.
 ghost use Rattle.std.specs.Prelude.{◌≡◌, Option, None, Some};
 ghost use Rattle.c_handles.specs.Held.{held_owns, body_coded};
 ghost use Rattle.c_handles.specs.declared.body.Body.{Body};
@@ -9,7 +9,7 @@ use std::alloc::Global;
 use std::marker::Model;
 use std::ptr;
 
-/// Owns the value at the pointer, or nothing. One that is dropped leaves its value in memory: it is opened first.
+/// Owns the value at the pointer, or nothing. Its drop would leak the value: open it first.
 #[repr(C)]
 #[derive(Drop)]
 pub struct Held {
@@ -26,7 +26,7 @@ impl Model for Held {
 unsafe impl Send for Held {}
 
 impl Held {
-    /// Of a box's parts.
+    /// Returns an owning pointer from a box's parts.
     #[inline]
     pub fn of_parts(parts: Parts<Body, Global>) -> Held
         ensures { result.body ≡ Some parts.value }
@@ -38,7 +38,7 @@ impl Held {
         }
     }
 
-    /// The parts of the box, where there is one.
+    /// Returns the parts of the box, if there is one.
     #[inline]
     pub fn into_parts(self) -> Parts<Body, Global>
         requires { (x : Body) × (self.body ≡ Some x) }
@@ -51,7 +51,7 @@ impl Held {
         }
     }
 
-    /// One that owns nothing.
+    /// Returns a pointer that owns nothing.
     #[inline]
     pub fn none(alloc: Global) -> Held
         ensures { result.body ≡ None }

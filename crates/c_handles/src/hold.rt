@@ -1,4 +1,4 @@
-//! What a caller of a shared instance is: its type, told at run time.
+//! The state of a caller of a shared instance: its type, at run time.
 ghost use Rattle.std.specs.Prelude.{◌≡◌};
 ghost use Rattle.c_handles.specs.SeatCalls.{SeatAnswers, SeatLooks, hold_counts};
 ghost use Rattle.c_handles.specs.Seats.{SitsAt, IsResting, IsGranted, IsPolling, IsBusy};
@@ -11,7 +11,7 @@ use napi_model::{Kind, Seen};
 use rx_ring::RxCounts;
 use std::mem;
 
-/// What a caller is asked to do. Each is one try, which doesn't wait.
+/// A call on a caller. Each is one attempt, which doesn't wait.
 #[derive(Clone, Copy)]
 pub enum SeatCall {
     /// `Caller::try_schedule`.
@@ -32,7 +32,7 @@ pub enum SeatCall {
     SetThreaded(bool),
 }
 
-/// What the caller is.
+/// The state of a caller.
 pub enum Hold {
     /// It owns nothing.
     Rests(Caller),
@@ -59,7 +59,7 @@ impl Drop for Hold {
 }
 
 impl Hold {
-    // The caller, of one that rests.
+    // Returns the caller, if it owns nothing.
     #[inline]
     fn into_caller(self) -> Caller
         requires { IsResting self }
@@ -71,7 +71,7 @@ impl Hold {
         }
     }
 
-    // The caller, of one that was granted the instance.
+    // Returns the caller, if it was granted the instance.
     #[inline]
     fn into_granted(self) -> Granted
         requires { IsGranted self }
@@ -83,7 +83,7 @@ impl Hold {
         }
     }
 
-    // The poller, of one that polls.
+    // Returns the poller, if it polls.
     #[inline]
     fn into_polling(self) -> Polling
         requires { IsPolling self }
@@ -95,7 +95,7 @@ impl Hold {
         }
     }
 
-    // The caller, of one that busy polls.
+    // Returns the busy poller, if it busy polls.
     #[inline]
     fn into_busy(self) -> Busy
         requires { IsBusy self }
@@ -107,8 +107,8 @@ impl Hold {
         }
     }
 
-    // The four that follow write the place anew, from which the caller was taken out, and give the answer on. In functions of
-    // their own, so that each of the two is written once. What they take out tells the compiler that nothing is dropped.
+    // The four functions that follow write the state from which the caller was taken out, and return the status. They are
+    // functions of their own so that each write occurs once. What they take out shows the compiler that nothing is dropped.
     #[inline(always)]
     fn rest(&mut self, caller: Caller, answer: u32) -> u32
         requires { self.old ≡ hold.Gone }
@@ -161,7 +161,7 @@ impl Hold {
         }
     }
 
-    /// Makes a call, where the caller is one that has it, and answers its number.
+    /// Runs `call` and returns its status; returns NOT_ALLOWED in any other state.
     #[inline(always)]
     pub(crate) fn step(&mut self, napi: &Napi, call: SeatCall) -> u32
         requires { SitsAt napi.now self.old }
@@ -255,7 +255,7 @@ impl Hold {
         }
     }
 
-    // As `complete`, where the caller doesn't busy poll.
+    // Like `complete`, for a caller that doesn't busy poll.
     #[inline]
     fn end_poll(&mut self, napi: &Napi) -> u32
         requires sits { SitsAt napi.now self.old }
@@ -321,7 +321,7 @@ impl Hold {
         }
     }
 
-    /// What the state word tells, as `look` of whatever the caller is. None: it is in a call.
+    /// Reads the state word, in every state; returns `None` within a call.
     pub(crate) fn look(&mut self, napi: &Napi) -> Option<Seen>
         requires { SitsAt napi.now self.old }
         ensures sits { SitsAt napi.now self.new }
@@ -336,7 +336,7 @@ impl Hold {
         }
     }
 
-    /// What is counted of the ring's polls, where the caller polls.
+    /// The counts of the ring's polls, if the caller polls.
     pub(crate) fn counts(&self) -> Option<RxCounts>
         ensures { result ≡ hold_counts self.now }
     {

@@ -1,4 +1,4 @@
-//! The end of a ring at which packets are put, with what is counted there.
+//! The producer's end of a ring, with its counts.
 ghost use Rattle.std.specs.Prelude.{◌≡◌, ◌⊎◌, ◌<◌, ◌≤◌, ◌-◌, ◌++◌, [], ◌∷◌, length, take, min};
 ghost use Rattle.rx_ring.specs.ReceiveRing.{capped};
 ghost use Rattle.rx_ring.specs.Ends.{put_list, capacity_of, SameIn};
@@ -8,17 +8,17 @@ ghost use Rattle.c_handles.specs.Status.{FULL, OK};
 use crate::status;
 use rx_ring::{Packet, RxIn};
 
-/// What the input of a ring shows: `struct fq_ring_shown`.
+/// The state of the input of a ring: `struct fq_ring_shown`.
 #[repr(C)]
 #[derive(Clone, Copy)]
 pub struct FqRingShown {
-    /// The packets that were put so far; it stays at its greatest value.
+    /// The packets that were put so far; it saturates.
     pub put: u64,
     /// How many packets the ring can hold.
     pub places: usize,
 }
 
-/// The end of a ring at which packets are put.
+/// The producer's end of a ring.
 #[derive(Drop)]
 pub struct Input {
     end: RxIn,
@@ -28,7 +28,7 @@ pub struct Input {
 }
 
 impl Input {
-    /// Of a new ring, of so many places.
+    /// Returns the input of a new ring of this capacity.
     pub fn new(end: RxIn, places: usize) -> Input
         requires places { capacity_of end ≡ places }
         requires empty { put_list end ≡ [] }
@@ -38,7 +38,7 @@ impl Input {
         Input { end, shown }
     }
 
-    /// The end alone.
+    /// Returns only the end.
     pub fn into_end(self) -> RxIn
         ensures { result ≡ self.end }
     {
@@ -46,14 +46,14 @@ impl Input {
         end
     }
 
-    /// What it shows.
+    /// Its state.
     pub fn shown(&self) -> FqRingShown
         ensures { result ≡ shown_of self.now.end }
     {
         self.shown
     }
 
-    /// As `RxIn::put`: ok, or full.
+    /// Like `RxIn::put`: returns ok, or full.
     pub fn put(&mut self, packet: Packet) -> u32
         ensures ring { SameIn self.old.end self.new.end }
         ensures answers { (result ≡ OK) ⊎ (result ≡ FULL) }
@@ -71,7 +71,7 @@ impl Input {
         }
     }
 
-    /// As `RxIn::put_all`: how many packets were put.
+    /// Like `RxIn::put_all`: returns how many packets were put.
     pub fn put_all(&mut self, packets: &[Packet]) -> usize
         ensures ring { SameIn self.old.end self.new.end }
         ensures put { put_list self.new.end

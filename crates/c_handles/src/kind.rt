@@ -1,10 +1,10 @@
-//! To whom an instance is handed, by C's number.
+//! The queue for an instance, by its number in C.
 ghost use Rattle.std.specs.Prelude.{◌≡◌};
 ghost use Rattle.c_handles.specs.Kinds.{kind_in};
 
 use napi_model::Kind;
 
-/// The kind of this number (`enum fq_kind`), if it is one's.
+/// Returns the kind with this number (`enum fq_kind`), if there is one.
 pub fn kind_of(kind: u32) -> Option<Kind>
     ensures { result ≡ kind_in kind }
 {

@@ -1,5 +1,5 @@
-//! What stands behind the handles of C: what a handle leads to, how it is taken out for a call and put back, and what a seat,
-//! a controller and a poll list do with a call in whatever state they are. The exports are those of `napi_c`.
+//! The objects of C's handles: what a handle refers to, how its object is taken out for a call and put back, and the effect of
+//! calls on a seat, a controller and a poll list in every state. The exports are in `napi_c`.
 #![tactic(auto)]
 
 mod answers;

@@ -1,4 +1,4 @@
-//! A poll list of C's, with the run over it.
+//! A poll list for C, with the run over it.
 ghost use Rattle.std.specs.Prelude.{◌≡◌, false};
 ghost use Rattle.poll_runs.specs.Plain.{HasRoom};
 ghost use Rattle.poll_runs.specs.Steps.{HoldsNothing};
@@ -6,19 +6,19 @@ ghost use Rattle.c_handles.specs.Lists.{held_in, run_in};
 
 use poll_runs::{PlainList, PollingRun};
 
-/// What a run did: `struct fq_run_report`.
+/// The report of a run: `struct fq_run_report`.
 #[repr(C)]
 #[derive(Clone, Copy)]
 pub struct FqRunReport {
-    /// The polls that were made, at most the window.
+    /// The number of polls, at most the window.
     pub polls: u32,
-    /// The packets that they gave together.
+    /// The packets of all polls together.
     pub work: u32,
-    /// Whether budget or window was spent.
+    /// Whether budget or window was used up.
     pub squeezed: bool,
 }
 
-/// A poll list of one thread, and the run over it, if one is under way, which begins and ends in its place.
+/// A poll list of one thread, and the run over it, if there is one, which is stored here.
 #[derive(Drop)]
 pub struct Lister {
     pub(crate) list: PlainList,

@@ -1,4 +1,4 @@
-//! What the controller of a shared instance has done last: its type, told at run time.
+//! The state of the controller of a shared instance: its type, at run time.
 ghost use Rattle.std.specs.Prelude.{◌≡◌};
 ghost use Rattle.c_handles.specs.SeatCalls.{ControlAnswers, power_counts};
 ghost use Rattle.c_handles.specs.Seats.{ControlsAt};
@@ -8,7 +8,7 @@ use crate::status;
 use napi_calls::{Control, Marked, Napi, Off, On, TryTake};
 use rx_ring::RxCounts;
 
-/// What the controller is asked to do. Each is one try, which doesn't wait.
+/// A call on the controller. Each is one attempt, which doesn't wait.
 #[derive(Clone, Copy)]
 pub enum ControlCall {
     /// `Control::try_enable`.
@@ -19,7 +19,7 @@ pub enum ControlCall {
     TryTake,
 }
 
-/// What the controller has done last.
+/// What the controller did last.
 pub enum Power {
     /// Disabled.
     Off(Control<Off>),
@@ -43,7 +43,7 @@ impl Drop for Power {
 }
 
 impl Power {
-    /// Makes a call, where the instance's power has it, and answers its number.
+    /// Runs `call` and returns its status; returns NOT_ALLOWED if it isn't allowed in this state.
     pub(crate) fn step(self, napi: &Napi, call: ControlCall) -> (Power, u32)
         requires { ControlsAt napi.now self }
         ensures sits { ControlsAt napi.now result.0 }
@@ -96,7 +96,7 @@ impl Power {
         }
     }
 
-    /// What is counted of the ring's polls, where the instance is disabled.
+    /// The counts of the ring's polls, if the instance is disabled.
     pub(crate) fn counts(&self) -> Option<RxCounts>
         ensures { result ≡ power_counts self.now }
     {

@@ -1,4 +1,4 @@
-//! A polling run that C makes, one poll after the other.
+//! A polling run whose polls the C caller makes, one by one.
 ghost use Rattle.std.specs.Prelude.{◌≡◌, ◌≢◌, ◌+◌, ◌<◌, ◌≤◌, ◌↔◌, ◌++◌, [], ◌∷◌, List, Some, None, is_some, true, length};
 ghost use Rattle.poll_runs.specs.Polls.{Poll, work_of};
 ghost use Rattle.poll_runs.specs.Driven.{and_poll};
@@ -12,7 +12,7 @@ use crate::status;
 use napi_model::Kind;
 use poll_runs::{Next, Once, PlainList, PollList, PollingRun};
 
-// How a poll ended, by C's number (`enum fq_next`).
+// Returns how a poll ended, by its number in C (`enum fq_next`).
 fn next_of(number: u32) -> Option<Next>
     ensures { result ≡ next_in number }
 {
@@ -27,7 +27,7 @@ fn next_of(number: u32) -> Option<Next>
 }
 
 impl Lister {
-    /// An empty list.
+    /// Returns an empty list.
     pub fn new() -> Lister
         ensures list { result.list ≡ [] }
         ensures run { run_of result ≡ None }
@@ -39,7 +39,7 @@ impl Lister {
         }
     }
 
-    /// Whether a run is under way.
+    /// Returns whether a run is in progress.
     pub fn is_running(&self) -> bool
         ensures { result ≡ is_some (run_of self.now) }
     {
@@ -60,7 +60,7 @@ impl Lister {
         self.list.ids().contains(&id) || self.runs && self.place.is_waiting(id)
     }
 
-    /// Puts a number at the list's tail, where list and run don't have it and hold fewer than 64.
+    /// Appends a number to the list, if neither list nor run has it and they hold fewer than 64.
     pub fn push(&mut self, id: u32) -> u32
         ensures status { result ≡ push_status self.old id }
         ensures pushed { result ≡ OK → self.new.list ≡ self.old.list ++ id ∷ [] }
@@ -77,7 +77,7 @@ impl Lister {
         status::OK
     }
 
-    /// Begins a run (`PollingRun::restart`).
+    /// Starts a run (`PollingRun::restart`).
     pub fn begin(&mut self, budget: u32, weight: u32, window: u32) -> u32
         ensures status { result ≡ begin_status self.old budget weight window }
         ensures going { result ≡ OK → Runs self.old.list [] self.new }
@@ -105,7 +105,7 @@ impl Lister {
         self.runs && self.place.asked().is_none()
     }
 
-    /// The number that is to be polled next, or that the run is over (`PollingRun::next`).
+    /// Sets the number to poll next, or returns that the run is over (`PollingRun::next`).
     pub fn next(&mut self, id: &mut u32) -> u32
         ensures going { (start : _) (polls : List Poll) → Runs start polls self.old
             → Runs start polls self.new }
@@ -129,7 +129,7 @@ impl Lister {
         }
     }
 
-    // Whether the number that was polled comes back to where it stands already.
+    // Returns whether the number that was polled would return to a list that has it already.
     fn is_doubled(&self, id: u32, next: Next) -> bool
         ensures { result ≡ is_doubled self.now (Some id) next }
     {
@@ -139,7 +139,7 @@ impl Lister {
         }
     }
 
-    /// What the poll did, and how it ended (`PollingRun::polled`).
+    /// Reports what the poll did, and how it ended (`PollingRun::polled`).
     pub fn polled(&mut self, work: u32, next: u32) -> u32
         ensures status { result ≡ polled_status self.old work next }
         ensures going { (start : _) (polls : List Poll) (id : _) (n : Next) → result ≡ OK
@@ -189,7 +189,7 @@ impl Lister {
         }
         let done = self.place.finish(&mut self.list);
         self.runs = false;
-        // which tells that it holds at most 64 numbers
+        // this shows that it holds at most 64 numbers
         let _few = self.list.ids();
         *report = FqRunReport {
             polls: done.polls,

@@ -1,4 +1,4 @@
-//! A caller and the controller of a shared instance, each with the instance, as handles lead to them.
+//! A caller and the controller of a shared instance, each with the instance, as objects of handles.
 ghost use Rattle.std.specs.Prelude.{◌≡◌, ◌≤◌, length};
 ghost use Rattle.std.specs.Arc.{arc_value};
 ghost use Rattle.c_handles.specs.Answers.{counting};
@@ -31,7 +31,7 @@ impl Drop for Shared {
 }
 
 impl Shared {
-    /// The instance, which nobody shares.
+    /// Returns the instance, when it isn't shared any more.
     pub fn into_napi(self) -> Napi
         ensures { result ≡ self.napi }
     {
@@ -45,16 +45,16 @@ impl Shared {
 pub struct Seat {
     /// Its instance.
     pub napi: Arc<Shared, Global>,
-    /// What it is.
+    /// Its state.
     pub hold: Hold,
-    /// How often its calls were answered what.
+    /// The counts of the results of its calls.
     pub answers: FqAnswers,
-    /// It is of that instance.
+    /// It belongs to that instance.
     pub ghost seat: { SitsAt (arc_value napi).napi hold } by { sits_prop (arc_value napi).napi hold },
 }
 
 impl Seat {
-    /// Makes a call, and answers its number.
+    /// Makes a call, and returns its status.
     #[inline(always)]
     pub fn step(&mut self, call: SeatCall) -> u32
         ensures made { SeatAnswers call self.old.hold result self.new.hold }
@@ -65,7 +65,7 @@ impl Seat {
         status
     }
 
-    /// What the state word tells. None: it is in a call.
+    /// Reads the state word; returns `None` within a call.
     pub fn look(&mut self) -> Option<Seen>
         ensures looks { SeatLooks self.old.hold result self.new.hold }
         ensures answers { self.new.answers ≡ self.old.answers }
@@ -73,14 +73,14 @@ impl Seat {
         self.hold.look(&self.napi.napi)
     }
 
-    /// What is counted of the ring's polls, where it polls.
+    /// The counts of the ring's polls, if it polls.
     pub fn counts(&self) -> Option<RxCounts>
         ensures { result ≡ hold_counts self.now.hold }
     {
         self.hold.counts()
     }
 
-    /// As `Polling::poll` and `Busy::poll`.
+    /// Like `Polling::poll` and `Busy::poll`.
     #[inline]
     pub fn poll(&mut self, weight: usize, batch: &mut Batch) -> u32
         requires { (1 ≤ weight) × (weight ≤ 64) }
@@ -107,14 +107,14 @@ impl Seat {
 pub struct Controller {
     /// Its instance.
     pub napi: Arc<Shared, Global>,
-    /// What it has done last.
+    /// What it did last.
     pub power: Power,
-    /// It is of that instance.
+    /// It belongs to that instance.
     pub ghost seat: { ControlsAt (arc_value napi).napi power } by { controls_prop (arc_value napi).napi power },
 }
 
 impl Controller {
-    /// Makes a call, and answers its number.
+    /// Makes a call, and returns its status.
     pub fn step(&mut self, call: ControlCall) -> u32
         ensures { ControlAnswers call self.old.power result self.new.power }
     {
@@ -126,7 +126,7 @@ impl Controller {
         status
     }
 
-    /// What is counted of the ring's polls, where the instance is disabled.
+    /// The counts of the ring's polls, if the instance is disabled.
     pub fn counts(&self) -> Option<RxCounts>
         ensures { result ≡ power_counts self.now.power }
     {

@@ -1,36 +1,36 @@
-//! The numbers that calls answer, no number twice (`enum fq_status`).
+//! The statuses that calls return, no number twice (`enum fq_status`).
 
-/// The call was made, and has nothing else to say.
+/// The call succeeded, without another result.
 pub const OK: u32 = 0;
 
-/// Schedule: the instance is the caller's, who has to hand it over.
+/// Schedule: the caller owns the instance, and has to hand it over.
 pub const GRANTED: u32 = 16;
 
-/// Schedule: a poll is asked for already, and one more follows.
+/// Schedule: a poll is requested already, and another one follows.
 pub const MISSED: u32 = 17;
 
-/// Schedule: a disable is pending, and nothing is asked for.
+/// Schedule: a disable is pending, and no poll was requested.
 pub const DISABLED: u32 = 18;
 
-/// Takes: it is the caller's.
+/// Take: the caller owns it.
 pub const TAKEN: u32 = 19;
 
-/// Take: it wasn't handed over so.
+/// Take: it isn't in that queue.
 pub const NOT_THERE: u32 = 20;
 
-/// Complete: nobody has it any more.
+/// Complete: no caller owns it any more.
 pub const RELEASED: u32 = 21;
 
 /// Complete: a request was missed, and the caller has to hand it over again.
 pub const AGAIN: u32 = 22;
 
-/// Complete: it is busy polled, and the caller polls on.
+/// Complete: it is busy polled, and the caller keeps polling.
 pub const HELD: u32 = 23;
 
-/// Takes of an idle instance: someone has it.
+/// Take of an idle instance: a caller owns it.
 pub const BUSY: u32 = 24;
 
-/// Shared instances: another thread came between, and nothing is decided.
+/// Shared instances: another thread interfered, and nothing is decided.
 pub const CHANGED: u32 = 25;
 
 /// Put and push: there is no room.
@@ -45,22 +45,22 @@ pub const STOPPED: u32 = 28;
 /// Done: the ring holds fewer packets.
 pub const MORE_THAN_SENT: u32 = 29;
 
-/// The object's state doesn't have the call.
+/// The call isn't allowed in the object's state.
 pub const NOT_ALLOWED: u32 = 100;
 
 /// No kind has this number.
 pub const BAD_KIND: u32 = 101;
 
-/// The handle leads to nothing, or to another kind.
+/// The handle has no object, or one of another kind.
 pub const BAD_HANDLE: u32 = 110;
 
 /// The handle is set already.
 pub const IN_USE: u32 = 111;
 
-/// There is no memory.
+/// Out of memory.
 pub const OUT_OF_MEMORY: u32 = 112;
 
-/// A ring's places are 1 to 65536.
+/// A ring's capacity is 1 to 65536.
 pub const BAD_CAPACITY: u32 = 113;
 
 /// A weight is 1 to 64.
@@ -78,5 +78,5 @@ pub const BAD_COUNT: u32 = 117;
 /// No end of a poll has this number.
 pub const BAD_NEXT: u32 = 118;
 
-/// A poll gives no more than its weight.
+/// A poll processes at most its weight.
 pub const BAD_WORK: u32 = 119;

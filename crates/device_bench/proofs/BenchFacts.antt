@@ -1,4 +1,4 @@
--- How a change of one device keeps what is true of all.
+-- How a change of one device preserves the invariant of all devices.
 use Rattle.std.proofs.Common.{◌≡◌, ◌≢◌, ◌∙◌, ℕ, zero, suc, ◌+◌, ◌<◌, ◌≤◌, Bool, true, false, Option, Some, None, [], ◌∷◌, length, ◌++◌}
 use Rattle.std.{proofs.Common.{get_or, length-set, replicate, slice_set, take, drop, ap, refl, sym, arith}, specs.Prelude.{◌==◌, nat_lt}}
 use Rattle.std.proofs.lemmas.{Bool.{eqb-true, eqb-false, ltb-true, ltb-false}, List.{append-nil, drop_all, get_or-set_other, take_all}}
@@ -7,7 +7,7 @@ use Rattle.device_bench.specs.{DeviceView.DeviceView, Kept.{IsKept, is_pending_a
 use Rattle.device_bench.proofs.{DeviceFacts.settled-same, Waiting.{waiting-empty, waiting-most}}
 use Rattle.device_places.{specs.Places.{Places, at, changed, changed_from, empty}, proofs.PlaceFacts.{at-index, at-set, below-some}}
 
--- what a call reads at a number, and finds a device
+-- the entry of a number at which a call finds a device
 pub here-at : {u : Bool} {xs : Places DeviceView} {o : Option DeviceView} {d : DeviceView} (n : ℕ) → IsKept u xs → n < 17
     → o ≡ get_or xs n o → o ≡ Some d → at n xs ≡ Some d
 here-at {xs = xs} {o = o} n k below read is = at-index xs n o (omega (arith, below, k.places)) (sym read) ∙ is
@@ -19,7 +19,7 @@ pub pending-off : {u : Bool} {xs : Places DeviceView} {d : DeviceView} (n : ℕ)
     → is_pending d ≡ false
 pending-off n k here off = ap is_pending_at (sym here) ∙ k.settled off n
 
--- one place is set to a device that is sound, and that is pending only where a disable may be
+-- one entry is set to a sound device, which is pending only if a disable may be
 pub kept-set : (u v : Bool) (xs : Places DeviceView) (n : ℕ) (e : DeviceView) → IsKept u xs → n < length xs → is_sound e ≡ true
     → (v ≡ false → u ≡ false) → (v ≡ false → is_pending e ≡ false)
     → IsKept v (slice_set xs n (Some e))
@@ -43,12 +43,12 @@ kept-empty = record {
   few = omega (arith, waiting-empty);
 }
 
--- a new device, which is sound and isn't pending
+-- a new device is sound, and no disable of it is pending
 pub kept-opened : (u : Bool) (xs : Places DeviceView) (n capacity : ℕ) → IsKept u xs → n < length xs
     → IsKept u (slice_set xs n (Some (opened capacity)))
 kept-opened u xs n capacity k below = kept-set u u xs n (opened capacity) k below refl (λ off. off) (λ off. refl)
 
--- a change of one device that keeps both
+-- a change of one device that preserves both
 pub kept-changed : {u : Bool} {xs : Places DeviceView} {d e f : DeviceView} (n : ℕ) → IsKept u xs → at n xs ≡ Some d → e ≡ f
     → is_sound f ≡ true → is_pending f ≡ is_pending d → IsKept u (slice_set xs n (Some e))
 kept-changed {u} {xs} {d} {e} n k here is sound pending =
@@ -57,7 +57,7 @@ kept-changed {u} {xs} {d} {e} n k here is sound pending =
 
 -- ---- settling
 
--- where no disable is pending, trying them changes nothing
+-- if no disable is pending, trying them changes nothing
 all-settled-same : (xs : Places DeviceView) → ((n : ℕ) → is_pending_at (at n xs) ≡ false) → all_settled xs ≡ xs
 all-settled-same [] off = refl
 all-settled-same (None ∷ xs) off = ap (λ (l : Places DeviceView). None ∷ l) (all-settled-same xs (λ n. off (suc n)))
@@ -66,7 +66,7 @@ all-settled-same (Some d ∷ xs) off = rw (settled-same d (off 0), all-settled-s
 pub settled-off : (u : Bool) (xs : Places DeviceView) → IsKept u xs → u ≡ false → all_settled xs ≡ xs
 settled-off u xs k off = all-settled-same xs (k.settled off)
 
--- the first of them were tried, the others not yet
+-- the first ones were tried, the others not yet
 pub settled_to : ℕ → Places DeviceView → Places DeviceView
 settled_to n xs = all_settled (take n xs) ++ drop n xs
 
@@ -100,7 +100,7 @@ pub settled-all : (n : ℕ) (xs : Places DeviceView) → length xs ≤ n → set
 unfolding settled_to
 settled-all n xs most = rw (take_all n xs most, drop_all n xs most) (simp append-nil)
 
--- a change leaves the others
+-- a change of one device doesn't change the others
 pub at-other : (f : DeviceView → DeviceView) (n m : ℕ) (xs : Places DeviceView) → m ≢ n → at m (changed f n xs) ≡ at m xs
 at-other f n m xs apart = by (at n xs)
   where
@@ -108,7 +108,7 @@ at-other f n m xs apart = by (at n xs)
     by None = refl
     by (Some d) = get_or-set_other xs n m (Some (f d)) None apart
 
--- beyond the places there is nothing
+-- beyond the table there is no device
 pub at-beyond : (n : ℕ) (xs : Places DeviceView) → length xs ≤ n → at n xs ≡ None
 at-beyond n [] h = refl
 at-beyond zero (x ∷ xs) h = absurd (omega (arith, h))
@@ -126,7 +126,7 @@ up-to n m xs ys e here before below = by (m == n) refl
         ap (λ (l : Places DeviceView). is_pending_at (at m l)) e ∙ ap is_pending_at (at-other settled n m xs apart)
         ∙ before m (omega (arith, below, apart))
 
--- where no place has one that is pending, no number has
+-- if no entry of the table is pending, no number is
 pub beyond : (n : ℕ) (xs : Places DeviceView) → length xs ≤ n → ((i : ℕ) → i < n → is_pending_at (at i xs) ≡ false) → (m : ℕ)
     → is_pending_at (at m xs) ≡ false
 beyond n xs most off m = by (nat_lt m n) refl

@@ -1,4 +1,4 @@
--- What rows and polls keep of a device: that it is sound, whether a disable is pending, and whether it waits on the list.
+-- What rows and polls preserve of a device: that it is sound, whether a disable is pending, and whether it waits on the list.
 use Rattle.std.proofs.Common.{◌≡◌, ◌∙◌, ℕ, zero, suc, ◌+◌, ◌≤◌, Bool, true, false, Option, Some, None, [], ◌∷◌, ◌++◌, MatchBool}
 use Rattle.std.proofs.Common.{ap, arith, length, refl, sum, sym, take}
 use Rattle.std.specs.Prelude.{◌==◌, ◌||◌, nat_lt, not, if◌then◌else◌}
@@ -22,7 +22,7 @@ pub unheld : (p : Place) (sched : Bool) → (not (is_held p) || sched) ≡ true 
 unheld Place.Listed sched h e = cc (rw e at h)
 unheld p sched h e = refl
 
--- one that was handed over is scheduled
+-- an instance that is queued is scheduled
 scheduled : (k : Kind) (p : Place) (sched : Bool) → (not (is_held p) || sched) ≡ true → is_handed k p ≡ true → sched ≡ true
 scheduled Kind.List Place.Listed sched h e = h
 scheduled Kind.Thread Place.ToThread sched h e = h
@@ -32,13 +32,13 @@ not-listed : (p : Place) → is_handed Kind.Thread p ≡ true → is_handed Kind
 not-listed Place.Listed e = cc e
 not-listed p e = refl
 
--- what is kept from one device to the next, and what this says of its waiting on the list
+-- the invariant from one device to the next, and how it waits on the list then
 pub record Stays (d e : DeviceView) (Listed : Type 0) : Type 0 where
   pub sound : is_sound e ≡ true
   pub pending : is_pending e ≡ is_pending d
   pub listed : Listed
 
--- so many entries are added to the list
+-- this many entries are added to the list
 abbrev pub Keeps : DeviceView → DeviceView → ℕ → Type 0
 Keeps d e added = Stays d e (waits (Some d) + added ≡ waits (Some e))
 
@@ -47,7 +47,7 @@ Keeps d e added = Stays d e (waits (Some d) + added ≡ waits (Some e))
 abbrev pub entries : Option Kind → ℕ
 entries handed = count (is_listed handed)
 
--- a scheduled instance that its owner hands over
+-- a scheduled instance that its owner queues
 hands : (threaded : Bool) (caller : ℕ) (d g : DeviceView) → g.side.napi.flags.sched ≡ true → is_pending g ≡ is_pending d
     → is_handed Kind.List d.side.napi.place ≡ false
     → Keeps d (made caller (operation.Hand (if threaded then Kind.Thread else Kind.List)) g)
@@ -86,12 +86,12 @@ packet-keeps bytes d sound = by (has_place d.side)
 
 -- ---- a poll
 
--- an instance in its poller's hands, off the list
+-- an instance that its poller owns, which isn't on the list
 pub record IsInHand (d : DeviceView) : Type 0 where
   pub sched : d.side.napi.flags.sched ≡ true
   pub off : is_handed Kind.List d.side.napi.place ≡ false
 
--- what a poll leaves: entries are added where it handed the instance to the list
+-- the device after a poll: an entry is added if the poll queued the instance on the list
 pub record Leaves (d e : DeviceView) (next : Next) : Type 0 where
   pub sound : is_sound e ≡ true
   pub pending : is_pending e ≡ is_pending d
@@ -111,7 +111,7 @@ kept-in-hand d hand =
       sched = λ e. hand.sched;
     }
 
--- granted again, it is handed over
+-- after a missed request it is queued
 handed-on : (threaded : Bool) (d : DeviceView) → d.side.napi.flags.sched ≡ true
     → let k = if threaded then Kind.Thread else Kind.List in
     Leaves d (acted (operation.Hand k) (acted (operation.Complete Done.Again) d)) (Again k)
@@ -169,7 +169,7 @@ poll-leaves weight d hand =
     (λ next. ends (record { once = record { work = length packets; next = next }; packets = packets })) (polled weight d))
     (record { sound = left.sound; pending = left.pending; listed = left.listed; sched = left.sched })
 
--- what is left where the poller lets the instance go, where its last poll ended so
+-- the device after its poller stops, when its last poll ended like this
 abbrev pub LeavesPolled : DeviceView → DeviceView → Next → Type 0
 LeavesPolled d e next = Stays d e (waits (Some e) ≡ count (is_left_to_list next))
 
@@ -179,7 +179,7 @@ lets d e Repoll left = record { sound = left.sched refl; pending = left.pending;
 lets d e (Again Kind.List) left = record { sound = left.sound; pending = left.pending; listed = left.listed }
 lets d e next left = record { sound = left.sound; pending = left.pending; listed = left.listed }
 
--- what a poll from the list keeps
+-- what a poll from the list preserves
 abbrev pub KeepsPolled : DeviceView → DeviceView → Next → Type 0
 KeepsPolled d e next = Stays d e (waits (Some d) ≤ waits (Some e) + leaves next)
 
@@ -221,7 +221,7 @@ zero-off : (b : Bool) → if◌then◌else◌ {A = ℕ} b 1 0 ≡ 0 → b ≡ fa
 zero-off true e = absurd (omega (arith, e))
 zero-off false e = refl
 
--- the thread has the instance in its hands, or let it go where its last poll ended so
+-- the thread owns the instance, or has stopped after a last poll that ended like this
 pub record StandsAt (d e : DeviceView) (held : Bool) (next : Next) : Type 0 where
   pub pending : is_pending e ≡ is_pending d
   pub here : MatchBool held (IsInHand e) ((is_sound e ≡ true) × (waits (Some e) ≡ count (is_left_to_list next)))
@@ -308,7 +308,7 @@ module _ (weight : ℕ) where
       or-false true b e = refl
       or-false false b e = sym e
 
-  -- polls and held completions leave the instance as it was
+  -- polls and held completions don't change the instance
   round-napi : (r : BusyReport) (d : DeviceView) → (carried_out (rule.round sum true weight r) d).1.side.napi ≡ d.side.napi
   unfolding carried_out polled
   round-napi r d = by (nat_lt (length (take weight d.side.packets)) weight) (rule.and_poll sum r (take weight d.side.packets))

@@ -1,11 +1,11 @@
--- The devices of a bench are ended one after the other, the last one first.
+-- The devices of a bench are ended one by one, the last one first.
 use Rattle.std.proofs.Common.{◌≡◌, ◌≢◌, ◌∙◌, ◌<◌, ◌≤◌, ◌+◌, ℕ, zero, suc, Bool, true, false, Option, Some, None, [], ◌∷◌, ◌++◌, length}
 use Rattle.std.proofs.{Common.{length-append, length-set, get_or-set_other, slice_set, ap, refl, arith}, lemmas.Bool.eqb-true}
 use Rattle.std.{proofs.lemmas.Bool.eqb-false, specs.Prelude.◌==◌}
 use Rattle.{device_places.specs.Places.{Places, at}, device_bench.specs.Bench.Devices}
 use Rattle.device_bench.specs.{DeviceView.DeviceView, Ending.IsEndedAt, Receive.ReceiveView}
 
--- those from here on were ended, and those before them are left
+-- those from here on were ended, and those before them remain
 pub record EndedFrom {Totals : Type 0} (ended : ReceiveView → Totals → Type 0) (all left : Devices) (ends : Places Totals) : Type 0 where
   pub places : length ends ≡ 17
   pub most : length left ≤ 17
@@ -13,7 +13,7 @@ pub record EndedFrom {Totals : Type 0} (ended : ReceiveView → Totals → Type 
   pub none : (number : ℕ) → number < length left → at number ends ≡ None
   pub done : (number : ℕ) → length left ≤ number → IsEndedAt ended (at number all) (at number ends)
 
--- what stands behind a list, and before its end
+-- the element at the end of a list
 at-last : {A : Type 0} → (xs : Places A) (x : Option A) → at (length xs) (xs ++ x ∷ []) ≡ x
 at-last [] x = refl
 at-last (y ∷ xs) x = at-last xs x

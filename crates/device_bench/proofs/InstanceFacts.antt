@@ -1,4 +1,4 @@
--- Who polls a device by the rule makes of it what the rule, carried out alone, makes of it.
+-- Polling a device by the rule has the result of executing the rule's plan on its own.
 use Rattle.std.proofs.Common.{◌≡◌, ◌∙◌, ℕ, Bool, true, false, List, [], ◌∷◌, ◌++◌, Option, Some, None, MatchBool, ap, arith, length, map}
 use Rattle.std.{proofs.Common.{refl, subst, sum, sym, take}, specs.Prelude.{◌||◌, if◌then◌else◌, is_some, min, nat_le, not}}
 use Rattle.std.proofs.lemmas.{Bool.{leb-false, leb-true}, List.{length-take, take_all}}
@@ -14,7 +14,7 @@ use Rattle.device_bench.specs.Receive.{answered, busy_taken, bytes_of, done_by, 
 use Rattle.device_bench.specs.Receive.{handed_again, is_idle, kind_for, poller_in, taker_of}
 use Rattle.napi_model.specs.declared.event.Call.TheVariants as call
 
--- ---- a call's answer is the one of the state
+-- ---- the reply to a call is determined by the state
 
 refused : (d s b : Bool) → ¬ ((d ≡ false) × (s ≡ false) × (b ≡ false)) → not (d || (s || b)) ≡ false
 refused true s b may = refl
@@ -35,7 +35,7 @@ is_answered c o s a i = i ∙ ap (λ (x : Call). answered x s) a
 
 -- ---- plans
 
--- what was done by a plan is the plan carried out
+-- what was done by a plan is the result of executing it
 pub carried : {A : Type 0} (plan : Plan ℕ A) (deeds : List (Deed ℕ)) (a : A) (d e : DeviceView) → Follows AtOnce plan deeds a
     → Did d deeds e → (a ≡ (carried_out plan d).0) × (e ≡ (carried_out plan d).1)
 unfolding carried_out
@@ -92,7 +92,7 @@ does-busy-take false d e reply is =
     does-call call.BusyTake (Look (seen_of d.side.napi)) is_taken d e
     (idle d.side.napi.flags.disable d.side.napi.flags.sched d.side.napi.flags.in_busy_poll (sym reply)) refl is
 
--- a poll gives the ring's next packets
+-- a poll takes the ring's next packets
 take-min : (weight : ℕ) (xs : List ℕ) → take (min weight (length xs)) xs ≡ take weight xs
 take-min weight xs = by (nat_le weight (length xs)) refl
   where
@@ -115,7 +115,7 @@ does-poll weight d e work load is works loads =
       works ∙ sym many,
     )
 
--- a completion that isn't held, by who polls the instance
+-- a completion that isn't held, by the owner of the instance
 pub does-complete : (d e : DeviceView) (again : Option Kind) → IsPolled d
     → again ≡ handed_again (complete_reply d.side.napi) d.side.napi
     → e ≡ record (with_napi (done_by (poller_in d.side.napi.place) (complete_reply d.side.napi) d.side.napi) d) {

@@ -9,7 +9,7 @@ pub waiting-empty : waiting empty ≡ 0
 unfolding waiting
 waiting-empty = refl
 
--- at most as many as there are places
+-- at most as many as the table has entries
 waits-one : (o : Option DeviceView) → waits o ≤ 1
 waits-one None = omega arith
 waits-one (Some d) = by (is_handed Kind.List d.side.napi.place)
@@ -34,7 +34,7 @@ set-one xs n d e here =
     let was : waits (get_or xs n None) ≡ waits (Some d) = ap waits here in
     omega (arith, sums, was)
 
--- one place is set to a device that waits so often more, as often, or so often less
+-- one entry is set to a device that waits one time more, as often, or one time less
 pub waiting-more : (xs : Devices) (n more : ℕ) (d e : DeviceView) → at n xs ≡ Some d → waits (Some d) + more ≡ waits (Some e)
     → waiting xs + more ≤ waiting (slice_set xs n (Some e))
 waiting-more xs n more d e here listed = omega (arith, set-one xs n d e here, listed)

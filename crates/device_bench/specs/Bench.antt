@@ -1,4 +1,4 @@
--- What the devices of a bench are, and what its calls and polls do to what it shows.
+-- The devices of a bench, and the effect of its calls and polls on them.
 use Rattle.std.specs.Prelude.{◌≡◌, ℕ, ◌+◌, ◌≤◌, List, [], Option, Some, None, is_some, filter, length, map}
 use Rattle.{napi_model.specs.declared.state.Kind.Kind, poll_runs.specs.{Polling.no_report, Thread.last_next}}
 use Rattle.poll_runs.specs.declared.bench.{BusyReport.BusyReport, Next.TheVariants.Absent, Once.Once}
@@ -15,7 +15,7 @@ Devices = Places DeviceView
 abbrev pub arrived : ℕ → ℕ → Devices → Devices
 arrived number bytes devices = changed (λ d. (after_packet bytes d).1) number devices
 
--- to whom a packet has its device handed
+-- the queue in which a packet puts its device
 abbrev pub handed_by : ℕ → Option DeviceView → Option Kind
 handed_by bytes None = None
 handed_by bytes (Some d) = (after_packet bytes d).0
@@ -27,18 +27,18 @@ abbrev pub once_of : ℕ → Option DeviceView → Once
 once_of weight None = record { work = 0; next = Absent }
 once_of weight (Some d) = (polled_once weight d).0
 
--- a poll from the list as a function of the devices: the answer, and the devices afterwards
+-- a poll from the list as a function on the devices: its outcome, and the devices afterwards
 abbrev pub polled_at : Devices → ℕ → ℕ → Once × Devices
 polled_at devices number weight = (once_of weight (at number devices), changed (λ d. (polled_once weight d).1) number devices)
 
--- a poll from the list, by what a bench shows: answer and devices afterwards are this function's
+-- a poll from the list, by what a bench shows: its outcome and the devices afterwards are those of the function
 pub record IsPoll {B : Type 0} (devices : B → Devices) (shows : B → Transmits → Type 0) (waiting : B → ℕ)
     (before : B) (number weight : ℕ) (once : Once) (after : B) : Type 0 where
   pub exact : (once ≡ (polled_at (devices before) number weight).0) × (devices after ≡ (polled_at (devices before) number weight).1)
   pub transmits : Keeps shows before after
   pub waits : waiting before ≤ waiting after + leaves once.next
 
--- that the polls from the list, of a bench that states them so, are these
+-- the relation of a bench for polls from the list is this one
 abbrev pub ArePolls : {B : Type 0} → (B → Devices) → (B → Transmits → Type 0) → (B → ℕ) → (B → ℕ → ℕ → Once → B → Type 0) → Type 0
 ArePolls {B} devices shows waiting polls =
     (before after : B) (number weight : ℕ) (once : Once) → polls before number weight once after
@@ -48,7 +48,7 @@ abbrev pub thread_polls_of : ℕ → ℕ → Option DeviceView → List Once
 thread_polls_of weight most None = []
 thread_polls_of weight most (Some d) = (polled_by_thread most weight d).0
 
--- the same of the polling of a device by its thread
+-- the same for the polling of a device by its thread
 abbrev pub thread_polled_at : Devices → ℕ → ℕ → ℕ → Devices
 thread_polled_at devices number weight most = changed (λ d. (polled_by_thread most weight d).1) number devices
 
@@ -65,7 +65,7 @@ AreThreadPolls {B} devices shows waiting polls =
     (before after : B) (number weight most : ℕ) (all : List Once) → polls before number weight most all after
     → IsThreadPolls devices shows waiting before number weight most all after
 
--- the same of busy polling
+-- the same for busy polling
 abbrev pub busy_report_of : ℕ → ℕ → Option DeviceView → BusyReport
 busy_report_of weight rounds None = no_report
 busy_report_of weight rounds (Some d) = (polled_busily rounds weight d).0
@@ -92,13 +92,13 @@ abbrev pub settled_at : Option DeviceView → Option DeviceView
 settled_at None = None
 settled_at (Some d) = Some (settled d)
 
--- each pending disable is tried once, in rising order of the devices
+-- each pending disable is tried once, by increasing device number
 abbrev pub all_settled : Devices → Devices
 all_settled devices = map settled_at devices
 
 -- ---- the report
 
--- how many places are taken
+-- how many entries are occupied
 abbrev pub attached : {A : Type 0} → Places A → ℕ
 attached places = length (filter is_some places)
 
@@ -106,7 +106,7 @@ attached places = length (filter is_some places)
 abbrev pub HaveSides : {A : Type 0} → Places A → Transmits → Type 0
 HaveSides devices all = (number : ℕ) → is_some (at number all) ≡ is_some (at number devices)
 
--- of a device, where there is one
+-- the counts of a device, if there is one
 abbrev pub counts_at : Option DeviceView → TxCounts → Option DeviceCounts
 counts_at None tx = None
 counts_at (Some d) tx = Some (counts_of d tx)

@@ -1,9 +1,9 @@
--- What the report tells of a device.
+-- What the report shows of a device.
 use Rattle.{std.specs.Prelude.length, napi_model.specs.{Step.seen_of, Word.word_of}, device_bench.specs.Device.state_of}
 use Rattle.device_bench.specs.{DeviceView.DeviceView, declared.counts.DeviceCounts.DeviceCounts}
 use Rattle.device_transmit.specs.declared.transmit.TxCounts.{TxCounts}
 
--- what a device counted, what its ring holds, its state word, and its transmit side
+-- what the device counted, the content of its ring, its state word, and its transmit side
 abbrev pub counts_of : DeviceView → TxCounts → DeviceCounts
 counts_of d tx = record d.told {
   state = state_of d;

@@ -1,4 +1,4 @@
--- What rows and polls do to a device.
+-- The effect of rows and polls on a device.
 use Rattle.std.specs.Prelude.{ℕ, Bool, true, false, List, drop, sum, take, Option, None, if◌then◌else◌}
 use Rattle.napi_model.specs.{Step.{after, event, schedule_reply, take_disable_reply}, declared.state.{Kind.Kind, State.State}}
 use Rattle.napi_model.specs.declared.event.{Done.TheVariants.{Released, Again, Held}, Operation.Operation}
@@ -12,7 +12,7 @@ use Rattle.napi_model.specs.declared.event.Operation.TheVariants as operation
 use Rattle.device_bench.specs.declared.counts.DeviceState.TheVariants as state
 use Rattle.poll_runs.specs.Polling as rule
 
--- its instance comes into this state
+-- the device with its instance in this state
 abbrev pub with_napi : State → DeviceView → DeviceView
 with_napi napi d = record d { side = record d.side { napi = napi } }
 
@@ -25,21 +25,21 @@ opened capacity = record { side = opened_side capacity; threaded = false; told =
 
 -- ---- a packet
 
--- an answer to the interrupt is counted
+-- the reply to the interrupt's request is counted
 abbrev pub asked_told : Prep → DeviceCounts → DeviceCounts
 asked_told Granted t = record t { granted = raised t.granted 1 }
 asked_told Missed t = record t { missed = raised t.missed 1 }
 asked_told Disabled t = record t { disabled = raised t.disabled 1 }
 
--- the interrupt asks for a poll, and has this answer
+-- the interrupt requests a poll, and has this reply
 abbrev pub after_reply : Prep → DeviceView → Option Kind × DeviceView
 after_reply reply d = (handed_on reply d.side.napi, record (with_napi (requested reply d.side.napi) d) { told = asked_told reply d.told })
 
 unfoldable pub after_request : DeviceView → Option Kind × DeviceView
 after_request d = after_reply (schedule_reply d.side.napi) d
 
--- A packet is put into the ring, and the interrupt asks for a poll; where there is no room it is dropped. To whom the
--- instance was handed by that, and the device afterwards.
+-- A packet is put into the ring, and the interrupt requests a poll; if there is no room, the packet is dropped. The result is
+-- the queue in which this put the instance, and the device afterwards.
 unfoldable pub after_packet : ℕ → DeviceView → Option Kind × DeviceView
 after_packet bytes d =
     let counted = record d { told = record d.told { arrived = raised d.told.arrived 1 } } in
@@ -66,11 +66,11 @@ told_after (operation.Complete Released) t = record t { released = raised t.rele
 told_after (operation.Complete Held) t = record t { held = raised t.held 1 }
 told_after o t = t
 
--- an operation of who may make it, counted
+-- an operation of polling is made and counted
 abbrev pub acted : Operation → DeviceView → DeviceView
 acted o d = record (made (caller_of o d.side.napi.place) o d) { told = told_after o d.told }
 
--- a plan carried out alone, where each call is answered at once: its answer, and the device afterwards
+-- a plan executed on its own, in which each call gets its reply at once: its result, and the device afterwards
 unfoldable pub carried_out : {A : Type 0} → Plan ℕ A → DeviceView → A × DeviceView
 carried_out (ends a) d = (a, d)
 carried_out (asks c go) d = carried_out (go (answered c d.side.napi)) (acted (answered c d.side.napi) d)
@@ -81,7 +81,7 @@ carried_out (polls weight go) d = carried_out (go (take weight d.side.packets)) 
 unfoldable pub polled_once : ℕ → DeviceView → Once × DeviceView
 polled_once weight d = let done = carried_out (rule.polled_once true weight) d in (done.0.once, done.1)
 
--- the polling by its thread (`napi_threaded_poll`)
+-- polling by its thread (`napi_threaded_poll`)
 unfoldable pub polled_by_thread : ℕ → ℕ → DeviceView → List Once × DeviceView
 polled_by_thread most weight d = let done = carried_out (rule.polled_by_thread true weight most) d in (done.0.polls, done.1)
 
@@ -91,11 +91,11 @@ polled_busily rounds weight d = let done = carried_out (rule.polled_busily sum t
 
 -- ---- disabling and enabling (`napi_disable`, `napi_enable`, `dev_set_threaded`)
 
--- on, being disabled, or off
+-- enabled, being disabled, or disabled
 abbrev pub state_of : DeviceView → DeviceState
 state_of d = if d.side.napi.flags.disable then state.Pending else (if is_control d.side.napi.place then state.Off else state.On)
 
--- a device that is on is marked for disabling
+-- a disable is marked on a device that is enabled
 abbrev pub disabled_from : DeviceState → DeviceView → DeviceView
 disabled_from state.On d = made CONTROLLER operation.MarkDisable d
 disabled_from state.Off d = d
@@ -108,7 +108,7 @@ after_disable d = disabled_from (state_of d) d
 unfoldable pub settled : DeviceView → DeviceView
 settled d = if d.side.napi.flags.disable then with_napi (tried_by (take_disable_reply d.side.napi) d.side.napi) d else d
 
--- a device that is off is enabled with its threaded setting
+-- a device that is disabled is enabled, with its threaded setting
 abbrev pub enabled_from : DeviceState → DeviceView → DeviceView
 enabled_from state.Off d = made CONTROLLER (operation.Enable d.threaded) d
 enabled_from state.On d = d
@@ -120,6 +120,6 @@ after_enable d = enabled_from (state_of d) d
 abbrev pub is_pending : DeviceView → Bool
 is_pending d = d.side.napi.flags.disable
 
--- the threaded setting, and THREADED at once
+-- the threaded setting and the flag THREADED are set
 unfoldable pub after_threaded : Bool → DeviceView → DeviceView
 after_threaded threaded d = record (made CONTROLLER (operation.SetThreaded threaded) d) { threaded = threaded }

@@ -7,7 +7,7 @@ module _ {S O : Type 0} {g : Ghosts S} where
   abbrev pub devices_of : DeviceBench S O g → Devices
   devices_of bench = bench.devices.items
 
-  -- its transmit sides show these, one for each of its devices
+  -- its transmit sides represent these, one for each of its devices
   pub record ShowsTransmits (bench : DeviceBench S O g) (all : Transmits) : Type 0 where
     pub sides : ShowsSides bench.transmits all
     pub each : HaveSides (devices_of bench) all

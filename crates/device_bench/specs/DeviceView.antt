@@ -6,5 +6,5 @@ pub record DeviceView : Type 0 where
   pub side : ReceiveView
   -- its threaded setting, which an enable gives to the instance
   pub threaded : Bool
-  -- what was counted; its other values are found when they are asked for
+  -- its counts; the other fields of these are computed when they are read
   pub told : DeviceCounts

@@ -1,8 +1,8 @@
--- The end of a bench whose receive sides must be spent.
+-- The end of a bench whose receive sides are linear.
 use Rattle.{std.specs.Prelude.{ℕ, Option, Some, None}, device_places.specs.Places.{Places, at}, device_bench.specs.Bench.Devices}
 use Rattle.device_bench.specs.{DeviceView.DeviceView, Receive.ReceiveView}
 
--- a device was ended; where there is none, nothing was counted
+-- a device was ended, if there is one; otherwise there are no counts
 abbrev pub IsEndedAt : {Totals : Type 0} → (ReceiveView → Totals → Type 0) → Option DeviceView → Option Totals → Type 0
 IsEndedAt ended (Some d) (Some totals) = ended d.side totals
 IsEndedAt ended None None = Unit {0}

@@ -1,4 +1,4 @@
--- A device, in the sight of one that polls it.
+-- A device, as its poller sees it.
 use Rattle.std.specs.Prelude.{◌≡◌, ℕ, true, false, List, [], ◌∷◌, take}
 use Rattle.napi_model.specs.{Step.{Polls, answer_of, call_of}, declared.{event.{Call.Call, Operation.Operation}, state.State.State}}
 use Rattle.{napi_model.specs.declared.event.Operation.TheVariants.BusyTake, poll_runs.specs.Plan.{Deed, gave, made}}
@@ -12,16 +12,16 @@ IsPolled d = Polls (poller_in d.side.napi.place) false d.side.napi
 abbrev pub IsPolledBusily : DeviceView → Type 0
 IsPolledBusily d = Polls POLLER true d.side.napi
 
--- a call comes to its answer at once
+-- a call gets its reply at once
 abbrev pub AtOnce : Call → Operation → List Operation → Type 0
 AtOnce c o os = os ≡ o ∷ []
 
--- in this state a call comes to this operation
+-- in this state a call results in this operation
 abbrev pub IsAnswer : Operation → State → Type 0
 IsAnswer BusyTake s = is_idle s ≡ true
 IsAnswer o s = o ≡ answer_of (call_of o) s
 
--- these operations and polls, one after the other, lead from the one device to the other
+-- these operations and polls, in sequence, lead from one device to the other
 abbrev pub Did : DeviceView → List (Deed ℕ) → DeviceView → Type 0
 Did d [] e = e ≡ d
 Did d (made o ∷ deeds) e = IsAnswer o d.side.napi × Did (acted o d) deeds e

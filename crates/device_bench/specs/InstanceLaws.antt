@@ -1,4 +1,4 @@
--- Laws of what was done to a device.
+-- Laws on the actions on a device.
 use Rattle.std.specs.Prelude.{ℕ, List, [], ◌∷◌, ◌++◌}
 use Rattle.std.proofs.Common.{subst}
 use Rattle.{poll_runs.specs.Plan.{Deed, gave, made}, device_bench.specs.{Device.{acted, polled}, DeviceView.DeviceView, Instance.Did}}

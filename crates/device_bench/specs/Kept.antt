@@ -1,9 +1,9 @@
--- What is true of the devices of a bench at all times.
+-- The invariant of the devices of a bench.
 use Rattle.std.specs.Prelude.{◌≡◌, ◌≤◌, ℕ, Bool, true, false, not, ◌||◌, Option, Some, None, length}
 use Rattle.{napi_model.specs.declared.state.Place.{Place, TheVariants.Nobody}, device_bench.specs.Device.is_pending}
 use Rattle.{device_bench.specs.{DeviceView.DeviceView, Waiting.waiting}, device_places.specs.Places.{Places, at}}
 
--- an instance that somebody has, or that was handed over, is scheduled
+-- an instance that a caller owns, or that is queued, is scheduled
 abbrev pub is_held : Place → Bool
 is_held Nobody = false
 is_held _ = true
@@ -22,7 +22,7 @@ is_pending_at (Some d) = is_pending d
 pub record IsKept (unsettled : Bool) (devices : Places DeviceView) : Type 0 where
   pub places : length devices ≡ 17
   pub sound : (number : ℕ) → is_sound_at (at number devices) ≡ true
-  -- where no disable is unsettled, none is pending
+  -- if nothing is to be settled, no disable is pending
   pub settled : unsettled ≡ false → (number : ℕ) → is_pending_at (at number devices) ≡ false
-  -- each waits once at most
+  -- each device waits at most once
   pub few : waiting devices ≤ 17

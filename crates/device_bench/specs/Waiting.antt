@@ -8,7 +8,7 @@ use Rattle.napi_model.specs.declared.state.Kind.TheVariants as kind
 abbrev pub count : Bool → ℕ
 count b = if b then 1 else 0
 
--- a device waits on the list from its hand-over to the list until it is taken
+-- a device waits on the list from when it is queued until it is taken
 abbrev pub waits : Option DeviceView → ℕ
 waits None = 0
 waits (Some d) = count (is_handed kind.List d.side.napi.place)
@@ -16,16 +16,16 @@ waits (Some d) = count (is_handed kind.List d.side.napi.place)
 unfoldable pub waiting : Places DeviceView → ℕ
 waiting devices = sum_by waits devices
 
--- whether a hand-over is to the list
+-- whether it is queued on the list
 abbrev pub is_listed : Option Kind → Bool
 is_listed None = false
 is_listed (Some kind.List) = true
 is_listed (Some kind.Thread) = false
 
--- whether a poll that ended so left its device to the list
+-- whether a poll that ended like this left its device to the list
 abbrev pub is_left_to_list : Next → Bool
 is_left_to_list next = is_arrival next || is_repoll next
 
--- the entry that a poll took from the list, unless the poll put its device there again
+-- the entry that a poll took from the list, unless it put its device there again
 abbrev pub leaves : Next → ℕ
 leaves next = if is_left_to_list next then 0 else 1

@@ -1,4 +1,4 @@
-//! The devices of a replay, by their numbers.
+//! The devices of a replay, by number.
 
 ghost use Rattle.std.specs.Prelude.{◌≡◌, None, Some, IfOk, false, is_some};
 ghost use Rattle.device_places.specs.Places.{empty};
@@ -16,7 +16,7 @@ use poll_runs::{Bench, BusyReport, Next, Once, ThreadReport};
 use std::alloc::{AllocError, Global};
 use std::mem;
 
-/// The devices, each in the place of its number, over receive sides that the opener opens.
+/// The devices, in a table by number, with receive sides that the opener opens.
 #[derive(Drop)]
 pub struct DeviceBench<S: ReceiveSide, O> {
     opener: O,
@@ -30,7 +30,7 @@ pub struct DeviceBench<S: ReceiveSide, O> {
 /// The devices of one thread.
 pub type SerialBench = DeviceBench<SerialReceive, SerialOpener>;
 
-// Puts a value into a place, which is empty.
+// Puts a value into an empty entry.
 fn fill<T>(place: &mut Option<T>, value: T)
     requires { is_some place.old ≡ false }
     ensures { place.new ≡ Some value }
@@ -41,7 +41,7 @@ fn fill<T>(place: &mut Option<T>, value: T)
     }
 }
 
-// A place for each number, all empty.
+// Returns an empty table.
 fn no_devices<T>(alloc: Global) -> Result<Vec<Option<T>>, AllocError>
     ensures { IfOk result (λ places. places.items ≡ empty) }
 {
@@ -57,7 +57,7 @@ impl DeviceBench<SerialReceive, SerialOpener> {
     ghost use Rattle.device_places.specs.Places.{empty};
     ghost use Rattle.device_bench.specs.DeviceBench.{ShowsTransmits, devices_of};
 
-    /// A bench without devices. Its places are made here, so that no call but `attach` takes memory.
+    /// Returns a bench without devices. Its table is allocated here, so that only `attach` allocates later.
     pub fn new(alloc: Global) -> Result<SerialBench, AllocError>
         ensures devices { IfOk result (λ bench. devices_of bench ≡ empty) }
         ensures transmits { IfOk result (λ bench. ShowsTransmits bench empty) }
@@ -75,8 +75,8 @@ impl<S: ReceiveSide, O: Opener<S>> DeviceBench<S, O> {
     ghost use Rattle.device_places.specs.Range.{IsWithin};
     ghost use Rattle.device_bench.specs.DeviceBench.{ShowsTransmits, devices_of, waiting_of};
 
-    /// A bench without devices, whose receive sides this opener opens. Its places are made here, so that no call but `attach`
-    /// takes memory.
+    /// Returns a bench without devices, whose receive sides this opener opens. Its table is allocated here, so that only
+    /// `attach` allocates later.
     pub fn over(alloc: Global, opener: O) -> Result<DeviceBench<S, O>, AllocError>
     where
         O: Drop,
@@ -98,7 +98,7 @@ impl<S: ReceiveSide, O: Opener<S>> DeviceBench<S, O> {
         self.devices.iter().filter(|place| place.is_some()).count()
     }
 
-    // Makes a device in its place, unless one is there.
+    // Adds a device, unless its number has one.
     fn keep(&mut self, alloc: Global, device: u32, capacity: u32) -> Result<(), AllocError>
         requires device { IsWithin 1 16 device }
         requires capacity { IsWithin 1 65536 capacity }
@@ -116,7 +116,7 @@ impl<S: ReceiveSide, O: Opener<S>> DeviceBench<S, O> {
         Ok(())
     }
 
-    // Tries a disable of this device that is pending once. The answer is whether it still is.
+    // Tries a pending disable of this device once. Returns whether it is still pending.
     fn settle_one(&mut self, device: u32) -> bool
         ensures devices { devices_of self.new ≡ changed settled device (devices_of self.old) }
         ensures transmits { self.new.transmits ≡ self.old.transmits }
@@ -138,8 +138,8 @@ impl<S: SpentSide, O: Opener<S> + Drop> DeviceBench<S, O> {
     ghost use Rattle.device_bench.specs.DeviceBench.{ShowsTransmits, devices_of};
     ghost use Rattle.device_bench.specs.Ending.{AllEnded};
 
-    /// A bench without devices, which has to be ended. Its places are made here, so that no call but `attach` takes memory.
-    /// `kit` is what its opener is made of.
+    /// Returns a bench without devices, which has to be ended. Its table is allocated here, so that only `attach` allocates
+    /// later. `kit` is what its opener is made from.
     pub fn new<K>(kit: K, alloc: Global) -> Result<DeviceBench<S, O>, AllocError>
     where
         O: From<K>,
@@ -149,8 +149,8 @@ impl<S: SpentSide, O: Opener<S> + Drop> DeviceBench<S, O> {
         DeviceBench::over(alloc, O::from(kit))
     }
 
-    /// Ends the receive side of each device, which may wait. It takes no memory, and may be called in any state, after a fault
-    /// too. Answers what was counted of each ring, in the place of its device's number.
+    /// Ends the receive side of each device, which may wait. It doesn't allocate, and may be called in any state, even after an
+    /// error. Returns the counts of each ring, by device number.
     pub fn end(self) -> [Option<S::Totals>; PLACES as usize]
         ensures { AllEnded S.ended (devices_of self) result }
     {

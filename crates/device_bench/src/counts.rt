@@ -1,4 +1,4 @@
-//! What the report tells of a device.
+//! What the report shows of a device.
 
 use device_transmit::TxCounts;
 
@@ -9,20 +9,20 @@ pub enum DeviceState {
     On,
     /// Disabled.
     Off,
-    /// A disable waits until nobody has the instance.
+    /// A disable is pending until no caller owns the instance.
     Pending,
 }
 
-/// The values of a device's lines in the report, in their order. Each count stays at its greatest value.
+/// The values of a device's lines in the report, in order. Each count saturates.
 #[derive(Clone, Copy, Debug, PartialEq, Eq)]
 pub struct DeviceCounts {
     /// Whether the device is enabled after the last row.
     pub state: DeviceState,
-    /// Packets that arrived, the dropped ones among them.
+    /// Packets that arrived, including those that were dropped.
     pub arrived: u64,
     /// Packets that a full ring dropped.
     pub dropped: u64,
-    /// Packets that polls gave.
+    /// Packets that polls processed.
     pub polled: u64,
     /// The bytes of these.
     pub bytes: u64,
@@ -30,27 +30,26 @@ pub struct DeviceCounts {
     pub left: u64,
     /// Polls, from the list and by the thread.
     pub polls: u64,
-    /// Requests for a poll that were answered Granted.
+    /// Requests for a poll that returned Granted.
     pub granted: u64,
-    /// Requests that were answered Missed.
+    /// Requests that returned Missed.
     pub missed: u64,
-    /// Requests that were answered Disabled.
+    /// Requests that returned Disabled.
     pub disabled: u64,
-    /// Completions that were answered Again.
+    /// Completions that returned Again.
     pub again: u64,
-    /// Completions that were answered Released.
+    /// Completions that returned Released.
     pub released: u64,
     /// The state word.
     pub word: u64,
-    /// Completions that were answered Held.
+    /// Completions that returned Held.
     pub held: u64,
     /// The transmit side.
     pub tx: TxCounts,
 }
 
 impl DeviceCounts {
-    /// What is told of a device without packets and without a transmit side, to which nothing has happened and whose state
-    /// word is 0.
+    /// The counts of a device without packets and without a transmit side, before any event, with state word 0.
     pub const OPENED: DeviceCounts = DeviceCounts {
         state: DeviceState::On,
         arrived: 0,

@@ -1,4 +1,4 @@
-//! One device: its receive side, and what was counted.
+//! One device: its receive side, and its counts.
 
 ghost use Rattle.std.specs.Prelude.{◌≡◌, ◌≤◌, ◌<◌, ◌^◌, true, if◌then◌else◌};
 ghost use Rattle.napi_model.specs.declared.event.{Done.TheVariants.{Again, Released}, Operation.TheVariants.{Complete}};
@@ -18,16 +18,16 @@ use poll_runs::{
 };
 use std::marker::Model;
 
-/// The caller that the interrupt of a device is.
+/// The caller number of a device's interrupt handler.
 pub(crate) const INTERRUPT: u32 = 0;
 
-/// The caller that polls the list.
+/// The caller number of the poller of the list.
 pub(crate) const POLLER: u32 = 1;
 
-/// The caller that the thread of a device is.
+/// The caller number of a device's thread.
 pub(crate) const THREAD: u32 = 2;
 
-/// The caller that makes, disables and enables an instance.
+/// The caller number of the controller, which makes, disables and enables an instance.
 pub(crate) const CONTROLLER: u32 = 3;
 
 /// A device's receive side, its threaded setting, and its counts.
@@ -35,7 +35,7 @@ pub(crate) const CONTROLLER: u32 = 3;
 pub(crate) struct Device<S: ReceiveSide> {
     pub(crate) side: S,
     threaded: bool,
-    // What was counted; the other values are found when they are asked for.
+    // The counts; the other fields are computed when they are read.
     told: DeviceCounts,
 }
 
@@ -50,7 +50,7 @@ impl<S: ReceiveSide> Model for Device<S> {
 impl<S: ReceiveSide> Device<S> {
     ghost use Rattle.std.specs.Prelude.{ℕ};
 
-    /// A device over a receive side as it is opened.
+    /// Returns a device with a receive side that was just opened.
     pub(crate) fn new(side: S) -> Device<S>
         ensures { (capacity : ℕ) → S.side side ≡ opened_side capacity → result ≡ opened capacity }
     {
@@ -61,7 +61,7 @@ impl<S: ReceiveSide> Device<S> {
         }
     }
 
-    /// What the report tells of the device, with that of its transmit side.
+    /// Returns what the report shows of the device, with its transmit side.
     pub(crate) fn counts(&self, tx: TxCounts) -> DeviceCounts
         ensures { result ≡ counts_of self.now tx }
     {
@@ -74,7 +74,7 @@ impl<S: ReceiveSide> Device<S> {
         }
     }
 
-    // The interrupt asks for a poll; granted, it hands the instance over, and answers to whom.
+    // Requests a poll, as the interrupt; if granted, it queues the instance, and returns in which queue.
     #[tactic(auto, unfolding(crate::specs::Device::after_request))]
     fn request(&mut self) -> Option<Kind>
         ensures device { self.new ≡ (after_request self.old).1 }
@@ -89,8 +89,8 @@ impl<S: ReceiveSide> Device<S> {
         kind
     }
 
-    /// A packet of that many bytes arrives. A full ring drops it; else the interrupt asks for a poll. The answer is to
-    /// whom the instance was handed by that.
+    /// Handles the arrival of a packet of this size: a full ring drops it; otherwise the interrupt requests a poll. Returns the
+    /// queue in which that put the instance.
     #[tactic(auto, unfolding(crate::specs::Device::after_packet))]
     pub(crate) fn arrive(&mut self, bytes: u32) -> Option<Kind>
         ensures device { self.new ≡ (after_packet bytes self.old).1 }
@@ -106,7 +106,7 @@ impl<S: ReceiveSide> Device<S> {
 }
 
 impl<S: ReceiveSide> Device<S> {
-    /// Whether the device is on, off, or being disabled.
+    /// Returns whether the device is enabled, disabled, or being disabled.
     pub(crate) fn state(&self) -> DeviceState
         ensures { result ≡ state_of self.now }
     {
@@ -119,14 +119,14 @@ impl<S: ReceiveSide> Device<S> {
         }
     }
 
-    /// Whether a disable is pending.
+    /// Returns whether a disable is pending.
     pub(crate) fn is_pending(&self) -> bool
         ensures { result ≡ is_pending self.now }
     {
         self.side.seen().flags.disable
     }
 
-    /// Marks a device that is on for disabling; any other stays as it is.
+    /// Marks a disable on a device that is enabled; any other is unchanged.
     #[tactic(auto, unfolding(crate::specs::Device::after_disable))]
     pub(crate) fn disable(&mut self)
         ensures { self.new ≡ after_disable self.old }
@@ -136,7 +136,7 @@ impl<S: ReceiveSide> Device<S> {
         }
     }
 
-    /// Tries a disable that is pending once. The answer is whether it still is.
+    /// Tries a pending disable once. Returns whether it is still pending.
     #[tactic(auto, unfolding(crate::specs::Device::settled))]
     pub(crate) fn settle(&mut self) -> bool
         ensures device { self.new ≡ settled self.old }
@@ -145,7 +145,7 @@ impl<S: ReceiveSide> Device<S> {
         self.is_pending() && !self.side.try_take()
     }
 
-    /// Enables a device that is off with its threaded setting; any other stays as it is.
+    /// Enables a device that is disabled, with its threaded setting; any other is unchanged.
     #[tactic(auto, unfolding(crate::specs::Device::after_enable))]
     pub(crate) fn enable(&mut self)
         ensures { self.new ≡ after_enable self.old }
@@ -155,7 +155,7 @@ impl<S: ReceiveSide> Device<S> {
         }
     }
 
-    /// Sets the device's threaded setting, and THREADED at once.
+    /// Sets the device's threaded setting, and the flag THREADED.
     #[tactic(auto, unfolding(crate::specs::Device::after_threaded))]
     pub(crate) fn set_threaded(&mut self, threaded: bool)
         ensures { self.new ≡ after_threaded threaded self.old }
@@ -166,7 +166,7 @@ impl<S: ReceiveSide> Device<S> {
 }
 
 impl<S: ReceiveSide> Device<S> {
-    // Gives the next packets, at most the weight, and answers how many.
+    // Takes the next packets, at most the weight, and returns how many.
     #[tactic(auto, unfolding(crate::specs::Device::polled))]
     fn receive(&mut self, weight: u32, load: &mut PolledBytes) -> u32
         requires weight { IsWithin 1 64 weight }
@@ -183,7 +183,7 @@ impl<S: ReceiveSide> Device<S> {
         count
     }
 
-    /// One poll from the list. An instance that is to be polled again is handed to the list.
+    /// Polls once from the list. An instance that gets a repoll is queued on the list.
     pub(crate) fn poll_once(&mut self, weight: u32) -> Once
         requires { IsWithin 1 64 weight }
         ensures device { self.new ≡ (polled_once weight self.old).1 }
@@ -193,7 +193,8 @@ impl<S: ReceiveSide> Device<S> {
         poll_once_of(self, weight, &mut PolledBytes::NONE)
     }
 
-    /// The thread takes the instance, if it was handed to it, and polls it at most so many times.
+    /// Polls by the device's thread, which takes the instance, if it was queued for the thread, and polls it at most `most`
+    /// times.
     pub(crate) fn poll_thread(&mut self, weight: u32, most: u32) -> ThreadReport
         requires weight { IsWithin 1 64 weight }
         requires most { IsWithin 1 131072 most }
@@ -204,7 +205,7 @@ impl<S: ReceiveSide> Device<S> {
         poll_thread_of(self, weight, most, &mut PolledBytes::NONE)
     }
 
-    /// The poller takes an instance that is idle, polls it for so many rounds, stops and polls once more.
+    /// Busy polls: takes an idle instance, polls it for this many rounds, stops, and polls once more.
     pub(crate) fn busy_poll(&mut self, weight: u32, rounds: u32) -> BusyReport
         requires weight { IsWithin 1 64 weight }
         requires rounds { IsWithin 1 65535 rounds }
@@ -322,7 +323,7 @@ fn count_completion(told: &mut DeviceCounts, again: bool)
     }
 }
 
-/// The bytes of the packets that a poll gave: at most 64, each of 32 bits of bytes.
+/// The sum of the bytes of a poll's packets: at most 64 packets, whose sizes have 32 bits.
 #[derive(Drop)]
 pub(crate) struct PolledBytes {
     bytes: u64,

@@ -1,7 +1,7 @@
-//! Behind the door `device_model`: the devices that the rows of a trace play on.
+//! Internal crate of the facade `device_model`: the devices on which the rows of a trace act.
 //!
-//! `specs/Device.antt` says what rows and polls do to a device, and the contracts of [`SerialBench`] say that its calls do
-//! that. docs/RULES.md has the rules.
+//! `specs/Device.antt` defines the effect of rows and polls on a device, and the contracts of [`SerialBench`] say that its
+//! calls have that effect. docs/RULES.md has the rules.
 #![tactic(auto)]
 
 mod bench;

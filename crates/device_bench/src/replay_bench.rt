@@ -1,4 +1,4 @@
-//! What the rows of a trace play on.
+//! The interface between a replay and its devices.
 
 ghost use Rattle.std.specs.Prelude.{◌≡◌, ◌≤◌, ◌+◌, ℕ, Some, is_some, not, true, OnErr, OnOk};
 ghost use Rattle.device_bench.specs.Bench.{AreBusyPolls, ArePolls, AreThreadPolls, Devices, all_settled, arrived, attached, counts_at, handed_by};
@@ -15,32 +15,32 @@ use napi_model::Kind;
 use poll_runs::Bench;
 use std::alloc::{AllocError, Global};
 
-/// At most sixteen devices by their numbers, on which the rows of a trace play. A call on a number that has no device
-/// changes nothing.
+/// At most sixteen devices, by number, on which the rows of a trace act. A call with a number that has no device changes
+/// nothing.
 ///
-/// A bench states by ghost members what it shows of itself: each call makes of its devices and transmit sides exactly
-/// what the rules make of them.
+/// A bench states by ghost members what it shows: each call has exactly the effect on its devices and transmit sides that the
+/// rules define.
 pub trait ReplayBench: Bench {
-    /// The devices, by their numbers.
+    /// The devices, by number.
     ghost devices: { Self → Devices };
 
     /// `shows bench all`: the bench's transmit sides are these.
     ghost shows: { Self → Transmits → Type 0 };
 
-    /// How many devices wait on the poll list: so many entries it has at most.
+    /// How many devices wait on the poll list, which has at most as many entries.
     ghost waiting: { Self → ℕ };
 
-    /// A packet of that many bytes arrives at a device. The answer is to whom its instance was handed by that; handed to
-    /// the list, its number is still to be pushed (`napi_schedule`).
+    /// Handles the arrival of a packet of this size at a device. Returns the queue in which that put the instance; if it is the
+    /// list, the caller still has to push the number (`napi_schedule`).
     fn arrive(&mut self, device: u32, bytes: u32) -> Option<Kind>
         ensures devices { devices self.new ≡ arrived device bytes (devices self.old) }
         ensures transmits { Keeps shows self.old self.new }
         ensures kind { result ≡ handed_by bytes (at device (devices self.old)) }
         ensures waiting { waiting self.old + count (is_listed result) ≤ waiting self.new };
 
-    /// Makes a device with a receive ring and a transmit ring of that many places, both empty, a queue limit that starts at
-    /// that moment, and an instance that is enabled, not threaded. A device that is there stays as it is. Where memory is
-    /// refused the bench stays as it is.
+    /// Makes a device with a receive and a transmit ring of this capacity, both empty, a queue limit that starts at this time,
+    /// and an instance that is enabled, not threaded. A device that exists is unchanged. If an allocation fails, the bench is
+    /// unchanged.
     fn attach(
         &mut self,
         alloc: Global,
@@ -57,28 +57,28 @@ pub trait ReplayBench: Bench {
         ensures waiting { waiting self.old ≤ waiting self.new }
         ensures refused { OnErr result (self.new ≡ self.old) };
 
-    /// A packet of that many bytes is sent, or held back and counted (`netdev_tx_sent_queue`).
+    /// Sends a packet of this size, or counts it as held if the ring rejects it (`netdev_tx_sent_queue`).
     fn send(&mut self, device: u32, bytes: u32)
         ensures devices { devices self.new ≡ devices self.old }
         ensures transmits { Changes shows (changed (after_tx bytes) device) self.old self.new }
         ensures waiting { waiting self.new ≡ waiting self.old };
 
-    /// That many packets are complete, or too many and counted (`netdev_tx_completed_queue`).
+    /// Completes this many packets, or counts the completion as denied if the ring holds fewer (`netdev_tx_completed_queue`).
     fn done(&mut self, device: u32, count: u32, moment: u64)
         ensures devices { devices self.new ≡ devices self.old }
         ensures transmits { Changes shows
             (changed (after_finish count moment) device) self.old self.new }
         ensures waiting { waiting self.new ≡ waiting self.old };
 
-    /// Marks a device that is on for disabling; `settle` tries it (`napi_disable`).
+    /// Marks a disable on a device that is enabled; `settle` tries it (`napi_disable`).
     fn disable(&mut self, device: u32)
         ensures devices { devices self.new
             ≡ changed after_disable device (devices self.old) }
         ensures transmits { Keeps shows self.old self.new }
         ensures waiting { waiting self.new ≡ waiting self.old };
 
-    /// Enables a device that is off with its threaded setting (`napi_enable`). The answer is false where its disable is
-    /// pending still.
+    /// Enables a device that is disabled, with its threaded setting (`napi_enable`). Returns false if its disable is still
+    /// pending.
     fn enable(&mut self, device: u32) -> bool
         ensures devices { devices self.new
             ≡ changed after_enable device (devices self.old) }
@@ -86,31 +86,31 @@ pub trait ReplayBench: Bench {
         ensures answer { result ≡ not (is_pending_at (at device (devices self.old))) }
         ensures waiting { waiting self.new ≡ waiting self.old };
 
-    /// Sets the threaded setting of a device, and THREADED at once (`dev_set_threaded`).
+    /// Sets the threaded setting of a device, and the flag THREADED (`dev_set_threaded`).
     fn set_threaded(&mut self, device: u32, threaded: bool)
         ensures devices { devices self.new
             ≡ changed (after_threaded threaded) device (devices self.old) }
         ensures transmits { Keeps shows self.old self.new }
         ensures waiting { waiting self.new ≡ waiting self.old };
 
-    /// Tries each disable that is pending once, in rising order of the devices (the loop of `napi_disable`).
+    /// Tries each pending disable once, by increasing device number (the loop of `napi_disable`).
     fn settle(&mut self)
         ensures devices { devices self.new ≡ all_settled (devices self.old) }
         ensures transmits { Keeps shows self.old self.new }
         ensures waiting { waiting self.new ≡ waiting self.old };
 
-    /// How many devices there are.
+    /// The number of devices.
     fn attached(&self) -> usize
         ensures devices { result ≡ attached (devices self.now) }
         ensures transmits { (all : Transmits) → shows self.now all → result ≡ attached all };
 
-    /// Whether a device is attached.
+    /// Returns whether a device is attached.
     fn is_attached(&self, device: u32) -> bool
         ensures devices { result ≡ is_some (at device (devices self.now)) }
         ensures transmits { (all : Transmits) → shows self.now all
             → result ≡ is_some (at device all) };
 
-    /// What the report tells of an attached device. Each has its transmit side from `attach` on.
+    /// Returns what the report shows of an attached device. Each has its transmit side from `attach` on.
     fn counts(&self, device: u32) -> DeviceCounts
         requires attached { is_some (at device (devices self.now)) ≡ true }
         ensures devices { (all : Transmits) → shows self.now all → Some result
@@ -118,19 +118,19 @@ pub trait ReplayBench: Bench {
         ensures transmits { (all : Transmits) → shows self.now all
             → result.tx ≡ tx_counts_of (at device all) };
 
-    /// Whether an attached device had a tx or done row, where the report tells of its transmit side.
+    /// Returns whether an attached device had a tx or done row; otherwise the report omits its transmit side.
     fn uses_transmit(&self, device: u32) -> bool
         ensures { (all : Transmits) → shows self.now all → result ≡ is_used (at device all) };
 
-    /// What a poll from the list is.
+    /// The relation of polls from the list.
     ghost polled: { ArePolls devices shows waiting Self.polls };
 
-    /// What the polling of a device by its thread is.
+    /// The relation of the polling of a device by its thread.
     ghost thread_polled: { AreThreadPolls devices shows waiting Self.thread_polls };
 
-    /// What busy polling of a device is.
+    /// The relation of busy polling of a device.
     ghost busily_polled: { AreBusyPolls devices shows waiting Self.busy_polls };
 
-    /// Each number waits once at most.
+    /// Each number waits at most once.
     ghost few: { (bench : Self) → waiting bench ≤ 17 };
 }

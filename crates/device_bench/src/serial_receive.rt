@@ -1,4 +1,4 @@
-//! The receive side of a device whose instance is one thread's own.
+//! The receive side of a device whose instance isn't shared.
 
 ghost use Rattle.std.specs.Prelude.{◌≡◌, ◌≤◌, ◌<◌, ◌^◌, true, length, sum, IfOk};
 ghost use Rattle.device_bench.specs.Receive.{handed, is_polling, kind_for, opened_side};
@@ -11,7 +11,7 @@ use napi_model::{Done, Kind, Place, Prep, Seen, SerialNapi};
 use std::alloc::{AllocError, Global};
 use std::marker::Model;
 
-/// The most packets that one poll gives (`NAPI_POLL_WEIGHT`).
+/// The most packets that one poll processes (`NAPI_POLL_WEIGHT`).
 const MOST_WEIGHT: usize = 64;
 
 /// A ring and an instance on which no other thread makes calls.
@@ -40,7 +40,7 @@ impl Model for SerialReceive {
 }
 
 impl SerialReceive {
-    // Hands the instance to its thread where THREADED is set, else to the list, and answers which.
+    // Queues the instance for its thread if THREADED is set, otherwise on the list, and returns which.
     fn hand_over(&mut self, caller: u32) -> Kind
         requires { self.old.napi.place ≡ Granted caller }
         ensures kind { result ≡ kind_for self.old.napi }
@@ -55,7 +55,7 @@ impl SerialReceive {
         kind
     }
 
-    // Who polls it.
+    // Returns the caller that polls it.
     fn poller(&self) -> u32
         requires { is_polling self.now.napi.place ≡ true }
         ensures { self.now.napi.place ≡ Polling result }
@@ -67,7 +67,7 @@ impl SerialReceive {
     }
 }
 
-/// Opens receive sides whose instances are one thread's own.
+/// Opens receive sides whose instances aren't shared.
 #[derive(Drop)]
 pub struct SerialOpener;
 
@@ -167,7 +167,7 @@ impl ReceiveSide for SerialReceive {
     }
 }
 
-// The bytes of a batch of packets together.
+// Returns the sum of the bytes of a batch of packets.
 fn byte_sum(batch: &[u32]) -> u64
     requires { length batch.now ≤ 64 }
     ensures sum { result ≡ sum batch.now }

@@ -1,9 +1,9 @@
-//! The devices of a trace: its rows, read from the bytes of a text, and what they play on, by one thread over instances of its
-//! own or over instances that threads could share, or as the acts of a device in a thread of its own.
+//! The devices of a trace: its rows, read from the bytes of a text, and the devices on which they act, by one thread with its
+//! own instances or with instances that threads could share, or as the acts of a device in its own thread.
 //!
-//! A door: it passes on what stands behind it, and adds nothing. `device_places` has the numbers of devices, `device_rows` the rows,
-//! `device_transmit` the transmit sides, `device_bench` the bench of one thread, `device_shared` that over shared instances, and
-//! `device_script` the device for a run with threads. What contracts cite is passed on by `specs/Lib.antt`.
+//! This is a facade: it re-exports its internal crates, and adds nothing. `device_places` has the numbers of devices,
+//! `device_rows` the rows, `device_transmit` the transmit sides, `device_bench` the bench of one thread, `device_shared` that
+//! on shared instances, and `device_script` the device for a run with threads. `specs/Lib.antt` re-exports what contracts cite.
 #![tactic(auto)]
 
 pub use device_bench::{DeviceCounts, DeviceState, ReplayBench, SerialBench};

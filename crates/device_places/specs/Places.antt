@@ -1,4 +1,4 @@
--- Sixteen devices by their numbers: a place for each number from 0 to 16, of which 0 stays empty.
+-- A table of sixteen devices by number: entries 0 to 16, of which 0 stays empty.
 use Rattle.std.specs.Prelude.{ℕ, List, Option, Some, None, replicate, slice_index_or, slice_set}
 
 abbrev pub Places : Type 0 → Type 0
@@ -7,11 +7,11 @@ Places A = List (Option A)
 abbrev pub empty : {A : Type 0} → Places A
 empty = replicate 17 None
 
--- what stands at a number, if anything does
+-- the entry of a number, if there is one
 abbrev pub at : {A : Type 0} → ℕ → Places A → Option A
 at number places = slice_index_or places number None
 
--- a change of what stands there, where something does
+-- changes the entry of a number, if there is one
 abbrev pub changed_from : {A : Type 0} → (A → A) → ℕ → Option A → Places A → Places A
 changed_from change number None places = places
 changed_from change number (Some a) places = slice_set places number (Some (change a))
@@ -19,7 +19,7 @@ changed_from change number (Some a) places = slice_set places number (Some (chan
 abbrev pub changed : {A : Type 0} → (A → A) → ℕ → Places A → Places A
 changed change number places = changed_from change number (at number places) places
 
--- one more; what stands there already stays
+-- adds an entry, unless the number has one already
 abbrev pub added_at : {A : Type 0} → ℕ → A → Option A → Places A → Places A
 added_at number a None places = slice_set places number (Some a)
 added_at number a (Some b) places = places

@@ -1,6 +1,6 @@
-//! Behind the door `device_model`: the numbers of devices, and what stands at each. It knows nothing of rows, so that benches and
-//! what reads a trace are proved side by side.
+//! Internal crate of the facade `device_model`: the numbers of devices, and a table by these numbers. It doesn't depend on
+//! rows, so that the prover can check benches and the reader of traces in parallel.
 #![tactic(auto)]
 
-/// Places for the numbers 0 to 16 of devices, of which 0 stays empty.
+/// The size of a table of devices: numbers 0 to 16, of which 0 stays empty.
 pub const PLACES: u32 = 17;

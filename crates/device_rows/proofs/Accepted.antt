@@ -22,13 +22,13 @@ accepted-at earlier [] i d below h = absurd (omega (arith, below))
 accepted-at earlier (row ∷ rows) zero d below h = (earlier, h.0)
 accepted-at earlier (row ∷ rows) (suc i) d below h = accepted-at (earlier ++ row ∷ []) rows i d (omega (arith, below)) h.1
 
--- the row at a place
+-- the row at an index
 pub get-at : (rows : List Row) (i : ℕ) (d : Row) → i < length rows → slice_get rows i ≡ Some (get_or rows i d)
 get-at [] i d below = absurd (omega (arith, below))
 get-at (row ∷ rows) zero d below = refl
 get-at (row ∷ rows) (suc i) d below = get-at rows i d (omega (arith, below))
 
--- the rows so far and one more that they accept
+-- the rows so far, and one more that they accept
 pub so_far-push : {A : Type 0} (old new : List Switch) (before after : Vec Row A) (row : Row) → IsSoFar old before
     → length (vec_items before) < 100000 → vec_items after ≡ vec_items before ++ row ∷ [] → vec_len after ≡ vec_len before + 1
     → vec_capacity after ≡ vec_capacity before → Tracks new (vec_items before ++ row ∷ []) → IsAccepted (vec_items before) row

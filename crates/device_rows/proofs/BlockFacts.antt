@@ -1,4 +1,4 @@
--- What is left behind the bytes that were read ahead.
+-- What remains after the bytes that were read ahead.
 use Rattle.std.proofs.Common.{◌≡◌, ◌∙◌, ℕ, ◌+◌, ◌-◌, ◌≤◌, List, [], ◌∷◌, ◌++◌, Some, None, Option, length, take, drop, refl, sym, ap, arith}
 use Rattle.std.proofs.{Common.{append_assoc, length-append, take_all, take_at, take-take, drop_at}, lemmas.List.take-append-le}
 use Rattle.{std.specs.Io.KnownBytes.Consumes, csv.specs.declared.parser.State.State}
@@ -7,14 +7,14 @@ use Rattle.device_rows.specs.{Block.{Holds, fused_remaining, unread}, Plain.Star
 use Rattle.device_rows.proofs.RowsFacts.{records-next}
 use lib.Seq.{take-append-add}
 
--- a line feed starts no byte-order mark
+-- a line feed doesn't begin a byte-order mark
 pub no-mark : (bytes : List ℕ) → strip_bom (10 ∷ bytes) ≡ 10 ∷ bytes
 unfolding strip_bom
 no-mark [] = refl
 no-mark (a ∷ []) = refl
 no-mark (a ∷ b ∷ bytes) = refl
 
--- the bytes that a read took stand behind those that were unread
+-- the bytes that a read returned follow those that were unread
 pub read-on : (held taken items behind bytes : List ℕ) (before after : Option (List ℕ)) → before ≡ Some behind → Consumes before after taken
     → bytes ≡ held ++ behind → items ≡ held ++ taken → (left : List ℕ) × (after ≡ Some left) × (bytes ≡ items ++ left)
 read-on held taken items behind bytes None after known took all made = cc known
@@ -23,7 +23,7 @@ read-on held taken items behind bytes (Some xs) (Some ys) known took all made =
     let same : behind ≡ taken ++ ys = cc (known, took) in
     (ys, refl, all ∙ ap (λ b. held ++ b) same ∙ sym (append_assoc held taken ys) ∙ ap (λ i. i ++ ys) (sym made))
 
--- behind the unread bytes a read put others, of which the first so many count
+-- a read put bytes after the unread ones, and the first `count` of them are valid
 pub put-behind : (held ahead zeros taken spare rest items : List ℕ) (before asked count size : ℕ) → before ≡ length held
     → ahead ≡ take (before + asked) held ++ zeros → count ≤ length taken → before + count ≤ size
     → items ≡ take (before + count) (take size ((take before ahead ++ (taken ++ spare)) ++ rest)) → items ≡ held ++ take count taken
@@ -38,7 +38,7 @@ put-behind held ahead zeros taken spare rest items before asked count size long 
     is ∙ take-take (before + count) size _ fits ∙ ap (take (before + count)) flat
     ∙ ap (λ n. take (n + count) (held ++ (taken ++ (spare ++ rest)))) long ∙ cut
 
--- the block where some of its unread bytes were used
+-- the block after some of its unread bytes were consumed
 pub used-up : {R : Type 0} (remaining : R → Option (List ℕ)) (old new : Block R) (text used rest left : List ℕ) (count : ℕ)
     → text ≡ unread old → text ≡ used ++ rest → count ≡ length text - length rest → unread new ≡ drop count (unread old)
     → new.source ≡ old.source → Holds remaining old left
@@ -57,7 +57,7 @@ used-up {R} remaining old new text used rest left count is splits size behind sa
       },
     )
 
--- the titles were used: the records behind them are those of the bytes that are left
+-- the titles were consumed: the records after them are those of the remaining bytes
 pub titles-used : {R : Type 0} (remaining : R → Option (List ℕ)) (old new : Block R) (text rest bytes : List ℕ) (count version : ℕ)
     → text ≡ unread old → (titles : StartsWithTitles text version rest) → count ≡ length text - length rest
     → unread new ≡ drop count (unread old) → new.source ≡ old.source → Holds remaining old bytes

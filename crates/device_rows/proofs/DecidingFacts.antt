@@ -1,4 +1,4 @@
--- Which records of a text decide its trace: the first 100002, and those up to the first fault.
+-- Which records of a text determine its trace: the first 100002, and those up to the first error.
 use Rattle.std.proofs.Common.{◌≡◌, ◌∙◌, ℕ, zero, suc, ◌+◌, ◌≤◌, Bool, true, false, List, [], ◌∷◌, ◌++◌, length, length-append, take, refl}
 use Rattle.std.{proofs.{Common.{sym, ap, arith, Some, None, Option}, lemmas.Bool.ltb-true}, specs.Prelude.{Result, Ok, Err, nat_lt}}
 use Rattle.{csv.specs.{Reading.{default_config, records_from, strip_bom}, declared.parser.State.State}, device_rows.specs.Record.row_of}
@@ -7,7 +7,7 @@ use Rattle.device_rows.specs.{Trace.{trace_of, version_in, with_row}, declared.{
 use Rattle.device_rows.proofs.{RowsFacts.{rows-bad, rows-end, rows-good, rows-over}, RecordsFacts.{records-all, records-take}}
 
 module _ (version : ℕ) where
-  -- a row that is taken makes the list one longer
+  -- a row that is accepted makes the list one longer
   grows : (rows : List Row) (fields : List (List ℕ)) (more : List Row) → with_row version rows fields ≡ Ok more
       → length more ≡ length rows + 1
   unfolding with_row
@@ -50,7 +50,7 @@ first-decide (header ∷ records) (suc count) many = by (version_of header)
     by None = refl
     by (Some version) = rows-enough version count [] records (omega arith) (omega arith)
 
--- as many records as the reader asks for decide what is told of a text, where they decide it of records
+-- as many records as the reader asks for determine the result for a text, if they determine it for records
 asked-same : {A : Type 0} (told : List (List (List ℕ)) → A) (count : ℕ) (s : State) (bytes : List ℕ)
     → ((records : List (List (List ℕ))) → told (take count records) ≡ told records)
     → s ≡ State.StartRecord → told (records_of bytes) ≡ told (records_from default_config count s (strip_bom bytes))
@@ -91,7 +91,7 @@ module _ (version : ℕ) where
       by same (Ok next) e true t = rows-good version rows next fields (records ++ more) t e
           ∙ same next (sym (rows-good version rows next fields records t e) ∙ faulty)
 
--- what stands behind a fault makes no difference
+-- what follows an error doesn't matter
 pub fault-stands : (header : List (List ℕ)) (records more : List (List (List ℕ))) (fault : TraceFault)
     → trace_of (header ∷ records) ≡ Err fault → trace_of (header ∷ records ++ more) ≡ Err fault
 fault-stands header records more fault faulty = by (version_of header) faulty

@@ -1,4 +1,4 @@
--- The number that digits write, by all but the last of them.
+-- The number that digits denote, by all but the last of them.
 use Rattle.std.proofs.Common.{◌≡◌, ℕ, zero, suc, ◌+◌, ◌-◌, ◌*◌, ◌^◌, ◌<◌, ◌≤◌, Bool, true, false, List, [], ◌∷◌, ◌++◌, length}
 use Rattle.std.proofs.{Common.{length-append, refl, arith}, Math.{Nat.{add-suc, add-zero, pow-suc}, Dec.leb-suc-suc}, lemmas.Bool.le-leb}
 use Rattle.std.specs.{Prelude.{◌&&◌, nat_le}, Char.{digit_value, is_ascii_digit}, List.IsLastAndRest, Str.all_ascii_digits}
@@ -21,7 +21,7 @@ plus-one n =
     let same : n + 1 ≡ suc n = omega arith in
     rw same (leb-suc-suc n 19)
 
--- a field is a numeral where all but its last byte are at most nineteen digits, and the last is one
+-- a field is a numeral if all but its last byte are at most nineteen digits, and the last is a digit
 pub is_numeral-push : (field front : List ℕ) (last : ℕ) → IsLastAndRest field last front
     → is_numeral field ≡ (nat_le (length front) 19 && (all_ascii_digits front && is_ascii_digit last))
 is_numeral-push field front last h = rw (h.0, length-append front (last ∷ []), digits-push front last) (by (length front))
@@ -40,7 +40,7 @@ pow-grows n (suc k) =
     let more = pow-grows n k in
     rw (add-suc n k, pow-suc 10 (n + k)) (omega (arith, more))
 
--- ten times a number of fewer than nineteen digits, with a byte, fits 64 bits
+-- ten times a number of fewer than nineteen digits, plus a byte, fits into 64 bits
 pub fits : (n count byte : ℕ) → count < 19 → n < 10 ^ count → byte < 256 → n * 10 + byte < 2 ^ 64
 fits n count byte few small d =
     let grows = pow-grows count (18 - count) in

@@ -15,7 +15,7 @@ use Rattle.device_rows.specs.Record.{event_of, four_of, is_numeral, numeral, ver
 use Rattle.device_rows.specs.declared.{event.Event.Event}
 use Rattle.device_rows.proofs.{NumeralFacts.digits-push, ShortFacts.short-row}
 
--- a digit is no mark of csv's
+-- a digit is no special character of csv's
 digit-plain : (byte : ℕ) → is_ascii_digit byte ≡ true → needs_byte default_writer byte ≡ false
 digit-plain byte h = grind (arith, nat_tests)
 
@@ -30,7 +30,7 @@ numeral-plain field h =
     digits-plain field (and_parts (nat_le (length field) 20) (all_ascii_digits field)
     (and_parts (nat_le 1 (length field)) (nat_le (length field) 20 && all_ascii_digits field) h).1).1
 
--- a plain field and the comma behind it
+-- a plain field and the comma after it
 comma-ends : (fields : List (List ℕ)) (x rest : List ℕ) → IsPlain x
     → next_record default_config state.StartField fields [] (x ++ 44 ∷ rest)
     ≡ next_record default_config state.StartField (fields ++ x ∷ []) [] rest
@@ -40,7 +40,7 @@ comma-ends fields x rest plain =
     let run' = rw plain at run in
     run'
 
--- a plain field and the line feed behind it
+-- a plain field and the line feed after it
 line-ends : (fields : List (List ℕ)) (x rest : List ℕ) → IsPlain x
     → next_record default_config state.StartField fields [] (x ++ 10 ∷ rest) ≡ Some (fields ++ x ∷ [], state.StartRecord, rest)
 unfolding next_record
@@ -49,7 +49,7 @@ line-ends fields x rest plain =
     let run' = rw plain at run in
     run'
 
--- a record starts as a field does, at a numeral
+-- at a numeral, a record starts as a field does
 numeral-starts : (x rest : List ℕ) → is_numeral x ≡ true
     → next_record default_config state.StartRecord [] [] (x ++ rest) ≡ next_record default_config state.StartField [] [] (x ++ rest)
 numeral-starts [] rest h = cc h
@@ -103,7 +103,7 @@ module _ (text left field rest : List ℕ) (fields : List (List ℕ)) (begins : 
 digit-worth : (byte : ℕ) → is_ascii_digit byte ≡ true → digit_value byte ≡ byte - 48
 digit-worth byte h = grind (arith, nat_tests)
 
--- one more digit at a text's start
+-- one more digit at the start of a text
 pub digits-more : (text : List ℕ) (place : ℕ) → place < length text → all_ascii_digits (take place text) ≡ true
     → is_ascii_digit (slice_index_or text place 0) ≡ true → all_ascii_digits (take (place + 1) text) ≡ true
 digits-more text place below front digit =
@@ -134,7 +134,7 @@ pub word-ends : (text : List ℕ) (place : ℕ) → place < length text → IsPl
     → StartsWithWord text (take place text) (drop (place + 1) text)
 word-ends text place below plain ends = record { splits = splits-at text place 44 below ends; plain = plain }
 
--- what a byte that is no digit splits off
+-- what a byte that isn't a digit splits off
 pub number-ends : (text : List ℕ) (place stop number : ℕ) → place < length text → 1 ≤ place → place ≤ 20
     → all_ascii_digits (take place text) ≡ true → number ≡ numeral (take place text) → slice_index_or text place 0 ≡ stop
     → StartsWithNumber text stop number (drop (place + 1) text)

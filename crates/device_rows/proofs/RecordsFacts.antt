@@ -1,4 +1,4 @@
--- That a text has no more records than bytes, and that fewer of them are the first ones.
+-- A text has at most as many records as bytes, and asking for fewer yields the first ones.
 use Rattle.std.proofs.Common.{◌≡◌, ℕ, zero, suc, ◌-◌, ◌<◌, ◌≤◌, Bool, true, false, List, [], ◌∷◌, ◌++◌, length, take, refl, ap, arith, Some}
 use Rattle.std.{proofs.Common.{None, Option}, specs.Prelude.{◌==◌, if◌then◌else◌}}
 use Rattle.csv.specs.Machine.{Read, after_end, ends_at_end, ends_with, field_after, fields_after, in_field, is_end, next_record}
@@ -39,7 +39,7 @@ step-tidy State.AfterQuote c = tidy-if (c == 34) _ _ (λ h. cc h) (in_field-tidy
 step-tidy State.InComment c = tidy-if (c == 10) _ _ (λ h. refl) (λ h. cc h)
 step-tidy State.AfterCr c = tidy-if (c == 10) _ _ (λ h. refl) (start_record-tidy c)
 
--- a record takes at least a byte, where there is one
+-- a record takes at least one byte, if there is one
 pub next-short : (s : State) (fields : List (List ℕ)) (field xs : List ℕ) (p : Read) → next_record default_config s fields field xs ≡ Some p
     → (ends_at_end p.1 ≡ false) × (length p.2 ≤ length xs - 1)
 unfolding next_record

@@ -1,4 +1,4 @@
--- How the rows of the records that are left follow from the next record.
+-- The rows of the remaining records, by the next record.
 use Rattle.std.proofs.{Common.{◌<◌, length-append}, lemmas.Bool.lt-ltb}
 use Rattle.device_rows.specs.Adding.{rows_with}
 use Rattle.std.proofs.Common.{◌≡◌, ◌∙◌, ℕ, suc, ◌+◌, ◌-◌, ◌≤◌, true, false, List, [], ◌∷◌, ◌++◌, length, refl, sym, ap, arith, Some, None}
@@ -29,7 +29,7 @@ records-none {R} remaining reader after fields n m left e h =
     by None h = refl
     by (Some p) h = cc h.0
 
--- one record, and then those that the reader has left
+-- one record, and then those that remain in the reader
 pub records-more : {R : Type 0} (remaining : R → Option (List ℕ)) (reader after : Reader R) (fields : List (List ℕ)) (n m : ℕ)
     (left : List ℕ) → n ≡ suc m
     → TakesNext remaining (next_record default_config (reader_state reader) [] [] left) true fields after
@@ -48,7 +48,7 @@ module _ (version : ℕ) where
   unfolding rows_after
   rows-end rows = refl
 
-  -- the rows of all records are those of the next one and of the records behind it
+  -- the rows of all records are those of the next one and of the records after it
   pub goes-on : {R : Type 0} (remaining : R → Option (List ℕ)) (reader after : Reader R) (fields : List (List ℕ)) (rows : List Row)
       (all : Result (List Row) TraceFault) (left : List ℕ) → length rows ≤ 100000
       → TakesNext remaining (next_record default_config (reader_state reader) [] [] left) true fields after
@@ -59,7 +59,7 @@ module _ (version : ℕ) where
       records-more remaining reader after fields (100001 - length rows) (100001 - (length rows + 1)) left (omega (arith, small)) next in
       (rest, stands, so_far ∙ ap (rows_after version rows) one)
 
-  -- the rows of all records are those so far where none is left, or none was asked for
+  -- the rows of all records are those so far, if no record is left or none was asked for
   pub ends : {R : Type 0} (remaining : R → Option (List ℕ)) (reader after : Reader R) (fields : List (List ℕ)) (rows : List Row)
       (all : Result (List Row) TraceFault) (left : List ℕ) → length rows ≤ 100000
       → TakesNext remaining (next_record default_config (reader_state reader) [] [] left) false fields after
@@ -85,13 +85,13 @@ module _ (version : ℕ) where
   unfolding rows_after
   rows-good rows more fields records e h = rw (e, h) refl
 
-  -- a record that is no row
+  -- a record that isn't a row
   pub with_row-bad : (rows : List Row) (fields : List (List ℕ)) (why : TraceFault) → Err why ≡ row_of version (length rows + 1) fields
       → with_row version rows fields ≡ Err why
   unfolding with_row
   with_row-bad rows fields why e = rw (sym e) refl
 
-  -- a row that the earlier ones do not allow
+  -- a row that the earlier ones don't allow
   pub with_row-refused : (rows : List Row) (fields : List (List ℕ)) (row : Row) (why : TraceFault)
       → Ok row ≡ row_of version (length rows + 1) fields
       → refusal (length rows + 1) row.event (switch_of row.device rows) ≡ Some why → with_row version rows fields ≡ Err why
@@ -104,7 +104,7 @@ module _ (version : ℕ) where
   unfolding with_row
   with_row-good rows fields row e h = rw (sym e, h) refl
 
--- a record that tells one more row
+-- a record that holds one more row
 pub with-next : (version : ℕ) (rows : List Row) (row : Row) (fields : List (List ℕ)) (state after : State) (text rest : List ℕ)
     → length rows < 100000 → next_record default_config state [] [] text ≡ Some (fields, after, rest)
     → with_row version rows fields ≡ Ok (rows ++ row ∷ [])
@@ -115,7 +115,7 @@ with-next version rows row fields state after text rest below reads one =
     ∙ ap (records_next (records_from default_config left)) reads)
     ∙ rows-good version rows (rows ++ row ∷ []) fields (records_from default_config left after rest) (lt-ltb _ _ below) one
 
--- an empty line in front
+-- an empty line at the front
 pub with-empty : (version : ℕ) (rows : List Row) (text : List ℕ) → length rows ≤ 100000
     → rows_with version rows State.StartRecord text ≡ rows_with version rows State.StartRecord (10 ∷ text)
 unfolding next_record
@@ -128,7 +128,7 @@ with-empty version rows text few =
 pub trace-none : (records : List (List (List ℕ))) → records ≡ [] → trace_of records ≡ Err TraceFault.BadHeader
 trace-none records e = rw e refl
 
--- a first record that is no header
+-- a first record that isn't a header
 pub trace-other : (records : List (List (List ℕ))) (fields : List (List ℕ)) (rest : List (List (List ℕ))) → records ≡ fields ∷ rest
     → version_of fields ≡ None
     → trace_of records ≡ Err TraceFault.BadHeader

@@ -1,4 +1,4 @@
--- The row of fields whose numbers and event were read.
+-- The row of fields whose numbers and event were parsed.
 use Rattle.std.{proofs.{Common.{◌≡◌, ℕ, ◌<◌, ◌^◌, List, true, Some, refl, sym}, lemmas.Bool.lt-ltb}, specs.Prelude.{Ok, nat_lt}}
 use Rattle.device_rows.specs.{Record.{event_of, is_numeral, numeral, of_fields, ranged}, Row.{device_fits, value_fits}}
 use Rattle.device_rows.specs.declared.event.Event.{Event}

@@ -1,4 +1,4 @@
--- That a reader failed, or memory was refused: who meets it knows it by the error that came.
+-- That a reader failed or an allocation failed, which a function learns from the error that it gets.
 use Rattle.std.specs.{Prelude.◌≡◌, declared.{alloc.AllocError.AllocError, io.Error.Error}}
 use Rattle.csv.specs.declared.error.ErrorKind.{ErrorKind}
 use Rattle.csv.specs.declared.error.ErrorKind.TheVariants.{Io, OutOfMemory}

@@ -1,9 +1,9 @@
--- The numbers of the faults. See docs/FORMATS.md, "Faults".
+-- The numbers of the errors. See docs/FORMATS.md, "Faults".
 use Rattle.{std.specs.Prelude.ℕ, device_rows.specs.declared.fault.TraceFault.{TraceFault, TheVariants.{BadHeader, BadFields, BadNumber}}}
 use Rattle.device_rows.specs.declared.fault.TraceFault.TheVariants.{BadEvent, OutOfRange, UnknownDevice, OpenTwice, WrongState, TooManyRows}
 use Rattle.device_rows.specs.declared.fault.TraceFault.TheVariants.{ReadFailed, OutOfMemory}
 
--- the number by which a fault is known
+-- the number of an error
 abbrev pub number_of : TraceFault → ℕ
 number_of BadHeader = 1
 number_of (BadFields row) = 2

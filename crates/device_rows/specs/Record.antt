@@ -1,11 +1,11 @@
--- What the fields of one record say by themselves: a row, or one of the faults 2 to 5. See docs/FORMATS.md, "The trace".
+-- What the fields of one record mean by themselves: a row, or one of the errors 2 to 5. See docs/FORMATS.md, "The trace".
 use Rattle.std.specs.Prelude.{ℕ, ◌^◌, ◌==◌, ◌&&◌, Bool, false, List, length, Option, Some, None, option_and_then, if◌then◌else◌, nat_le}
 use Rattle.std.specs.{Prelude.{nat_lt, codes, Result, Ok, Err}, Str.{all_ascii_digits, bytes_eq, Parse.digits_value}}
 use Rattle.{csv.specs.Records.field_at, device_rows.specs.{Row.{device_fits, value_fits}, declared.event.Event.{Event, TheVariants.Opened}}}
 use Rattle.device_rows.specs.declared.event.Event.TheVariants.{Rx, Tx, Finish, Softirq, Kthread, Disable, Enable, Threaded, Busy}
 use Rattle.device_rows.specs.declared.{fault.TraceFault.{TraceFault, TheVariants.{BadFields, BadNumber, BadEvent, OutOfRange}}, row.Row.Row}
 
--- a chain of steps that ends where one gives nothing
+-- a sequence of steps that ends at the first None
 infixl 10 ◌>>=◌
 abbrev ◌>>=◌ : {A B : Type 0} → Option A → (A → Option B) → Option B
 found >>= next = option_and_then next found
@@ -25,14 +25,14 @@ first_four fields = do
 unfoldable pub four_of : List (List ℕ) → Option Four
 four_of fields = if length fields == 4 then first_four fields else None
 
--- one to twenty ASCII digits, and the number that they write
+-- one to twenty ASCII digits, and the number that they denote
 abbrev pub is_numeral : List ℕ → Bool
 is_numeral field = nat_le 1 (length field) && (nat_le (length field) 20 && all_ascii_digits field)
 
 abbrev pub numeral : List ℕ → ℕ
 numeral field = digits_value 10 field
 
--- the event of a word, in a trace of this version: only in version 2 there is busy polling
+-- the event of a name, in a trace of this version: busy polling exists only in version 2
 unfoldable pub event_of : ℕ → List ℕ → Option Event
 event_of version word =
     if bytes_eq word (codes "open") then Some Opened
@@ -47,31 +47,31 @@ event_of version word =
     else if version == 2 && bytes_eq word (codes "busy") then Some Busy
     else None
 
--- row n of these numbers, where they are in their ranges
+-- row n with these numbers, if they are in their ranges
 unfoldable pub ranged : ℕ → ℕ → ℕ → Event → ℕ → Result Row TraceFault
 ranged n moment device event value =
     if nat_lt moment (2 ^ 64) && (device_fits event device && value_fits event value)
     then Ok (record { moment = moment; device = device; event = event; value = value })
     else Err (OutOfRange n)
 
--- where its word names an event
+-- if the name is that of an event
 abbrev pub of_event : ℕ → ℕ → ℕ → Option Event → ℕ → Result Row TraceFault
 of_event n moment device None value = Err (BadEvent n)
 of_event n moment device (Some event) value = ranged n moment device event value
 
--- where three of its four fields are numbers
+-- if three of its four fields are numbers
 unfoldable pub of_fields : ℕ → ℕ → List ℕ → List ℕ → List ℕ → List ℕ → Result Row TraceFault
 of_fields version n moment device event value =
     if is_numeral moment && (is_numeral device && is_numeral value)
     then of_event n (numeral moment) (numeral device) (event_of version event) (numeral value)
     else Err (BadNumber n)
 
--- where it has four fields
+-- if it has four fields
 abbrev pub of_four : ℕ → ℕ → Option Four → Result Row TraceFault
 of_four version n None = Err (BadFields n)
 of_four version n (Some four) = of_fields version n four.0 four.1 four.2 four.3
 
--- row n of a trace of this version, or its first fault of 2 to 5
+-- row n of a trace of this version, or its first error of 2 to 5
 abbrev pub row_of : ℕ → ℕ → List (List ℕ) → Result Row TraceFault
 row_of version n fields = of_four version n (four_of fields)
 
@@ -86,7 +86,7 @@ abbrev pub is_two : Option (List ℕ) → Bool
 is_two None = false
 is_two (Some field) = bytes_eq field (codes "2")
 
--- the version that a trace's first record tells: its titles alone, or these and a 2
+-- the version of a trace, by its first record: only the titles, or these and a 2
 unfoldable pub version_of : List (List ℕ) → Option ℕ
 version_of fields =
     if is_title (first_four fields)

@@ -1,4 +1,4 @@
--- The numbers that a row of each event may bear. See docs/FORMATS.md, "The trace".
+-- The ranges of the numbers in a row, by its event. See docs/FORMATS.md, "The trace".
 use Rattle.std.specs.Prelude.{ℕ, ◌==◌, ◌&&◌, Bool, nat_le}
 use Rattle.device_rows.specs.declared.event.Event.{Event, TheVariants.{Opened, Rx, Tx}}
 use Rattle.device_rows.specs.declared.event.Event.TheVariants.{Finish, Softirq, Kthread, Disable, Enable, Threaded, Busy}
@@ -10,7 +10,7 @@ is_within low high n = nat_le low n && nat_le n high
 abbrev pub is_device : ℕ → Bool
 is_device n = is_within 1 16 n
 
--- the device that a row of this event may name: one of sixteen, and none for a softirq, which is of no device
+-- the device that a row of this event may name: one of sixteen, or none for a softirq
 abbrev pub device_fits : Event → ℕ → Bool
 device_fits Opened n = is_device n
 device_fits Rx n = is_device n
@@ -23,7 +23,8 @@ device_fits Enable n = is_device n
 device_fits Threaded n = is_device n
 device_fits Busy n = is_device n
 
--- the value that it may bear: places, bytes, bytes, packets, the setting of threaded, the rounds of busy polling, and else 0
+-- the value that it may have: ring capacity, bytes, bytes, packets, whether threaded, the rounds of busy polling, and otherwise
+-- 0
 abbrev pub value_fits : Event → ℕ → Bool
 value_fits Opened n = is_within 1 65536 n
 value_fits Rx n = is_within 1 65535 n

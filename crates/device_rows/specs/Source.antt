@@ -1,4 +1,4 @@
--- Where a reader of records stands.
+-- The position of a reader of records.
 use Rattle.std.specs.Prelude.{◌≡◌, ◌⊎◌, ℕ, Bool, true, false, List, Option, Some, None}
 use Rattle.csv.specs.{Machine.Read, Reading.Ready}
 use Rattle.csv.specs.Reading.{default_config, is_flexible, reader_config, reader_state, reader_trim, source_of}
@@ -7,28 +7,28 @@ use Rattle.device_rows.specs.declared.source.ReadError.{ReadError}
 use Rattle.device_rows.specs.declared.fault.TraceFault.{TraceFault, TheVariants.{ReadFailed, OutOfMemory}}
 use Rattle.csv.specs.declared.reader.Trim.TheVariants as trim
 
--- the reader gives the next record by csv's defaults, whatever its length
+-- the reader returns records by csv's defaults, of any length
 pub record IsOpen {R : Type 0} (reader : Reader R) : Type 0 where
   pub config : reader_config reader ≡ default_config
   pub trim : reader_trim reader ≡ trim.None
   pub ready : Ready reader
   pub flexible : is_flexible reader ≡ true
 
--- these bytes are left
+-- these bytes remain
 abbrev pub StandsAt : {R : Type 0} → (R → Option (List ℕ)) → Reader R → List ℕ → Type 0
 StandsAt remaining reader bytes = source_of remaining reader ≡ Some bytes
 
--- a read found what the definition of the next record gives, and the reader stands behind it
+-- a read found the next record by definition, and the reader is after it
 abbrev pub TakesNext : {R : Type 0} → (R → Option (List ℕ)) → Option Read → Bool → List (List ℕ) → Reader R → Type 0
 TakesNext remaining None found fields after = found ≡ false
 TakesNext remaining (Some read) found fields after =
     (found ≡ true) × (fields ≡ read.0) × (reader_state after ≡ read.1) × StandsAt remaining after read.2
 
--- the reader or the memory failed, as the error says
+-- the reader failed, or an allocation, as the error says
 abbrev pub HasCause : ReadError → Type 0
 HasCause ReadError.ReadFailed = HasFailed
 HasCause ReadError.OutOfMemory = IsRefused
 
--- the reader or the memory failed
+-- the reader failed, or an allocation
 abbrev pub IsReadFailure : TraceFault → Type 0
 IsReadFailure fault = ((fault ≡ ReadFailed) × HasFailed) ⊎ ((fault ≡ OutOfMemory) × IsRefused)

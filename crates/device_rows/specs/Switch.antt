@@ -1,11 +1,11 @@
--- What the earlier rows of a device say of the next one: faults 6 to 8. See docs/FORMATS.md, "The trace".
+-- Which rows the earlier rows of a device allow: errors 6 to 8. See docs/FORMATS.md, "The trace".
 use Rattle.std.specs.Prelude.{◌≡◌, ℕ, ◌+◌, ◌<◌, ◌==◌, true, List, [], ◌∷◌, map, filter, Option, Some, None, unwrap_or, slice_index_or}
 use Rattle.{std.specs.Prelude.{Result, Ok, Err}, device_rows.specs.{Row.{device_fits, value_fits}, declared.event.Event.Event}}
 use Rattle.device_rows.specs.declared.event.Event.TheVariants.{Opened, Rx, Tx, Finish, Softirq, Kthread, Disable, Enable, Threaded, Busy}
 use Rattle.device_rows.specs.declared.{fault.TraceFault.{TraceFault, TheVariants.{UnknownDevice, OpenTwice, WrongState}}, row.Row.Row}
 use Rattle.device_rows.specs.declared.switch.Switch.{Switch, TheVariants.{Unopened, On, Off}}
 
--- what a row of this event sets its device to, if it does
+-- the state in which a row of this event leaves its device, if it sets it
 abbrev pub set_by : Event → Option Switch
 set_by Opened = Some On
 set_by Rx = None
@@ -26,18 +26,18 @@ abbrev pub switch_after : Switch → List Event → Switch
 switch_after switch [] = switch
 switch_after switch (event ∷ events) = switch_after (unwrap_or (set_by event) switch) events
 
--- what the rows leave a device: unopened, on or off
+-- the state in which the rows leave a device: unopened, on or off
 unfoldable pub switch_of : ℕ → List Row → Switch
 switch_of device rows = switch_after Unopened (events_of device rows)
 
--- why row n is refused where it wants its device open, if it is
+-- the error of row n, if its device has to be open and isn't
 abbrev pub wants_open : ℕ → Switch → Option TraceFault
 wants_open n Unopened = Some (UnknownDevice n)
 wants_open n On = None
 wants_open n Off = None
 
--- why row n is refused where the earlier rows leave its device so, if it is. Disable and enable take turns: `napi_disable`
--- of a disabled instance waits for ever, and `napi_enable` of an enabled one is a BUG (`net/core/dev.c`)
+-- the error of row n, if there is one, by the state in which earlier rows leave its device. Disable and enable alternate:
+-- `napi_disable` of a disabled instance waits forever, and `napi_enable` of an enabled one is a BUG (`net/core/dev.c`)
 abbrev pub refusal : ℕ → Event → Switch → Option TraceFault
 refusal n Opened Unopened = None
 refusal n Opened On = Some (OpenTwice n)
@@ -60,11 +60,11 @@ abbrev pub unless_refused : {A : Type 0} → Option TraceFault → A → Result 
 unless_refused None x = Ok x
 unless_refused (Some fault) x = Err fault
 
--- a table has the switch of each device after these rows
+-- a table has the state of each device after these rows
 abbrev pub Tracks : List Switch → List Row → Type 0
 Tracks table rows = (place : ℕ) → place < 16 → slice_index_or table place Unopened ≡ switch_of (place + 1) rows
 
--- a row in its ranges that nothing refuses behind rows whose switches the table has, and that changes none of them
+-- a row with its numbers in their ranges that is accepted after rows with these states, and that changes none of them
 pub record Passes (table : List Switch) (row : Row) : Type 0 where
   pub device : device_fits row.event row.device ≡ true
   pub value : value_fits row.event row.value ≡ true

@@ -1,35 +1,35 @@
--- The rows of a trace, or its first fault, as a function of the records of the text. See docs/FORMATS.md, "The trace".
+-- The rows of a trace, or its first error, as a function of the records of the text. See docs/FORMATS.md, "The trace".
 use Rattle.std.specs.Prelude.{◌≡◌, ⊤, ℕ, ◌+◌, true, List, [], ◌∷◌, ◌++◌, length, Option, Some, None, if◌then◌else◌, nat_lt, unwrap_or}
 use Rattle.{std.specs.Prelude.{Result, Ok, Err}, csv.specs.Reading.{default_config, records, strip_bom}, device_rows.specs.Record.row_of}
 use Rattle.device_rows.specs.{Record.version_of, Row.{device_fits, value_fits}, Switch.{refusal, switch_of, unless_refused}}
 use Rattle.device_rows.specs.declared.{fault.TraceFault.{TraceFault, TheVariants.{BadHeader, TooManyRows}}, row.Row.Row}
 
--- a chain of steps that ends at the first fault
+-- a sequence of steps that ends at the first error
 infixl 10 ◌>>=◌
 abbrev pub ◌>>=◌ : {A B : Type 0} → Result A TraceFault → (A → Result B TraceFault) → Result B TraceFault
 (Ok x) >>= next = next x
 (Err fault) >>= next = Err fault
 
--- the earlier rows and the next one, or its first fault: what it says by itself, and then what the earlier rows of its
--- device say
+-- the earlier rows and the next one, or its first error: first by the row itself, and then by the earlier rows of its device
 unfoldable pub with_row : ℕ → List Row → List (List ℕ) → Result (List Row) TraceFault
 with_row version earlier fields = do
   row ← row_of version (length earlier + 1) fields
   unless_refused (refusal (length earlier + 1) row.event (switch_of row.device earlier)) (earlier ++ row ∷ [])
 
--- the earlier rows and those of the records, or the first fault of these; row 100001 is one too many before anything else
+-- the earlier rows and those of the records, or the first error among these; that there is a row 100001 comes before any other
+-- error
 unfoldable pub rows_after : ℕ → List Row → List (List (List ℕ)) → Result (List Row) TraceFault
 rows_after version earlier [] = Ok earlier
 rows_after version earlier (fields ∷ records) =
     if nat_lt (length earlier) 100000 then with_row version earlier fields >>= (λ rows. rows_after version rows records)
     else Err TooManyRows
 
--- the rows behind the first record, which tells the version
+-- the rows after the first record, which has the version
 abbrev pub rows_behind : Option ℕ → List (List (List ℕ)) → Result (List Row) TraceFault
 rows_behind None records = Err BadHeader
 rows_behind (Some version) records = rows_after version [] records
 
--- the rows of a list of records, or the first fault
+-- the rows of a list of records, or the first error
 abbrev pub trace_of : List (List (List ℕ)) → Result (List Row) TraceFault
 trace_of [] = Err BadHeader
 trace_of (header ∷ records) = rows_behind (version_of header) records
@@ -39,11 +39,11 @@ abbrev pub version_in : List (List (List ℕ)) → ℕ
 version_in [] = 1
 version_in (header ∷ records) = unwrap_or (version_of header) 1
 
--- every record of a text, as `csv` reads it by its defaults; a byte-order mark in front is no part of it
+-- every record of a text, as `csv` reads it by its defaults; a byte-order mark at the front is skipped
 unfoldable pub records_of : List ℕ → List (List (List ℕ))
 records_of bytes = records default_config (strip_bom bytes)
 
--- a row that may follow these earlier ones
+-- a row that may follow these earlier rows
 pub record IsAccepted (earlier : List Row) (row : Row) : Type 0 where
   pub device : device_fits row.event row.device ≡ true
   pub value : value_fits row.event row.value ≡ true

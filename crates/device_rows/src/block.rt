@@ -1,4 +1,4 @@
-//! Bytes that were read ahead of a source: the plain rows are taken from these, and `csv` gets those that are left.
+//! Bytes that were read ahead from a source: the plain rows are parsed from these, and `csv` parses the rest.
 
 ghost use Rattle.std.specs.Prelude.{◌≤◌, length};
 
@@ -8,18 +8,18 @@ use csv::Reader;
 use std::alloc::{AllocError, Global};
 use std::io::{Chain, Cursor, Read};
 
-// How many bytes a read asks for, at most and at least.
+// The largest and the smallest size of a read.
 const AHEAD: usize = 1 << 16;
 
 const FEWEST: usize = 512;
 
-/// The bytes of the longest plain row with numbers of twenty digits, and more.
+/// An upper bound on the length of a plain row whose numbers have at most twenty digits.
 const LONGEST_LINE: usize = 128;
 
-/// What `csv` reads of a text: bytes that were read ahead, and the source behind them.
+/// A reader of the records that remain: of the bytes that were read ahead, and of the source after them.
 pub type RecordsLeft<R> = Reader<Chain<Cursor<Vec<u8>>, Fused<R>>>;
 
-/// A source, and bytes that were read ahead of it.
+/// A source, and bytes that were read ahead from it.
 #[derive(Drop)]
 pub struct Block<R> {
     source: Fused<R>,
@@ -36,7 +36,7 @@ impl<R: Read> Block<R> {
     ghost use Rattle.device_rows.specs.Block.{Holds, left_remaining, unread};
     ghost use Rattle.device_rows.specs.Source.{HasCause, IsOpen, StandsAt};
 
-    /// Nothing is read yet.
+    /// Returns a block of which nothing is read yet.
     pub fn new(alloc: Global, source: R) -> Block<R>
         ensures { (bytes : List ℕ) → R.remaining source ≡ Some bytes
             → Holds R.remaining result bytes }
@@ -49,14 +49,14 @@ impl<R: Read> Block<R> {
         }
     }
 
-    /// The bytes that were read and not yet used.
+    /// The bytes that were read and not yet consumed.
     pub fn text(&self) -> &[u8]
         ensures { result.now ≡ unread self.now }
     {
         &self.held[self.at..]
     }
 
-    /// So many bytes are used.
+    /// Consumes this many bytes.
     pub fn advance(&mut self, count: usize)
         requires { count ≤ length (unread self.old) }
         ensures unread { unread self.new ≡ drop count (unread self.old) }
@@ -65,11 +65,11 @@ impl<R: Read> Block<R> {
         self.at += count;
     }
 
-    /// Reads on, by one read. It answers whether any byte came: at the end of the source none does.
+    /// Reads once from the source. Returns whether any byte arrived: none does at the end of the source.
     ///
     /// # Errors
     ///
-    /// `ReadFailed`, `OutOfMemory`. The block is of no use then.
+    /// `ReadFailed`, `OutOfMemory`. The block can't be used after an error.
     pub fn refill(&mut self, alloc: Global) -> Result<bool, ReadError>
         ensures holds { OnOk result ((bytes : List ℕ) → Holds R.remaining self.old bytes
             → Holds R.remaining self.new bytes) }
@@ -91,18 +91,18 @@ impl<R: Read> Block<R> {
         Ok(count > 0)
     }
 
-    /// Whether an end of a line is among the unread bytes, or more than [`LONGEST_LINE`] of them. A carriage return is one too: the
-    /// line feed behind it may come much later.
+    /// Returns whether the unread bytes contain a line end, or are more than [`LONGEST_LINE`]. A carriage return counts too:
+    /// the line feed after it may arrive much later.
     pub fn has_line(&self) -> bool {
         let text = self.text();
         text.len() > LONGEST_LINE || text.contains(&b'\n') || text.contains(&b'\r')
     }
 
-    /// Reads on to the end of a line, of the source, or to more than [`LONGEST_LINE`] bytes.
+    /// Reads until the unread bytes contain a line end, or are more than [`LONGEST_LINE`], or the source ends.
     ///
     /// # Errors
     ///
-    /// As [`refill`](Block::refill).
+    /// Those of [`refill`](Block::refill).
     pub fn fill_line(&mut self, alloc: Global) -> Result<(), ReadError>
         ensures holds { OnOk result ((bytes : List ℕ) → Holds R.remaining self.old bytes
             → Holds R.remaining self.new bytes) }
@@ -116,7 +116,7 @@ impl<R: Read> Block<R> {
         Ok(())
     }
 
-    /// A reader of the records of a text of which nothing was used.
+    /// Returns a reader of the records of a text of which nothing was consumed.
     pub fn records(self, alloc: Global) -> RecordsLeft<R>
         ensures opened { IsOpen result }
         ensures start { (bytes : List ℕ) → Holds R.remaining self bytes
@@ -143,8 +143,8 @@ impl<R: Read + Drop> Block<R> {
     ghost use Rattle.device_rows.specs.Block.{Holds, left_remaining, unread};
     ghost use Rattle.device_rows.specs.Source.{HasCause, IsOpen, StandsAt};
 
-    /// A reader of the records behind those that were used. A byte-order mark is taken off only at the start of a text, so an
-    /// empty line goes in front: it is no record.
+    /// Returns a reader of the records after those that were consumed. An empty line is put in front, because a byte-order mark
+    /// is skipped only at the start of a text; the line is no record.
     pub fn records_left(self, alloc: Global) -> Result<RecordsLeft<R>, AllocError>
         ensures opened { IfOk result (λ reader. IsOpen reader) }
         ensures start { IfOk result (λ reader. (bytes : List ℕ) → Holds R.remaining self bytes

@@ -1,35 +1,35 @@
-//! The events of a trace, and their words.
+//! The events of a trace, and their names.
 
 ghost use Rattle.std.specs.Prelude.{◌≡◌};
 ghost use Rattle.device_rows.specs.Record.{event_of};
 
-/// What a row tells. Its word in the trace stands first.
+/// The event of a row. The name in the trace comes first.
 #[derive(Clone, Copy, Debug, PartialEq, Eq)]
 pub enum Event {
-    /// `open`: a device with a receive and a transmit ring of `value` places each; its instance is made and enabled, not
+    /// `open`: a device with a receive and a transmit ring of capacity `value` each; its instance is made and enabled, not
     /// threaded.
     Opened,
-    /// `rx`: a packet of `value` bytes arrives, and the interrupt asks for a poll (`napi_schedule_prep`).
+    /// `rx`: a packet of `value` bytes arrives, and the interrupt requests a poll (`napi_schedule_prep`).
     Rx,
     /// `tx`: a packet of `value` bytes is sent (`netdev_tx_sent_queue`).
     Tx,
-    /// `done`: `value` packets that were sent are complete at the row's moment (`netdev_tx_completed_queue`).
+    /// `done`: `value` packets that were sent complete at the row's time (`netdev_tx_completed_queue`).
     Finish,
     /// `softirq`: one run over the poll list (`net_rx_action`).
     Softirq,
     /// `kthread`: the device's thread polls (`napi_threaded_poll`).
     Kthread,
-    /// `disable`: the instance is marked, and taken as soon as nobody polls it (`napi_disable`).
+    /// `disable`: a disable is marked, and the instance is taken as soon as no caller polls it (`napi_disable`).
     Disable,
-    /// `enable`: the instance is let go again (`napi_enable`).
+    /// `enable`: the instance is enabled again (`napi_enable`).
     Enable,
-    /// `threaded`: the device is polled by its thread from now on, or by the list again (`dev_set_threaded`).
+    /// `threaded`: the device is polled by its thread from now on, or from the list again (`dev_set_threaded`).
     Threaded,
     /// `busy`, in version 2: the device is busy polled for `value` rounds (`napi_busy_loop`).
     Busy,
 }
 
-/// The event that a word names in a trace of this version, if it names one.
+/// Returns the event with this name in a trace of this version, if there is one.
 #[inline(always)]
 #[tactic(auto, unfolding(crate::specs::Record::event_of))]
 pub(crate) fn event_of(version: u32, word: &[u8]) -> Option<Event>

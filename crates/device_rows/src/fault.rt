@@ -1,4 +1,4 @@
-//! Why a text is no trace.
+//! Why a text isn't a trace.
 
 ghost use Rattle.std.specs.Prelude.{◌≡◌};
 ghost use Rattle.device_rows.specs.Fault.{number_of};
@@ -7,20 +7,20 @@ use crate::source::ReadError;
 use std::alloc::AllocError;
 use thiserror::Error;
 
-/// Why a text is no trace. Faults 2 to 8 name the first row that has one, and of its faults the one with the lowest
-/// number. Rows count from 1.
+/// Why a text isn't a trace. Errors 2 to 8 name the first row that has one, and of its errors the one with the lowest number.
+/// Rows count from 1.
 #[derive(Clone, Copy, Debug, PartialEq, Eq, Error)]
 pub enum TraceFault {
-    /// 1: the text has no first record, or another than `moment,device,event,value`, or with a fifth field `2` in version 2.
+    /// 1: the text has no first record, or it isn't `moment,device,event,value`, with a fifth field `2` in version 2.
     #[error("the first record isn't `moment,device,event,value`")]
     BadHeader,
-    /// 2: the row hasn't four fields.
+    /// 2: the row doesn't have four fields.
     #[error("row {row} hasn't four fields")]
     BadFields { row: u32 },
     /// 3: the row's moment, device or value isn't one to twenty ASCII digits.
     #[error("a number of row {row} isn't one to twenty digits")]
     BadNumber { row: u32 },
-    /// 4: the row's event is no event's word.
+    /// 4: the row's event isn't the name of an event.
     #[error("row {row} names no event")]
     BadEvent { row: u32 },
     /// 5: the row's moment, device or value is out of its range.
@@ -41,7 +41,7 @@ pub enum TraceFault {
     /// 10: the reader failed.
     #[error("the trace could not be read")]
     ReadFailed,
-    /// 11: memory was refused.
+    /// 11: out of memory.
     #[error("out of memory")]
     OutOfMemory,
 }
@@ -72,7 +72,7 @@ impl From<ReadError> for TraceFault {
 }
 
 impl TraceFault {
-    /// The number of this fault, 1 to 11.
+    /// The number of this error, 1 to 11.
     pub fn number(self) -> u8
         ensures { result ≡ number_of self }
     {

@@ -1,8 +1,8 @@
-//! Behind the door `device_model`: the rows of a trace, read from the bytes of a text.
+//! Internal crate of the facade `device_model`: the rows of a trace, read from the bytes of a text.
 //!
-//! `specs/Trace.antt` says which rows a text holds, or which fault is its first, and the contract of [`read_trace`] says
-//! that it answers so. docs/FORMATS.md has the format. [`Block`] and [`number`] read plain rows
-//! of any text, [`next_record`] and [`number_below_21`] all others; arrivals of the machine are read by them too.
+//! `specs/Trace.antt` defines which rows a text has, or which is its first error, and the contract of [`read_trace`] says that
+//! it returns these. docs/FORMATS.md describes the format. [`Block`], [`number`], [`next_record`] and [`number_below_21`] also
+//! read the arrivals of the machine: the first two plain rows, the others all rows.
 #![tactic(auto)]
 
 mod block;

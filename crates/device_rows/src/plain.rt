@@ -1,4 +1,5 @@
-//! Plain rows, read in one pass: digits, commas, an event's word, a line feed. Nothing is said here of any other row.
+//! Plain rows, parsed in one pass: digits, commas, an event's name, a line feed. For any other row these functions return
+//! `None`.
 
 ghost use Rattle.std.specs.Prelude.{IfSome};
 ghost use Rattle.device_places.specs.Range.{IsWithin};
@@ -7,11 +8,11 @@ ghost use Rattle.device_rows.specs.Plain.{StartsWithNumber, StartsWithRow, Start
 use crate::event::event_of;
 use crate::row::Row;
 
-// Below this, a number with one more digit fits 64 bits.
+// A number below this, with one more digit, fits into 64 bits.
 const ROOM_FOR_DIGIT: u64 = 1844674407370955161;
 
-/// The number of one to twenty digits that a text starts with, where 64 bits hold it and `stop` ends it, and the text behind
-/// `stop`. It may know no number that stands there: one just below 2^64.
+/// Returns the number of one to twenty digits at the start of a text, if it fits into 64 bits and `stop` ends it, and the text
+/// after `stop`. It may return `None` for a number just below 2^64.
 #[inline(always)]
 pub fn number(text: &[u8], stop: u8) -> Option<(u64, &[u8])>
     ensures { IfSome result (λ found. StartsWithNumber text.now stop found.0 found.1.now) }
@@ -34,7 +35,7 @@ pub fn number(text: &[u8], stop: u8) -> Option<(u64, &[u8])>
     None
 }
 
-// The word of lowercase letters that a text starts with, where a comma ends it, and the text behind the comma.
+// Returns the word of lowercase letters at the start of a text, if a comma ends it, and the text after the comma.
 #[inline(always)]
 fn plain_word(text: &[u8]) -> Option<(&[u8], &[u8])>
     ensures { IfSome result (λ found. StartsWithWord text.now found.0.now found.1.now) }
@@ -51,8 +52,8 @@ fn plain_word(text: &[u8]) -> Option<(&[u8], &[u8])>
     None
 }
 
-/// The plain row that a text starts with, and the text behind it. Its moment is any, and its device and its value are at most
-/// 65536.
+/// Returns the plain row at the start of a text, and the text after it. Its moment is unrestricted; its device and its value
+/// are at most 65536.
 #[inline(always)]
 pub(crate) fn plain_row(version: u32, text: &[u8]) -> Option<(Row, &[u8])>
     ensures { IfSome result (λ found. StartsWithRow version text.now found.0 found.1.now) }
@@ -74,7 +75,7 @@ pub(crate) fn plain_row(version: u32, text: &[u8]) -> Option<(Row, &[u8])>
     Some((row, text))
 }
 
-/// The version of a trace that starts with the titles, one line feed behind them, and the text behind that.
+/// Returns the version of a trace that starts with the titles and a line feed, and the text after that.
 pub(crate) fn plain_titles(text: &[u8]) -> Option<(u32, &[u8])>
     ensures titles { IfSome result (λ found. StartsWithTitles text.now found.0 found.1.now) }
     ensures range { IfSome result (λ found. IsWithin 1 2 found.0) }

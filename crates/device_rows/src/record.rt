@@ -1,4 +1,4 @@
-//! What the fields of one record say by themselves.
+//! What the fields of one record mean by themselves.
 
 ghost use Rattle.std.specs.Prelude.{◌≡◌, ◌≤◌, length, true, option_map, if◌then◌else◌, ℕ, ◌&&◌, ◌<◌, ◌+◌, false, Some, None, Ok, IfOk, IfSome, vec_capacity, vec_items, vec_len};
 ghost use Rattle.std.specs.Str.{all_ascii_digits};
@@ -12,7 +12,7 @@ use crate::fault::TraceFault;
 use crate::row::Row;
 use csv::ByteRecord;
 
-// The number that a field writes, 0 where it is empty, if all of its bytes are digits. A u64 holds it.
+// Returns the number that a field denotes, 0 if it is empty, if all of its bytes are digits. It fits into a u64.
 fn number_below_20(digits: &[u8]) -> Option<u64>
     requires few { length digits.now ≤ 19 }
     ensures { result ≡ (if all_ascii_digits digits.now then Some (numeral digits.now) else None) }
@@ -28,7 +28,7 @@ fn number_below_20(digits: &[u8]) -> Option<u64>
     Some(number)
 }
 
-/// The number that one to twenty digits write, kept in a u64 up to the last of them.
+/// Returns the number that one to twenty digits denote, computed in a u64 up to the last digit.
 pub fn number_below_21(field: &[u8]) -> Option<u128>
     ensures { result ≡ (if is_numeral field.now then Some (numeral field.now) else None) }
 {
@@ -43,7 +43,7 @@ pub fn number_below_21(field: &[u8]) -> Option<u128>
     Some(u128::from(number) * 10 + u128::from(*last - b'0'))
 }
 
-/// Whether a row of this event may name this device, and bear this value.
+/// Returns whether a row of this event may name this device and have this value.
 pub(crate) fn fits(event: Event, device: u128, value: u128) -> bool
     ensures { result ≡ (device_fits event device && value_fits event value) }
 {
@@ -58,7 +58,7 @@ pub(crate) fn fits(event: Event, device: u128, value: u128) -> bool
     }
 }
 
-// Row `number` of these numbers, where they are in their ranges.
+// Returns row `number` with these numbers, if they are in their ranges.
 #[tactic(auto, unfolding(crate::specs::Record::ranged))]
 fn ranged(
     number: u32,
@@ -83,7 +83,7 @@ fn ranged(
     }
 }
 
-// Row `number` of these fields.
+// Returns row `number` of these fields.
 #[tactic(auto, unfolding(crate::specs::Record::of_fields))]
 fn of_fields(
     version: u32,
@@ -110,7 +110,7 @@ fn of_fields(
     ranged(number, moment, device, event, value)
 }
 
-// The four fields of a record that has four.
+// Returns the four fields of a record that has four.
 #[tactic(auto, unfolding(crate::specs::Record::four_of))]
 fn four_of(fields: &ByteRecord) -> Option<(&[u8], &[u8], &[u8], &[u8])>
     ensures { option_map (λ four. (four.0.now, four.1.now, four.2.now, four.3.now)) result
@@ -122,7 +122,7 @@ fn four_of(fields: &ByteRecord) -> Option<(&[u8], &[u8], &[u8], &[u8])>
     first_four(fields)
 }
 
-// The first four fields of a record that has so many.
+// Returns the first four fields of a record that has at least four.
 fn first_four(fields: &ByteRecord) -> Option<(&[u8], &[u8], &[u8], &[u8])>
     ensures { option_map (λ four. (four.0.now, four.1.now, four.2.now, four.3.now)) result
         ≡ first_four (fields_of fields.now) }
@@ -134,7 +134,7 @@ fn first_four(fields: &ByteRecord) -> Option<(&[u8], &[u8], &[u8], &[u8])>
     Some((moment, device, event, value))
 }
 
-/// The row that a record of a trace of this version tells, whose number it is, or the first of the faults 2 to 5 that it has.
+/// Returns the row of a record of a trace of this version, whose row number is `number`, or the first of its errors 2 to 5.
 pub(crate) fn row_of(version: u32, number: u32, fields: &ByteRecord) -> Result<Row, TraceFault>
     ensures row { result ≡ row_of version number (fields_of fields.now) }
     ensures device { IfOk result (λ row. device_fits row.event row.device ≡ true) }
@@ -146,7 +146,7 @@ pub(crate) fn row_of(version: u32, number: u32, fields: &ByteRecord) -> Result<R
     of_fields(version, number, moment, device, event, value)
 }
 
-// Whether the first fields of a record are the titles `moment,device,event,value`.
+// Returns whether the first fields of a record are the titles `moment,device,event,value`.
 fn is_titled(fields: &ByteRecord) -> bool
     ensures { result ≡ is_title (first_four (fields_of fields.now)) }
 {
@@ -159,8 +159,8 @@ fn is_titled(fields: &ByteRecord) -> bool
         && value == b"value".as_slice()
 }
 
-/// The version that a trace's first record tells, if it is one: `moment,device,event,value` is version 1, and the same with a
-/// fifth field `2` is version 2.
+/// Returns the version by a trace's first record: `moment,device,event,value` is version 1, and the same with a fifth field `2`
+/// is version 2.
 #[tactic(auto, unfolding(crate::specs::Record::version_of))]
 pub(crate) fn version_of(fields: &ByteRecord) -> Option<u32>
     ensures version { result ≡ version_of (fields_of fields.now) }

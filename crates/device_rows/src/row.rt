@@ -5,13 +5,13 @@ use crate::event::Event;
 /// One row. In a [`Trace`](crate::Trace) its numbers are in their ranges.
 #[derive(Clone, Copy, Debug, PartialEq, Eq)]
 pub struct Row {
-    /// The time of the row in milliseconds. Times need not rise.
+    /// The time of the row in milliseconds. Times need not increase.
     pub moment: u64,
     /// The device's number, 1 to 16; 0 for a softirq.
     pub device: u32,
     /// What happens.
     pub event: Event,
-    /// Places for an open (1 to 65536), bytes for an rx or a tx (1 to 65535), packets for a done (at most 65536), 0 or 1
-    /// for a threaded, rounds for a busy (1 to 65535), and else 0.
+    /// The ring capacity of an open (1 to 65536), the bytes of an rx or a tx (1 to 65535), the packets of a done (at most
+    /// 65536), 0 or 1 for a threaded, the rounds of a busy (1 to 65535), and otherwise 0.
     pub value: u32,
 }

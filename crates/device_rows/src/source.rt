@@ -14,7 +14,7 @@ use std::alloc::{AllocError, Global};
 use std::io::Read;
 use thiserror::Error;
 
-/// A reader of records of any length, with no header row of its own.
+/// Returns a reader of records of any length, without a header row of its own.
 pub fn reader_of<R: Read>(alloc: Global, source: R) -> Reader<R>
     ensures opened { IsOpen result }
     ensures start { (bytes : List ℕ) → R.remaining source ≡ Some bytes
@@ -48,7 +48,7 @@ impl From<AllocError> for ReadError {
     }
 }
 
-/// What a read came to.
+/// The result of a read.
 #[derive(Clone, Copy)]
 pub enum Next {
     /// A record.
@@ -57,11 +57,11 @@ pub enum Next {
     End,
     /// The reader failed.
     ReadFailed,
-    /// Memory was refused.
+    /// Out of memory.
     OutOfMemory,
 }
 
-/// Reads the next record. A record of any length and any bytes is one. It answers by a plain enum, which is in a register.
+/// Reads the next record, which may have any length and any bytes. The result is a plain enum, which fits into a register.
 pub fn next_record<R: Read>(reader: &mut Reader<R>, fields: &mut ByteRecord) -> Next
     requires { IsOpen reader.old }
     ensures opened { result ≡ next.Record → IsOpen reader.new }

@@ -1,4 +1,4 @@
-//! What the rows so far leave each device: unopened, on or off.
+//! The state in which the rows so far leave each device: unopened, on or off.
 
 ghost use Rattle.std.specs.Prelude.{◌≡◌, ◌≢◌, ◌∷◌, ◌++◌, ℕ, List, [], Some, None, true, false, ◌+◌, length, MatchResult, OnErr, OnOk};
 ghost use Rattle.device_rows.specs.Row.{device_fits, is_device};
@@ -12,21 +12,21 @@ use crate::fault::TraceFault;
 use crate::record::fits;
 use crate::row::Row;
 
-/// The devices of a trace are numbered from 1 to this.
+/// The greatest number of a device in a trace; the least is 1.
 const MOST_DEVICES: usize = 16;
 
-/// What the rows of a device leave it: whether it was opened, and whether its last switch was on or off.
+/// The state in which the rows of a device leave it: whether it was opened, and whether it is on or off.
 #[derive(Clone, Copy)]
 pub enum Switch {
     /// No row opened it.
     Unopened,
     /// The last of its open, enable and disable rows is an open or an enable.
     On,
-    /// That row is a disable.
+    /// The last of these rows is a disable.
     Off,
 }
 
-// What a row of this event sets its device to, if it does.
+// Returns the state in which a row of this event leaves its device, if it sets it.
 fn set_by(event: Event) -> Option<Switch>
     ensures { result ≡ set_by event }
 {
@@ -37,7 +37,7 @@ fn set_by(event: Event) -> Option<Switch>
     }
 }
 
-// Why a row of this event is refused where the earlier ones leave its device so, if it is.
+// Returns the error of a row of this event, if there is one, by the state in which earlier rows leave its device.
 fn refusal(row: u32, event: Event, switch: Switch) -> Option<TraceFault>
     ensures { result ≡ refusal row event switch }
 {
@@ -52,14 +52,14 @@ fn refusal(row: u32, event: Event, switch: Switch) -> Option<TraceFault>
     }
 }
 
-/// The switch of each device after the rows that were taken.
+/// The state of each device after the rows that were accepted.
 #[derive(Drop)]
 pub(crate) struct Switches {
     of: [Switch; MOST_DEVICES],
 }
 
 impl Switches {
-    /// Before any row, when no device is open.
+    /// Returns the states before any row, when no device is open.
     pub(crate) fn new() -> Switches
         ensures { Tracks result.of [] }
     {
@@ -68,7 +68,7 @@ impl Switches {
         }
     }
 
-    // Whether this is a device that was opened.
+    // Returns whether this is a device that was opened.
     #[inline(always)]
     fn has(&self, device: u32) -> bool
         ensures device { result ≡ true → is_device device ≡ true }
@@ -79,8 +79,8 @@ impl Switches {
         1 <= device && device <= 16 && !matches!(self.of[device as usize - 1], Switch::Unopened)
     }
 
-    /// Whether a row of this event changes no switch, isn't refused, and may name this device and bear this value: one look at
-    /// the event for all of it.
+    /// Returns whether a row of this event changes no state, is accepted, and may name this device and have this value: one
+    /// match on the event decides all of it.
     #[inline(always)]
     pub(crate) fn pass(&self, event: Event, device: u32, value: u32) -> bool
         ensures { result ≡ true → (moment : ℕ)
@@ -99,7 +99,7 @@ impl Switches {
         }
     }
 
-    /// Takes the next row, whose number it is, or says why it is refused; a refusal changes nothing.
+    /// Accepts the next row, number `number`, or returns its error, and then changes nothing.
     pub(crate) fn admit(&mut self, number: u32, row: Row) -> Result<(), TraceFault>
         requires { device_fits row.event row.device ≡ true }
         ensures admits { (earlier : List Row) → Tracks self.old.of earlier
@@ -124,7 +124,7 @@ impl Switches {
         Ok(())
     }
 
-    /// Takes the next row, whose number it is, if its numbers are in their ranges and nothing refuses it, and answers whether it did.
+    /// Accepts the next row, number `number`, if its numbers are in their ranges and it has no error; returns whether it did.
     #[inline(always)]
     pub(crate) fn accept(&mut self, number: u32, row: Row) -> bool
         ensures accepted { result ≡ true → (earlier : List Row) → Tracks self.old.of earlier

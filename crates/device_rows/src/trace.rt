@@ -29,11 +29,11 @@ use std::marker::Model;
 /// The most rows of a trace.
 pub const MOST_ROWS: u32 = 100000;
 
-// Room for the bytes of any row with numbers of twenty digits, so that the record grows for no row in its ranges.
+// Room for any row whose numbers have at most twenty digits, so that the record never grows for a valid row.
 const RECORD_BYTES: usize = 96;
 
-/// The version of a trace and its rows, in order: at most [`MOST_ROWS`], each with its numbers in their ranges, and none
-/// refused by those before it.
+/// The version of a trace and its rows, in order: at most [`MOST_ROWS`], each with its numbers in their ranges and allowed by
+/// those before it.
 #[derive(Debug, Drop)]
 pub struct Trace {
     version: u32,
@@ -58,7 +58,7 @@ impl Trace {
         self.rows.as_slice()
     }
 
-    /// The version, 1 or 2, that its first record tells.
+    /// The version, 1 or 2, by its first record.
     pub fn version(&self) -> u32
         ensures version { result ≡ self.now.version }
         ensures range { IsWithin 1 2 result }
@@ -67,7 +67,7 @@ impl Trace {
     }
 }
 
-// Adds the row of a record: any row, or the first of the faults 2 to 8 that it has.
+// Appends the row of a record, or returns the first of its errors 2 to 8.
 #[inline(never)]
 fn add_row(
     version: u32,
@@ -89,7 +89,7 @@ fn add_row(
     Ok(())
 }
 
-// Adds the plain rows that a text starts with, up to the first one that is refused, and answers the text behind them.
+// Appends the plain rows at the start of a text, up to the first one with an error, and returns the text after them.
 #[inline(never)]
 fn add_plain<'t>(
     version: u32,
@@ -118,7 +118,7 @@ fn add_plain<'t>(
     left
 }
 
-// Adds the plain rows among the bytes that are read.
+// Appends the plain rows among the bytes that are read.
 fn add_held<R: Read>(
     version: u32,
     block: &mut Block<R>,
@@ -137,7 +137,7 @@ fn add_held<R: Read>(
     block.advance(used);
 }
 
-// Adds the plain rows of a block, up to the first record that is none or is refused.
+// Appends the plain rows of a block, up to the first record that isn't plain or has an error.
 fn add_block<R: Read>(
     alloc: Global,
     version: u32,
@@ -165,7 +165,7 @@ fn add_block<R: Read>(
     Ok(())
 }
 
-// The trace of the rows so far and of those that the reader has left, or the first fault of them.
+// Returns the trace of the rows so far and of those that remain in the reader, or the first error among these.
 fn read_rows<R: Read>(
     alloc: Global,
     version: u32,
@@ -199,7 +199,7 @@ fn read_rows<R: Read>(
     Ok(Trace { version, rows })
 }
 
-// The trace of a block behind the titles.
+// Returns the trace of a block after the titles.
 fn plain_trace<R: Read + Drop>(
     alloc: Global,
     version: u32,
@@ -212,7 +212,7 @@ fn plain_trace<R: Read + Drop>(
     ensures fault { IfErr result (λ fault. (bytes : List ℕ) → Holds R.remaining block bytes
         → IsReadFailure fault ⊎ (rows_with version [] state.StartRecord bytes ≡ Err fault)) }
 {
-    // Room for all rows at once: what is never written costs nothing, and no row is moved.
+    // Room for all rows at once: memory that is never written costs nothing, and no row is moved.
     let mut rows = Vec::with_capacity(alloc, MOST_ROWS as usize)?;
     let mut switches = Switches::new();
     add_block(alloc, version, &mut block, &mut switches, &mut rows)?;
@@ -220,7 +220,7 @@ fn plain_trace<R: Read + Drop>(
     read_rows(alloc, version, &mut reader, switches, rows)
 }
 
-// The trace of a reader of a text of which nothing was used.
+// Returns the trace of a reader of a text of which nothing was consumed.
 fn record_trace<R: Read>(alloc: Global, reader: &mut Reader<R>) -> Result<Trace, TraceFault>
     requires reader { IsOpen reader.old }
     ensures rows { IfOk result (λ trace. (bytes : List ℕ) → StandsAt R.remaining reader.old bytes
@@ -248,18 +248,17 @@ fn record_trace<R: Read>(alloc: Global, reader: &mut Reader<R>) -> Result<Trace,
     read_rows(alloc, version, reader, Switches::new(), rows)
 }
 
-/// Reads the rows of a trace, or its first fault. It asks for at most 100002 records, of any length, so it ends where each of
-/// them does. The reader is read ahead of the row that decides, and a failure met there is the answer. On a fault nothing is
-/// kept.
+/// Reads the rows of a trace, or its first error. It asks for at most 100002 records, of any length. It reads ahead of the row
+/// that decides, and a read error there is its result. After an error it keeps nothing.
 pub fn read_trace<R: Read + Drop>(alloc: Global, source: R) -> Result<Trace, TraceFault>
-    // The rows are those of the bytes read, where these are known.
+    // The rows are those of the bytes read, if the source's bytes are known.
     ensures rows { IfOk result
         (λ trace. (bytes : List ℕ) → R.remaining source ≡ Some bytes
         → trace_of (records_of bytes) ≡ Ok trace.rows) }
     ensures version { IfOk result
         (λ trace. (bytes : List ℕ) → R.remaining source ≡ Some bytes
         → trace.version ≡ version_in (records_of bytes)) }
-    // A fault is the first one of the bytes read, unless the reader or the memory failed.
+    // An error is the first one in the bytes read, unless the reader or an allocation failed.
     ensures fault { IfErr result (λ fault. (bytes : List ℕ) → R.remaining source ≡ Some bytes
         → IsReadFailure fault ⊎ (trace_of (records_of bytes) ≡ Err fault)) }
 {

@@ -1,4 +1,4 @@
--- How one more row is dealt to its device.
+-- How one more row is added to its device's script.
 use Rattle.std.proofs.{lemmas.Grind.common_steps, Common.{◌≡◌, ℕ, ◌-◌, ◌≤◌, Bool, true, false, List, [], ◌∷◌, ◌++◌, length, slice_index_or}}
 use Rattle.std.{proofs.Common.{slice_set, arith}, specs.Prelude.◌==◌}
 use Rattle.device_rows.specs.declared.row.Row.{Row}

@@ -1,4 +1,4 @@
--- What acceptance says of the open row of a device.
+-- What follows for the open row of a device if a trace is accepted.
 use Rattle.std.{proofs.{Common.{arith, ◌≡◌, ℕ, ◌≤◌, Bool, true, Some, List, [], ◌∷◌, ◌++◌}, lemmas.Grind.common_steps}, specs.Prelude.◌&&◌}
 use Rattle.{std.specs.List.find, device_rows.specs.{Row.value_fits, Trace.AcceptedAfter, declared.{event.Event.Event, row.Row.Row}}}
 use Rattle.device_script.specs.Script.{is_open, opens}
@@ -9,7 +9,7 @@ open-large e v o h = grind (arith, common_steps)
 and-front : (a b : Bool) → (a && b) ≡ true → a ≡ true
 and-front a b e = grind (arith, common_steps)
 
--- an open row has places in their range
+-- the ring capacity of an open row is in its range
 pub opened-within : (earlier rows : List Row) (device : ℕ) (row : Row) → AcceptedAfter earlier rows → find (opens device) rows ≡ Some row
     → (1 ≤ row.value) × (row.value ≤ 65536)
 opened-within earlier [] device row h e = cc e

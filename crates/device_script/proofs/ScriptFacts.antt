@@ -1,4 +1,4 @@
--- How one more act carries a script on, and what all its acts bring.
+-- How one more act advances a script, and what all its acts deliver.
 use Rattle.std.proofs.{Common.{[], ◌∷◌, ◌++◌, length, length-append, take, get_or, ap, refl, sym, arith}, lemmas.Bool.eq-eqb}
 use Rattle.std.{proofs.lemmas.{Grind.common_steps, List.{take_more, Sums.sum_by-append, Elements.filter-append}}, specs.Prelude.sum_by}
 use Rattle.device_rows.{proofs.Accepted.get-at, specs.declared.{row.Row.Row, event.Event.{Event, TheVariants.Opened}}}
@@ -8,7 +8,7 @@ use Rattle.std.proofs.Common.{◌≡◌, ◌∙◌, ℕ, zero, suc, ◌+◌, ◌
 use Rattle.device_transmit.specs.Transmit.{ShowsTransmit, TransmitView}
 use Rattle.device_script.specs.{ScriptShown.{IsKept, Script, after, answer}, Script.{act_at, act_of, rx_of, transmit_after, transmit_by}}
 
--- a row that an index out of the rows would give
+-- the row for an index out of range
 abbrev pub none : Row
 none = record { moment = 0; device = 0; event = Opened; value = 0 }
 
@@ -21,7 +21,7 @@ rx_of-more : (rows : List Row) (k : ℕ) (d : Row) → k < length rows
     → rx_of (take (k + 1) rows) ≡ rx_of (take k rows) ++ rx_of (get_or rows k d ∷ [])
 rx_of-more rows k d below = ap (λ (l : List Row). rx_of l) (take_more rows k d below) ∙ filter-append _ (take k rows) (get_or rows k d ∷ [])
 
--- one more row was played
+-- one more row was processed
 pub kept-more : (opening : Row) (rows : List Row) (k packets counted : ℕ) (row : Row) (old new : Transmit)
     → IsKept opening rows k packets old → k < length rows → get_or rows k row ≡ row
     → ((view : TransmitView) → ShowsTransmit old view → ShowsTransmit new (transmit_by row.event row view))
@@ -48,7 +48,7 @@ pub acts-made : (s : Script) (n : ℕ) → s.made ≡ 0 → after_acts after s n
 acts-made s zero e = ap (λ (m : ℕ). record s { made = m }) e
 acts-made s (suc n) e = grind (arith, common_steps, acts-made s n e)
 
--- what a row's act brings
+-- what a row's act delivers
 brought-count : (e : Event) (n : ℕ) (row : Row) → row.event ≡ e → length (brings (act_of n row.event row.value)) ≡ length (rx_of (row ∷ []))
 brought-count e n row h = grind (arith, common_steps)
 

@@ -1,4 +1,4 @@
--- What the rows of a trace say of one device: filters over the rows, which know nothing of polls.
+-- What the rows of a trace say about one device: filters over the rows, which don't depend on polls.
 use Rattle.{poll_interrupts.specs.declared.acts.Act.Act, device_rows.specs.declared.{row.Row.Row, event.Event.Event}, std.specs.List.find}
 use Rattle.std.specs.Prelude.{is_some, ℕ, ◌+◌, ◌==◌, ◌&&◌, Bool, true, false, not, List, [], ◌∷◌, Option, Some, None, filter, length}
 use Rattle.{std.specs.Prelude.{slice_get, take}, device_transmit.specs.Transmit.{TransmitView, after_finish, after_tx, opened_transmit}}
@@ -19,7 +19,7 @@ is_rx _ = false
 abbrev pub opens : ℕ → Row → Bool
 opens device row = is_open row.event && (row.device == device)
 
--- the row is another one of the device
+-- the row is another row of the device
 abbrev pub is_act_of : ℕ → Row → Bool
 is_act_of device row = not (is_open row.event) && (row.device == device)
 
@@ -27,15 +27,15 @@ is_act_of device row = not (is_open row.event) && (row.device == device)
 abbrev pub openings_of : List Row → List Row
 openings_of rows = filter (λ row. is_open row.event) rows
 
--- the open row of a device, where it has one
+-- the open row of a device, if it has one
 abbrev pub opening_of : ℕ → List Row → Option Row
 opening_of device rows = find (opens device) rows
 
--- its rows behind that one, in order: a trace has none before it
+-- its rows after that one, in order: a trace has none before it
 abbrev pub script_of : ℕ → List Row → List Row
 script_of device rows = filter (is_act_of device) rows
 
--- those of them that bring a packet
+-- those of them that deliver a packet
 abbrev pub rx_of : List Row → List Row
 rx_of rows = filter (λ row. is_rx row.event) rows
 
@@ -52,7 +52,7 @@ has_thread rows = is_some (find makes_threaded rows)
 
 -- ---- its acts
 
--- what a row has the interrupts of its device do; n is the number of its packet, where it brings one
+-- what the device's interrupt does for a row; n is the number of its packet, if it has one
 abbrev pub act_of : ℕ → Event → ℕ → Act
 act_of n event.Rx value = act.Arrive (record { number = n; bytes = value })
 act_of n event.Disable value = act.Disable
@@ -64,7 +64,7 @@ abbrev pub act_by : ℕ → Option Row → Act
 act_by n None = act.Nothing
 act_by n (Some row) = act_of n row.event row.value
 
--- the act of row k of a script, counted from 0; the packets are numbered from 1
+-- the act of row k of a script, counted from 0; packets are numbered from 1
 abbrev pub act_at : List Row → ℕ → Act
 act_at rows k = act_by (length (rx_of (take k rows)) + 1) (slice_get rows k)
 

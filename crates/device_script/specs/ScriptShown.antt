@@ -8,22 +8,22 @@ use Rattle.poll_interrupts.specs.declared.acts.Act.TheVariants as act
 pub record Script : Type 0 where
   -- the row that opened the device
   pub opening : Row
-  -- its rows behind that one
+  -- its rows after that one
   pub rows : List Row
-  -- how many of them were made acts
+  -- how many of them were turned into acts
   pub made : ℕ
 
 abbrev pub acts : Script → ℕ
 acts script = length script.rows
 
--- the acts are asked for in turn; one that is asked for out of turn is none
+-- the acts are asked for in order; one that is asked for out of order is `Nothing`
 abbrev pub answer : Script → ℕ → Act
 answer script k = if k == script.made then act_at script.rows k else act.Nothing
 
 abbrev pub after : Script → ℕ → Script
 after script k = if k == script.made then record script { made = script.made + 1 } else script
 
--- its transmit side after the acts that were made
+-- its transmit side after the acts so far
 abbrev pub side_of : Script → TransmitView
 side_of script = side_after script.opening (take script.made script.rows)
 

@@ -1,4 +1,4 @@
-//! How the rows of a trace are dealt to its devices, in one pass.
+//! Splitting the rows of a trace by device, in one pass.
 
 ghost use Rattle.std.specs.Prelude.{◌≡◌, ◌<◌, ◌≤◌, ◌++◌, ◌∷◌, [], List, IfOk, OnOk, slice_index_or, slice_set, vec_len};
 ghost use Rattle.device_rows.specs.declared.row.Row.{Row};
@@ -16,21 +16,21 @@ fn is_open(row: &Row) -> bool
     matches!(row.event, Event::Opened)
 }
 
-/// Whether the row opens the device.
+/// Returns whether the row opens the device.
 pub(crate) fn opens(row: &Row, device: u32) -> bool
     ensures { result ≡ opens device row.now }
 {
     is_open(row) && row.device == device
 }
 
-/// Whether the row is another one of the device.
+/// Returns whether the row is another row of the device.
 pub(crate) fn is_act_of(row: &Row, device: u32) -> bool
     ensures { result ≡ is_act_of device row.now }
 {
     !is_open(row) && row.device == device
 }
 
-/// The open rows among these, in their order.
+/// Returns the open rows among these, in order.
 pub fn openings_of(alloc: Global, rows: &[Row]) -> Result<Vec<Row>, AllocError>
     ensures { IfOk result (λ openings. openings.items ≡ openings_of rows.now) }
 {
@@ -43,7 +43,7 @@ pub fn openings_of(alloc: Global, rows: &[Row]) -> Result<Vec<Row>, AllocError>
     Ok(openings)
 }
 
-// Sixteen scripts without a row.
+// Returns sixteen empty scripts.
 fn no_scripts(alloc: Global) -> Result<Vec<Vec<Row>>, AllocError>
     ensures scripts { IfOk result (λ scripts. AreScripts (lists scripts) []) }
     ensures count { IfOk result (λ scripts. vec_len scripts ≡ 16) }
@@ -55,7 +55,7 @@ fn no_scripts(alloc: Global) -> Result<Vec<Vec<Row>>, AllocError>
     Ok(scripts)
 }
 
-// Adds a row to the script of its device, unless it opens that.
+// Appends a row to the script of its device, unless it opens the device.
 fn deal(row: &Row, scripts: &mut Vec<Vec<Row>>) -> Result<(), AllocError>
     requires { vec_len scripts.old ≡ 16 }
     ensures scripts { OnOk result
@@ -70,7 +70,7 @@ fn deal(row: &Row, scripts: &mut Vec<Vec<Row>>) -> Result<(), AllocError>
     Ok(())
 }
 
-/// The rows of all sixteen devices behind their open rows: those of device 1 stand in the first place.
+/// Returns the rows of all sixteen devices after their open rows: those of device 1 are at index 0.
 pub fn scripts_of(alloc: Global, rows: &[Row]) -> Result<Vec<Vec<Row>>, AllocError>
     ensures scripts { IfOk result (λ scripts. AreScripts (lists scripts) rows.now) }
     ensures count { IfOk result (λ scripts. vec_len scripts ≡ 16) }
@@ -82,7 +82,7 @@ pub fn scripts_of(alloc: Global, rows: &[Row]) -> Result<Vec<Vec<Row>>, AllocErr
     Ok(scripts)
 }
 
-/// Takes out the script of a place.
+/// Removes and returns the script at an index.
 pub fn take_script(alloc: Global, scripts: &mut Vec<Vec<Row>>, place: usize) -> Vec<Row>
     requires { place < vec_len scripts.old }
     ensures script { result.items ≡ slice_index_or (lists scripts.old) place [] }

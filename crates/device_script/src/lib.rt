@@ -1,4 +1,4 @@
-//! Behind the door `device_model`: a device whose acts are its rows of a trace.
+//! Internal crate of the facade `device_model`: a device whose acts are its rows of a trace.
 #![tactic(auto)]
 
 mod dealing;

@@ -14,8 +14,8 @@ use rx_ring::Packet;
 use std::alloc::{AllocError, Global};
 use std::marker::Model;
 
-/// A device of a trace. Its acts are its rows behind its open row, in order; tx and done rows are played on its transmit side
-/// as their act is asked for.
+/// A device of a trace. Its acts are its rows after its open row, in order; tx and done rows are applied to its transmit side
+/// when their act is asked for.
 #[derive(Drop)]
 pub struct ScriptDevice {
     opening: Row,
@@ -36,7 +36,7 @@ impl Model for ScriptDevice {
     ghost invariant = { λ d. IsKept d.opening d.rows.items d.made d.packets d.transmit };
 }
 
-/// The open row of a device, where it has one.
+/// Returns the open row of a device, if it has one.
 pub fn opening_of(rows: &[Row], device: u32) -> Option<Row>
     ensures { result ≡ opening_of device rows.now }
 {
@@ -48,7 +48,7 @@ pub fn opening_of(rows: &[Row], device: u32) -> Option<Row>
     None
 }
 
-// The rows of a device behind its open row.
+// Returns the rows of a device after its open row.
 fn script_of(alloc: Global, rows: &[Row], device: u32) -> Result<Vec<Row>, AllocError>
     ensures { IfOk result (λ script. script.items ≡ script_of device rows.now) }
 {
@@ -67,7 +67,7 @@ fn is_rx(row: &Row) -> bool
     matches!(row.event, Event::Rx)
 }
 
-// How many of the rows bring a packet.
+// Returns how many of the rows deliver a packet.
 fn count_rx(rows: &[Row]) -> u32
     requires { length rows.now ≤ 100000 }
     ensures { result ≡ length (rx_of rows.now) }
@@ -87,7 +87,7 @@ fn makes_threaded(row: &Row) -> bool
     matches!(row.event, Event::Threaded) && row.value == 1
 }
 
-// Whether one of the rows makes its device threaded.
+// Returns whether one of the rows makes its device threaded.
 fn has_thread(rows: &[Row]) -> bool
     ensures { result ≡ has_thread rows.now }
 {
@@ -99,7 +99,8 @@ fn has_thread(rows: &[Row]) -> bool
     false
 }
 
-// Plays a row on what it changes of its device, and tells what the interrupt does. So many packets came before.
+// Applies a row to the transmit side, if it concerns that, and returns what the interrupt does. `packets` counts the packets
+// before it.
 fn play(row: Row, packets: &mut u64, transmit: &mut Transmit) -> Act
     requires { packets.old < 2 ^ 63 }
     ensures act { result ≡ act_of (packets.old + 1) row.event row.value }
@@ -126,7 +127,7 @@ fn play(row: Row, packets: &mut u64, transmit: &mut Transmit) -> Act
 }
 
 impl ScriptDevice {
-    /// The device of that number of a trace, which opens it, before its acts. The only error is want of memory.
+    /// Returns the device with this number of a trace that opens it, before its first act. Fails only if an allocation fails.
     pub fn new(alloc: Global, trace: &Trace, device: u32) -> Result<ScriptDevice, AllocError>
         requires opened { IsSome (opening_of device trace.now.rows) }
         ensures opening { IfOk result
@@ -141,7 +142,7 @@ impl ScriptDevice {
         ScriptDevice::of(alloc, opening, script_of(alloc, rows, device)?)
     }
 
-    /// The device of its open row and of its rows behind that one, before its acts.
+    /// Returns the device with this open row and these rows after it, before its first act.
     pub fn of(alloc: Global, opening: Row, rows: Vec<Row>) -> Result<ScriptDevice, AllocError>
         requires places { IsWithin 1 65536 opening.value }
         requires count { length rows.items ≤ 100000 }
@@ -158,35 +159,35 @@ impl ScriptDevice {
         })
     }
 
-    /// The places of the device's rings.
+    /// The capacity of the device's rings.
     pub fn capacity(&self) -> u32
         ensures { result ≡ self.now.opening.value }
     {
         self.opening.value
     }
 
-    /// How many packets its acts bring, those that were made among them.
+    /// How many packets its acts deliver, including those so far.
     pub fn packets(&self) -> u32
         ensures { result ≡ length (rx_of self.now.rows) }
     {
         count_rx(self.rows.as_slice())
     }
 
-    /// Whether one of its acts makes it threaded.
+    /// Returns whether one of its acts makes it threaded.
     pub fn is_threaded(&self) -> bool
         ensures { result ≡ has_thread self.now.rows }
     {
         has_thread(self.rows.as_slice())
     }
 
-    /// What is told of the device's transmit side after the acts that were made.
+    /// The counts of the device's transmit side after the acts so far.
     pub fn tx_counts(&self) -> TxCounts
         ensures { result ≡ tx_counts (side_of self.now) }
     {
         self.transmit.counts()
     }
 
-    /// Whether one of the acts that were made was a tx or done row, where the report tells of the transmit side.
+    /// Returns whether one of the acts so far was a tx or done row; otherwise the report omits the transmit side.
     pub fn uses_transmit(&self) -> bool
         ensures { result ≡ (side_of self.now).used }
     {
@@ -207,7 +208,7 @@ impl Device for ScriptDevice {
         self.rows.len() as u32
     }
 
-    /// One that is asked for out of turn is `Nothing`, and plays no row.
+    /// An act that is asked for out of order is `Nothing`, and applies no row.
     fn act(&mut self, k: u32) -> Act {
         if k != self.made {
             return Act::Nothing;

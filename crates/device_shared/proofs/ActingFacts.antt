@@ -1,4 +1,4 @@
--- How a call of one seat is one of its number alone.
+-- How a call with one of the seats is a call of its number only.
 use Rattle.std.proofs.{Common.{ℕ, Bool, true, false, List, [], Option, Some, None, refl, sym, ap, subst, arith}, lemmas.Grind.common_steps}
 use Rattle.napi_calls.{proofs.{Dealing.delivers_none, Making.nothing}, specs.{Made.Made, Packets.{Quiet, IsFresh, HoldsOn, polled}}}
 use Rattle.std.proofs.Common.{◌≡◌, ◌∙◌}
@@ -15,11 +15,11 @@ use Rattle.device_shared.specs.declared.seats.Turn.TheVariants as turn
 pub seat_made : {n : Napi} {p q : Pass} {os : List Operation} → IsSeatAt n p → Made p os q → IsSeatAt n q
 seat_made s m = record { instance = m.seat.table ∙ s.instance; controller = m.seat.controller ∙ s.controller }
 
--- the context stays where it is
+-- the context doesn't move
 pub stays : (p q : Pass) (o : Option RxCtx) → CtxMoves [] p q o o
 stays p q o = grind (arith, common_steps)
 
--- ---- one seat made these, and the context moved so
+-- ---- one seat made these operations, and the context moved accordingly
 
 pub record Moved (os : List Operation) (packets : List Packet) (p q : Pass) (before after : Option RxCtx) : Type 0 where
   pub made : Made p os q
@@ -42,7 +42,7 @@ pub given : {os : List Operation} (p q : Pass) (x : RxCtx) → Made p os q → D
     → Moved os (polled p x) p q (Some x) None
 given p q x m d has = record { made = m; gave = d; moves = (refl, has.received) }
 
--- nobody calls
+-- no call is made
 pub poller_rests : (pollers : Pollers) → Moved [] [] (poller_pass pollers) (poller_pass pollers) (ctx_at pollers) (ctx_at pollers)
 poller_rests (Rest p t) = idle None p.stands
 poller_rests (ListPolls w t) = idle (Some w.ctx) w.stands
@@ -93,7 +93,7 @@ module _ {n : Napi} {os : List Operation} {packets : List Packet} (i : Caller) (
       → Acts 3 os n (with_turn i t) (with_turn i after)
   control_turn m one two = grind (arith, common_steps, seat_made)
 
--- nobody calls
+-- no call is made
 pub none_turn : {n : Napi} (k : Kind) (i : Caller) (t : Turn) → AreSeats n (with_turn i t)
     → Acts (taker_of k) [] n (with_turn i t) (with_turn i t)
 none_turn kind.List i (turn.Off p t c) s =
@@ -105,7 +105,7 @@ none_turn kind.List i (turn.On pollers e) s =
 none_turn kind.Thread i (turn.On pollers e) s =
     second_turn i (turn.On pollers e) (turn.On pollers e) (turn.On pollers e) refl s (thread_rests pollers) refl refl
 
--- a try of the controller, where nobody has the context
+-- an attempt of the controller, while no caller has the context
 pub tried : {os : List Operation} (p : Pass) (t : Turn) (taken : Bool) → Made p os (control_of t) → TurnTakes p t taken
     → Moved os [] p (control_of t) None (ctx_of t)
 tried p t true m k = record { made = m; gave = delivers_none p (control_of t) k.1; moves = k.0 }

@@ -1,4 +1,4 @@
--- How a side ends.
+-- How a receive side ends.
 use Rattle.std.proofs.{Common.{subst, arith}, lemmas.{List.{append-nil, take-append-drop}, Grind.common_steps}}
 use Rattle.std.proofs.Common.{◌≡◌, ◌∙◌, ℕ, List, [], ◌∷◌, length, take, Some, refl, sym, ap}
 use Rattle.napi_model.specs.declared.state.Seen.{Seen}
@@ -13,7 +13,7 @@ use Rattle.device_shared.specs.{SharedReceive.{IsWhole, left_in}, Ending.{IsEnde
 use Rattle.napi_calls.specs.Seats as seats
 use Rattle.device_shared.specs.declared.seats.Turn.TheVariants as turn
 
--- ---- one seat, and one ring, at several moments
+-- ---- one seat, and one ring, at several times
 
 pub later_same : (p : Pass) → IsLater p p
 later_same p = record { begins = ([], append-nil (shown p)); ring = refl }
@@ -24,16 +24,16 @@ later_then p q r a b = record { begins = prefix_trans (shown p) (shown q) (shown
 pub ring_still : (input input' : RxIn) (x x' : RxCtx) → SameIn input input' → SameCtx x x' → IsOneRing input x → IsOneRing input' x'
 ring_still input input' x x' a b one = grind (arith, common_steps)
 
--- who polls it has it still
+-- its poller still owns it
 pub held_still : (pollers : Pollers) (e : Enabled) → ((p t : Caller) → pollers ≡ Rest p t → ⊥)
     → TakesHold (polls_at pollers) e (turn.On pollers e)
 held_still pollers e none = grind (arith, common_steps)
 
--- ---- a side ended
+-- ---- a receive side was ended
 
 module _ (n : Napi) (s : Seats) (input : RxIn) (held_many capacity : ℕ) (seen : Seen) (w : IsWhole n s input held_many capacity seen)
     (control : Pass) (later : IsLater (control_of s.turn) control) where
-  -- the context that the controller has is that of this ring
+  -- the controller's context belongs to this ring
   pub ring_closed : (ctx own : RxCtx) → ctx ≡ own → seats.ring_of control ≡ Some (ring_name own) → IsOneRing input ctx
   ring_closed ctx own same has =
       let named : ring_name w.first ≡ ring_name own =

@@ -1,4 +1,4 @@
--- One of the seats acted alone, and then all met: what all of them know now.
+-- One seat made calls, and then all met: what all of them know now.
 use Rattle.std.proofs.Common.{rules}
 use Rattle.std.proofs.lemmas.Grind.{common_steps}
 use Rattle.std.proofs.Common.{◌≡◌, ◌∙◌, ◌≤◌, ℕ, zero, suc, List, [], ◌∷◌, ◌++◌, Option, Some, None, refl, sym, ap, subst, arith, ne_eqb}
@@ -106,7 +106,7 @@ module _ (c : ℕ) (os : List Operation) (n : Napi) (h : List Event) (ds : List 
   received_now = received_from (view_of r3) s.first (first_is 3 (omega arith))
       ∙ ap (λ (l : List Delivery). received_list s.first ++ packets_of l) delivered_now
 
-  -- who took the context found all that was delivered
+  -- a caller that took the context found all that was delivered
   owner_received : OwnsSlot (seat_at c s1) → received_before (seat_at c s1) ≡ received_in (view_of r3)
   owner_received owns =
       received_from (view_of (seat_at c s1)) s.first (named c a.low)
@@ -121,7 +121,7 @@ module _ (c : ℕ) (os : List Operation) (n : Napi) (first : RxCtx) (s0 s1 s2 : 
   abbrev t : Surveys 3 m.meet.looker x (passes_of s1) (passes_of s2)
   t = m.meet.surveys
 
-  -- it is the same context still, since who didn't act names it
+  -- it is still the same context, because the seats that made no call name it
   same_first : t.first ≡ first
   same_first = by c a.zeroth a.one
     where

@@ -1,4 +1,4 @@
--- How a receive side is opened: its seats are new, meet, and then the controller enables the instance.
+-- How a receive side is opened: its seats are new, they meet, and then the controller enables the instance.
 use Rattle.std.proofs.{lemmas.Grind.common_steps, Common.{◌≡◌, ◌∙◌, ◌≤◌, ℕ, List, [], ◌∷◌, ◌++◌, length, append-nil, slice_get, Option}}
 use Rattle.{std.proofs.Common.{Some, None, false, refl, sym, ap, subst, arith}, rx_ring.specs.declared.ends.{RxCtx.RxCtx, RxIn.RxIn}}
 use Rattle.rx_ring.specs.{declared.packet.Packet.Packet, Ends.{IsOneRing, capacity_of, free_of, put_list, received_list, ring_name}}
@@ -14,7 +14,7 @@ use Rattle.device_shared.proofs.{Gathering.{legal_then, received_then, ring_from
 use Rattle.device_shared.proofs.{RingFacts.seen_side, WholeFacts.viewed}
 use mathlib.Core.List.{IsPrefix}
 
--- three were popped one after the other
+-- three callers were popped one by one
 pub none_left : (items l1 l2 l3 : List Caller) (a b c : Caller) → items ≡ l1 ++ c ∷ [] → l1 ≡ l2 ++ b ∷ [] → l2 ≡ l3 ++ a ∷ []
     → length items ≡ 3 → length l3 ≡ 0
 none_left items l1 l2 l3 a b c e1 e2 e3 three = grind (arith, common_steps)
@@ -48,7 +48,7 @@ new_shows n c p three new = grind (arith, common_steps, own_none)
 new_seat : (n : Napi) (c : ℕ) (p : Pass) → callers_of n ≡ 3 → IsNewSeat n c p → IsSeatAt n p
 new_seat n c p three new = record { instance = new.instance; controller = new.controller ∙ three }
 
--- seats that are new, and the controller's context
+-- new seats, and the controller's context
 pub record AreNew (n : Napi) (t0 : Seats) (given : RxCtx) : Type 0 where
   pub three : callers_of n ≡ 3
   pub new0 : IsNewSeat n 0 t0.interrupt.pass
@@ -107,7 +107,7 @@ module _ (n : Napi) (t0 : Seats) (given : RxCtx) (k : AreNew n t0 given) where
     idle_met : IsRole None (state_in t1)
     idle_met = subst (IsRole None) (sym state_met) (refl, refl, refl)
 
-    -- the context is that of the ring that was handed in
+    -- the context belongs to the ring that was passed in
     ring_met : ring_of_instance n ≡ ring_name first
     ring_met = some_is (sym k.new3.ring ∙ ring_from (control_of t0.turn) first (m.meet.surveys.firsts 3 (control_of t0.turn) refl))
 
@@ -148,7 +148,7 @@ module _ (n : Napi) (t0 : Seats) (given : RxCtx) (k : AreNew n t0 given) where
           → seen_side (state_in t2) (bytes_each (left_in input t2)) capacity ≡ opened_side capacity
       opened_view empty none = grind (arith, common_steps, done, leads, state_met, viewed)
 
--- nothing was received of nothing
+-- from an empty ring nothing was received
 pub none_received : (received put : List Packet) → IsPrefix received put → put ≡ [] → received ≡ []
 none_received [] put p e = refl
 none_received (q ∷ qs) put p e = absurd (cc (p.1, e))

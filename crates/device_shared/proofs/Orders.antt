@@ -6,7 +6,7 @@ use Rattle.napi_model.specs.{declared.state.Seen.Seen, Step.{opening, seen_of}, 
 use Rattle.napi_word.{specs.{declared.table.Pass.Pass, Surveys.Surveys}, proofs.CatchingUp.state_looked}
 use Rattle.{napi_calls.specs.Seats.{controller_of, state_of}, device_shared.specs.Meeting.Meet}
 
--- what the word told is told of the state behind the whole history
+-- what was seen is the state after the whole history
 pub told_by : {k looker : ℕ} {ps qs : List Pass} {x : Seen} (s : Surveys k looker x ps qs) (i : ℕ) (p q : Pass) → k ≡ 3
     → slice_get ps i ≡ Some p → slice_get qs i ≡ Some q → x ≡ seen_of (state_of q)
     → x ≡ seen_of (state_after (opening 3) s.found)
@@ -15,7 +15,7 @@ told_by {k} {looker} {ps} {qs} {x} s i p q three was is seen =
     let number : controller_of q ≡ 3 = u.view.controller ∙ s.controllers i p was ∙ three in
     seen ∙ (λ j. seen_of (state_after (opening (number j)) (u.view.shown j))) ∙ ap seen_of (state_looked (opening 3) s.found looker x)
 
--- the same passes in another order, which tells of each place where it was
+-- the same passes in another order, given by where each position was before
 abbrev reordered : {k looker : ℕ} {x : Seen} {ps qs rs ts : List Pass} (from : ℕ → ℕ) → ((i : ℕ) → slice_get rs i ≡ slice_get ps (from i))
     → ((i : ℕ) → slice_get ts i ≡ slice_get qs (from i)) → Surveys k looker x ps qs → Surveys k looker x rs ts
 reordered from was is s = record {
@@ -38,7 +38,7 @@ second_from i = i
 second_last : (a b c d : Pass) (i : ℕ) → slice_get (a ∷ b ∷ c ∷ d ∷ []) i ≡ slice_get (a ∷ c ∷ d ∷ b ∷ []) (second_from i)
 second_last a b c d i = grind (arith, common_steps)
 
--- the third did
+-- the third came last
 abbrev third_from : ℕ → ℕ
 third_from (suc (suc zero)) = 3
 third_from (suc (suc (suc zero))) = 2

@@ -1,4 +1,4 @@
--- What the operations of one who acts alone make of the state and of the roles.
+-- The effect of the operations of a caller that alone makes calls, on the state and the roles.
 use Rattle.std.proofs.Common.{arith, ◌≡◌, ◌≢◌, ◌∙◌, ℕ, Bool, true, false, List, [], ◌∷◌, Option, Some, None, refl, sym, ap, subst}
 use Rattle.std.{proofs.{Common.{flat_map, append_assoc, true≢false}, lemmas.Grind.common_steps}, specs.Prelude.{◌||◌, not, if◌then◌else◌}}
 use Rattle.napi_model.specs.declared.{state.{Kind.Kind, State.State, Place.Place}, event.{Done.Done, Prep.Prep}}
@@ -25,21 +25,21 @@ at_rest_uncontrolled p e = grind (arith, common_steps)
 at_rest_unpolled : (p : Place) → rests p ≡ true → is_polling p ≡ false
 at_rest_unpolled p e = grind (arith, common_steps)
 
--- not at rest, it isn't on the list, nor with the thread
+-- while a caller owns it, it isn't on the list, nor in the thread's queue
 away : (k : Kind) (p : Place) → rests p ≡ false → is_handed k p ≡ false
 away k p e = grind (arith, common_steps)
 
--- handed over, an instance is at rest
+-- after it is queued, no caller owns it
 hand_rests : (k : Kind) (c : ℕ) (s : State) (m : Bool) → s.flags.disable ≡ m → s.flags.in_busy_poll ≡ false
     → IsRole (Some (m, None)) (after s (event c (Hand k)))
 hand_rests k c s m d b = grind (arith, common_steps)
 
--- ---- from a role to what a call asks
+-- ---- from a role to what a call requires
 
 pub control_is : (r : Role) (s : State) → IsRole r s → is_control s.place ≡ nobody r
 control_is r s role = grind (arith, common_steps, at_rest_uncontrolled)
 
--- who polls it in its state polls it in the role
+-- a caller that polls it by the state polls it by the role
 polls_as : (r : Role) (s : State) (c : ℕ) (busy : Bool) → IsRole r s → Polls c busy s → PolledBy c busy r
 polls_as None s c busy role p = let was = role.0 in let now = p.0 in absurd (cc)
 polls_as (Some (m, None)) s c busy role p = absurd (true≢false (sym (ap is_polling p.0) ∙ at_rest_unpolled s.place role.1.0))
@@ -70,7 +70,7 @@ polling_of None s role is = absurd (true≢false (sym is ∙ ap is_polling role.
 polling_of (Some (m, None)) s role is = absurd (true≢false (sym is ∙ at_rest_unpolled s.place role.1.0))
 polling_of (Some (m, Some (c, busy))) s role is = (c, busy, (m, refl))
 
--- ---- the interrupt asks
+-- ---- the interrupt requests a poll
 
 pub asked : (s : State) (prep : Prep) (k : Option Kind) (os : List Operation) → AsksBy prep k os → LegalHistory 3 s (events 0 os)
     → (prep ≡ schedule_reply s) × (k ≡ handed_on prep s) × (state_after s (events 0 os) ≡ requested prep s)
@@ -93,7 +93,7 @@ asked s Prep.Disabled k os a l =
     let off : s.flags.disable ≡ true = d.1.0.0 in
     (rw off refl, a.0, leads 0 s os _ d.0)
 
--- a request never changes whose turn it is
+-- a request never changes the role
 pub asked_role : (r : Role) (s : State) (prep : Prep) → IsRole r s → IsSound s → prep ≡ schedule_reply s → IsRole r (requested prep s)
 asked_role r s prep role sound is = grind (arith, common_steps, hand_rests)
 
@@ -147,7 +147,7 @@ completed r s c again os role may m l =
 
 -- ---- busy polls
 
--- an instance at which nobody is, idle or not
+-- an instance that no caller owns, idle or not
 tries_busily : (idle taken : Bool) (m : Bool) (s t : State) → IsRole (Some (m, None)) s
     → (let o = if idle then BusyTake else Look (seen_of s) in (taken ≡ is_taken o) × (t ≡ after s (event 1 o)))
     → (taken ≡ idle) × (t ≡ busy_taken taken s) × IsRole (if taken then Some (m, Some (1, true)) else Some (m, None)) t
@@ -210,7 +210,7 @@ enables s threaded os role t l =
     let led = leads 3 s os _ d.0 in
     (led, subst (IsRole (Some (false, None))) (sym led) (role.1, (refl, role.2)))
 
--- ---- anybody
+-- ---- any caller
 
 pub threads : (r : Role) (s : State) (t : Bool) → IsRole r s
     → (state_after s (events 0 (SetThreaded t ∷ [])) ≡ after s (event 3 (SetThreaded t)))

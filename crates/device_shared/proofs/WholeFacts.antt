@@ -1,4 +1,4 @@
--- What a call makes of a receive side, behind which all met.
+-- The effect of a call on a receive side, after which all seats met.
 use Rattle.std.proofs.Common.{arith}
 use Rattle.std.proofs.lemmas.Grind.{common_steps}
 use Rattle.std.proofs.Common.{◌≡◌, ◌∙◌, ◌≤◌, ℕ, List, Option, Some, sym, ap, subst, length, drop}
@@ -76,7 +76,7 @@ module _ {c : ℕ} {os : List Operation} {n : Napi} {place place' : Option Seats
     seen_is = seen_then c os n whole.first k.s0 s1 k.met.0 seen' whole.gathered.show k.acts k.met.2;
   })
 
-  -- with whose turn it is then
+  -- with the role after it
   pub kept_as : {r : Role} → role_of s1.turn ≡ r → IsRole r (state_after (napi_at place) (events c os))
       → IsWholeAt n place' input held capacity seen'
   kept_as e role = kept (subst (λ (q : Role). IsRole q (state_after (napi_at place) (events c os))) (sym e) role)
@@ -85,7 +85,7 @@ module _ {c : ℕ} {os : List Operation} {n : Napi} {place place' : Option Seats
       → IsWholeAt n place' input held capacity seen'
   kept_at {r} {t} e leads role = kept_as e (subst (IsRole r) (sym leads) role)
 
--- whose turn it was
+-- the role before it
 pub role_there : (n : Napi) (place : Option Seats) (input : RxIn) (held capacity : ℕ) (seen : Seen) (s0 : Seats) → place ≡ Some s0
     → IsWholeAt n place input held capacity seen → IsRole (role_of s0.turn) (napi_at place)
 role_there n place input held capacity seen s0 was at = grind (arith, common_steps, whole_in)

@@ -1,4 +1,4 @@
--- What one of those who make calls on an instance did alone.
+-- What one of the callers of an instance did, while no other made calls.
 use Rattle.device_shared.specs.{declared.seats.{Seats.Seats, Turn.Turn}, Seats.{AreSeats, Role, control_of, ctx_of, poller_of, thread_of}}
 use Rattle.std.specs.Prelude.{◌≡◌, ℕ, zero, suc, ◌≤◌, ◌⊎◌, Bool, true, false, List, [], ◌∷◌, ◌++◌, flat_map, Option, Some, None}
 use Rattle.napi_model.specs.declared.event.Operation.{Operation, TheVariants.{Look, Schedule, Take, TakeDisable, Unmark, Enable}}
@@ -14,15 +14,15 @@ seat_at (suc zero) s = poller_of s.turn
 seat_at (suc (suc zero)) s = thread_of s.turn
 seat_at (suc (suc (suc n))) s = control_of s.turn
 
--- The context stays where it is, or who acts takes it, as it was given back last, or gives it back with these packets, which it has
--- received since.
+-- The context doesn't move; or the caller takes it, as it was given back last; or the caller gives it back with these packets,
+-- which it has received since.
 abbrev pub CtxMoves : List Packet → Pass → Pass → Option RxCtx → Option RxCtx → Type 0
 CtxMoves packets p q None None = packets ≡ []
 CtxMoves packets p q (Some x) (Some y) = (packets ≡ []) × (y ≡ x)
 CtxMoves packets p q None (Some x) = (packets ≡ []) × (received_list x ≡ received_before q) × OwnsSlot q
 CtxMoves packets p q (Some x) None = (packets ≡ polled p x) × Continues (received_before p) (received_list x)
 
--- the one of this number made these operations, and the others did nothing
+-- the caller with this number made these operations, and the others did nothing
 pub record Acts (c : ℕ) (os : List Operation) (n : Napi) (before after : Seats) : Type 0 where
   pub low : c ≤ 3
   pub packets : List Packet
@@ -33,7 +33,7 @@ pub record Acts (c : ℕ) (os : List Operation) (n : Napi) (before after : Seats
   pub moves : CtxMoves packets (seat_at c before) (seat_at c after) (ctx_of before.turn) (ctx_of after.turn)
   pub seats : AreSeats n after
 
--- the interrupt asks for a poll, and hands over what it is granted
+-- the interrupt requests a poll, and queues the instance if it is granted
 abbrev pub AsksBy : Prep → Option Kind → List Operation → Type 0
 AsksBy Granted None os = ⊥
 AsksBy Granted (Some k) os =
@@ -43,7 +43,7 @@ AsksBy Missed kind os =
     (kind ≡ None) × (ts : List (Lost call.Schedule)) × (x : Seen) × (os ≡ flat_map looks ts ++ Look x ∷ Schedule Missed ∷ [])
 AsksBy Disabled kind os = (kind ≡ None) × (ts : List (Lost call.Schedule)) × (os ≡ flat_map looks ts ++ Schedule Disabled ∷ [])
 
--- ---- where somebody has the instance nobody need look for it
+-- ---- while a caller owns the instance, no other needs to look for it
 
 abbrev pub nobody : {A : Type 0} → Option A → Bool
 nobody None = true
@@ -61,13 +61,13 @@ abbrev pub TakesBusilyBy : Bool → Bool → List Operation → Type 0
 TakesBusilyBy true taken os = Makes busy_takes os taken
 TakesBusilyBy false taken os = (taken ≡ false) × (os ≡ [])
 
--- the controller tries to take an instance that it marked; a try that was lost is two looks
+-- the controller tries to take an instance that it marked; an attempt that failed is two looks
 abbrev pub TriesBy : Bool → Bool → List Operation → Type 0
 TriesBy true true os = (x : Seen) × (os ≡ Look x ∷ TakeDisable true ∷ Unmark ∷ [])
 TriesBy true false os = (os ≡ TakeDisable false ∷ []) ⊎ ((t : Lost call.TakeDisable) × (os ≡ looks t))
 TriesBy false taken os = (taken ≡ false) × (os ≡ [])
 
--- taken, the controller has the context, which has received just what was delivered
+-- if the controller took it, it has the context, which has received exactly what was delivered
 abbrev pub TurnTakes : Pass → Turn → Bool → Type 0
 TurnTakes p t true = CtxMoves [] p (control_of t) None (ctx_of t) × Quiet p (control_of t)
 TurnTakes p t false = (ctx_of t ≡ None) × Quiet p (control_of t)
@@ -75,9 +75,9 @@ TurnTakes p t false = (ctx_of t ≡ None) × Quiet p (control_of t)
 abbrev pub EnablesBy : Bool → List Operation → Type 0
 EnablesBy threaded os = (ts : List (Lost (call.Enable threaded))) × (x : Seen) × (os ≡ flat_map looks ts ++ Look x ∷ Enable threaded ∷ [])
 
--- ---- whose turn it is then
+-- ---- the role afterwards
 
--- this one polls it, or nobody does
+-- this caller polls it, or none does
 abbrev pub polled_by : ℕ → Bool → Role → Role
 polled_by c busy None = None
 polled_by c busy (Some r) = Some (r.0, Some (c, busy))
@@ -90,7 +90,7 @@ abbrev pub marked : Role → Role
 marked None = None
 marked (Some r) = Some (true, r.1)
 
--- who polls it
+-- the caller that polls it
 abbrev pub who_polls : Option (ℕ × Bool) → ℕ
 who_polls None = 0
 who_polls (Some who) = who.0
@@ -99,11 +99,11 @@ abbrev pub poller_by : Role → ℕ
 poller_by None = 0
 poller_by (Some r) = who_polls r.1
 
--- one of them polls it so
+-- this caller polls it, busily or not
 abbrev pub PolledBy : ℕ → Bool → Role → Type 0
 PolledBy c busy r = (marked : Bool) × (r ≡ Some (marked, Some (c, busy)))
 
--- somebody polls it who may complete
+-- a caller polls it that may complete
 abbrev pub MayComplete : Role → Type 0
 MayComplete r = (c : ℕ) × PolledBy c false r
 

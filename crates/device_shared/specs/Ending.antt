@@ -13,9 +13,9 @@ use Rattle.napi_model.specs.declared.state.Kind.TheVariants as kind
 use Rattle.napi_calls.specs.Seats as seats
 use Rattle.device_shared.specs.declared.seats.Enabled.TheVariants as enabled
 
--- ---- steps towards an instance that the controller has
+-- ---- steps until the controller owns the instance
 
--- the poller of the list looks for it, and then the thread
+-- the poller of the list tries to take it, and then the thread
 abbrev pub LookFor : Pollers → Pollers → Type 0
 LookFor pollers (ListPolls w t) = Made (poller_pass pollers) (Take kind.List true ∷ []) w.pass
 LookFor pollers (ThreadPolls p w) =
@@ -24,12 +24,12 @@ LookFor pollers (Rest p t) =
     Made (poller_pass pollers) (Take kind.List false ∷ []) p.pass × Made (thread_pass pollers) (Take kind.Thread false ∷ []) t.pass
 LookFor pollers (PollsBusily b t) = ⊥
 
--- who polls it stops busy polling, or lets go of it; where nobody does it is looked for
+-- a caller that polls it stops busy polling, or releases it; if none polls it, the pollers try to take it
 abbrev pub LetsGo : Option (ℕ × Bool) → Pollers → Pollers → Type 0
 LetsGo None pollers after = LookFor pollers after
 LetsGo (Some who) pollers after = polls_at after ≡ (if who.1 then Some (who.0, false) else None)
 
--- where nobody has it the controller marks it, and marked it tries to take it
+-- if no caller owns it, the controller marks it, and then tries to take it
 abbrev pub TakesHold : Option (ℕ × Bool) → Enabled → Turn → Type 0
 TakesHold (Some who) e after = role_of after ≡ Some (is_marked e, Some who)
 TakesHold None (enabled.On c) after = Made c.pass (MarkDisable ∷ []) (control_of after) × (role_of after ≡ Some (true, None))
@@ -42,24 +42,24 @@ Leaves pollers e after = (left : Pollers) × LetsGo (polls_at pollers) pollers l
 
 -- ---- the end
 
--- the same seat at two moments
+-- the same seat at two times
 pub record IsLater (p q : Pass) : Type 0 where
   pub begins : IsPrefix (shown p) (shown q)
   pub ring : seats.ring_of q ≡ seats.ring_of p
 
--- the instance of a side was closed in its state, and all that its ring held was polled
+-- the instance of a receive side in this state was closed, and all packets in its ring were polled
 pub record IsEnded (side : ReceiveView) (totals : Totals) : Type 0 where
   pub napi : Napi
   pub callers : List Caller
   pub control : Pass
   pub ctx : RxCtx
   pub closed : IsClosed napi callers control ctx
-  -- its one history went on from the state that the side showed
+  -- its one history continues from the state that the receive side showed
   pub before : List Event
   pub rest : List Event
   pub history : closed.history ≡ before ++ rest
   pub state : state_after (opening 3) before ≡ side.napi
-  -- the packets that were put into its ring, last those that it held
+  -- the packets that were put into its ring, the last of which it held
   pub input : RxIn
   pub one : IsOneRing input ctx
   pub front : List Packet

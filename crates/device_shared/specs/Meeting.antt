@@ -1,24 +1,24 @@
--- All that make calls on an instance meet.
+-- All callers of an instance meet.
 use Rattle.std.specs.Prelude.{◌≡◌, ℕ, List, [], ◌∷◌}
 use Rattle.napi_model.specs.{History.state_after, Step.{opening, seen_of}}
 use Rattle.{napi_model.specs.declared.state.Seen.Seen, napi_word.specs.{declared.table.Pass.Pass, Surveys.Surveys}}
 use Rattle.{napi_calls.specs.declared.types.Caller.Caller, device_shared.specs.declared.seats.{Pollers.Pollers, Seats.Seats}}
 use Rattle.device_shared.specs.Seats.{control_of, ctx_at, ctx_of, poller_of, poller_pass, polls_at, role_of, thread_of, thread_pass}
 
--- the seats in the order of their numbers
+-- the seats by number
 abbrev pub posted : Caller → Pollers → Pass → List Pass
 posted interrupt pollers control = interrupt.pass ∷ poller_pass pollers ∷ thread_pass pollers ∷ control ∷ []
 
 abbrev pub passes_of : Seats → List Pass
 passes_of s = s.interrupt.pass ∷ poller_of s.turn ∷ thread_of s.turn ∷ control_of s.turn ∷ []
 
--- these passes met, by a look of one of them, and this was seen of the state behind the whole history
+-- these passes met, by a look of one of them, which saw the state after the whole history
 pub record Meet (before after : List Pass) (seen : Seen) : Type 0 where
   pub looker : ℕ
   pub surveys : Surveys 3 looker seen before after
   pub told : seen ≡ seen_of (state_after (opening 3) surveys.found)
 
--- all stay what they are
+-- none changes its role
 pub record StayPollers (before after : Pollers) : Type 0 where
   pub ctx : ctx_at after ≡ ctx_at before
   pub polls : polls_at after ≡ polls_at before

@@ -1,5 +1,5 @@
--- All that make calls on one instance, in one hand: the interrupt is caller 0, the poller of the list 1, the device's thread 2, and
--- the controller 3.
+-- All callers of one instance, owned by one thread: the interrupt is caller 0, the poller of the list 1, the device's thread 2,
+-- and the controller 3.
 use Rattle.napi_calls.specs.{Packets.delivered, Seats.{controller_of, shown, state_of}, declared.types.Napi.Napi, Instance.IsSeatOf}
 use Rattle.std.specs.Prelude.{◌≡◌, ℕ, Bool, true, false, List, Option, Some, None}
 use Rattle.napi_calls.specs.{Knows.received_held, Alone.AllShow}
@@ -42,9 +42,9 @@ abbrev pub control_of : Turn → Pass
 control_of (turn.Off p t c) = c.pass
 control_of (turn.On pollers e) = enabled_pass e
 
--- ---- whose turn it is
+-- ---- the owner of the instance
 
--- the poll context, where one of them has it
+-- the poll context, if a caller has it
 abbrev pub ctx_at : Pollers → Option RxCtx
 ctx_at (Rest p t) = None
 ctx_at (ListPolls w t) = Some w.ctx
@@ -55,7 +55,7 @@ abbrev pub ctx_of : Turn → Option RxCtx
 ctx_of (turn.Off p t c) = Some c.state.ctx
 ctx_of (turn.On pollers e) = ctx_at pollers
 
--- who polls, and whether busily
+-- the caller that polls, and whether busily
 abbrev pub polls_at : Pollers → Option (ℕ × Bool)
 polls_at (Rest p t) = None
 polls_at (ListPolls w t) = Some (1, false)
@@ -66,7 +66,7 @@ abbrev pub is_marked : Enabled → Bool
 is_marked (enabled.On c) = false
 is_marked (enabled.Marked c) = true
 
--- the controller has the instance, or whether it marked it, and who polls it, and whether busily
+-- the controller owns the instance; or whether it marked it, which caller polls it, and whether busily
 abbrev pub Role : Type 0
 Role = Option (Bool × Option (ℕ × Bool))
 
@@ -78,7 +78,7 @@ abbrev pub is_off : Role → Bool
 is_off None = true
 is_off (Some r) = false
 
--- nobody has it, but maybe the list or the thread
+-- no caller owns it; it may be queued
 abbrev pub rests : Place → Bool
 rests (Granted c) = false
 rests (Polling c) = false
@@ -89,7 +89,7 @@ abbrev pub ArePlaced : Option (ℕ × Bool) → State → Type 0
 ArePlaced None s = (rests s.place ≡ true) × (s.flags.in_busy_poll ≡ false)
 ArePlaced (Some who) s = Polls who.0 who.1 s
 
--- the instance's state is the one that this role has
+-- the instance's state matches this role
 abbrev pub IsRole : Role → State → Type 0
 IsRole None s = (s.place ≡ Control 3) × (s.flags.disable ≡ false) × (s.flags.in_busy_poll ≡ false)
 IsRole (Some r) s = (s.flags.disable ≡ r.0) × ArePlaced r.1 s
@@ -118,7 +118,7 @@ pub record AreTurned (n : Napi) (t : Turn) : Type 0 where
 abbrev pub AreSeats : Napi → Seats → Type 0
 AreSeats n s = AreFour n s.interrupt.pass (poller_of s.turn) (thread_of s.turn) (control_of s.turn)
 
--- all of them show the one history, which is whole, and all deliveries of the context that was handed in, which is this one
+-- all of them show the one history, which is whole, and all deliveries of the first context, which is this one
 pub record ShowAll (n : Napi) (first : RxCtx) (p0 p1 p2 p3 : Pass) : Type 0 where
   pub seats : AreFour n p0 p1 p2 p3
   pub first_zeroth : first_in (view_of p0) ≡ Some first

@@ -1,18 +1,18 @@
--- A receive side over an instance that threads could share, as one thread sees it who has all that make calls there.
+-- A receive side over an instance that threads could share, as seen by the one thread that owns all its callers.
 use Rattle.std.specs.Prelude.{◌≡◌, ◌≤◌, ◌+◌, ℕ, List, [], length, drop, map, Option, Some, None}
 use Rattle.rx_ring.specs.declared.ends.RxCtx.{RxCtx}
 use Rattle.rx_ring.specs.{declared.{ends.RxIn.RxIn, packet.Packet.Packet}, Ends.{IsOneRing, capacity_of, free_of, put_list}}
 use Rattle.{napi_model.specs.{declared.state.{Seen.Seen, State.State}, Step.{opening, seen_of}}, napi_calls.specs.declared.types.Napi.Napi}
 use Rattle.device_shared.specs.{declared.seats.Seats.Seats, Seats.{AreGathered, received_by, state_in}}
 
--- what of all that was put wasn't received
+-- the packets that were put and not received
 abbrev pub left_in : RxIn → Seats → List Packet
 left_in input s = drop (length (received_by s)) (put_list input)
 
 abbrev pub bytes_each : List Packet → List ℕ
 bytes_each packets = map (λ (p : Packet). p.bytes) packets
 
--- all are in their place but within a call
+-- all are in their field except within a call
 abbrev pub napi_at : Option Seats → State
 napi_at (Some s) = state_in s
 napi_at None = opening 3
@@ -21,7 +21,7 @@ abbrev pub packets_at : RxIn → Option Seats → List ℕ
 packets_at input (Some s) = bytes_each (left_in input s)
 packets_at input None = []
 
--- these are all that make calls on the instance, over the ring of this end, whose packets and places are counted
+-- these are all callers of the instance, over the ring of this end, whose packets and capacity are counted
 pub record IsWhole (n : Napi) (s : Seats) (input : RxIn) (held capacity : ℕ) (seen : Seen) : Type 0 where
   pub first : RxCtx
   pub gathered : AreGathered n first s
@@ -36,7 +36,7 @@ abbrev pub IsWholeAt : Napi → Option Seats → RxIn → ℕ → ℕ → Seen �
 IsWholeAt n (Some s) input held capacity seen = IsWhole n s input held capacity seen
 IsWholeAt n None input held capacity seen = ⊥
 
--- at the end there is room for the callers
+-- there is room to collect the callers at the end
 pub record HasRoom (callers many room : ℕ) : Type 0 where
   pub three : callers ≡ 3
   pub none : many ≡ 0

@@ -1,4 +1,4 @@
-//! The calls on an instance, of which each is made by one of those in the hand alone.
+//! The calls on an instance, each made by one of the callers that one thread owns.
 
 ghost use Rattle.std.specs.Prelude.{◌≡◌, [], ◌∷◌, List, MatchResult, None, Some, if◌then◌else◌, true, false};
 ghost use Rattle.napi_model.specs.declared.event.Done.TheVariants.{Held};
@@ -23,7 +23,7 @@ use napi_model::{Kind, Prep};
 use poll_shared::{complete, hand_over};
 use std::sync::Wait;
 
-// The interrupt asks for a poll; granted, it hands the instance over.
+// Requests a poll, as the interrupt; if granted, it queues the instance.
 fn ask<R: Wait>(rt: &R, napi: &Napi, caller: Caller) -> (Caller, Prep, Option<Kind>)
     requires { IsSeatOf napi.now caller.pass }
     ensures asks { (os : List Operation) × Made caller.pass os result.0.pass
@@ -41,7 +41,7 @@ fn ask<R: Wait>(rt: &R, napi: &Napi, caller: Caller) -> (Caller, Prep, Option<Ki
 }
 
 impl Enabled {
-    // The controller marks an instance that is on.
+    // Marks a disable on an instance that is enabled.
     fn mark(self, napi: &Napi) -> Enabled
         requires seat { IsSeatOf napi.now (enabled_pass self) }
         requires on { is_marked self ≡ false }
@@ -57,7 +57,7 @@ impl Enabled {
 }
 
 impl Turn {
-    // Those who may poll the instance, and its controller, where nobody has it.
+    // Returns the callers that may poll the instance, and its controller, if no caller owns it.
     fn at_rest(self) -> Result<(Caller, Caller, Enabled), Turn>
         ensures { MatchResult result
             (λ r. self ≡ On (Rest r.0 r.1) r.2)
@@ -73,7 +73,7 @@ impl Turn {
     }
 }
 
-/// The controller tries to take an instance that nobody polls.
+/// Tries to take an instance that no caller polls, as the controller.
 pub(crate) fn try_at_rest(
     napi: &Napi,
     poller: Caller,
@@ -97,7 +97,7 @@ pub(crate) fn try_at_rest(
 }
 
 impl Seats {
-    /// The interrupt asks for a poll; granted, it hands the instance over.
+    /// Requests a poll, as the interrupt; if granted, it queues the instance.
     pub(crate) fn request<R: Wait>(self, rt: &R, napi: &Napi) -> (Seats, Prep, Option<Kind>)
         requires { AreSeats napi.now self }
         ensures acts { (os : List Operation) × AsksBy result.1 result.2 os
@@ -109,7 +109,7 @@ impl Seats {
         (Seats { interrupt, turn }, prep, kind)
     }
 
-    /// The interrupt says whether polls are handed to the device's thread.
+    /// Sets, as the interrupt, whether the instance is scheduled on the device's thread.
     pub(crate) fn set_threaded(self, napi: &Napi, threaded: bool) -> Seats
         requires { AreSeats napi.now self }
         ensures acts { Acts 0 (operation.SetThreaded threaded ∷ []) napi.now self result }
@@ -123,8 +123,8 @@ impl Seats {
         Seats { interrupt, turn }
     }
 
-    /// The poller looks for the instance on the list, or the device's thread for what was handed to it. Where somebody has it,
-    /// nobody looks.
+    /// Tries to take the instance, from the list as its poller or from the thread's queue as the thread. If a caller owns it,
+    /// it makes no attempt.
     pub(crate) fn take(self, napi: &Napi, kind: Kind) -> (Seats, bool)
         requires { AreSeats napi.now self }
         ensures acts { (os : List Operation)
@@ -152,7 +152,7 @@ impl Seats {
         (Seats { interrupt, turn }, taken)
     }
 
-    /// Who polls the instance hands it to the list again.
+    /// Queues an instance that is being polled on the list again.
     pub(crate) fn requeue(self, napi: &Napi) -> Seats
         requires seats { AreSeats napi.now self }
         requires polls { MayComplete (role_of self.turn) }
@@ -173,7 +173,7 @@ impl Seats {
         Seats { interrupt, turn }
     }
 
-    /// Who polls the instance completes it, and hands over what it is granted again.
+    /// Completes an instance that is being polled, and queues it again after a missed request.
     pub(crate) fn complete<R: Wait>(self, rt: &R, napi: &Napi) -> (Seats, Option<Kind>)
         requires seats { AreSeats napi.now self }
         requires polls { MayComplete (role_of self.turn) }
@@ -200,7 +200,7 @@ impl Seats {
         (Seats { interrupt, turn }, again)
     }
 
-    /// The poller tries to take an instance that is idle, to busy poll it.
+    /// Tries to take an idle instance, to busy poll it.
     pub(crate) fn busy_take<R: Wait>(self, rt: &R, napi: &Napi) -> (Seats, bool)
         requires { AreSeats napi.now self }
         ensures acts { (os : List Operation)
@@ -222,7 +222,7 @@ impl Seats {
         (Seats { interrupt, turn }, taken)
     }
 
-    /// The poller, who busy polls the instance, completes a poll.
+    /// Completes a poll of an instance that is busy polled.
     pub(crate) fn hold(self, napi: &Napi) -> Seats
         requires seats { AreSeats napi.now self }
         requires polls { PolledBy 1 true (role_of self.turn) }
@@ -241,7 +241,7 @@ impl Seats {
         Seats { interrupt, turn }
     }
 
-    /// The poller stops busy polling.
+    /// Stops busy polling.
     pub(crate) fn stop<R: Wait>(self, rt: &R, napi: &Napi) -> Seats
         requires seats { AreSeats napi.now self }
         requires polls { PolledBy 1 true (role_of self.turn) }
@@ -260,7 +260,7 @@ impl Seats {
         Seats { interrupt, turn }
     }
 
-    /// The controller marks an instance that is on for disabling.
+    /// Marks a disable on an instance that is enabled, as the controller.
     pub(crate) fn mark(self, napi: &Napi) -> Seats
         requires seats { AreSeats napi.now self }
         requires on { IsUnmarked (role_of self.turn) }
@@ -275,7 +275,7 @@ impl Seats {
         Seats { interrupt, turn }
     }
 
-    /// The controller tries once to take an instance that it marked. Where somebody polls that, it needn't try.
+    /// Tries once to take an instance that the controller marked. While a caller polls it, it makes no attempt.
     pub(crate) fn try_take(self, napi: &Napi) -> (Seats, bool)
         requires seats { AreSeats napi.now self }
         requires marked { IsMarked (role_of self.turn) }
@@ -299,7 +299,7 @@ impl Seats {
         (Seats { interrupt, turn }, taken)
     }
 
-    /// The controller enables an instance that it has.
+    /// Enables an instance that the controller owns.
     pub(crate) fn enable<R: Wait>(self, rt: &R, napi: &Napi, threaded: bool) -> Seats
         requires seats { AreSeats napi.now self }
         requires off { role_of self.turn ≡ None }

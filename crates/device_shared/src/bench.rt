@@ -4,7 +4,7 @@ use crate::opening::SharedOpener;
 use crate::shared_receive::SharedReceive;
 use device_bench::DeviceBench;
 
-/// The devices, each over an instance of its own that threads could share. `SharedBench::new(rt, alloc)` makes a bench, whose
-/// calls on its instances would wait with `rt`. It must be spent: `end` waits until nobody has an instance, disables and
-/// closes it, and polls what its ring holds.
+/// The devices, each with its own instance, which threads could share. `SharedBench::new(rt, alloc)` makes a bench; `rt` is the
+/// capability with which calls on its instances would wait. It is linear: `end` waits until no caller owns an instance,
+/// disables and closes it, and polls all packets in its ring.
 pub type SharedBench<R> = DeviceBench<SharedReceive<R>, SharedOpener<R>>;

@@ -1,4 +1,4 @@
-//! How the instance of a receive side ends, and its ring.
+//! Ending a receive side: its instance, and its ring.
 
 ghost use Rattle.std.specs.Prelude.{◌≡◌, [], ◌∷◌, length, vec_capacity};
 ghost use Rattle.napi_calls.specs.Closed.{IsClosed};
@@ -16,7 +16,7 @@ use poll_shared::complete;
 use rx_ring::{Batch, MAX_WEIGHT, RxCtx, RxIn, beside};
 use std::sync::Wait;
 
-/// Closes an instance that the controller has, and hands out its poll context.
+/// Closes an instance that the controller owns, and returns its poll context.
 pub(crate) fn close(
     napi: Napi,
     interrupt: Caller,
@@ -42,7 +42,7 @@ pub(crate) fn close(
     ctx
 }
 
-/// Polls all that the ring of both ends holds.
+/// Polls all packets in the ring that has these ends.
 pub(crate) fn empty(input: &mut RxIn, ctx: &mut RxCtx)
     requires { IsOneRing input.old ctx.old }
     ensures input { SameIn input.old input.new }
@@ -60,7 +60,7 @@ pub(crate) fn empty(input: &mut RxIn, ctx: &mut RxCtx)
     }
 }
 
-/// Everybody lets go of the instance, and the controller disables it.
+/// Makes all callers release the instance, and disables it.
 pub(crate) fn disable<R: Wait>(rt: &R, napi: &Napi, turn: Turn) -> (Caller, Caller, Control<Off>)
     requires { AreTurned napi.now turn }
     ensures poller { IsSeatAt napi.now result.0.pass }
@@ -79,7 +79,7 @@ pub(crate) fn disable<R: Wait>(rt: &R, napi: &Napi, turn: Turn) -> (Caller, Call
 }
 
 impl Pollers {
-    // One step towards an instance that nobody polls.
+    // Makes one step towards an instance that no caller polls.
     fn release<R: Wait>(self, rt: &R, napi: &Napi) -> Pollers
         requires { ArePollers napi.now self }
         ensures pollers { ArePollers napi.now result }
@@ -107,7 +107,7 @@ impl Pollers {
 }
 
 impl Turn {
-    /// One step towards an instance that the controller has.
+    /// Makes one step towards an instance that the controller owns.
     pub(crate) fn leave<R: Wait>(pollers: Pollers, enabled: Enabled, rt: &R, napi: &Napi) -> Turn
         requires pollers { ArePollers napi.now pollers }
         requires control { IsSeatAt napi.now (enabled_pass enabled) }

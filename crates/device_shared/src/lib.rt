@@ -1,9 +1,9 @@
-//! Behind the door `device_model`: the receive side of a device whose instance is one that threads could share, with all that make
-//! calls on it in one hand, and the bench of such devices.
+//! Internal crate of the facade `device_model`: the receive side of a device whose instance threads could share, while one
+//! thread owns all its callers, and the bench of such devices.
 //!
-//! [`SharedReceive`] keeps the callers and the controller of an instance of `napi_calls`. Behind each of its calls they meet, and
-//! since nobody else has a seat there, what they then know is the whole history of the instance. So each call makes of ring and
-//! instance just what the rules of one thread say, as [`ReceiveSide`](device_bench::ReceiveSide) asks.
+//! [`SharedReceive`] keeps the callers and the controller of an instance of `napi_calls`. After each of its calls they meet,
+//! and because no other thread has a seat, they then know the whole history of the instance. So each call has exactly the
+//! effect on ring and instance that the rules for one thread define, as [`ReceiveSide`](device_bench::ReceiveSide) requires.
 #![tactic(auto)]
 
 mod acting;

@@ -1,4 +1,4 @@
-//! All that make calls on an instance meet, and so know its whole history.
+//! All callers of an instance meet, and so know its whole history.
 
 ghost use Rattle.std.specs.Prelude.{◌≡◌, None};
 ghost use Rattle.device_shared.specs.Meeting.{Meet, Meets, StayPollers, posted};
@@ -8,7 +8,7 @@ use crate::seats::{Enabled, Pollers, Seats, Turn};
 use napi_calls::{Caller, Control, Mode, Napi, survey, survey_busy, survey_polling};
 use napi_model::Seen;
 
-// The controller of an instance that it hasn't, and the others.
+// Lets a controller that doesn't own the instance meet with the others.
 #[inline(always)]
 fn meet_pollers<S: Mode>(
     napi: &Napi,
@@ -58,8 +58,8 @@ fn meet_pollers<S: Mode>(
 }
 
 impl Seats {
-    /// All meet, by a look of the controller or of whoever polls. Last comes its answer: what the state word tells of the state
-    /// behind the whole history.
+    /// Lets all meet, by a look of the controller or of the poller. Returns what it saw, which is the state after the whole
+    /// history.
     #[inline(always)]
     pub(crate) fn meet(self, napi: &Napi) -> (Seats, Seen)
         requires { AreSeats napi.now self }

@@ -1,4 +1,4 @@
-//! How a receive side is opened.
+//! Opening a receive side.
 
 use crate::seats::{Seats, Turn};
 use crate::shared_receive::SharedReceive;
@@ -8,7 +8,7 @@ use rx_ring::{Batch, RingFault, ring};
 use std::alloc::{AllocError, Global};
 use std::sync::Wait;
 
-/// Opens receive sides whose instances threads could share. `rt` is what their calls would wait with.
+/// Opens receive sides whose instances threads could share. `rt` is the capability with which their calls would wait.
 #[derive(Drop)]
 pub struct SharedOpener<R: Drop> {
     rt: R,
@@ -35,7 +35,7 @@ impl<R: Wait + Copy + Drop> Opener<SharedReceive<R>> for SharedOpener<R> {
             Ok(made) => made,
             Err(NewBack { fault: _, ctx: _ }) => return Err(AllocError),
         };
-        // So each place is known to be free.
+        // So every slot is known to be free.
         control.beside(&mut input);
         let thread = next_caller(&napi, &mut callers);
         let poller = next_caller(&napi, &mut callers);

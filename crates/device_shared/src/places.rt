@@ -1,10 +1,10 @@
-//! Values that must be spent, in places from which they are taken and to which they come back.
+//! Linear values in fields from which they are taken, and to which they return.
 
 ghost use Rattle.std.specs.Prelude.{◌≡◌, None, Some, false, is_some, true};
 
 use std::mem;
 
-/// Takes the value out of its place.
+/// Takes the value out of its field.
 pub(crate) fn take_out<T>(place: &mut Option<T>) -> T
     requires { is_some place.old ≡ true }
     ensures was { place.old ≡ Some result }
@@ -16,7 +16,7 @@ pub(crate) fn take_out<T>(place: &mut Option<T>) -> T
     }
 }
 
-/// Puts the value into its place, which is empty.
+/// Puts the value into its field, which is empty.
 pub(crate) fn put_back<T>(place: &mut Option<T>, value: T)
     requires { is_some place.old ≡ false }
     ensures { place.new ≡ Some value }

@@ -1,4 +1,4 @@
-//! A poll while both ends of the ring are in one hand.
+//! A poll by a thread that owns both ends of the ring.
 
 ghost use Rattle.std.specs.Prelude.{◌≡◌, ◌≤◌, ℕ, Bool};
 ghost use Rattle.napi_calls.specs.Seats.{IsInputOf};
@@ -10,7 +10,8 @@ use crate::seats::{Pollers, Seats, Turn};
 use napi_calls::{Busy, Polling};
 use rx_ring::{Batch, MAX_WEIGHT, RxIn};
 
-// The ends of the ring meet before the poll, so that it finds each packet, and behind it, so that each place is known that is free.
+// Polls once. The ends of the ring meet before the poll, so that it finds every packet, and after it, so that every free slot
+// is known.
 fn poll(polling: &mut Polling, input: &mut RxIn, weight: usize, batch: &mut Batch)
     requires input { IsInputOf input.old polling.old.pass }
     requires weight { (1 ≤ weight) × (weight ≤ MAX_WEIGHT) }
@@ -23,7 +24,7 @@ fn poll(polling: &mut Polling, input: &mut RxIn, weight: usize, batch: &mut Batc
     polling.beside(input);
 }
 
-// As [`poll`], of who busy polls.
+// Like [`poll`], for a caller that busy polls.
 fn poll_busily(busy: &mut Busy, input: &mut RxIn, weight: usize, batch: &mut Batch)
     requires input { IsInputOf input.old busy.old.pass }
     requires weight { (1 ≤ weight) × (weight ≤ MAX_WEIGHT) }
@@ -37,7 +38,7 @@ fn poll_busily(busy: &mut Busy, input: &mut RxIn, weight: usize, batch: &mut Bat
 }
 
 impl Seats {
-    /// Who polls the instance polls the ring. It is no event.
+    /// Polls the ring, as the caller that polls the instance. This isn't an event.
     pub(crate) fn receive(self, input: &mut RxIn, weight: usize, batch: &mut Batch) -> Seats
         requires one { IsInputOf input.old (poller_of self.turn) }
         requires two { IsInputOf input.old (thread_of self.turn) }

@@ -1,14 +1,14 @@
-//! All that make calls on one instance, in one hand.
+//! All callers of one instance, owned by one thread.
 
 use napi_calls::{Busy, Caller, Control, Marked, Off, On, Polling};
 
-/// The controller of an instance that is enabled, or to be disabled.
+/// The controller of an instance that is enabled, or being disabled.
 pub(crate) enum Enabled {
     On(Control<On>),
     Marked(Control<Marked>),
 }
 
-/// The poller of the list and the device's thread, of whom one at most polls the instance.
+/// The poller of the list and the device's thread, of which at most one polls the instance.
 pub(crate) enum Pollers {
     Rest(Caller, Caller),
     ListPolls(Polling, Caller),
@@ -16,13 +16,13 @@ pub(crate) enum Pollers {
     PollsBusily(Busy, Caller),
 }
 
-/// Whose turn it is: the controller's, or that of the others.
+/// The owner of the instance: the controller, or one or none of the others.
 pub(crate) enum Turn {
     Off(Caller, Caller, Control<Off>),
     On(Pollers, Enabled),
 }
 
-/// The interrupt, which is caller 0, the poller of the list, 1, the device's thread, 2, and the controller, 3.
+/// The four callers: the interrupt, number 0, the poller of the list, 1, the device's thread, 2, and the controller, 3.
 pub(crate) struct Seats {
     pub(crate) interrupt: Caller,
     pub(crate) turn: Turn,
@@ -32,7 +32,7 @@ impl Seats {
     ghost use Rattle.std.specs.Prelude.{◌≡◌};
     ghost use Rattle.device_shared.specs.Seats.{is_off, role_of};
 
-    /// Whether the controller has the instance.
+    /// Returns whether the controller owns the instance.
     pub(crate) fn is_off(&self) -> bool
         ensures { result ≡ is_off (role_of self.now.turn) }
     {

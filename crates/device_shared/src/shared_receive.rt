@@ -15,26 +15,26 @@ use rx_ring::{Batch, Packet, RxIn, Totals, batch_bytes, finish};
 use std::marker::Model;
 use std::sync::Wait;
 
-/// A receive ring and a NAPI instance that threads could share, with all that make calls on it in one hand. They meet behind
-/// each call, so that each call finds the whole history of the instance.
+/// A receive ring and a NAPI instance that threads could share, with all its callers, owned by one thread. They meet after each
+/// call, so that each call knows the whole history of the instance.
 ///
-/// It must be spent: [`end`](SpentSide::end) waits until nobody has the instance, disables and closes it, and polls what the
-/// ring holds.
+/// It is linear: [`end`](SpentSide::end) waits until no caller owns the instance, disables and closes it, and polls all packets
+/// in the ring.
 pub struct SharedReceive<R: Wait + Drop> {
     pub(crate) rt: R,
     pub(crate) napi: Napi,
-    // Gone only within a call.
+    // `None` only within a call.
     pub(crate) seats: Option<Seats>,
-    // Places for the callers at the end.
+    // Room for the callers at the end.
     pub(crate) callers: Vec<Caller>,
     pub(crate) input: RxIn,
     pub(crate) batch: Batch,
-    // How many packets the ring holds, and how many it may hold.
+    // How many packets the ring holds, and its capacity.
     pub(crate) held: usize,
     pub(crate) capacity: usize,
-    // What the state word tells.
+    // What the state word shows.
     pub(crate) seen: Seen,
-    // How many packets came, those that found no room among them; it stays at its greatest value. A packet is numbered by it.
+    // How many packets arrived, including those for which there was no room; it saturates. It numbers the packets.
     pub(crate) arrived: u64,
 }
 
@@ -56,7 +56,7 @@ impl<R: Wait + Drop> Model for SharedReceive<R> {
         × HasRoom (callers_of s.napi) (length s.callers.items) (vec_capacity s.callers) };
 }
 
-// All meet, and come back to their place.
+// Lets all meet, and puts them back into their field.
 #[inline(always)]
 fn keep(napi: &Napi, place: &mut Option<Seats>, seen: &mut Seen, seats: Seats)
     requires empty { is_some place.old ≡ false }

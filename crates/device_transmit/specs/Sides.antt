@@ -1,17 +1,17 @@
--- The transmit sides of a bench, as it keeps them.
+-- The transmit sides of a bench, as it stores them.
 use Rattle.std.specs.Prelude.{◌≡◌, ℕ, Option, Some, None, length}
 use Rattle.device_transmit.specs.{Transmits.Transmits, Transmit.ShowsTransmit}
 use Rattle.device_transmit.specs.{Transmit.TransmitView, declared.{sides.TransmitSides.TransmitSides, transmit.Transmit.Transmit}}
 use Rattle.device_places.specs.Places.{at}
 
--- what is kept of a transmit side shows this
+-- the stored transmit side represents this one
 abbrev pub ShowsAt : Option Transmit → Option TransmitView → Type 0
 ShowsAt None None = Unit {0}
 ShowsAt (Some kept) (Some t) = ShowsTransmit kept t
 ShowsAt None (Some t) = ⊥
 ShowsAt (Some kept) None = ⊥
 
--- the transmit sides that are kept show these
+-- the stored transmit sides represent these
 pub record ShowsSides (sides : TransmitSides) (all : Transmits) : Type 0 where
   pub places : length all ≡ 17
   pub each : (number : ℕ) → ShowsAt (at number sides.of.items) (at number all)

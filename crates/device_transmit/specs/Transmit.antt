@@ -1,4 +1,4 @@
--- The transmit side of a device: its queue, and what became of its tx and done rows. It knows nothing of polls.
+-- The transmit side of a device: its queue, and the counts of its tx and done rows. It doesn't depend on polls.
 use Rattle.std.specs.Prelude.{◌≡◌, ℕ, Bool, true, false, Option, Some, None}
 use Rattle.dql_core.specs.{Bounds.DQL_MAX_LIMIT, Limit.opening}
 use Rattle.device_transmit.specs.{Counter.raised, declared.transmit.{Transmit.Transmit, TxCounts.TxCounts}}
@@ -7,7 +7,7 @@ use Rattle.tx_ring.specs.declared.event.TxFault.{TxFault}
 
 pub record TransmitView : Type 0 where
   pub queue : TransmitQueue
-  -- packets sent, packets refused, packets completed, completions refused
+  -- packets sent, packets that failed, packets completed, completions that failed
   pub sent : ℕ
   pub held : ℕ
   pub done : ℕ
@@ -15,12 +15,12 @@ pub record TransmitView : Type 0 where
   -- whether there was a row
   pub used : Bool
 
--- how long slack is held before the limit shrinks, in milliseconds: the `hold_time` of `dql_init`, which
--- `netdev_init_one_queue` (net/core/dev.c) calls with HZ, a second
+-- how long slack has to last before the limit shrinks, in milliseconds: the `hold_time` of `dql_init`, which
+-- `netdev_init_one_queue` (net/core/dev.c) calls with HZ, one second
 abbrev pub hold_time : ℕ
 hold_time = 1000
 
--- an empty queue of that many packets under a limit that starts at that moment
+-- an empty queue of this capacity under a limit that starts at this time
 abbrev pub opened_transmit : ℕ → ℕ → TransmitView
 opened_transmit capacity moment = record {
   queue = opening_queue capacity (opening 0 DQL_MAX_LIMIT hold_time moment);
@@ -31,7 +31,7 @@ opened_transmit capacity moment = record {
   used = false;
 }
 
--- a packet is sent, where the queue doesn't refuse it
+-- sends a packet, unless the queue has an error
 abbrev pub sent_unless : Option TxFault → ℕ → TransmitView → TransmitView
 sent_unless None bytes t = record t { queue = after_send t.queue bytes; sent = raised t.sent 1; used = true }
 sent_unless (Some fault) bytes t = record t { held = raised t.held 1; used = true }
@@ -39,7 +39,7 @@ sent_unless (Some fault) bytes t = record t { held = raised t.held 1; used = tru
 abbrev pub after_tx : ℕ → TransmitView → TransmitView
 after_tx bytes t = sent_unless (send_fault t.queue bytes) bytes t
 
--- so many packets are complete, where the queue holds them
+-- completes this many packets, unless the queue has an error
 abbrev pub done_unless : Option TxFault → ℕ → ℕ → TransmitView → TransmitView
 done_unless None count moment t = record t { queue = after_done t.queue count moment; done = raised t.done count; used = true }
 done_unless (Some fault) count moment t = record t { denied = raised t.denied 1; used = true }
@@ -47,11 +47,11 @@ done_unless (Some fault) count moment t = record t { denied = raised t.denied 1;
 abbrev pub after_finish : ℕ → ℕ → TransmitView → TransmitView
 after_finish count moment t = done_unless (done_fault t.queue count) count moment t
 
--- what is told of it
+-- the counts that the report shows
 abbrev pub tx_counts : TransmitView → TxCounts
 tx_counts t = record { sent = t.sent; held = t.held; done = t.done; denied = t.denied; state = state_of t.queue }
 
--- what is kept shows this: the ring shows the queue, which counts more than 32 bits hold
+-- the stored side represents this one: the ring represents the queue, whose totals may exceed 32 bits
 pub record ShowsTransmit (kept : Transmit) (t : TransmitView) : Type 0 where
   pub queue : ShowsQueue kept.ring t.queue
   pub sent : kept.sent ≡ t.sent

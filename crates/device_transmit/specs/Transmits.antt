@@ -1,19 +1,19 @@
--- The transmit sides of devices, by their numbers, and what calls do to them.
+-- The transmit sides of devices, by number, and the effect of calls on them.
 use Rattle.{std.specs.Prelude.{Bool, false, Option, Some, None}, device_places.specs.Places.Places}
 use Rattle.device_transmit.specs.{Transmit.{TransmitView, tx_counts}, declared.transmit.{TxCounts.TxCounts, TheConstants.TxCounts.NONE}}
 
 abbrev pub Transmits : Type 0
 Transmits = Places TransmitView
 
--- a call changed the transmit sides that a bench shows so
+-- a call changed the transmit sides of a bench by this function
 abbrev pub Changes : {B : Type 0} → (B → Transmits → Type 0) → (Transmits → Transmits) → B → B → Type 0
 Changes shows change old new = (all : Transmits) → shows old all → shows new (change all)
 
--- a call left them as they were
+-- a call left them unchanged
 abbrev pub Keeps : {B : Type 0} → (B → Transmits → Type 0) → B → B → Type 0
 Keeps shows old new = Changes shows (λ all. all) old new
 
--- what is told of a side, zeros where there is none
+-- the counts of a side, zeros if there is none
 abbrev pub tx_counts_of : Option TransmitView → TxCounts
 tx_counts_of None = NONE
 tx_counts_of (Some t) = tx_counts t

@@ -1,4 +1,4 @@
-//! The transmit sides of a bench's devices, by their numbers.
+//! The transmit sides of a bench's devices, by number.
 
 ghost use Rattle.std.specs.Prelude.{◌≡◌, length};
 
@@ -6,8 +6,7 @@ use crate::transmit::{Transmit, TxCounts};
 use device_places::PLACES;
 use std::alloc::{AllocError, Global};
 
-/// At most sixteen transmit sides, each in the place of its device's number. A call on a number that has none changes
-/// nothing.
+/// At most sixteen transmit sides, by device number. A call with a number that has none changes nothing.
 #[derive(Drop)]
 pub struct TransmitSides {
     of: Vec<Option<Transmit>>,
@@ -22,7 +21,7 @@ impl TransmitSides {
     ghost use Rattle.device_transmit.specs.Sides.{ShowsSides};
     ghost use Rattle.device_transmit.specs.Transmit.{ShowsTransmit, TransmitView, after_finish, after_tx};
 
-    /// No sides. Their places are made here, so that no other call takes memory.
+    /// Returns an empty table. It is allocated here, so that no other call allocates.
     pub fn new(alloc: Global) -> Result<TransmitSides, AllocError>
         ensures { IfOk result (λ sides. ShowsSides sides empty) }
     {
@@ -33,7 +32,7 @@ impl TransmitSides {
         Ok(TransmitSides { of })
     }
 
-    /// The side of a device, unless that has one.
+    /// Adds the side of a device, unless it has one.
     pub fn attach(&mut self, device: u32, transmit: Transmit)
         requires { IsWithin 1 16 device }
         ensures { (view : TransmitView) → ShowsTransmit transmit view
@@ -45,7 +44,7 @@ impl TransmitSides {
         }
     }
 
-    /// A tx row.
+    /// Applies a tx row.
     pub fn send(&mut self, device: u32, bytes: u32)
         ensures { Changes ShowsSides (changed (after_tx bytes) device) self.old self.new }
     {
@@ -56,7 +55,7 @@ impl TransmitSides {
         }
     }
 
-    /// A done row.
+    /// Applies a done row.
     pub fn finish(&mut self, device: u32, count: u32, moment: u64)
         ensures { Changes ShowsSides
             (changed (after_finish count moment) device) self.old self.new }
@@ -68,7 +67,7 @@ impl TransmitSides {
         }
     }
 
-    /// What is told of a side, zeros where there is none.
+    /// The counts of a side, zeros if there is none.
     pub fn counts(&self, device: u32) -> TxCounts
         ensures { (all : Transmits) → ShowsSides self.now all
             → result ≡ tx_counts_of (at device all) }
@@ -79,7 +78,7 @@ impl TransmitSides {
         }
     }
 
-    /// Whether there is a side that had a tx or done row.
+    /// Returns whether there is a side that had a tx or done row.
     pub fn is_used(&self, device: u32) -> bool
         ensures { (all : Transmits) → ShowsSides self.now all → result ≡ is_used (at device all) }
     {

@@ -8,10 +8,10 @@ use dql_core::{Dql, MAX_LIMIT};
 use std::alloc::{AllocError, Global};
 use tx_ring::{TxFault, TxRing, TxState};
 
-/// How long slack is held before the limit shrinks, in milliseconds.
+/// How long slack has to last before the limit shrinks, in milliseconds.
 const HOLD: u64 = 1000;
 
-/// A device's transmit ring, and what became of its tx and done rows. Counts stay at their greatest value.
+/// A device's transmit ring, and the counts of its tx and done rows. The counts saturate.
 #[derive(Drop)]
 pub struct Transmit {
     ring: TxRing,
@@ -22,23 +22,23 @@ pub struct Transmit {
     used: bool,
 }
 
-/// What the report tells of a device's transmit side.
+/// What the report shows of a device's transmit side.
 #[derive(Clone, Copy, Debug, PartialEq, Eq)]
 pub struct TxCounts {
     /// Packets sent.
     pub sent: u64,
-    /// Packets that the ring refused.
+    /// Packets that the ring rejected.
     pub held: u64,
     /// Packets completed.
     pub done: u64,
-    /// Completions that the ring refused.
+    /// Completions that the ring rejected.
     pub denied: u64,
-    /// How the ring and its limit stand after the last row.
+    /// The state of the ring and its limit after the last row.
     pub state: TxState,
 }
 
 impl TxCounts {
-    /// What is told where there is no transmit side.
+    /// The counts if there is no transmit side.
     pub const NONE: TxCounts = TxCounts {
         sent: 0,
         held: 0,
@@ -55,7 +55,7 @@ impl TxCounts {
 }
 
 impl Transmit {
-    /// A new ring of that many places, under a limit of the kernel's bounds that starts at that moment.
+    /// Returns a new ring of this capacity, under a limit with the kernel's bounds that starts at this time.
     pub fn open(alloc: Global, capacity: u32, moment: u64) -> Result<Transmit, AllocError>
         requires { IsWithin 1 65536 capacity }
         ensures { IfOk result
@@ -78,7 +78,8 @@ impl Transmit {
         }
     }
 
-    /// A tx row: a packet of that many bytes is sent, or held back and counted (`netdev_tx_sent_queue`).
+    /// Applies a tx row: sends a packet of this many bytes, or counts it as held if the ring rejects it
+    /// (`netdev_tx_sent_queue`).
     pub fn send(&mut self, bytes: u32)
         ensures { (view : TransmitView) → ShowsTransmit self.old view
             → ShowsTransmit self.new (after_tx bytes view) }
@@ -90,7 +91,8 @@ impl Transmit {
         }
     }
 
-    /// A done row: that many packets are complete, or too many and counted (`netdev_tx_completed_queue`).
+    /// Applies a done row: completes this many packets, or counts it as denied if the ring holds fewer
+    /// (`netdev_tx_completed_queue`).
     pub fn finish(&mut self, count: u32, moment: u64)
         ensures { (view : TransmitView) → ShowsTransmit self.old view
             → ShowsTransmit self.new (after_finish count moment view) }
@@ -102,7 +104,7 @@ impl Transmit {
         }
     }
 
-    /// What is told of it.
+    /// The counts that the report shows.
     pub fn counts(&self) -> TxCounts
         ensures { (view : TransmitView) → ShowsTransmit self.now view → result ≡ tx_counts view }
     {
@@ -115,7 +117,7 @@ impl Transmit {
         }
     }
 
-    /// Whether it had a tx or done row, where the report tells of it.
+    /// Returns whether it had a tx or done row; otherwise the report omits it.
     pub fn is_used(&self) -> bool
         ensures { (view : TransmitView) → ShowsTransmit self.now view → result ≡ view.used }
     {

@@ -1,4 +1,4 @@
--- One more call at the end of a list of calls.
+-- Appending a call to a list of calls.
 use Rattle.std.proofs.Common.{◌≡◌, ℕ, ◌+◌, ◌<◌, ◌≤◌, Bool, true, false, cond, List, [], ◌∷◌, ◌++◌, length, take, get_or, Option, is_some}
 use Rattle.std.proofs.Common.{Result, Ok, Err, is_err, OnOk, OnErr, fold, ap, sym, refl, subst, ◌∙◌, length-append, arith}
 use Rattle.std.{specs.{Int.from_bool, Result.result_err}, proofs.lemmas.List.{take_more, Sums.fold-append}}
@@ -8,7 +8,7 @@ pub from_bool_most : (b : Bool) → from_bool b ≤ 1
 from_bool_most true = omega arith
 from_bool_most false = omega arith
 
--- what a loop that makes the calls of a list keeps: what the object shows after i of them, and how many were refused
+-- the invariant of a loop that makes the calls of a list: the state after i of them, and how many were rejected
 pub record Makes {D S E F : Type 0} (fault : S → E → Option F) (after : S → E → S) (Shows : D → S → Type 0) (start now : D) (es : List E)
     (i refused : ℕ) : Type 0 where
   pub state : (s : S) → Shows start s → Shows now (after_all fault after s (take i es))
@@ -16,7 +16,7 @@ pub record Makes {D S E F : Type 0} (fault : S → E → Option F) (after : S �
   pub fits : refused ≤ i
 
 module _ {S E F : Type 0} (fault : S → E → Option F) (after : S → E → S) where
-  -- the call, if the state accepts it
+  -- a list of the call if the state accepts it, else the empty list
   abbrev kept : S → E → List E
   kept s e = cond (is_some (fault s e)) [] (e ∷ [])
 
@@ -63,7 +63,7 @@ module _ {S E F : Type 0} (fault : S → E → Option F) (after : S → E → S)
       let last = length_kept (is_some (fault t e)) e in
       omega arith
 
-  -- what an object that shows the state s shows after a call, by the clauses of that call
+  -- an object that shows the state s shows the next state after a call, by the clauses of that call
   shows_after_call : {D R : Type 0} (Shows : D → S → Type 0) (old new : D) (s : S) (e : E) (r : Result R F)
       → OnOk r (Shows new (after s e)) → OnErr r (new ≡ old) → result_err r ≡ fault s e → Shows old s
       → Shows new (after_call fault after s e)
@@ -90,7 +90,7 @@ module _ {S E F : Type 0} (fault : S → E → Option F) (after : S → E → S)
       → (n + from_bool (is_err r)) + length (accepted fault after s (take (i + 1) es)) ≡ i + 1
   count_more s es i d n r h same was = refused_more s es i d n _ h was (refused_of _ _ r same)
 
-  -- one call more, by its clauses
+  -- the invariant after one more call
   pub makes_more : {D R : Type 0} (Shows : D → S → Type 0) (start old new : D) (es : List E) (i : ℕ) (d : E) (n one : ℕ) (r : Result R F)
       → i < length es
       → ((s : S) → Shows old s → OnOk r (Shows new (after s (get_or es i d)))) → OnErr r (new ≡ old)

@@ -9,6 +9,6 @@ DQL_MAX_OBJECT = 268435455
 abbrev pub DQL_MAX_LIMIT : ℕ
 DQL_MAX_LIMIT = 1879048192
 
--- the most bytes in flight, a quarter of a counter's range; the kernel names no such bound
+-- the most bytes in flight, a quarter of a counter's range; the kernel has no such bound
 abbrev pub most_in_flight : ℕ
 most_in_flight = 1073741823

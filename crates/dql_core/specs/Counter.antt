@@ -1,11 +1,11 @@
--- Counters of 32 bits that wrap.
+-- 32-bit counters that wrap.
 use Rattle.std.specs.Prelude.{◌≡◌, ℕ, ◌+◌, ◌-◌, ◌%◌, ◌<◌}
 
--- the counter n is what 32 bits keep of the whole number x
+-- the counter n is the whole number x modulo 2 ^ 32
 abbrev pub IsWrapped : ℕ → ℕ → Type 0
 IsWrapped n x = n ≡ x % 4294967296
 
--- x and y lie less than 2 ^ 31 apart, so that a signed difference of 32 bits is their true one
+-- x and y differ by less than 2 ^ 31, so a signed 32-bit difference is the true one
 abbrev pub AreNear : ℕ → ℕ → Type 0
 AreNear x y = (x < y + 2147483648) × (y < x + 2147483648)
 

@@ -1,9 +1,9 @@
--- What a `Dql` shows of a limit in whole numbers.
+-- How a `Dql` represents a limit in whole numbers.
 use Rattle.std.specs.Prelude.{◌≡◌, ℕ, ◌+◌, ◌≤◌}
 use Rattle.dql_core.specs.{Counter.{IsWrapped, distance_of}, Limit.opening, Bounds.most_in_flight}
 use Rattle.dql_core.specs.declared.{queue.{Adjustment.Adjustment, Dql.Dql}, whole.Limit.Limit}
 
--- d shows the limit s: it counts modulo 2 ^ 32 what s counts in whole numbers, and has its other numbers
+-- d represents the limit s: its counters are those of s modulo 2 ^ 32, and its other numbers are equal
 pub record Shows (d : Dql) (s : Limit) : Type 0 where
   pub queued : IsWrapped d.queued s.queued
   pub completed : IsWrapped d.completed s.completed
@@ -23,11 +23,11 @@ pub record Shows (d : Dql) (s : Limit) : Type 0 where
 abbrev pub bytes_in_flight : Dql → ℕ
 bytes_in_flight d = distance_of d.queued d.completed
 
--- the new limit with d's bounds and hold, made when its slack began
+-- a new limit with d's bounds and hold time, made when d's slack time began
 abbrev pub opening_of : Dql → Limit
 opening_of d = opening d.min_limit d.max_limit d.hold d.slack_start
 
--- d is as new, or reset
+-- d is new or was just reset
 abbrev pub IsNew : Dql → Type 0
 IsNew d = Shows d (opening_of d)
 

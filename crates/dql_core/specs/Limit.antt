@@ -1,12 +1,12 @@
--- The rules of dynamic queue limits in whole numbers that never wrap, after `lib/dynamic_queue_limits.c` of Linux 6.6.
--- `Limit` is the struct of `src/whole.rt`, which names each number. A `-` stops at 0, as the kernel's `POSDIFF` does.
+-- The rules of dynamic queue limits in whole numbers that never wrap, from `lib/dynamic_queue_limits.c` of Linux 6.6. `Limit`
+-- is the struct of `src/whole.rt`, which describes each number. A `-` stops at 0, like the kernel's `POSDIFF`.
 use Rattle.std.specs.Prelude.{ℕ, ◌+◌, ◌-◌, ◌*◌, Bool, ◌&&◌, ◌||◌, not, nat_eq, nat_lt, nat_le, min, max, if◌then◌else◌, Option, Some, None}
 use Rattle.std.specs.Prelude.{ℤ, pos, ◌-ℤ◌}
 use Rattle.dql_core.specs.{Bounds.{DQL_MAX_OBJECT, most_in_flight}, declared.event.DqlFault.DqlFault}
 use Rattle.dql_core.specs.declared.event.{DqlFault.TheVariants.{TooLarge, TooMuchInFlight, MoreThanQueued}, LimitEvent.LimitEvent}
 use Rattle.dql_core.specs.declared.{event.LimitEvent.TheVariants.{Queued, Completed, Reset}, whole.Limit.Limit}
 
--- a new limit, between min_limit and max_limit, that holds its slack so long and was made at the moment now (`dql_init`)
+-- a new limit with these bounds and this hold time, made at the time now (`dql_init`)
 abbrev pub opening : ℕ → ℕ → ℕ → ℕ → Limit
 opening min_limit max_limit hold now = record {
   queued = 0;
@@ -27,19 +27,19 @@ opening min_limit max_limit hold now = record {
 abbrev pub in_flight_of : Limit → ℕ
 in_flight_of s = s.queued - s.completed
 
--- the bytes that may still be queued, below 0 where the queue is over its limit (`dql_avail`)
+-- the bytes that may still be queued; negative if the queue is over its limit (`dql_avail`)
 abbrev pub avail_of : Limit → ℤ
 avail_of s = pos (s.limit + s.completed) -ℤ pos s.queued
 
--- the limit starts anew, with its bounds and its hold (`dql_reset`)
+-- the limit after a reset, which keeps its bounds and its hold time (`dql_reset`)
 abbrev pub after_reset : Limit → ℕ → Limit
 after_reset s now = opening s.min_limit s.max_limit s.hold now
 
--- an object of so many bytes is queued (`dql_queued`)
+-- the limit after an object of count bytes is queued (`dql_queued`)
 abbrev pub after_queued : Limit → ℕ → Limit
 after_queued s count = record s { queued = s.queued + count; last_object = count }
 
--- What a completion of so many bytes finds (`dql_completed`).
+-- The values that a completion of count bytes computes (`dql_completed`).
 
 -- the bytes in flight over the limit (`ovlimit`)
 abbrev pub over_of : Limit → ℕ
@@ -49,21 +49,21 @@ over_of s = in_flight_of s - s.limit
 abbrev pub left_of : Limit → ℕ → ℕ
 left_of s count = s.queued - (s.completed + count)
 
--- the bytes that the completion before left in flight (`prev_inprogress`)
+-- the bytes that the previous completion left in flight (`prev_inprogress`)
 abbrev pub previous_left_of : Limit → ℕ
 previous_left_of s = s.previous_queued - s.completed
 
--- it completes all that was queued at the completion before (`all_prev_completed`)
+-- this completion completes all that was queued at the previous one (`all_prev_completed`)
 abbrev pub completes_previous : Limit → ℕ → Bool
 completes_previous s count = nat_le s.previous_queued (s.completed + count)
 
--- the queue ran dry though it was over its limit, now or at the completion before: the limit is too low
+-- the queue ran empty while it was over its limit, now or at the previous completion: the limit is too low
 abbrev pub is_starved : Limit → ℕ → Bool
 is_starved s count =
     (not (nat_eq (over_of s) 0) && nat_eq (left_of s count) 0)
     || (not (nat_eq s.previous_over 0) && completes_previous s count)
 
--- the queue was busy all the time since the completion before: the limit may be too high
+-- the queue was busy all the time since the previous completion: the limit may be too high
 abbrev pub is_busy : Limit → ℕ → Bool
 is_busy s count =
     not (nat_eq (left_of s count) 0) && (not (nat_eq (previous_left_of s) 0) && not (completes_previous s count))
@@ -74,7 +74,7 @@ slack_of s count =
     max ((s.limit + s.previous_over) - 2 * count)
     (if nat_eq s.previous_over 0 then 0 else s.previous_last_object - s.previous_over)
 
--- a starved limit grows by what was completed beyond the bytes queued before, and by what it was over before
+-- a starved limit grows by the bytes completed beyond those queued at the previous completion, and by the previous excess
 abbrev pub grown : Limit → ℕ → ℕ → Limit
 grown s count now = record s {
   limit = s.limit + (((s.completed + count) - s.previous_queued) + s.previous_over);
@@ -82,23 +82,23 @@ grown s count now = record s {
   slack_start = now;
 }
 
--- the lowest slack is noted, and once it was held for longer than the hold the limit shrinks by it
+-- the lowest slack is recorded; once it has lasted longer than the hold time, the limit shrinks by it
 abbrev pub slackened : Limit → ℕ → ℕ → Limit
 slackened s lowest now =
     if nat_lt (s.slack_start + s.hold) now then record s { limit = s.limit - lowest; lowest_slack = 4294967295; slack_start = now }
     else record s { lowest_slack = lowest }
 
--- the limit, its lowest slack and where that began, before the limit is brought into its bounds
+-- the limit, its lowest slack and the start of the slack, before the limit is clamped
 abbrev pub adjusted : Limit → ℕ → ℕ → Limit
 adjusted s count now =
     if is_starved s count then grown s count now
     else (if is_busy s count then slackened s (min s.lowest_slack (slack_of s count)) now else s)
 
--- brought between the least and the greatest limit
+-- clamped between the least and the greatest limit
 abbrev pub bounded : Limit → ℕ → ℕ
 bounded s limit = max s.min_limit (min limit s.max_limit)
 
--- so many bytes are completed, and the limit becomes the one aimed at; nothing counts as over a limit that changed
+-- the limit after count bytes are completed and the limit is set to aimed; if the limit changes, the recorded excess is 0
 abbrev pub settled : Limit → ℕ → Limit → Limit
 settled s count aim = record s {
   completed = s.completed + count;
@@ -110,29 +110,29 @@ settled s count aim = record s {
   previous_last_object = s.last_object;
 }
 
--- so many bytes are completed at the moment now (`dql_completed`)
+-- the limit after count bytes are completed at the time now (`dql_completed`)
 abbrev pub after_completed : Limit → ℕ → ℕ → Limit
 after_completed s count now = settled s count (adjusted s count now)
 
 -- Whole runs.
 
--- why an object of so many bytes may not be queued, the first reason that there is
+-- the first reason why an object of count bytes can't be queued, if there is one
 abbrev pub queued_fault : Limit → ℕ → Option DqlFault
 queued_fault s count =
     if nat_lt DQL_MAX_OBJECT count then Some TooLarge
     else (if nat_lt most_in_flight (in_flight_of s + count) then Some TooMuchInFlight else None)
 
--- why so many bytes can't be completed
+-- the reason why count bytes can't be completed, if there is one
 abbrev pub completed_fault : Limit → ℕ → Option DqlFault
 completed_fault s count = if nat_lt (in_flight_of s) count then Some MoreThanQueued else None
 
--- why an event is refused
+-- the reason why an event fails, if it does
 abbrev pub fault_of : Limit → LimitEvent → Option DqlFault
 fault_of s (Queued count) = queued_fault s count
 fault_of s (Completed count now) = completed_fault s count
 fault_of s (Reset now) = None
 
--- the limit after an event that isn't refused
+-- the limit after an event that succeeds
 abbrev pub after : Limit → LimitEvent → Limit
 after s (Queued count) = after_queued s count
 after s (Completed count now) = after_completed s count now

@@ -1,4 +1,4 @@
-//! The calls on a limit as values, and why one is refused.
+//! The calls on a limit as values, and their errors.
 
 ghost use Rattle.std.specs.Prelude.{◌≡◌};
 ghost use Rattle.dql_core.specs.Fault.{number_of};
@@ -8,21 +8,21 @@ use thiserror::Error;
 /// A call on a limit, as a value for [`Dql::run`](crate::Dql::run).
 #[derive(Clone, Copy, Debug, PartialEq, Eq)]
 pub enum LimitEvent {
-    /// So many bytes were queued: [`Dql::queued`](crate::Dql::queued).
+    /// These bytes were queued: [`Dql::queued`](crate::Dql::queued).
     Queued(u32),
-    /// So many bytes were completed, at this moment in milliseconds: [`Dql::completed`](crate::Dql::completed).
+    /// These bytes were completed, at this time in milliseconds: [`Dql::completed`](crate::Dql::completed).
     Completed(u32, u64),
-    /// The limit starts anew at this moment in milliseconds: [`Dql::reset`](crate::Dql::reset).
+    /// The limit is reset at this time in milliseconds: [`Dql::reset`](crate::Dql::reset).
     Reset(u64),
 }
 
-/// Why a call on a limit was refused. A refused call changes nothing.
+/// Why a call on a limit failed. A call that fails changes nothing.
 ///
-/// Where the kernel's `dql_queued` and `dql_completed` stop the machine by `BUG_ON`, these calls answer
+/// Where the kernel's `dql_queued` and `dql_completed` stop the machine by `BUG_ON`, these calls fail with
 /// [`TooLarge`](DqlFault::TooLarge) and [`MoreThanQueued`](DqlFault::MoreThanQueued).
 #[derive(Clone, Copy, Debug, PartialEq, Eq, Error)]
 pub enum DqlFault {
-    /// Number 1: the least limit is over the greatest, or that one is over [`MAX_LIMIT`](crate::MAX_LIMIT).
+    /// Number 1: the least limit is greater than the greatest, or the greatest is over [`MAX_LIMIT`](crate::MAX_LIMIT).
     #[error("the bounds of the limit are out of order or too large")]
     BadBounds = 1,
     /// Number 2: an object of more than [`MAX_OBJECT`](crate::MAX_OBJECT) bytes.
@@ -37,7 +37,7 @@ pub enum DqlFault {
 }
 
 impl DqlFault {
-    /// The number of this fault, 1 to 4.
+    /// The number of this error, 1 to 4.
     pub fn number(self) -> u8
         ensures { result ≡ number_of self }
     {

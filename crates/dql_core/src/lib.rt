@@ -1,8 +1,8 @@
-//! Dynamic queue limits: how many bytes a transmit queue may hold, learned from its completions.
+//! Dynamic queue limits: how many bytes a transmit queue may have in flight, adapted to its completions.
 //!
-//! These are the rules of `lib/dynamic_queue_limits.c` of Linux 6.6, the arithmetic beneath byte queue limits.
-//! [`Dql`] keeps counters of 32 bits that wrap, as the kernel's `struct dql` does. [`Limit`] is the same limit in
-//! whole numbers: `specs/Limit.antt` says what each call makes of it, and each contract of `Dql` says that it does so.
+//! These are the rules of `lib/dynamic_queue_limits.c` of Linux 6.6, the arithmetic of byte queue limits. [`Dql`] keeps 32-bit
+//! counters that wrap, as the kernel's `struct dql` does. [`Limit`] is the same limit in whole numbers: `specs/Limit.antt`
+//! defines what each call does to it, and the contracts of `Dql` say that `Dql` does the same.
 #![tactic(auto)]
 
 mod bounds;

@@ -1,4 +1,4 @@
-//! The limit as the kernel keeps it: counters of 32 bits that wrap.
+//! The limit as the kernel keeps it: 32-bit counters that wrap.
 
 ghost use Rattle.std.specs.Prelude.{◌≡◌, ◌+◌, ◌-◌, ◌%◌, ◌<◌, ◌≤◌};
 ghost use Rattle.dql_core.specs.Counter.{distance_of};
@@ -9,7 +9,7 @@ use crate::counter::{advance, distance, is_at_or_after, positive_difference, sig
 use crate::event::{DqlFault, LimitEvent};
 use crate::whole::Limit;
 
-// What a completion makes of the limit, before it is brought into its bounds.
+// The new limit and slack that a completion computes, before the limit is clamped.
 #[derive(Clone, Copy)]
 struct Adjustment {
     limit: u32,
@@ -17,14 +17,13 @@ struct Adjustment {
     slack_start: u64,
 }
 
-/// A dynamic queue limit: how many bytes may be in flight, which each completion raises where the queue starved and
-/// lowers where it held more than it needed. The kernel's `struct dql`.
+/// A dynamic queue limit (the kernel's `struct dql`): how many bytes may be in flight. A completion raises it if the queue
+/// starved, and lowers it if the queue held more than it needed.
 ///
-/// Bytes are queued by [`queued`](Dql::queued) and completed by [`completed`](Dql::completed). The limit is advice:
-/// more bytes may be queued than [`avail`](Dql::avail) says, up to [`MAX_IN_FLIGHT`](crate::MAX_IN_FLIGHT) in flight.
-/// The counters wrap after 2^32 bytes and the answers stay those of the same limit in whole numbers,
-/// [`Limit`](crate::Limit). Moments are milliseconds of a clock of the caller's. Each call but [`run`](Dql::run) does
-/// constant work, and none takes memory.
+/// [`queued`](Dql::queued) adds bytes, [`completed`](Dql::completed) removes them. The limit is advisory: more bytes may be
+/// queued than [`avail`](Dql::avail) returns, up to [`MAX_IN_FLIGHT`](crate::MAX_IN_FLIGHT) in flight. The counters wrap after
+/// 2^32 bytes, and all results stay those of the same limit in whole numbers, [`Limit`](crate::Limit). Times are milliseconds
+/// of a clock that the caller chooses. Each call except [`run`](Dql::run) takes constant time, and none allocates.
 #[derive(Debug, Drop)]
 #[repr(C)]
 pub struct Dql {
@@ -43,7 +42,7 @@ pub struct Dql {
     ghost bounds: { (min_limit ≤ limit) × (limit ≤ max_limit) × (max_limit ≤ DQL_MAX_LIMIT) },
     ghost in_flight: { distance_of queued completed ≤ most_in_flight },
     ghost previous: { distance_of previous_queued completed ≤ distance_of queued completed },
-    // limit + previous_over is at most MAX_IN_FLIGHT where previous_over isn't 0
+    // limit + previous_over is at most MAX_IN_FLIGHT if previous_over isn't 0
     ghost over: { previous_over ≤ most_in_flight - limit },
     ghost objects: { (last_object ≤ DQL_MAX_OBJECT) × (previous_last_object ≤ DQL_MAX_OBJECT) },
 }
@@ -58,11 +57,11 @@ impl Dql {
     ghost use Rattle.dql_core.specs.declared.event.DqlFault.TheVariants.{BadBounds};
     ghost use Rattle.dql_core.specs.declared.whole.Limit.{Limit};
 
-    /// A new limit between `min` and `max` bytes, which starts at `min` at the moment `now`; slack has to be held for
-    /// longer than `hold` milliseconds before the limit shrinks. The kernel's `dql_init`, whose bounds are 0 and
+    /// Returns a new limit between `min` and `max` bytes, made at the time `now`, which starts at `min`; slack has to last
+    /// longer than `hold` milliseconds before the limit shrinks. The kernel's `dql_init` uses the bounds 0 and
     /// [`MAX_LIMIT`](crate::MAX_LIMIT).
     ///
-    /// Refused by [`BadBounds`](DqlFault::BadBounds) where `min` is over `max` or `max` over `MAX_LIMIT`.
+    /// Fails with [`BadBounds`](DqlFault::BadBounds) if `min` is over `max` or `max` over `MAX_LIMIT`.
     pub fn new(min: u32, max: u32, hold: u64, now: u64) -> Result<Dql, DqlFault>
         ensures ok { IfOk result (λ d. Shows d (opening min max hold now)) }
         ensures fresh { IfOk result IsNew }
@@ -88,8 +87,8 @@ impl Dql {
         })
     }
 
-    /// Starts anew at the moment `now`, with the bounds and the hold that were given to [`new`](Dql::new): nothing is
-    /// in flight and the limit is its least. The kernel's `dql_reset`.
+    /// Resets the limit at the time `now` (`dql_reset`), with the bounds and the hold time of [`new`](Dql::new): nothing is in
+    /// flight, and the limit is its least.
     pub fn reset(&mut self, now: u64)
         ensures reset { (s : Limit) → Shows self.old s → Shows self.new (after_reset s now) }
         ensures fresh { IsNew self.new }
@@ -120,8 +119,8 @@ impl Dql {
         distance(self.queued, self.completed)
     }
 
-    /// The bytes that may still be queued: the limit less the bytes in flight, negative where the queue is over its
-    /// limit. The kernel's `dql_avail`, which is stale between a reset and the next completion; this one never is.
+    /// The bytes that may still be queued: the limit minus the bytes in flight, negative if the queue is over its limit
+    /// (`dql_avail`). The kernel's value is stale between a reset and the next completion; this one never is.
     pub fn avail(&self) -> i64
         ensures { (s : Limit) → Shows self.now s → result ≡ avail_of s }
     {
@@ -142,8 +141,8 @@ impl Dql {
         self.completed
     }
 
-    /// A limit in whole numbers that this one shows, as if its counters hadn't wrapped yet: there always is one, so
-    /// what the other calls say of each such limit is never empty.
+    /// Returns a limit in whole numbers that this one represents, as if its counters hadn't wrapped yet. So there always is
+    /// one, and what the other calls state for each such limit is never vacuous.
     pub fn to_limit(&self) -> Limit
         ensures { Shows self.now result }
     {
@@ -171,11 +170,11 @@ impl Dql {
         advance(self.completed, self.limit)
     }
 
-    /// An object of `count` bytes is queued. The kernel's `dql_queued`.
+    /// Adds an object of `count` bytes (`dql_queued`).
     ///
-    /// Refused by [`TooLarge`](DqlFault::TooLarge) where `count` is over [`MAX_OBJECT`](crate::MAX_OBJECT), and else by
-    /// [`TooMuchInFlight`](DqlFault::TooMuchInFlight) where more than [`MAX_IN_FLIGHT`](crate::MAX_IN_FLIGHT) bytes
-    /// would be in flight; nothing is queued then.
+    /// Fails with [`TooLarge`](DqlFault::TooLarge) if `count` is over [`MAX_OBJECT`](crate::MAX_OBJECT), otherwise with
+    /// [`TooMuchInFlight`](DqlFault::TooMuchInFlight) if more than [`MAX_IN_FLIGHT`](crate::MAX_IN_FLIGHT) bytes would be in
+    /// flight; nothing is queued then.
     pub fn queued(&mut self, count: u32) -> Result<(), DqlFault>
         ensures ok { (s : Limit) → Shows self.old s
             → OnOk result (Shows self.new (after_queued s count)) }
@@ -195,12 +194,12 @@ impl Dql {
         Ok(())
     }
 
-    /// `count` bytes are completed at the moment `now`, and the limit is adjusted. The kernel's `dql_completed`.
+    /// Completes `count` bytes at the time `now`, and adjusts the limit (`dql_completed`).
     ///
-    /// A moment before an earlier call's is no error: no slack was held then.
+    /// A time before that of an earlier call is no error; it counts as no slack time.
     ///
-    /// Refused by [`MoreThanQueued`](DqlFault::MoreThanQueued) where fewer than `count` bytes are in flight; nothing is
-    /// completed then.
+    /// Fails with [`MoreThanQueued`](DqlFault::MoreThanQueued) if fewer than `count` bytes are in flight; nothing is completed
+    /// then.
     pub fn completed(&mut self, count: u32, now: u64) -> Result<(), DqlFault>
         ensures ok { (s : Limit) → Shows self.old s
             → OnOk result (Shows self.new (after_completed s count now)) }
@@ -219,7 +218,7 @@ impl Dql {
         Ok(())
     }
 
-    /// Makes each of these calls in turn, and gives how many were refused.
+    /// Makes these calls in order, and returns how many failed.
     pub fn run(&mut self, events: &[LimitEvent]) -> u64
         ensures state { (s : Limit) → Shows self.old s
             → Shows self.new (after_all fault_of after s events.now) }
@@ -234,7 +233,7 @@ impl Dql {
         refused
     }
 
-    // Makes the call that the event stands for.
+    // Makes the call that the event names.
     fn apply(&mut self, event: LimitEvent) -> Result<(), DqlFault>
         ensures ok { (s : Limit) → Shows self.old s → OnOk result (Shows self.new (after s event)) }
         ensures err { OnErr result (self.new ≡ self.old) }
@@ -266,7 +265,7 @@ impl Dql {
         advance(self.completed, count)
     }
 
-    // Whether all that was queued at the completion before is completed by this one (`all_prev_completed`).
+    // Returns whether this completion completes all that was queued at the previous one (`all_prev_completed`).
     fn completes_previous(&self, count: u32) -> bool
         requires { count ≤ bytes_in_flight self.now }
         ensures { (s : Limit) → Shows self.now s → result ≡ completes_previous s count }
@@ -305,7 +304,7 @@ impl Dql {
         positive_difference(self.limit + self.previous_over, 2 * count).max(last)
     }
 
-    // The bytes that this completion completes beyond those queued at the completion before.
+    // The bytes that this completion completes beyond those queued at the previous one.
     fn completed_beyond_previous(&self, count: u32) -> u32
         requires { count ≤ bytes_in_flight self.now }
         ensures most { result ≤ count }
@@ -355,7 +354,7 @@ impl Dql {
         }
     }
 
-    // Counts the completion, and brings the limit into its bounds.
+    // Counts the completion, and clamps the limit.
     fn settle(&mut self, count: u32, adjustment: Adjustment)
         requires { count ≤ bytes_in_flight self.old }
         ensures in_flight { bytes_in_flight self.new + count ≡ bytes_in_flight self.old }

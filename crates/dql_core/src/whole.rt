@@ -1,8 +1,8 @@
-//! The limit in whole numbers, of which the rules speak.
+//! The limit in whole numbers, on which the rules are defined.
 
-/// A queue limit whose counters never wrap. Beside each number stands the kernel's name for it in `struct dql`.
+/// A queue limit whose counters never wrap. Each field names its counterpart in the kernel's `struct dql`.
 ///
-/// `specs/Limit.antt` says what each call makes of it, and [`Dql::to_limit`](crate::Dql::to_limit) gives one.
+/// `specs/Limit.antt` defines what each call does to it, and [`Dql::to_limit`](crate::Dql::to_limit) returns one.
 #[derive(Clone, Copy, Debug, PartialEq, Eq)]
 pub struct Limit {
     /// All bytes ever queued (`num_queued`).
@@ -13,20 +13,20 @@ pub struct Limit {
     pub last_object: u128,
     /// How many bytes may be in flight (`limit`).
     pub limit: u128,
-    /// The bytes ever queued as of the completion before (`prev_num_queued`).
+    /// The bytes ever queued at the time of the previous completion (`prev_num_queued`).
     pub previous_queued: u128,
-    /// The bytes over the limit at the completion before (`prev_ovlimit`).
+    /// The bytes over the limit at the previous completion (`prev_ovlimit`).
     pub previous_over: u128,
-    /// The bytes of the object that was queued last as of the completion before (`prev_last_obj_cnt`).
+    /// The bytes of the object that was last queued at the time of the previous completion (`prev_last_obj_cnt`).
     pub previous_last_object: u128,
-    /// The lowest slack since the slack's start (`lowest_slack`).
+    /// The lowest slack since `slack_start` (`lowest_slack`).
     pub lowest_slack: u128,
-    /// The moment since which slack is held, in milliseconds (`slack_start_time`).
+    /// The time, in milliseconds, since which there is slack (`slack_start_time`).
     pub slack_start: u64,
     /// The least limit (`min_limit`).
     pub min_limit: u128,
     /// The greatest limit (`max_limit`).
     pub max_limit: u128,
-    /// How long slack has to be held, in milliseconds (`slack_hold_time`).
+    /// How long slack has to last, in milliseconds (`slack_hold_time`).
     pub hold: u64,
 }

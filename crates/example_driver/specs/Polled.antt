@@ -1,4 +1,4 @@
--- What a poll from the list does to a card, as equations (`napi_poll` and `napi_complete_done` of net/core/dev.c).
+-- The effect of a poll from the list on a card, as equations (`napi_poll` and `napi_complete_done` of net/core/dev.c).
 use Rattle.std.specs.Prelude.{◌≡◌, ◌==◌, ℕ, true, false, Bool, List, ◌++◌, length, take, if◌then◌else◌}
 use Rattle.napi_model.specs.Serial.{state_of}
 use Rattle.napi_model.specs.Step.{after, complete_reply, event, take_reply}
@@ -30,20 +30,20 @@ view_of card = record { napi = state_of card.napi; ring = ring_of card.input car
 abbrev pub made : Operation → CardView → CardView
 made operation card = record card { napi = after card.napi (event POLLER operation) }
 
--- a poll gives the ring's next packets, as many as there are and the weight allows
+-- a poll takes the ring's next packets, as many as there are and the weight allows
 abbrev pub given : ℕ → CardView → List Packet
 given weight card = take weight (held_of card.ring)
 
 abbrev pub received : ℕ → CardView → CardView
 received weight card = record card { ring = record card.ring { received = card.ring.received ++ given weight card } }
 
--- a completion releases the instance; where a request was missed, the poller owns it again and hands it to the list
+-- a completion releases the instance; if a request was missed, the poller still owns it and queues it on the list
 abbrev pub completed : Done → CardView → Next × CardView
 completed Released card = (next.Gone, made (operation.Complete Released) card)
 completed Again card = (next.Again kind.List, made (operation.Hand kind.List) (made (operation.Complete Again) card))
 completed Held card = (next.Repoll, card)
 
--- a poll that used its whole weight puts the instance back on the list, any other completes it
+-- a poll that used its whole weight puts the instance back on the list; any other one completes it
 abbrev pub ended : Bool → CardView → Next × CardView
 ended true card = (next.Repoll, made (operation.Hand kind.List) card)
 ended false card = completed (complete_reply card.napi) card

@@ -12,7 +12,7 @@ use rx_ring::{Batch, Packet, RxCtx, RxIn, ring};
 use std::alloc::Global;
 use tx_ring::{TxRing, TxState};
 
-/// The callers of the instance. On one thread a caller's number only says who holds it.
+/// The callers of the instance. On one thread a caller's number only says who owns it.
 pub(crate) const INTERRUPT: u32 = 0;
 
 pub(crate) const POLLER: u32 = 1;
@@ -42,8 +42,8 @@ pub(crate) trait Driver: Bench {
 }
 
 impl Card {
-    /// A card with this many places in each ring, whose instance is enabled. Its queue limit has the kernel's bounds, and
-    /// holds its slack for a second.
+    /// Returns a card with rings of this capacity, whose instance is enabled. Its queue limit has the kernel's bounds, and a
+    /// hold time of one second.
     pub(crate) fn new(alloc: Global, places: usize) -> Result<Card> {
         let (input, ctx) = ring(alloc, places)?;
         let tx = TxRing::new(alloc, places, Dql::new(0, MAX_LIMIT, 1000, 0)?)?;
@@ -59,8 +59,8 @@ impl Card {
         })
     }
 
-    /// The receive interrupt: a packet is put into the ring, or dropped where that is full, and a poll is asked for. The
-    /// answer is whether the card's number is to be pushed to the poll list now.
+    /// The receive interrupt: puts a packet into the ring, or drops it if the ring is full, and requests a poll. Returns
+    /// whether the card's number has to be pushed to the poll list now.
     pub(crate) fn receive(&mut self, bytes: u32) -> bool {
         self.arrived = self.arrived.wrapping_add(1);
         let packet = Packet {
@@ -74,7 +74,7 @@ impl Card {
         true
     }
 
-    /// Sends packets of this size until the queue is stopped, and answers how many it took.
+    /// Sends packets of this size until the queue is stopped, and returns how many it took.
     pub(crate) fn send_all(&mut self, packets: u32, bytes: u32) -> u32 {
         for sent in 0..packets {
             if self.tx.send(bytes).is_err() {
@@ -84,12 +84,12 @@ impl Card {
         packets
     }
 
-    /// The transmit interrupt: so many of the oldest packets are complete. More than were sent change nothing.
+    /// The transmit interrupt: this many of the oldest packets complete. If fewer were sent, nothing changes.
     pub(crate) fn complete(&mut self, packets: u32, moment: u64) {
         let _ = self.tx.done(packets, moment);
     }
 
-    /// The transmit side.
+    /// The state of the transmit side.
     pub(crate) fn transmit_side(&self) -> TxState {
         self.tx.state()
     }

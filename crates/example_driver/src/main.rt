@@ -1,5 +1,5 @@
-//! A network card in a simulation: packets come in bursts, runs of the softirq poll them, and packets are sent under a queue
-//! limit. `card.rt` is the card; it is driven once by a bench that states nothing of its polls (`quiet.rt`), and once by one
+//! A network card in a simulation: packets arrive in bursts, runs of the softirq poll them, and packets are sent under a queue
+//! limit. `card.rt` is the card; it is driven once by a bench that states nothing about its polls (`quiet.rt`), and once by one
 //! that states them as equations (`stated.rt`). Both print the same.
 #![tactic(auto)]
 
@@ -13,15 +13,15 @@ use crate::stated::StatedBench;
 use anyhow::Result;
 use poll_engine::{PlainList, PollList, run_softirq};
 
-/// The numbers of a run (`net.core.netdev_budget`, `NAPI_POLL_WEIGHT`, and polls in place of the kernel's 2 ms).
+/// The settings of a run (`net.core.netdev_budget`, `NAPI_POLL_WEIGHT`, and a number of polls in place of the kernel's 2 ms).
 const BUDGET: u32 = 128;
 
 const WEIGHT: u32 = 64;
 
 const WINDOW: u32 = 1024;
 
-// A burst of packets comes in, and the card's number goes to the list where its interrupt says so. There is room for it: a
-// number stands there at most once.
+// A burst of packets arrives, and the card's number is pushed to the list if its interrupt says so. There is room: the number
+// is in the list at most once.
 fn burst(card: &mut Card, list: &mut PlainList, packets: u32) {
     for packet in 0..packets {
         if card.receive(60 + packet % 1440) && list.ids().len() < 64 {
@@ -30,8 +30,8 @@ fn burst(card: &mut Card, list: &mut PlainList, packets: u32) {
     }
 }
 
-// The softirq runs until nothing is left on the list, at most four times, as often as it is raised again by then. The answer
-// is how many polls it made and how many packets these gave.
+// Runs the softirq until the list is empty, at most four times. Returns how many polls it made and how many packets these
+// processed.
 fn softirq<D: Driver>(driver: &mut D, list: &mut PlainList) -> (u32, u32) {
     let mut polls = 0u32;
     let mut work = 0u32;
@@ -46,7 +46,7 @@ fn softirq<D: Driver>(driver: &mut D, list: &mut PlainList) -> (u32, u32) {
     (polls, work)
 }
 
-// Ten turns: a burst comes in, packets are sent, the softirq runs, and what was sent is complete.
+// Ten rounds: a burst arrives, packets are sent, the softirq runs, and what was sent completes.
 fn simulate<D: Driver>(rt: &HostRuntime, driver: &mut D) -> Result<()> {
     let mut list = PlainList::new();
     for moment in 0u64..10 {

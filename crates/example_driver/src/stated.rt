@@ -1,5 +1,5 @@
-//! A bench that states its polls as equations: what a poll answers and what it leaves of the card are functions of the card
-//! and the weight (`specs/Polled.antt`). A poll that answers `Gone` without completing is refused here.
+//! A bench that states its polls as equations: the outcome of a poll and the card after it are functions of the card and the
+//! weight (`specs/Polled.antt`). The prover rejects a poll that returns `Gone` without completing.
 
 ghost use Rattle.std.specs.Prelude.{◌≡◌, ◌≤◌, ◌==◌, length};
 ghost use Rattle.napi_model.specs.Serial.{state_of};
@@ -19,8 +19,8 @@ pub(crate) struct StatedBench {
 }
 
 impl Card {
-    // Gives the next packets. `beside` brings the ends of the ring together, so that these are all that the ring holds, up to
-    // the weight.
+    // Takes the next packets. `beside` lets the ends of the ring meet, so that these are all that the ring holds, up to the
+    // weight.
     fn poll_ring(&mut self, weight: u32) -> u32
         requires { (1 ≤ weight) × (weight ≤ 64) }
         ensures card { view_of self.new ≡ received weight (view_of self.old) }

@@ -4,14 +4,14 @@
 use anyhow::Result;
 use napi_model::{Done, Kind, Prep, SerialNapi};
 
-// Whoever calls an instance bears a number; the controller's is named when it is made.
+// Each caller of an instance has a number; the controller's is named when the instance is made.
 const INTERRUPT: u32 = 0;
 
 const POLLER: u32 = 1;
 
 const CONTROLLER: u32 = 2;
 
-// The card interrupts. The answer is whether the instance was handed to the poll list now.
+// The card's interrupt. Returns whether the instance was queued on the poll list now.
 fn interrupt(napi: &mut SerialNapi) -> bool {
     if napi.schedule(INTERRUPT) != Prep::Granted {
         return false;
@@ -20,8 +20,8 @@ fn interrupt(napi: &mut SerialNapi) -> bool {
     true
 }
 
-// The poller takes the instance from the list, polls the device, and completes. If a request was missed meanwhile, it is
-// granted the instance again and hands it to the list once more.
+// The poller takes the instance from the list, polls the device, and completes. If a request was missed meanwhile, it still
+// owns the instance and queues it on the list again.
 fn poll(napi: &mut SerialNapi) -> Option<Done> {
     if !napi.take(POLLER, Kind::List) {
         return None;

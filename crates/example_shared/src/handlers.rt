@@ -1,4 +1,4 @@
-//! What the interrupts, the poller and the controller do. Each call takes a seat of the instance, and gives it back.
+//! What the interrupts, the poller and the controller do. Each function takes a seat of the instance, and returns it.
 ghost use Rattle.rx_ring.specs.Ends.{SameIn};
 ghost use Rattle.napi_calls.specs.Instance.{IsSeatOf};
 
@@ -13,7 +13,7 @@ const PACKETS: u64 = 1000;
 
 const WEIGHT: usize = 64;
 
-// Asks for a poll, and hands the instance to the list where that is granted.
+// Requests a poll, and queues the instance on the list if it is granted.
 fn ask(rt: &impl Wait, napi: &Napi, caller: Caller) -> Caller
     requires { IsSeatOf napi.now caller.pass }
     ensures { IsSeatOf napi.now result.pass }
@@ -24,8 +24,8 @@ fn ask(rt: &impl Wait, napi: &Napi, caller: Caller) -> Caller
     }
 }
 
-/// The controller enables the instance, and asks once behind that, by a caller of its own: what came while the instance was
-/// off was refused a poll, and would lie in the ring until the next request.
+/// The controller enables the instance, and then requests a poll once, as a caller of its own: requests for what arrived while
+/// the instance was disabled failed, and these packets would stay in the ring until the next request.
 pub(crate) fn open(
     rt: &impl Wait,
     napi: &Napi,
@@ -40,7 +40,7 @@ pub(crate) fn open(
     (control, own)
 }
 
-/// The first interrupt: a packet comes in, and a poll is asked for. A full ring drops the packet.
+/// The first interrupt: a packet arrives, and a poll is requested. A full ring drops the packet.
 pub(crate) fn receive(
     rt: &impl Wait,
     napi: &Napi,
@@ -72,7 +72,7 @@ pub(crate) fn request(rt: &impl Wait, napi: &Napi, mut caller: Caller, ended: &A
     caller
 }
 
-// Polls once. A poll that used its whole weight is followed by another, any other ends, unless a request was missed.
+// Polls once. A poll that used its whole weight is followed by another; any other one ends, unless a request was missed.
 fn poll(rt: &impl Wait, napi: &Napi, mut polling: Polling, batch: &mut Batch) -> Caller
     requires { IsSeatOf napi.now polling.pass }
     ensures { IsSeatOf napi.now result.pass }
@@ -86,8 +86,8 @@ fn poll(rt: &impl Wait, napi: &Napi, mut polling: Polling, batch: &mut Batch) ->
     }
 }
 
-/// The poller: polls whenever the instance is on the list, until both interrupts have ended and it isn't there any more. What
-/// they asked for last is found, since it looks whether they have ended first.
+/// The poller: polls whenever the instance is on the list, until both interrupts have ended and it isn't there any more. It
+/// finds their last requests, because it first reads whether they have ended.
 pub(crate) fn poll_all(rt: &impl Wait, napi: &Napi, mut caller: Caller, ended: &AtomicU64) -> Caller
     requires { IsSeatOf napi.now caller.pass }
     ensures { IsSeatOf napi.now result.pass }

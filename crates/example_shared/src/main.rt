@@ -1,10 +1,10 @@
-//! A network card whose interrupts and poller are threads of their own, over one shared instance with a receive ring. Its
-//! interrupt line is one that another device shares: the first interrupt puts a packet into the ring and asks for a poll, the
-//! second only asks. Then the card is reset: as many packets come while the controller has the instance, so that all their
-//! requests are refused. Whatever the threads' schedule, every packet is polled before the program ends.
+//! A network card whose interrupts and poller are separate threads, with one shared instance and a receive ring. Its interrupt
+//! line is shared with another device: the first interrupt puts a packet into the ring and requests a poll, the second only
+//! requests. Then the card is reset: as many packets arrive while the controller owns the instance, so that all their requests
+//! fail. However the threads are scheduled, every packet is polled before the program ends.
 //!
-//! `handlers.rt` is what each thread does; here the instance is made, served and closed. A seat of the instance (`Caller`,
-//! `Control`) must be spent: it goes to its thread in a `Kept`, comes back as what the thread answers, and goes to `close`.
+//! `handlers.rt` has what each thread does; here the instance is made, served and closed. A seat of the instance (`Caller`,
+//! `Control`) is linear: it goes to its thread in a `Kept`, comes back as the thread's result, and goes to `close`.
 #![tactic(auto)]
 
 ghost use Rattle.rx_ring.specs.Ends.{SameIn};
@@ -21,10 +21,10 @@ use std::sync::Wait;
 use std::sync::atomic::AtomicU64;
 use std::thread::{Threads, join};
 
-// The places of the ring: no packet is dropped.
+// The capacity of the ring: no packet is dropped.
 const PLACES: usize = 1024;
 
-// Runs both interrupts and the poller, each in a thread of its own, until all packets are polled.
+// Runs both interrupts and the poller, each in its own thread, until all packets are polled.
 fn serve<R: Threads + Wait + Copy + Drop + Send>(
     rt: R,
     napi: &Napi,
@@ -43,7 +43,7 @@ fn serve<R: Threads + Wait + Copy + Drop + Send>(
     let first = Kept::new(rt, first);
     let second = Kept::new(rt, second);
     let poller = Kept::new(rt, poller);
-    // Where no thread can be made, the second closure is called first: so the poller comes after both interrupts.
+    // If no thread can be started, the second closure is called first: so the poller comes after both interrupts.
     let (poller, (first, second)) = join(
         &rt,
         move || -> Caller
@@ -72,8 +72,8 @@ fn serve<R: Threads + Wait + Copy + Drop + Send>(
     (first, second, poller)
 }
 
-// Resets the card: packets come while the controller has the instance, and each request of theirs is refused. `open` asks for
-// all of them, or none would be polled.
+// Resets the card: packets arrive while the controller owns the instance, and each request for them fails. `open` requests a
+// poll for all of them; otherwise none would be polled.
 fn reset(
     rt: &impl Wait,
     napi: &Napi,

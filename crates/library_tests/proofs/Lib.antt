@@ -1,4 +1,2 @@
-pub mod Telling
 mod StepFacts
-mod Counting
 mod Popped

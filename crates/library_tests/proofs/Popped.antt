@@ -1,7 +1,7 @@
--- Lists of which all was popped.
+-- Lists from which everything was popped.
 use Rattle.std.proofs.Common.{◌≡◌, List, [], ◌∷◌, ◌++◌, length, length-append, refl, arith}
 
--- of a list of three nothing is left behind three pops
+-- a list of three is empty after three pops
 pub none_left : {A : Type 0} (xs : List A) (a b d : A) → length (((xs ++ a ∷ []) ++ b ∷ []) ++ d ∷ []) ≡ 3 → xs ≡ []
 none_left [] a b d e = refl
 none_left (x ∷ xs) a b d e =

@@ -1,4 +1,4 @@
--- What a pass knows by the step that it made last.
+-- What a pass knows from its last step.
 use Rattle.std.proofs.Common.{◌≡◌, true, false, eq-eqb, refl, sym, ap, ◌∙◌}
 use Rattle.napi_model.specs.declared.state.{State.State as Napi, Seen.Seen, Place.TheVariants.{Control, Polling}}
 use Rattle.napi_model.specs.declared.event.Done.TheVariants.{Held}
@@ -36,7 +36,7 @@ not_out h within out = cc
 controls : (v w : View) (o : Operation) → HasController v → Steps v o w → HasController w
 controls v w o top g = g.number ∙ top ∙ sym g.controller
 
--- as the controller's pass was made, of a table with two callers
+-- the controller's pass as it was made, for a table with two callers
 pub opens : {t : StateTable} {ctx : RxCtx} (p : Pass) → IsNew t 2 ctx 2 p → IsOff p
 opens {t} {ctx} p new = record {
   controller = ap number_of new.view ∙ sym (ap controller_of new.view);

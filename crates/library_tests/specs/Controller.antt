@@ -1,4 +1,4 @@
--- What the controller of an instance has done with it, as its pass tells.
+-- What the controller of an instance did with it, by its pass.
 use Rattle.std.specs.Prelude.{true, false}
 use Rattle.napi_word.specs.declared.table.Pass.{Pass}
 use Rattle.napi_word.specs.Passes.{Controls, Disable, IsController, IsNoOwner, IsWithin}
@@ -19,7 +19,7 @@ pub record IsMarked (p : Pass) : Type 0 where
   pub free : IsNoOwner p
   pub marked : Disable true p
 
--- taken by the controller, the mark not yet cleared
+-- taken by the controller, with the mark not cleared yet
 pub record IsTaken (p : Pass) : Type 0 where
   pub controller : IsController p
   pub owner : Controls p

@@ -1,3 +1,1 @@
-pub mod OwnLists
 pub mod Controller
-pub mod CallCounts

@@ -1,4 +1,4 @@
-//! A worked list of events, and the words of the states.
+//! A worked list of events, and the state words.
 
 ghost use Rattle.std.specs.Prelude.{◌≡◌};
 ghost use Rattle.napi_model.specs.Serial.{controller_of};
@@ -41,7 +41,7 @@ impl Instance {
         encode(self.napi.look())
     }
 
-    /// Makes a call where it may be made, and tells it with its reply.
+    /// Makes a call if it is allowed, and returns it with its reply.
     fn perform(&mut self, caller: u32, call: Call) -> Option<Operation> {
         if !self.state().may_call(caller, call) {
             return None;
@@ -215,7 +215,7 @@ const MARK: (u32, Call) = (2, Call::MarkDisable);
 
 const TAKE: (u32, Call) = (2, Call::TakeDisable);
 
-// What was called on a new instance, and the word then.
+// Calls on a new instance, and the state word afterwards.
 const STATES: [(&str, &[(u32, Call)], u64); 13] = [
     ("new, disabled", &[], 9),
     ("idle", &[ENABLE], 0),
@@ -279,7 +279,7 @@ fn malformed_words(rt: HostRuntime) {
     assert_eq!(rt; decode(1 + (1 << 32) + (1 << 33)), None, "both marks");
 }
 
-// A caller's own list out of a long history is made, where memory is there.
+// A caller's own list is extracted from a long history, if allocations succeed.
 #[test]
 fn own_events_of_a_long_history(rt: HostRuntime) -> Result<(), Fail> {
     let missed = Operation::Schedule(Prep::Missed);

@@ -1,4 +1,4 @@
-//! Worked runs, and what no clause says: that later puts find room, that polls find what was put, and two threads.
+//! Worked runs, and what no contract says: that later puts find room, that polls find what was put, and two threads.
 
 ghost use Rattle.std.specs.Prelude.{◌≡◌, ◌≤◌, ◌<◌, length, min, take, IsOk};
 ghost use Rattle.rx_ring.specs.ReceiveRing.{NAPI_POLL_WEIGHT, held_of};
@@ -13,7 +13,7 @@ fn packet(number: u64, bytes: u32) -> Packet {
     Packet { number, bytes }
 }
 
-// What the clauses of both calls give together: a poll right after `beside` is exact.
+// What follows from the contracts of both calls: a poll right after `beside` is exact.
 fn poll_beside(input: &mut RxIn, ctx: &mut RxCtx, weight: usize, batch: &mut Batch) -> usize
     requires ring { IsOneRing input.old ctx.old }
     requires weight { (1 ≤ weight) × (weight ≤ NAPI_POLL_WEIGHT) }
@@ -25,7 +25,7 @@ fn poll_beside(input: &mut RxIn, ctx: &mut RxCtx, weight: usize, batch: &mut Bat
     ctx.poll(weight, batch)
 }
 
-// A put right after `beside` is Ok where the ring has room.
+// A put right after `beside` succeeds if the ring has room.
 fn put_beside(input: &mut RxIn, ctx: &mut RxCtx, packet: Packet) -> Result<(), Packet>
     requires ring { IsOneRing input.old ctx.old }
     ensures ring { IsOneRing input.new ctx.new }
@@ -69,7 +69,7 @@ fn receive_ring_of_two(rt: HostRuntime) -> Result<(), Fail> {
     Ok(())
 }
 
-// Out of memory isn't taken here: the program `memory_tests` tries each call with its allocations refused.
+// The program `memory_tests` tests failing allocations.
 #[test]
 fn rings_of_the_least_and_the_greatest_capacity(rt: HostRuntime) -> Result<(), Fail> {
     for capacity in [1, 65_536] {
@@ -95,7 +95,7 @@ fn faults_have_numbers_and_texts(rt: HostRuntime) -> Result<(), Fail> {
     Ok(())
 }
 
-// A poll right after `beside` gives what stood in the ring there, and the next poll what was put since.
+// A poll right after `beside` returns what was in the ring then, and the next poll what was put since.
 #[test]
 fn put_after_beside_waits_for_the_next_poll(rt: HostRuntime) -> Result<(), Fail> {
     let (mut input, mut ctx) = ring(rt.alloc(), 4)?;
@@ -111,8 +111,8 @@ fn put_after_beside_waits_for_the_next_poll(rt: HostRuntime) -> Result<(), Fail>
     Ok(())
 }
 
-// That a poll looks at the ring is said by no clause: each of many finds what was put before it, however many polls and
-// packets there were, and bytes past 32 bits.
+// No contract says that a poll reads the ring: each of many polls finds what was put before it, with any number of polls and
+// packets, and with more bytes than 32 bits count.
 #[test]
 fn a_poll_finds_what_was_put_after_a_million_packets(rt: HostRuntime) -> Result<(), Fail> {
     let (mut input, mut ctx) = ring(rt.alloc(), 64)?;
@@ -125,7 +125,7 @@ fn a_poll_finds_what_was_put_after_a_million_packets(rt: HostRuntime) -> Result<
     Ok(())
 }
 
-// A context that was given away and taken back finds what was put meanwhile.
+// After a context was given away and taken back, a poll finds what was put meanwhile.
 #[test]
 fn context_given_away_overlooks_nothing(rt: HostRuntime) -> Result<(), Fail> {
     let (mut input, mut ctx) = ring(rt.alloc(), 4)?;
@@ -143,7 +143,7 @@ fn context_given_away_overlooks_nothing(rt: HostRuntime) -> Result<(), Fail> {
 
 const COUNT: u64 = 100_000;
 
-// Puts the packets 0, 1, .. in turn, and waits where the ring is full.
+// Puts the packets 0, 1, .. in order, and waits while the ring is full.
 fn put_all(rt: &impl Wait, input: RxIn) -> RxIn
     ensures { SameIn input result }
 {
@@ -161,7 +161,7 @@ fn put_all(rt: &impl Wait, input: RxIn) -> RxIn
     unreachable!()
 }
 
-// Polls until as many packets came, and counts those that came in their turn.
+// Polls until this many packets arrived, and counts those that arrived in order.
 fn poll_all(rt: &impl Wait, ctx: RxCtx) -> (RxCtx, u64)
     ensures { SameCtx ctx result.0 }
 {

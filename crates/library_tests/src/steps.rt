@@ -1,4 +1,5 @@
-//! Each step of an instance's owners and of its controller, with the word behind it: the words are those of docs/FORMATS.md.
+//! Each step of an instance's owners and of its controller, with the state word after it: the words are those of
+//! docs/FORMATS.md.
 
 ghost use Rattle.std.specs.Prelude.{◌≡◌, true, false};
 ghost use Rattle.napi_word.specs.Passes.{HandsOver, IsPassOf, IsWithin, Polls, SameTable};
@@ -18,7 +19,7 @@ const PACKET: Packet = Packet {
     bytes: 60,
 };
 
-// What the word says, as one finds it who does nothing else.
+// Reads the word with a pass that makes no other step.
 fn saw(rt: &impl Abort, table: &StateTable, pass: &mut Pass, word: u64) -> Seen
     requires { IsPassOf table.now pass.old }
     ensures { SameTable pass.old pass.new }
@@ -28,7 +29,7 @@ fn saw(rt: &impl Abort, table: &StateTable, pass: &mut Pass, word: u64) -> Seen
     seen
 }
 
-// Gives a disabled instance free.
+// Enables a disabled instance.
 fn enables(rt: &impl Abort, table: &StateTable, pass: &mut Pass, seen: Seen)
     requires table { IsPassOf table.now pass.old }
     requires off { IsOff pass.old }
@@ -40,7 +41,7 @@ fn enables(rt: &impl Abort, table: &StateTable, pass: &mut Pass, seen: Seen)
     };
 }
 
-// Is granted an idle instance.
+// Requests a poll of an idle instance, which is granted.
 fn is_granted(rt: &impl Abort, table: &StateTable, pass: &mut Pass)
     requires table { IsPassOf table.now pass.old }
     requires within { IsWithin pass.old }
@@ -56,7 +57,7 @@ fn is_granted(rt: &impl Abort, table: &StateTable, pass: &mut Pass)
     };
 }
 
-// Takes what was handed to the list.
+// Takes an instance from the list.
 fn takes(rt: &impl Abort, table: &StateTable, pass: &mut Pass)
     requires table { IsPassOf table.now pass.old }
     ensures table { SameTable pass.old pass.new }
@@ -68,7 +69,7 @@ fn takes(rt: &impl Abort, table: &StateTable, pass: &mut Pass)
     }
 }
 
-// Polls with the context out of the slot, and lays it back.
+// Polls with the context out of the slot, and puts it back.
 fn polls(table: &StateTable, pass: &mut Pass, batch: &mut Batch) -> usize
     requires table { IsPassOf table.now pass.old }
     requires owner { Polls false pass.old }
@@ -83,7 +84,7 @@ fn polls(table: &StateTable, pass: &mut Pass, batch: &mut Batch) -> usize
     work
 }
 
-// Completes what is polled, where nothing was missed.
+// Completes a poll without a missed request.
 fn releases(rt: &impl Abort, table: &StateTable, pass: &mut Pass, seen: Seen)
     requires table { IsPassOf table.now pass.old }
     requires owner { Polls false pass.old }
@@ -166,7 +167,7 @@ fn unmarks(table: &StateTable, pass: &mut Pass)
     table.unmark(pass);
 }
 
-// Is granted the idle instance, hands it over, takes it back, polls it and releases it.
+// Is granted the idle instance, queues it, takes it again, polls it and releases it.
 fn is_polled(rt: &impl Abort, table: &StateTable, pass: &mut Pass, watch: &mut Pass)
     requires passes { IsPassOf table.now pass.old × IsPassOf table.now watch.old }
     requires within { IsWithin pass.old }

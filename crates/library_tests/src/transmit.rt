@@ -85,7 +85,7 @@ fn transmit_refusals(rt: HostRuntime) -> Result<(), Fail> {
     Ok(())
 }
 
-// Out of memory isn't taken here: the program `memory_tests` tries each call with its allocations refused.
+// The program `memory_tests` tests failing allocations.
 #[test]
 fn a_ring_of_the_greatest_capacity(rt: HostRuntime) -> Result<(), Fail> {
     let mut limit = Dql::new(1000, 1_879_048_192, 1000, 0)?;

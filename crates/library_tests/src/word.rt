@@ -1,4 +1,4 @@
-//! Worked runs on one thread and on several, with own lists that are proved as they stand at the end.
+//! Worked runs on one thread and on several, whose own lists at the end are proved.
 ghost use Rattle.std.specs.Prelude.{◌≡◌, ℕ, ◌+◌, ◌-◌, ◌<◌, ◌≤◌, ◌^◌, List, [], ◌∷◌, length, map, Some, None, slice_get, IfSome, IsTrue, false, ◌++◌};
 ghost use Rattle.rx_ring.specs.declared.ends.RxCtx.{RxCtx};
 ghost use Rattle.napi_model.specs.declared.event.Event.{Event};
@@ -18,7 +18,7 @@ use std::alloc::Global;
 use std::test::Fail;
 use std::thread::join;
 
-// A table with two callers, 0 and 1, and the controller 2: the three passes, and the vector that they lay in.
+// A table with two callers, 0 and 1, and the controller 2: the three passes, and the vector from which they were taken.
 #[derive(Drop)]
 pub(crate) struct Opened {
     pub(crate) table: StateTable,
@@ -53,7 +53,7 @@ pub(crate) fn table_of_two(alloc: Global, ctx: RxCtx) -> Option<Opened>
     })
 }
 
-// The controller's own list after it gave the instance free, where no word but 9 was there to be found.
+// The controller's own list after it enabled the instance, when no other word than 9 was possible.
 fn enable(table: &StateTable, control: &mut Pass) -> bool
     requires table { IsPassOf table.now control.old }
     requires new { (ctx : RxCtx) × IsNew table.now 2 ctx 2 control.old }
@@ -104,7 +104,7 @@ fn swaps(table: &StateTable, first: &mut Pass, second: &mut Pass) -> Option<(See
     Some((idle, found))
 }
 
-// The end of a table of three: the own list of each caller is the events of its number in the one history.
+// The end of a table of three: each caller's own list is the events of its number in the one history.
 pub(crate) fn end_of_three(opened: Opened) -> Option<Ended>
     requires first { IsPassOf opened.table opened.first }
     requires second { IsPassOf opened.table opened.second }
@@ -127,7 +127,7 @@ pub(crate) fn end_of_three(opened: Opened) -> Option<Ended>
     Some(napi_word::end(table, passes))
 }
 
-// Two callers and a controller, who gives the instance free: what each found, and the end.
+// Two callers and a controller, which enables the instance: what each found, and the end.
 #[derive(Drop)]
 struct Lost {
     idle: Seen,
@@ -157,7 +157,7 @@ fn lost_exchange(alloc: Global, ctx: RxCtx) -> Option<Lost>
     })
 }
 
-// Out of memory isn't taken here: the program `memory_tests` tries each call with its allocations refused.
+// The program `memory_tests` tests failing allocations.
 #[test]
 fn there_is_memory_for_every_number_of_passes(rt: HostRuntime) -> Result<(), Fail> {
     for seats in 1..=9u32 {
@@ -184,7 +184,7 @@ fn a_lost_exchange_is_a_look(rt: HostRuntime) -> Result<(), Fail> {
     Ok(())
 }
 
-// What became of a pass that made many steps: how many schedules were granted, and how many steps were made.
+// The result of a pass that made many steps: how many schedules were granted, and how many steps were made.
 #[derive(Drop)]
 struct Turned {
     pass: Pass,
@@ -192,7 +192,7 @@ struct Turned {
     steps: u64,
 }
 
-// One schedule: a load and, where no disable is pending, an exchange.
+// One schedule: a load and, unless a disable is pending, an exchange.
 fn schedule_once(table: &StateTable, turned: &mut Turned)
     requires table { IsPassOf table.now turned.old.pass }
     requires room { turned.old.steps + 2 < 2 ^ 64 }
@@ -214,7 +214,7 @@ fn schedule_once(table: &StateTable, turned: &mut Turned)
     }
 }
 
-// Its own list is as long as the steps that it made.
+// Its own list is as long as the number of its steps.
 fn schedule_often(table: &StateTable, pass: Pass, turns: u32) -> Turned
     requires table { IsPassOf table.now pass }
     ensures table { IsPassOf table.now result.pass }

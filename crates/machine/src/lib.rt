@@ -1,9 +1,9 @@
-//! A receiving machine in time, by Linux's polling rules: what latency, drops and processor time follow from settings, arrivals and
-//! the costs of interrupts, polls, packets and their use. For programs that predict what another setting would do.
+//! A receiving machine in time, by Linux's polling rules: what latency, drops and processor time follow from settings, arrivals
+//! and the costs of interrupts, polls, packets and their use. For programs that predict what another setting would do.
 //!
-//! From the bytes of arrivals to the bytes of a report, or the line and the exit status of a fault; and the options of a program that
-//! runs it. A facade: it adds nothing to its internal crates. `machine_words` has the options, `machine_model` the machine,
-//! `machine_report` arrivals, report and faults; `machine_laws` and `machine_lives` have what follows for whole runs.
+//! From the bytes of arrivals to the bytes of a report, or the message and the exit status of an error; and the options of a
+//! program that runs it. A facade: it adds nothing to its internal crates. `machine_words` has the options, `machine_model` the
+//! machine, `machine_report` arrivals, report and errors; `machine_laws` and `machine_lives` have what follows for whole runs.
 //! `specs/Lib.antt` re-exports what contracts cite. The program `napi_machine` makes these calls.
 #![tactic(auto)]
 

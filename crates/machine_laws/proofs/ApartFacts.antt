@@ -1,4 +1,4 @@
--- An application on a processor of its own is what the deliveries make of it.
+-- An application on its own processor depends only on the deliveries.
 use Rattle.std.proofs.Common.{◌≡◌, ◌∙◌, ℕ, ◌+◌, ◌-◌, ◌<◌, ◌≤◌, ◌^◌, Bool, true, false, Option, Some, None, List, [], ◌∷◌, ◌++◌, map, refl}
 use Rattle.std.proofs.Common.{sym, ap}
 use Rattle.std.{proofs.{Common.{subst, arith}, lemmas.{List.append-nil}}, specs.{List.AllByRecursion}}
@@ -175,7 +175,7 @@ unfolding ends_current
 threads-ended p apart all =
     threads-work p.work (record p { clock = p.ends; work = Nothing; counts = spent p.work (p.ends - p.clock) p.counts }) apart all
 
--- what a delivery makes of the application
+-- the effect of a delivery on the application
 abbrev pub fed_by : Settings → ℕ → Option (ℕ × ℕ) → ApplicationView → ApplicationView
 fed_by s now None a = a
 fed_by s now (Some (number, came)) a = fed now came s a

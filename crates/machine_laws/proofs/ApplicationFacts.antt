@@ -1,4 +1,4 @@
--- An application on a processor of its own uses what it was fed, in order, and one packet after the other.
+-- An application on its own processor uses what was delivered to it, in order, one packet after the other.
 use Rattle.std.proofs.Common.{◌≡◌, ◌∙◌, ℕ, ◌+◌, ◌-◌, ◌*◌, ◌<◌, ◌≤◌, ◌^◌, Bool, true, false, List, [], ◌∷◌, ◌++◌, append_assoc}
 use Rattle.std.proofs.Common.{length, length-append, map, refl, sym, ap, subst, arith}
 use Rattle.std.proofs.lemmas.Bool.{and_parts, leb-true}
@@ -89,7 +89,7 @@ works-later s t u placed away uses a less w = record {
   full = w.full;
 }
 
--- ---- what it does ends
+-- ---- its work ends
 
 pub record EndedBy (a e : ApplicationView) : Type 0 where
   pub socket : e.socket ≡ a.socket
@@ -111,7 +111,7 @@ ended-waits (Using came) a uses is =
     ∙ (sym (counting-more (map wait_of uses) (a.end - came) no_waits)
     ∙ ap (λ (xs : List ℕ). counting xs no_waits) (sym (map-append wait_of uses ((came, a.end) ∷ []))))
 
--- each use makes up for one time that it was woken
+-- each use corresponds to one time that it was woken
 woken-less : (w : Activity) (wakes n : ℕ) (items : List ℕ) → is_awake w ≡ true → (w ≡ Waking → items ≡ [] → ⊥)
     → wakes ≤ n + (if is_awake w then 1 else 0) → items ≡ [] → wakes ≤ n + length (in_hand w)
 woken-less Asleep wakes n items awake full less empty = cc awake
@@ -126,7 +126,7 @@ woken-more (Using came) wakes n less = omega (arith, less)
 uses-length : (uses : List (ℕ × ℕ)) (a : ApplicationView) → length (uses ++ use_of a) ≡ length uses + length (in_hand a.activity)
 uses-length uses a = omega (arith, length-append uses (use_of a), hand-length a.activity a.end)
 
--- its order, with the packet in its hand used
+-- the order of its packets, after the one in hand was used
 uses-order : (placed : List ℕ) (uses : List (ℕ × ℕ)) (a : ApplicationView)
     → placed ≡ map arrival uses ++ (in_hand a.activity ++ a.socket.items) → placed ≡ map arrival (uses ++ use_of a) ++ a.socket.items
 uses-order placed uses a is =
@@ -206,7 +206,7 @@ works-goes s t placed away uses a w awake below = by a.socket.items refl
       full = λ waking. cc waking;
     }
 
--- ---- it goes on
+-- ---- it advances
 
 over-parts : (t : ℕ) (a : ApplicationView) → is_over t a ≡ true → (is_awake a.activity ≡ true) × (a.end ≤ t)
 over-parts t a over = let parts = and_parts (is_awake a.activity) (nat_le a.end t) over in (parts.0, leb-true a.end t parts.1)
@@ -398,7 +398,7 @@ works-all s t ((now, came) ∷ earlier) apart fits rising =
 
 -- ---- after the end
 
--- what it takes next is one packet less, or it sleeps
+-- after it takes the next one there is one packet fewer, or it sleeps
 goes-next : (time : ℕ) (items : List ℕ) (a e : ApplicationView) → EndedBy a e → a.end < 2 ^ 64
     → let b = takes_next time items e in (b.end < 2 ^ 64) × ((x : ℕ) (more : List ℕ) → items ≡ x ∷ more → b.socket.items ≡ more)
     × (items ≡ [] → is_awake b.activity ≡ false)
@@ -422,7 +422,7 @@ not-over t a below is = by (is_awake a.activity) refl
     by false same = same
     by true same = absurd (over-not (nat_le a.end t) (leb-is a.end t below) (rw same at is))
 
--- when it has gone on without end it sleeps
+-- after it has advanced as far as possible it sleeps
 asleep-with : (time : ℕ) (items : List ℕ) (a : ApplicationView) → a.socket.items ≡ items → a.end < 2 ^ 64
     → is_awake (went_on_with items (2 ^ 64 - 1) time a).activity ≡ false
 unfolding went_on_with

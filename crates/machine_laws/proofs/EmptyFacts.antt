@@ -1,4 +1,4 @@
--- After its last packet few polls of a device give nothing.
+-- After its last packet few polls of a device are empty.
 use Rattle.std.proofs.Common.{◌≡◌, ◌∙◌, ℕ, ◌+◌, ◌-◌, ◌<◌, ◌≤◌, Bool, true, false, Option, Some, None, List, [], ◌∷◌, length, refl, sym}
 use Rattle.std.proofs.Common.{ap, subst, arith}
 use Rattle.std.{proofs.lemmas.{Bool.{eqb-true}, Grind.common_steps}, specs.{Prelude.{◌==◌, ◌&&◌, if◌then◌else◌}}}
@@ -52,7 +52,7 @@ unfoldable pub defer_in : Option DeviceView → ℕ
 defer_in None = 0
 defer_in (Some d) = d.deferrals
 
--- after so many empty polls
+-- after this many empty polls
 pub record Few (s : Settings) (count : ℕ) (o : Option DeviceView) : Type 0 where
   pub sum : count + rest_at s o ≤ most s
   pub low : defer_in o + 1 ≤ most s
@@ -198,7 +198,7 @@ few-deferred s count x until b d sum low = by (x == 0) b refl
     by false true is = let some : 0 < x = positive x is in record { sum = omega (arith, sum, some); low = less }
     by false false is = record { sum = omega (arith, sum); low = less }
 
--- a poll that gave nothing is one more, and one that gave packets the first
+-- a poll without packets is one more, and one with packets resets the count
 few-completed : (s : Settings) (count now given : ℕ) (d : DeviceView) → is_scheduled d.phase ≡ true → Few s count (Some d)
     → Few s (if given == 0 then count + 1 else 0) (Some (completed now given s d))
 unfolding completed rest_at defer_in
@@ -232,7 +232,7 @@ few-polled s count now given (Some d) scheduled few short =
     is-one true is = refl
     is-one false is = cc is
 
--- a poll that gave its whole weight keeps phase and deferrals
+-- a poll that used its whole weight doesn't change phase and deferrals
 pub calm-full : (s : Settings) (now given : ℕ) → (given == s.weight) ≡ true → Calm (polled now given s)
 unfolding polled
 calm-full s now given full = record {
@@ -258,7 +258,7 @@ next-same backlog m n ds =
     at-kept scheduled_at (without_next backlog) m n ds
     (λ d. ap (λ (phase : Phase). if is_scheduled phase then 1 else 0) ((calm-next backlog).phase d))
 
--- a poll that looks for its first packet
+-- a poll that takes its first packet
 looks-first : (s : Settings) (n m count now : ℕ) (ds : Devices) → ((m == n) ≡ true → scheduled_at (at n ds) ≡ 1) → Few s count (at n ds)
     → Looks (λ es w. Few s (if m == n && not (is_some (next_packet_at s.backlog (at m ds))) then count + 1 else count) (at n es))
     s now m 0 ds
@@ -283,7 +283,7 @@ looks-first s n m count now ds scheduled few =
     also true few = few
     also false few = few
 
--- a poll that has given packets
+-- a poll that has processed packets
 few-zero : (s : Settings) (b : Bool) (count : ℕ) (o : Option DeviceView) → Few s count o → Few s (if b then 0 else count) o
 few-zero s true count o few = few-none s o few.low
 few-zero s false count o few = few

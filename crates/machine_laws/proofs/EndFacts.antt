@@ -1,4 +1,4 @@
--- What ends leaves of a processor's devices, case by case.
+-- The devices of a processor after work ends, case by case.
 use Rattle.std.proofs.Common.{◌≡◌, ℕ, ◌+◌, ◌-◌, Bool, true, false, Option, Some, None, refl}
 use Rattle.std.specs.{Prelude.{if◌then◌else◌, option_map}}
 use Rattle.{machine_words.specs.declared.settings.Settings.Settings, device_places.specs.Places.{at, changed}}
@@ -13,7 +13,7 @@ use Rattle.machine_model.specs.Processor.{ProcessorView, delivers, delivers_olde
 use Rattle.machine_model.specs.Processor.{is_polling, looks, spent}
 use Rattle.machine_laws.proofs.{WalkFacts.either, WorkFacts.looks-by}
 
--- a poll that gave so many packets looks for one: what holds of the devices and of the work after that
+-- a poll that processed this many packets takes the next one: what holds for the devices and the work after that
 pub record Looks (Q : Devices → Work → Type 0) (s : Settings) (now m given : ℕ) (devices : Devices) : Type 0 where
   pub some : (came : ℕ) → next_packet_at s.backlog (at m devices) ≡ Some came
       → Q (changed (without_next s.backlog) m devices) (Packet (record { device = m; came = came; given = given }))
@@ -21,7 +21,7 @@ pub record Looks (Q : Devices → Work → Type 0) (s : Settings) (now m given :
       → Q (changed (polled now given s) m (changed (without_next s.backlog) m devices)) Nothing
   pub full : nat_lt given s.weight ≡ false → Q (changed (polled now given s) m devices) Nothing
 
--- what holds of what is delivered, of the devices and of the work as what is under way ends
+-- what holds for what is delivered, for the devices and the work when the work in progress ends
 pub record Ends (Q : Option (ℕ × ℕ) → Devices → Work → Type 0) (p : ProcessorView) : Type 0 where
   pub rest : polled_by p.work ≡ None → ((m : ℕ) → p.work ≡ Interrupt m → is_polling p.settings ≡ true) → Q None p.devices Nothing
   pub silent : (m : ℕ) → p.work ≡ Interrupt m → is_polling p.settings ≡ false → next_packet_at false (at m p.devices) ≡ None
@@ -93,7 +93,7 @@ ends-work Q (Packet hand) p counts is e =
     (record p { clock = p.ends; work = Nothing; counts = counts }) refl (e.packet hand is)
 ends-work Q (Use came) p counts is e = e.rest (ap polled_by is) (λ m same. cc (is, same))
 
--- what is under way ends
+-- the work in progress ends
 pub ends : (Q : Option (ℕ × ℕ) → Devices → Work → Type 0) (p : ProcessorView) → Ends Q p
     → Q (delivery_of p.work p) (ends_current p).devices (ends_current p).work
 unfolding ends_current

@@ -1,4 +1,4 @@
--- What becomes of packets: each is delivered in its order.
+-- The fate of packets: each is delivered in order.
 use Rattle.std.proofs.Common.{◌≡◌, ◌∙◌, ℕ, ◌+◌, ◌<◌, Bool, true, false, Option, Some, None, List, [], ◌∷◌, ◌++◌, append_assoc, length, drop}
 use Rattle.std.proofs.{Common.{refl, sym, ap, subst, arith}, lemmas.{List.append-nil, Bool.eqb-true, Grind.common_steps}}
 use Rattle.std.specs.{Prelude.{◌==◌, ◌&&◌, if◌then◌else◌, is_some, not, position, slice_get}}
@@ -224,7 +224,7 @@ no-length : (xs : List ℕ) → (length xs == 0) ≡ true → xs ≡ []
 no-length [] is = refl
 no-length (x ∷ xs) is = let none : length (x ∷ xs) ≡ 0 = eqb-true (length (x ∷ xs)) 0 is in absurd (omega arith)
 
--- the packet that is looked for is the oldest
+-- the next packet is the oldest
 taken-some : (taken ring : List ℕ) (c : ℕ) (b : Bool) → (length taken == 0) ≡ b → slice_get (if b then ring else taken) 0 ≡ Some c
     → c ∷ (drop 1 (if b then ring else taken) ++ (if b then [] else ring)) ≡ taken ++ ring
 taken-some taken ring c true none is =
@@ -491,7 +491,7 @@ unfolding disturbed
 disturbed-hand s n moment p goes =
     hand-takes s n (stirred moment p) (work-stirred s moment p goes) ∙ (undisturbed moment p).hand n
 
--- a part of a device over what happens: that does to it what ends does, and no more
+-- a part of a device over an event: the event changes it as the end of work does, and no more
 pub part-happens : {A : Type 0} (s : Settings) (g : Option DeviceView → A) → Blind g
     → (Q : A → Type 0) (n : ℕ) (u : Upcoming) (p : ProcessorView)
     → Goes s p → Q (g (at n p.devices)) → Q (g (at n (ends_current p).devices)) → Q (g (at n (happens u p).devices))

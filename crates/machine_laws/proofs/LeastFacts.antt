@@ -1,4 +1,4 @@
--- No wait is less than what its work takes.
+-- No wait is shorter than the time of its work.
 use Rattle.std.proofs.Common.{◌≡◌, ◌∙◌, ℕ, ◌+◌, ◌-◌, ◌<◌, ◌≤◌, ◌^◌, Bool, true, false, Option, Some, None, List, [], ◌∷◌, map, refl, ap}
 use Rattle.std.proofs.Common.{arith}
 use Rattle.std.{specs.{List.AllByRecursion, Prelude.{◌==◌, ◌&&◌, if◌then◌else◌, not}}}
@@ -34,7 +34,7 @@ used-waits s p (Poll n) is using low = tt
 used-waits s p (Packet hand) is using low = tt
 used-waits s p (Use came) is using low = let below = using came is in (omega (arith, below, low), tt)
 
--- the clock of what happens next is where work ends
+-- the clock after the next event is the time at which work ends
 ends-clock : (s : Settings) (p : ProcessorView) → Goes s p → (takes_up (ends_current p)).clock ≡ p.ends
 ends-clock s p goes = clock-takes s (ends_current p) (work-ended s p goes) ∙ (over p).clock
 

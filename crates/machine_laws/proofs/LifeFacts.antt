@@ -1,4 +1,4 @@
--- Each processor of a machine lived, and what happens is determined.
+-- Each processor of a machine lived, and its events are determined.
 use Rattle.std.proofs.Common.{◌≡◌, ◌∙◌, ℕ, zero, suc, ◌-◌, ◌/◌, ◌%◌, ◌<◌, ◌≤◌, ◌^◌, Bool, true, false, Some, List, [], ◌∷◌, length}
 use Rattle.std.proofs.Common.{length-set, replicate, refl, slice_set, sym, ap, arith}
 use Rattle.std.proofs.lemmas.Option.{slice_get_within}

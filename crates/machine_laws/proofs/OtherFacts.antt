@@ -259,7 +259,7 @@ is-stirred t moment b p =
     (record (other t b p) { clock = held (moment + p.settings.wake); counts = counts }) (record (other t b p) { clock = moment }) (b, refl)
     (b, refl))
 
--- what is known of the one of both
+-- what is known of the application in both
 apart-of : (s : Settings) (a : ApplicationView) (p : ProcessorView) → s.apart ≡ true → Alone s a p → p.settings.apart ≡ true
 apart-of s a p apart h = ap (λ (x : Settings). x.apart) h.settings ∙ apart
 
@@ -305,7 +305,7 @@ unmade : (s t : Settings) (p q : ProcessorView)
 unmade s t p q o is =
     (o.0, o.1 ∙ ap (λ (x : Settings). record p { settings = changed_application x t; application = o.0 }) (sym is))
 
--- the same events make of both the same, but for the settings and the application
+-- the same events have the same effect on both, except for the settings and the application
 other-on : (s t : Settings) (events : List Event) → s.apart ≡ true
     → (b : ApplicationView) ×
     (behind (changed_application s t) events ≡ record (behind s events) { settings = changed_application s t; application = b })

@@ -1,4 +1,4 @@
--- Lists of times, and what a processor is when its work has ended.
+-- Lists of times, and the state of a processor after its work has ended.
 use Rattle.std.proofs.Common.{◌≡◌, ℕ, ◌+◌, ◌-◌, true, false, Option, Some, None, List, [], ◌∷◌, ◌++◌, refl, ap}
 use Rattle.std.specs.{List.AllByRecursion, Prelude.{◌==◌, if◌then◌else◌}}
 use Rattle.{device_places.specs.Places.{at, changed}}

@@ -1,4 +1,4 @@
--- What happens on a processor comes to an end.
+-- The events on a processor end.
 use Rattle.std.proofs.Common.{◌≡◌, ◌∙◌, ℕ, zero, suc, ◌<◌, Bool, true, false, None, refl, sym, ap, subst, arith}
 use Rattle.std.specs.Prelude.{if◌then◌else◌}
 use Rattle.{machine_words.specs.declared.settings.Settings.Settings, machine_laws.specs.{Deferrals.EveryRunEnds, Lives.behind}}

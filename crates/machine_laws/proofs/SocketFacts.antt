@@ -1,4 +1,4 @@
--- What becomes of packets after their delivery to an application on the same processor: each is used in its order, or refused.
+-- The fate of packets after their delivery to an application on the same processor: each is used in order, or dropped.
 use Rattle.std.proofs.Common.{◌≡◌, ◌∙◌, ℕ, ◌+◌, ◌-◌, Bool, true, false, Option, Some, None, List, [], ◌∷◌, ◌++◌, append_assoc, length}
 use Rattle.std.proofs.Common.{length-append, map}
 use Rattle.std.proofs.{Common.{refl, sym, ap, subst, arith}, lemmas.{List.append-nil, Grind.common_steps}}
@@ -28,7 +28,7 @@ use Rattle.machine_model.specs.declared.processor.Upcoming.TheVariants as upcomi
 
 -- ---- what the end of work does to the application
 
--- what of a processor the ways to poll leave as it is
+-- the part of a processor that doesn't depend on the way of polling
 pub record Same (p q : ProcessorView) : Type 0 where
   pub application : q.application ≡ p.application
   pub rest : q.rest ≡ p.rest
@@ -55,7 +55,7 @@ same-looks n given p nothing =
     record { application = e.application; rest = e.rest; unused = e.unused })
     (λ full. same-polled n given p nothing)
 
--- what holds of what is delivered, of what was used and of the application as what is under way ends
+-- what holds for what is delivered, for what was used and for the application when the work in progress ends
 pub record Feeds (Q : Option (ℕ × ℕ) → List ℕ → ApplicationView → Type 0) (p : ProcessorView) : Type 0 where
   pub none : Q None [] p.application
   pub gives : (m came : ℕ) → delivery_of p.work p ≡ Some (m, came) → Q (Some (m, came)) [] (fed p.ends came p.settings p.application)
@@ -124,7 +124,7 @@ feeds Q p f = feeds-work Q p.work p (spent p.work (p.ends - p.clock) p.counts) r
 
 -- ---- what holds as work is taken up
 
--- nothing is used: what a use was interrupted of and the socket have
+-- nothing is used: the packets of an interrupted use and of the socket
 pub record Holds (xs : List ℕ) (r : ℕ) (v : WaitsView) (p : ProcessorView) : Type 0 where
   pub items : resting p.rest ++ p.application.socket.items ≡ xs
   pub refused : p.application.refused ≡ r
@@ -201,7 +201,7 @@ use-walk xs r v = record {
 idle-unused : (w : Work) → is_busy w ≡ false → used_by w ≡ []
 idle-unused w idle = grind (arith, common_steps)
 
--- what is taken up keeps what the application has to use
+-- taking up work doesn't change what the application has to use
 use-takes : (s : Settings) (xs : List ℕ) (r : ℕ) (v : WaitsView) (p : ProcessorView) → Goes s p → Uses xs r v p → Uses xs r v (takes_up p)
 use-takes s xs r v p goes u =
     walk-any (Holds xs r v) (Uses xs r v) (use-walk xs r v) p (goes-unasked s p goes) (λ busy. u)
@@ -260,7 +260,7 @@ pub fed-here : (s : Settings) (now came : ℕ) (a : ApplicationView) → s.apart
 unfolding fed
 fed-here s now came a here = rw here refl
 
--- what was delivered and used: the socket has those that found a place, and the others are refused
+-- what was delivered and used: the socket has those that found room, and the others are dropped
 pub record Moved (now : ℕ) (a : ApplicationView) (gives : Option (ℕ × ℕ)) (used : List ℕ) (b : ApplicationView) : Type 0 where
   pub items : b.socket.items ≡ a.socket.items ++ placed (has_place a) gives
   pub refused : (k : ℕ) → a.refused ≡ held k → b.refused ≡ held (k + length (placed (not (has_place a)) gives))

@@ -1,4 +1,5 @@
--- A device is scheduled if and only if its number is on the poll list, in the run, among the tasks or polled, and it is there once.
+-- A device is scheduled if and only if its number is on the poll list, in the run, among the tasks or being polled, and it is
+-- there once.
 use Rattle.std.proofs.Common.{◌≡◌, ◌∙◌, ℕ, ◌+◌, ◌-◌, ◌≤◌, Bool, true, false, Option, Some, None, List, [], ◌∷◌, ◌++◌, drop, length, refl}
 use Rattle.std.proofs.Common.{sym, ap, subst, arith}
 use Rattle.std.proofs.lemmas.Bool.{eqb-true}
@@ -304,7 +305,7 @@ polled_at n (Poll m) = one m n
 polled_at n (Packet hand) = one hand.device n
 polled_at n _ = 0
 
--- the places of a number but for the thread that polls it
+-- the occurrences of a number except for the thread that polls it
 abbrev pub places : ℕ → ProcessorView → ℕ
 places n p = listed_at n p.softirq + threads n p.tasks
 
@@ -315,7 +316,7 @@ by_thread s k = if s.threaded then k else 0
 abbrev pub NeverMasked : Settings → ℕ → Devices → Type 0
 NeverMasked s n ds = is_polling s ≡ false → masked_at (at n ds) ≡ false
 
--- with so many places beside
+-- with this many occurrences elsewhere
 pub record Even (s : Settings) (n more : ℕ) (p : ProcessorView) : Type 0 where
   pub same : places n p + more ≡ scheduled_at (at n p.devices)
   pub never : NeverMasked s n p.devices
@@ -420,7 +421,7 @@ even-start s n p none e =
     let x = p.settings in
     record { same = omega (arith, listed-begun n q.list q.run q.began p.clock x.budget x.weight x.window none, e.same); never = e.never }
 
--- a run asks only where there are no threads
+-- a run asks only if there are no threads
 not-threaded : (s : Settings) (m : ℕ) (p : ProcessorView) → Goes s (polls m p) → asked_in p.softirq.run ≡ Some m → s.threaded ≡ false
 not-threaded s m p g asked = by s.threaded refl
   where

@@ -1,4 +1,4 @@
--- What is counted of a device is counted of its packets.
+-- The counts of a device are those of its packets.
 use Rattle.std.proofs.Common.{◌≡◌, ◌∙◌, ℕ, ◌+◌, ◌-◌, Bool, true, false, Option, Some, None, List, [], ◌∷◌, ◌++◌, length, length-append, map}
 use Rattle.std.proofs.{Common.{refl, sym, ap, subst, arith}, lemmas.{List.append-nil, Bool.eqb-true}}
 use Rattle.std.specs.Prelude.{◌==◌, ◌&&◌, if◌then◌else◌, is_some, not}
@@ -212,7 +212,7 @@ none-there : (o : Option DeviceView) → o ≡ None → is_some o ≡ false
 none-there None is = refl
 none-there (Some d) is = cc is
 
--- no packet came for a device that isn't there
+-- no packet arrived for a device that doesn't exist
 never-came : (s : Settings) (n : ℕ) (events : List Event) → is_some (at n (behind s events).devices) ≡ false → came true n s events ≡ []
 unfolding behind step arrives came
 never-came s n [] none = refl

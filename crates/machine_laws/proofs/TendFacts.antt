@@ -45,7 +45,7 @@ abbrev pub TendAt : Bool → Option DeviceView → Type 0
 TendAt exempt None = Unit {0}
 TendAt exempt (Some d) = Tend exempt d
 
--- its interrupt without polling is under way
+-- its interrupt without polling is in progress
 abbrev pub lone : Settings → ℕ → Work → Bool
 lone s n (Interrupt m) = not (is_polling s) && m == n
 lone s n _ = false

@@ -1,4 +1,4 @@
--- Time never falls, and what arrived, what waits and what is under way is in its order.
+-- Time never decreases, and what arrived, what waits and the work in progress are in order.
 use Rattle.std.proofs.Common.{◌≡◌, ◌∙◌, ℕ, ◌+◌, ◌-◌, ◌<◌, ◌≤◌, ◌^◌, Bool, true, false, Option, Some, None, List, [], ◌∷◌, ◌++◌, refl, sym}
 use Rattle.std.proofs.Common.{ap}
 use Rattle.std.proofs.{Common.{subst, arith}, lemmas.{Bool.{leb-true}}}
@@ -64,7 +64,7 @@ pub record Base (s : Settings) (t : ℕ) (p : ProcessorView) : Type 0 where
   pub socket : Served s t p.application.socket.items
   pub rest : Left s t p.rest
 
--- and if no device asks for an interrupt, it didn't take time to wake up
+-- and if no device asks for an interrupt, it took no time to wake up
 pub record Calm (s : Settings) (t : ℕ) (p : ProcessorView) : Type 0 where
   pub base : Base s t p
   pub low : position asks_at p.devices ≡ None → p.clock ≡ t
@@ -97,7 +97,7 @@ base-of s t p q b settings clock devices application rest = record {
   rest = rw rest b.rest;
 }
 
--- work begins that neither is a packet of a poll nor, unless it says so, a use
+-- work begins that is neither a packet of a poll nor, unless it says so, a use
 timed-begins : (s : Settings) (t : ℕ) (w : Work) (time : ℕ) (p : ProcessorView) → Base s t p → is_busy w ≡ true
     → ((hand : InHand) → w ≡ Packet hand → ⊥)
     → ((came : ℕ) → w ≡ Use came → (p.clock ≡ t) × (IsFair s → held (came + use_cost s) ≤ held (p.clock + time)))

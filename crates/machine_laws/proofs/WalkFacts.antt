@@ -12,7 +12,7 @@ use Rattle.machine_model.specs.{Devices.asks_at, Softirq.{SoftirqView, asked_in,
 use Rattle.machine_model.specs.Processor.{ProcessorView, begins, begins_run, ends_run, goes_on, interrupts, is_busy, is_late, is_polling}
 use Rattle.machine_model.specs.Processor.{leaves_softirq, polls, rests, runs, runs_first, takes_up, uses}
 
--- nothing is under way
+-- no work is in progress
 pub record Free (p : ProcessorView) : Type 0 where
   pub nothing : p.work ≡ Nothing
   pub unasked : asked_in p.softirq.run ≡ None
@@ -80,7 +80,7 @@ run-ended late p = refl
 
 -- ---- below the softirq
 
--- no run is under way, and none begins
+-- no run is in progress, and none begins
 pub record Out (p : ProcessorView) : Type 0 where
   pub free : Free p
   pub quiet : position asks_at p.devices ≡ None
@@ -235,7 +235,7 @@ walk-by P Q w None p lowest free held =
     either Q (is_some p.softirq.run) (goes_on p) (rests p) (λ some. walk-goes P Q w p free held lowest)
     (λ none. walk-rests P Q w p free held (none-of p.softirq.run none) lowest)
 
--- what is taken up if nothing is under way
+-- what is taken up if no work is in progress
 pub walk : (P Q : ProcessorView → Type 0) → Walk P Q → (p : ProcessorView) → Free p → P p → Q (takes_up p)
 unfolding takes_up
 walk P Q w p free held =
@@ -247,7 +247,7 @@ walk P Q w p free held =
 idle-is : (work : Work) → is_busy work ≡ false → work ≡ Nothing
 idle-is work idle = grind (arith, common_steps)
 
--- and if something is, nothing is taken up
+-- and if some is, nothing is taken up
 pub walk-any : (P Q : ProcessorView → Type 0) → Walk P Q → (p : ProcessorView) → (is_busy p.work ≡ false → asked_in p.softirq.run ≡ None)
     → (is_busy p.work ≡ true → Q p) → (is_busy p.work ≡ false → P p) → Q (takes_up p)
 unfolding takes_up

@@ -1,4 +1,4 @@
--- A run's work is below budget and weight together, whatever happens; and what is polled by the run or by a thread.
+-- A run's work is always less than budget plus weight; and what is polled by the run or by a thread.
 use Rattle.std.proofs.lemmas.Grind.{common_steps}
 use Rattle.std.specs.List.{AllByRecursion}
 use Rattle.std.specs.Prelude.{◌==◌, ◌&&◌, IfSome, if◌then◌else◌, is_some, not, option_map, nat_lt}
@@ -32,7 +32,7 @@ use Rattle.std.{specs.{Prelude.position, Option.option_map_or}, proofs.Common.{�
 use Rattle.std.proofs.lemmas.Bool.{ltb-true}
 use Rattle.machine_laws.proofs.WalkFacts.{Free, Walk, either, nexted, started, walk-any}
 
--- what is true of a run of these settings
+-- the invariant of a run with these settings
 pub record Runs (s : Settings) (r : RunView) : Type 0 where
   pub budget : r.budget ≡ s.budget
   pub work : r.work < s.budget + s.weight
@@ -70,7 +70,7 @@ runs-next : (s : Settings) (q : SoftirqView) → asked_in q.run ≡ None → Run
 unfolding next_of
 runs-next s q none held = next-runs s q.list q.run q.began none held
 
--- with nothing on the list and no run, there is none after that
+-- with an empty list and no run, there is none after that
 next-none : (q : SoftirqView) → (q.list ≡ []) × (q.run ≡ None) → ((next_of q).list ≡ []) × ((next_of q).run ≡ None)
 unfolding next_of
 next-none q none = by q.run none.1
@@ -182,7 +182,7 @@ goes-begins s work time p h asked polled given = record {
   given = given;
 }
 
--- nothing is under way, and nothing is asked for
+-- no work is in progress, and the run asks for nothing
 pub record Clear (s : Settings) (p : ProcessorView) : Type 0 where
   pub rests : Rests s p
   pub unasked : asked_in p.softirq.run ≡ None
@@ -381,7 +381,7 @@ work-polled s n given p h asked polling few nothing =
       unasked = told-asks p.softirq.run once;
     }))
 
--- what a poll looks for: a packet, or it ends
+-- a poll takes the next packet, or ends
 pub looks-by : (Q : ProcessorView → Type 0) (n given : ℕ) (p : ProcessorView)
     → ((came : ℕ) → next_packet_at p.settings.backlog (at n p.devices) ≡ Some came → nat_lt given p.settings.weight ≡ true
     → Q (begins (Packet (record { device = n; came = came; given = given })) p.settings.packet
@@ -525,7 +525,7 @@ goes-devices s p q g settings softirq tasks work =
       given = rw work g.given;
     }
 
--- what a disturbance leaves before work is taken up
+-- the processor after a disturbance, before work is taken up
 abbrev pub stirred : ℕ → ProcessorView → ProcessorView
 stirred moment p =
     let asked = is_some (position asks_at p.devices) in

@@ -1,4 +1,4 @@
--- An application on a processor of its own: a second machine, which deliveries feed.
+-- An application on its own processor: a second machine, to which packets are delivered.
 use Rattle.std.specs.Prelude.{◌≡◌, ◌≤◌, ◌<◌, ℕ, ◌+◌, ◌-◌, ◌*◌, ◌^◌, Bool, true, false, List, [], ◌∷◌, ◌++◌, length, map, Option, Some, None}
 use Rattle.std.specs.Prelude.{if◌then◌else◌}
 use Rattle.machine_words.specs.declared.settings.Settings.{Settings}
@@ -24,7 +24,7 @@ unfoldable pub fed_all : Settings → List (ℕ × ℕ) → ApplicationView
 fed_all s [] = opened_application s
 fed_all s ((now, came) ∷ earlier) = fed now came s (fed_all s earlier)
 
--- Law: on a processor of its own the application is what the deliveries make of it.
+-- Law: on its own processor the application depends only on the deliveries.
 abbrev pub ApplicationIsFed : Type 0
 ApplicationIsFed = (s : Settings) (events : List Event) → s.apart ≡ true → (behind s events).application ≡ fed_all s (deliveries s events)
 
@@ -53,11 +53,11 @@ unfoldable pub used_all : Settings → List (ℕ × ℕ) → List (ℕ × ℕ)
 used_all s [] = []
 used_all s ((now, came) ∷ earlier) = used_all s earlier ++ ended_until now s.use_time (fed_all s earlier)
 
--- a delivered packet finds a place in the socket, or not
+-- whether there is room in the socket for a delivered packet
 abbrev pub finds_place : ℕ → Settings → ApplicationView → Bool
 finds_place now s a = has_place (went_on now s.use_time a)
 
--- the packets that found a place, and those that were refused
+-- the packets for which there was room, and those that were dropped
 unfoldable pub placed_all : Bool → Settings → List (ℕ × ℕ) → List ℕ
 placed_all room s [] = []
 placed_all true s ((now, came) ∷ earlier) =
@@ -70,11 +70,11 @@ unfoldable pub Follows : ℕ → ℕ → List (ℕ × ℕ) → Type 0
 Follows use_time before [] = Unit {0}
 Follows use_time before ((came, end) ∷ more) = (held (before + use_time) ≤ end) × Follows use_time end more
 
--- an application that took `placed`, refused `refused` and has used `uses`
+-- an application that took `placed`, dropped `turned_away` and has used `uses`
 pub record Serves (s : Settings) (placed turned_away : List ℕ) (uses : List (ℕ × ℕ)) (a : ApplicationView) : Type 0 where
-  -- each packet that found a place is used once and in its order, or it is in its hand or in the socket
+  -- each packet for which there was room is used once and in order, or it is in hand or in the socket
   pub order : placed ≡ map (λ (x : ℕ × ℕ). x.0) uses ++ (in_hand a.activity ++ a.socket.items)
-  -- the refused packets and the waits from arrival to the end of the use are counted as they are
+  -- the counts of dropped packets, and of the waits from arrival to the end of the use, are those of these packets
   pub refused : a.refused ≡ held (length turned_away)
   pub waits : a.waits ≡ counting (map (λ (x : ℕ × ℕ). x.1 - x.0) uses) no_waits
   -- uses don't overlap
@@ -83,7 +83,7 @@ pub record Serves (s : Settings) (placed turned_away : List ℕ) (uses : List (�
   pub sleeps : a.activity ≡ Asleep → a.socket.items ≡ []
   -- it was woken at most once for each packet that it used
   pub wakes : a.wakes ≤ length uses + (if is_awake a.activity then 1 else 0)
-  -- to wake and to use took no more than its time: its idle time isn't negative
+  -- the time of waking and using is at most its time: its idle time isn't negative
   pub idle : a.end < 2 ^ 64 - 1 → a.wakes * s.app_wake + (length uses + length (in_hand a.activity)) * s.use_time ≤ a.end
 
 -- Law: so does the application, at any time.
@@ -92,7 +92,7 @@ ApplicationServes = (s : Settings) (until : ℕ) (events : List Event) → until
     → let ds = deliveries s events in
     Serves s (placed_all true s ds) (placed_all false s ds) (used_all s ds) (behind s events).application
 
--- Law: after the end it sleeps, and all that found a place was used.
+-- Law: after the end it sleeps, and all packets for which there was room were used.
 abbrev pub ApplicationEnds : Type 0
 ApplicationEnds = (s : Settings) (until : ℕ) (events : List Event) → until < 2 ^ 64 → InTurn s until events → s.apart ≡ true
     → let ds = deliveries s events in
@@ -104,7 +104,7 @@ ApplicationEnds = (s : Settings) (until : ℕ) (events : List Event) → until <
 
 -- ---- the receiving side
 
--- settings that differ at most in the application: in its socket, in its use and in what waking it takes
+-- settings that differ at most in the application: in its socket, its use and the time to wake it
 abbrev pub changed_application : Settings → Settings → Settings
 changed_application s t = record s {
   socket = t.socket;
@@ -115,8 +115,8 @@ changed_application s t = record s {
   app_wake_in = t.app_wake_in;
 }
 
--- Law: with any other application on a processor of its own, all else of the receiving processor is the same, and so is what happens
--- when.
+-- Law: with any other application on its own processor, the rest of the receiving processor and the times of its events are the
+-- same.
 abbrev pub ReceivingIsApart : Type 0
 ReceivingIsApart = (s t : Settings) (events : List Event) → s.apart ≡ true → let u = changed_application s t in
     (behind u events ≡ record (behind s events) { settings = u; application = (behind u events).application })

@@ -7,7 +7,7 @@ use Rattle.machine_model.specs.{Devices.next_packet_at, Processor.{Advances, Pro
 use Rattle.machine_model.specs.declared.processor.{Upcoming.{Upcoming, TheVariants.{Ends, Expires}}, Work.Work}
 use Rattle.machine_model.specs.declared.processor.Work.TheVariants.{Nothing, Packet, Poll}
 
--- a poll ends that gave nothing: one empty poll of its device more; with a packet of the device there is none since
+-- an empty poll of a device ends, which counts one; an arrival or a delivery of a packet of the device resets the count
 abbrev pub emptied_by : ℕ → Work → ProcessorView → ℕ → ℕ
 emptied_by n (Poll number) p count =
     if number == n && not (is_some (next_packet_at p.settings.backlog (at number p.devices))) then count + 1 else count
@@ -18,18 +18,18 @@ abbrev pub emptied : ℕ → Upcoming → ProcessorView → ℕ → ℕ
 emptied n Ends p count = emptied_by n p.work p count
 emptied n _ p count = count
 
--- the polls of a device that gave nothing since its last packet arrived or was delivered
+-- the empty polls of a device since its last packet arrived or was delivered
 unfoldable pub empty_polls : ℕ → Settings → List Event → ℕ
 empty_polls n s [] = 0
 empty_polls n s (packet moment number ∷ earlier) =
     if number == n && finds_room n (behind s earlier) then 0 else empty_polls n s earlier
 empty_polls n s (next ∷ earlier) = let p = behind s earlier in emptied n (upcoming p) p (empty_polls n s earlier)
 
--- Law: after its last packet at most `defer-hard-irqs` polls of a device give nothing, or one if that is 0.
+-- Law: after its last packet at most `defer-hard-irqs` polls of a device are empty, or one if that is 0.
 abbrev pub EmptyPollsAreFew : Type 0
 EmptyPollsAreFew = (s : Settings) (n : ℕ) (events : List Event) → empty_polls n s events ≤ max 1 s.defer_hard_irqs
 
--- Law: with no further packets, what happens on a processor comes to an end.
+-- Law: with no further packets, the events on a processor end.
 abbrev pub EveryRunEnds : Type 0
 EveryRunEnds = (s : Settings) (until : ℕ) (events : List Event) → (q : ProcessorView) × Advances until (behind s events) q
 
@@ -39,9 +39,10 @@ TimersAreNear = (s : Settings) (moment : ℕ) (events : List Event) (n : ℕ) (d
     → InTurn s moment events
     → at n (behind s events).devices ≡ Some d → d.phase ≡ Deferred until → until ≤ moment + s.gro_flush_timeout
 
--- Law: on an idle processor with polling and without threads, when the next to happen is that a device's NAPI timer expires, and nothing
--- else comes between: the device's interrupt, its poll and its oldest packet follow at once, and that is delivered at most `wake`,
--- `interrupt`, `poll` and `packet` later. With the law before, it waited no longer than these and `gro-flush-timeout`.
+-- Law: on an idle processor with polling and without threads, if the next event is that a device's NAPI timer expires, and
+-- nothing else interferes: the device's interrupt, its poll and its oldest packet follow at once, and the packet is delivered
+-- at most `wake`, `interrupt`, `poll` and `packet` later. With the previous law, it waited no longer than these and
+-- `gro-flush-timeout`.
 abbrev pub DeferralIsBounded : Type 0
 DeferralIsBounded = (s : Settings) (events : List Event) (n until came : ℕ) (d : DeviceView) → let p = behind s events in
     is_polling s ≡ true → s.threaded ≡ false → p.work ≡ Nothing → at n p.devices ≡ Some d → d.phase ≡ Deferred until

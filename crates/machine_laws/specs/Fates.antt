@@ -1,4 +1,4 @@
--- What becomes of packets over a processor's life. Lists are in the order in which things happened.
+-- The fate of packets over a processor's life. Lists are in the order of the events.
 use Rattle.std.specs.Prelude.{◌≡◌, ℕ, ◌+◌, ◌-◌, ◌^◌, ◌==◌, ◌&&◌, not, Bool, true, false, List, [], ◌∷◌, ◌++◌, length, map}
 use Rattle.std.specs.Prelude.{Option, Some, None, if◌then◌else◌, option_map}
 use Rattle.{device_places.specs.Places.at, machine_words.specs.declared.settings.Settings.Settings}
@@ -20,11 +20,11 @@ abbrev pub taken_in : Option DeviceView → List ℕ
 taken_in None = []
 taken_in (Some d) = d.taken
 
--- a packet that arrives for this device now finds room in its ring
+-- whether there is room in its ring for a packet that arrives for this device now
 abbrev pub finds_room : ℕ → ProcessorView → Bool
 finds_room n p = has_room_at (at n (with_device p.settings.ring n p.devices))
 
--- the packets of a device that found room as they arrived, or found none
+-- the packets of a device for which there was room when they arrived, or for which there was none
 unfoldable pub came : Bool → ℕ → Settings → List Event → List ℕ
 came room n s [] = []
 came room n s (next ∷ earlier) = came room n s earlier
@@ -63,15 +63,16 @@ abbrev pub hand_of : ℕ → Work → List ℕ
 hand_of n (Packet hand) = if hand.device == n then hand.came ∷ [] else []
 hand_of n _ = []
 
--- Law: what found room is delivered once and in its order, or it is in a poll's hand, in the queue that was taken, or in the ring.
+-- Law: a packet for which there was room is delivered once and in order, or it is in a poll's hand, in the queue that was
+-- taken, or in the ring.
 abbrev pub DeliversInOrder : Type 0
 DeliversInOrder = (s : Settings) (n : ℕ) (events : List Event)
     → let p = behind s events in
     came true n s events ≡ delivered n s events ++ (hand_of n p.work ++ (taken_in (at n p.devices) ++ ring_in (at n p.devices)))
 
--- ---- what is counted of a device
+-- ---- the counts of a device
 
--- a list of waits, counted one after the other
+-- a list of waits, counted one by one
 unfoldable pub counting : List ℕ → WaitsView → WaitsView
 counting [] w = w
 counting (wait ∷ more) w = counting more (counted wait w)
@@ -82,7 +83,7 @@ waits n s [] = []
 waits n s (packet moment number ∷ earlier) = waits n s earlier
 waits n s (next ∷ earlier) = let p = behind s earlier in waits n s earlier ++ map (λ came. p.ends - came) (packet_for n (delivery p))
 
--- what is counted of a device, nothing of one that isn't there
+-- the counts of a device, zeros for one that doesn't exist
 abbrev pub counts_in : Option DeviceView → DeviceCounts
 counts_in None = NONE
 counts_in (Some d) = d.counts
@@ -103,13 +104,13 @@ TellsOfDevice = (s : Settings) (n : ℕ) (events : List Event) → Tells n s eve
 
 -- ---- at the socket of an application on the same processor
 
--- of the packet that is delivered next: it finds a place in the socket, or it is refused
+-- for the packet that is delivered next: whether there is room in the socket, or it is dropped
 abbrev pub placed : Bool → Option (ℕ × ℕ) → List ℕ
 placed true (Some (number, came)) = came ∷ []
 placed true None = []
 placed false gives = []
 
--- those that found a place as they were delivered, or that were refused
+-- the packets for which there was room when they were delivered, or that were dropped
 unfoldable pub kept : Settings → List Event → List ℕ
 kept s [] = []
 kept s (packet moment number ∷ earlier) = kept s earlier
@@ -140,8 +141,8 @@ used s [] = []
 used s (packet moment number ∷ earlier) = used s earlier
 used s (next ∷ earlier) = let p = behind s earlier in used s earlier ++ use_by (upcoming p) p.work
 
--- Law: what found a place in the socket is used once and in its order, or its use is under way or was interrupted, or it is in the
--- socket.
+-- Law: a packet for which there was room in the socket is used once and in order, or its use is in progress or was interrupted,
+-- or it is in the socket.
 abbrev pub UsesInOrder : Type 0
 UsesInOrder = (s : Settings) (events : List Event) → s.apart ≡ false → let p = behind s events in
     kept s events ≡ used s events ++ (used_by p.work ++ (resting p.rest ++ p.application.socket.items))
@@ -153,13 +154,13 @@ use_waits s (packet moment number ∷ earlier) = use_waits s earlier
 use_waits s (next ∷ earlier) =
     let p = behind s earlier in use_waits s earlier ++ map (λ came. p.ends - came) (use_by (upcoming p) p.work)
 
--- Law: the refused packets and the waits of those used are counted as these.
+-- Law: the counts of dropped packets and of the waits of those used are those of these packets.
 abbrev pub TellsOfUse : Type 0
 TellsOfUse = (s : Settings) (events : List Event) → s.apart ≡ false → let a = (behind s events).application in
     (a.refused ≡ held (length (refused s events))) × (a.waits ≡ counting (use_waits s events) no_waits)
 
--- Law: when nothing is left to happen, no work is under way or interrupted, and no packet is left in a ring, in a queue that was taken
--- out of one, or in the socket.
+-- Law: when nothing is left to happen, no work is in progress or interrupted, and no packet is left in a ring, in a queue that
+-- was taken out of one, or in the socket.
 abbrev pub NothingIsLeft : Type 0
 NothingIsLeft = (s : Settings) (events : List Event) → InTurn s (2 ^ 64 - 1) events → let p = behind s events in
     is_due (2 ^ 64 - 1) p ≡ false

@@ -1,21 +1,21 @@
--- The life of a processor: packets that arrive, and what happens between them.
+-- The life of a processor: packets that arrive, and the events between them.
 use Rattle.std.specs.Prelude.{◌≡◌, ◌≤◌, ◌<◌, ℕ, ◌-◌, ◌/◌, ◌%◌, ◌^◌, ◌==◌, true, false, List, [], ◌∷◌, Some, slice_get, if◌then◌else◌}
 use Rattle.{machine_words.specs.declared.settings.Settings.Settings, machine_model.specs.Processor.{ProcessorView, Advances, arrives}}
 use Rattle.machine_model.specs.{Application.went_on, Machine.{Arrives, Finishes, Machine, opened_machine}}
 use Rattle.machine_model.specs.Processor.{is_due, opened_processor, step}
 
--- Law: what happens on a processor up to a time is determined.
+-- Law: the events on a processor up to a time are determined.
 abbrev pub RunsAsOne : Type 0
 RunsAsOne = (moment : ℕ) (p q r : ProcessorView) → Advances moment p q → Advances moment p r → q ≡ r
 
--- Law: an arrival makes exactly one machine of each.
+-- Law: an arrival turns each machine into exactly one machine.
 abbrev pub ArrivesAsOne : Type 0
 ArrivesAsOne = (moment device : ℕ) (before after other : Machine) → Arrives moment device before after → Arrives moment device before other
     → after ≡ other
 
 -- ---- the life of a processor
 
--- a packet arrives at a time for the device with this number, or the next thing happens: work ends or a timer expires
+-- a packet arrives at a time for the device with this number, or the next event happens: work ends or a timer expires
 pub data Event : Type 0 where
   packet : ℕ → ℕ → Event
   next : Event
@@ -26,7 +26,7 @@ behind s [] = opened_processor s
 behind s (packet moment number ∷ earlier) = arrives moment number (behind s earlier)
 behind s (next ∷ earlier) = step (behind s earlier)
 
--- each event has its turn: all that happens up to a time happens before a packet arrives then, and times don't fall
+-- the events are in order: all that happens up to a time happens before a packet arrives then, and times don't decrease
 unfoldable pub InTurn : Settings → ℕ → List Event → Type 0
 InTurn s until [] = Unit {0}
 InTurn s until (packet moment number ∷ earlier) = (moment ≤ until) × (is_due moment (behind s earlier) ≡ false) × InTurn s moment earlier
@@ -56,14 +56,15 @@ own processors processor ((moment, device) ∷ earlier) =
     if (device - 1) % processors == processor then (moment, (device - 1) / processors) ∷ own processors processor earlier
     else own processors processor earlier
 
--- a processor that has lived so, on which nothing is left to happen, and whose application went on to its end
+-- a processor with such a life, on which nothing is left to happen, and whose application has advanced to its end
 pub record Ended (s : Settings) (packets : List (ℕ × ℕ)) (p : ProcessorView) : Type 0 where
   pub ready : ProcessorView
   pub lived : Lived s (2 ^ 64 - 1) packets ready
   pub none : is_due (2 ^ 64 - 1) ready ≡ false
   pub finishes : p ≡ record ready { application = went_on (2 ^ 64 - 1) ready.settings.use_time ready.application }
 
--- Law: each processor of a machine lived so, with the packets of its own devices; and when the machine has finished nothing is left.
+-- Law: each processor of a machine has such a life, with the packets of its own devices; and when the machine has finished
+-- nothing is left.
 abbrev pub EachLives : Type 0
 EachLives = (s : Settings) (until : ℕ) (packets : List (ℕ × ℕ)) (m : Machine) → Took s until packets m
     → ((number : ℕ) (p : ProcessorView) → slice_get m number ≡ Some p → Lived s until (own s.processors number packets) p)

@@ -1,8 +1,8 @@
-//! Behind the door `machine`: laws of the receiving machine, which hold for all settings and all arrivals.
+//! Internal crate of the facade `machine`: laws of the receiving machine, for all settings and all arrivals.
 //!
-//! Each law is the contract of a function that does nothing. `specs/` has their statements: `Lives` says what the life of a
-//! processor is, `Fates` what becomes of packets, `Times` what time and work come to, `Applications` what an application on a
-//! processor of its own does, and `Deferrals` what deferred interrupts lead to.
+//! Each law is the contract of a function that does nothing. `specs/` has their statements: `Lives` defines the life of a
+//! processor, `Fates` the fate of packets, `Times` times and work, `Applications` an application on its own processor, and
+//! `Deferrals` deferred interrupts.
 #![tactic(auto)]
 
 ghost use Rattle.machine_laws.specs.Applications.{ApplicationEnds, ApplicationIsFed, ApplicationServes, ReceivingIsApart};
@@ -11,37 +11,37 @@ ghost use Rattle.machine_laws.specs.Fates.{DeliversInOrder, NothingIsLeft, Tells
 ghost use Rattle.machine_laws.specs.Lives.{ArrivesAsOne, EachLives, RunsAsOne};
 ghost use Rattle.machine_laws.specs.Times.{ClocksNeverFall, NoWaitIsLess, WorksWithin};
 
-/// What happens on a processor up to a time is determined.
+/// The events on a processor up to a time are determined.
 pub fn runs_as_one()
     ensures { RunsAsOne }
 {}
 
-/// An arrival makes exactly one machine of each.
+/// An arrival turns each machine into exactly one machine.
 pub fn arrives_as_one()
     ensures { ArrivesAsOne }
 {}
 
-/// Each processor of a machine lived as these laws say, with the packets of its own devices.
+/// Each processor of a machine has a life by these laws, with the packets of its own devices.
 pub fn each_lives()
     ensures { EachLives }
 {}
 
-/// A processor's clock never falls.
+/// A processor's clock never decreases.
 pub fn clocks_never_fall()
     ensures { ClocksNeverFall }
 {}
 
-/// With polling, no packet waits less than the work that it takes.
+/// With polling, no packet waits less than its work takes.
 pub fn no_wait_is_less()
     ensures { NoWaitIsLess }
 {}
 
-/// A run's work is below budget and weight together.
+/// A run's work is less than budget plus weight.
 pub fn works_within()
     ensures { WorksWithin }
 {}
 
-/// A packet that found room in its device's ring is delivered once and in its order, or it is still there.
+/// A packet for which there was room in its device's ring is delivered once and in order, or it is still there.
 pub fn delivers_in_order()
     ensures { DeliversInOrder }
 {}
@@ -51,48 +51,49 @@ pub fn tells_of_device()
     ensures { TellsOfDevice }
 {}
 
-/// A packet that found a place in the socket is used once and in its order, or it is still there.
+/// A packet for which there was room in the socket is used once and in order, or it is still there.
 pub fn uses_in_order()
     ensures { UsesInOrder }
 {}
 
-/// The refused packets and the waits of those used are counted as they are.
+/// The counts of dropped packets and of the waits of those used are those of these packets.
 pub fn tells_of_use()
     ensures { TellsOfUse }
 {}
 
-/// When nothing is left to happen, no packet is left: each was delivered or dropped, and then used or refused.
+/// When nothing is left to happen, no packet is left: each was delivered or dropped, and then used or dropped.
 pub fn nothing_is_left()
     ensures { NothingIsLeft }
 {}
 
-/// On a processor of its own the application is what the deliveries make of it.
+/// On its own processor the application depends only on the deliveries.
 pub fn application_is_fed()
     ensures { ApplicationIsFed }
 {}
 
-/// On a processor of its own the application uses each packet that found a place once and in its order. Uses don't overlap, its
-/// idle time isn't negative, it sleeps only while the socket is empty, and it is woken at most once for each packet that it uses.
+/// On its own processor the application uses each packet for which there was room once and in order. Uses don't overlap, its
+/// idle time isn't negative, it sleeps only while the socket is empty, and it is woken at most once for each packet that it
+/// uses.
 pub fn application_serves()
     ensures { ApplicationServes }
 {}
 
-/// After the end the application sleeps, and all that found a place was used.
+/// After the end the application sleeps, and all packets for which there was room were used.
 pub fn application_ends()
     ensures { ApplicationEnds }
 {}
 
-/// With any other application on a processor of its own, all else of the receiving processor is the same.
+/// With any other application on its own processor, the rest of the receiving processor is the same.
 pub fn receiving_is_apart()
     ensures { ReceivingIsApart }
 {}
 
-/// After its last packet at most `defer-hard-irqs` polls of a device give nothing, or one if that is 0.
+/// After its last packet at most `defer-hard-irqs` polls of a device are empty, or one if that is 0.
 pub fn empty_polls_are_few()
     ensures { EmptyPollsAreFew }
 {}
 
-/// With no further packets, what happens on a processor comes to an end.
+/// With no further packets, the events on a processor end.
 pub fn every_run_ends()
     ensures { EveryRunEnds }
 {}

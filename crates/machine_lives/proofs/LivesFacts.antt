@@ -1,4 +1,4 @@
--- The machine of a report took packets whose moments don't fall.
+-- The machine of a report took packets whose moments don't decrease.
 use Rattle.std.proofs.{Common.{◌≡◌, ℕ, ◌<◌, ◌≤◌, ◌^◌, List, [], ◌∷◌, refl, arith}, lemmas.Grind.common_steps}
 use Rattle.{machine_model.specs.Machine.{Arrives, Machine, opened_machine}, machine_laws.specs.Lives.{EachLives, Took}}
 use Rattle.{device_rows.specs.Trace.records_of, machine_words.specs.declared.settings.Settings.Settings}
@@ -17,7 +17,7 @@ took-one : (s : Settings) (last : ℕ) (a : Arrival) (packets : List (ℕ × ℕ
 unfolding Took
 took-one s last a packets before next took most arrives = grind (arith, common_steps, took-later)
 
--- what arrivals make of a machine that took packets
+-- the effect of arrivals on a machine that took packets
 took-more : (s : Settings) (last : ℕ) (packets : List (ℕ × ℕ)) (arrivals : List Arrival) (before after : Machine) → last < 2 ^ 62
     → Took s last packets before → Rises last arrivals
     → Takes arrivals before after → (until : ℕ) × (until < 2 ^ 64) × Took s until (packets_of packets arrivals) after

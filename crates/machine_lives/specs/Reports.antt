@@ -1,4 +1,4 @@
--- The machine of a report lived by the laws of machines.
+-- The laws of machines hold for the machine of a report.
 use Rattle.std.specs.Prelude.{◌≡◌, ℕ, List, [], ◌∷◌, Some, slice_get}
 use Rattle.machine_laws.specs.Lives.{Ended, own}
 use Rattle.{machine_model.specs.Processor.ProcessorView, machine_words.specs.declared.settings.Settings.Settings}

@@ -1,4 +1,4 @@
-//! Behind the door `machine`: the laws of the receiving machine hold for what a report tells.
+//! Internal crate of the facade `machine`: the laws of the receiving machine hold for what a report shows.
 #![tactic(auto)]
 
 ghost use Rattle.machine_lives.specs.Reports.{ReportsLives};

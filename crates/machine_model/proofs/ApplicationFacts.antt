@@ -1,4 +1,4 @@
--- The application goes on, step by step.
+-- The application advances, step by step.
 use Rattle.std.proofs.{Common.{◌≡◌, ◌∙◌, ℕ, ◌+◌, ◌≤◌, ◌<◌, Bool, true, false, List, [], ◌∷◌, length, refl, sym, arith}}
 use Rattle.std.proofs.{lemmas.Grind.common_steps}
 use Rattle.std.specs.Prelude.{if◌then◌else◌}
@@ -18,7 +18,7 @@ goes-more : (use_time : ℕ) (a : ApplicationView) (came : ℕ) (more : List ℕ
 unfolding goes_on
 goes-more use_time a came more is = rw is refl
 
--- nothing is over of an application that sleeps
+-- a sleeping application has no work that ends
 asleep : (moment : ℕ) (a : ApplicationView) → a.activity ≡ Asleep → is_over moment a ≡ false
 asleep moment a is = rw is refl
 

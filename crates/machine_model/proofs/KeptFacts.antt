@@ -1,4 +1,4 @@
--- What is true of each processor stays so.
+-- The invariant of each processor is preserved.
 use Rattle.std.proofs.Common.{◌≡◌, ◌∙◌, ℕ, ◌+◌, ◌<◌, ◌≤◌, Bool, true, false, Option, Some, None, length, refl, sym, arith}
 use Rattle.std.{proofs.lemmas.Grind.common_steps, specs.Prelude.{◌==◌, if◌then◌else◌}}
 use Rattle.machine_words.specs.declared.settings.Settings.{Settings}
@@ -70,7 +70,7 @@ kept-begun s w ds q moment k none idle polling threaded =
       within = k.within;
     }
 
--- the run asks for a device, or for none
+-- the run asks for a device, or is over
 pub kept-next : (s : Settings) (w v : Work) (ds : Devices) (q : SoftirqView) → Kept s w ds q → asked_in q.run ≡ None
     → asked_in (next_of q).run ≡ (if s.threaded then None else polled_by v) → given_by v < s.weight → Kept s v ds (next_of q)
 kept-next s w v ds q k none asked within =
@@ -144,7 +144,7 @@ list-unthreaded s w ds q k some = by s.threaded refl
     by true threaded = absurd (omega (arith, some, k.unused (threads threaded)))
     by false threaded = refl
 
--- while nothing is polled nothing is asked
+-- while nothing is polled, the run asks for nothing
 pub kept-idle : (s : Settings) (w : Work) (ds : Devices) (q : SoftirqView) → Kept s w ds q → polled_by w ≡ None
     → asked_in q.run ≡ None
 kept-idle s w ds q k idle = k.asked ∙ if-none s.threaded (polled_by w) idle

@@ -1,4 +1,4 @@
--- How much is left to be done on a processor: whatever happens leaves less.
+-- A measure of the work that remains on a processor: every event decreases it.
 use Rattle.std.proofs.Common.{◌≡◌, ◌∙◌, ℕ, ◌+◌, ◌-◌, ◌*◌, ◌<◌, ◌≤◌, Bool, true, false, Option, Some, None, List, [], ◌∷◌, ◌++◌}
 use Rattle.std.proofs.Common.{length, ap, refl, sym, arith}
 use Rattle.std.proofs.lemmas.{List.Quantifiers.position-Some, Bool.eqb-true, Grind.common_steps}
@@ -31,9 +31,9 @@ use Rattle.machine_model.proofs.WeightFacts.{weight-polled, expired-less, soones
 use Rattle.machine_model.proofs.WeightFacts.{entries-begun, entries-ended, entries-polled, threads, threads-thread, if-application}
 use Rattle.machine_model.proofs.WeightFacts.{same-runnable, is_thread, after-first}
 
--- ---- all that is left, by what a packet weighs
+-- ---- all remaining work, by the weight of a packet
 
--- what a packet weighs: more than all that its poll can leave behind
+-- the weight of a packet: more than all that its poll can cause
 abbrev pub load : ℕ
 load = 327679
 
@@ -391,7 +391,7 @@ unfolding left ends_current base
 current-less w p least busy =
     ends-less w p.work (record p { clock = p.ends; work = Nothing; counts = spent p.work (p.ends - p.clock) p.counts }) least refl busy
 
--- ---- what is asked after work ended
+-- ---- what the run asks for after work ended
 
 poll-unasked : (n given : ℕ) (p : ProcessorView) → (p.settings.threaded ≡ true → asked_in p.softirq.run ≡ None)
     → asked_in (ends_poll n given p).softirq.run ≡ None
@@ -503,7 +503,7 @@ expires-less w timer p is =
     let here = rw zeroth at (soonest-is 0 p.devices timer is).1 in
     omega (arith, weights-less w 1 expired timer.device p.devices (expired-less w timer.device timer (at timer.device p.devices) here))
 
--- ---- each step leaves less
+-- ---- each step decreases the measure
 
 ends-busy : (soonest : Option Timer) (p : ProcessorView)
     → option_map_or (λ timer. if is_busy p.work && nat_le p.ends timer.at then Ends else Expires timer) soonest

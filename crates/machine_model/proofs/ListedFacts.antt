@@ -1,4 +1,4 @@
--- How many numbers stand on the poll list and in its run, behind each call, and of what weight the run is.
+-- How many numbers are on the poll list and in its run after each call, and the weight of the run.
 use Rattle.std.proofs.lemmas.Grind.{common_steps}
 use Rattle.std.proofs.Common.{◌≡◌, ℕ, ◌+◌, Bool, true, false, Option, Some, None, List, [], ◌∷◌, ◌++◌, drop, length, length-append, refl}
 use Rattle.std.{proofs.Common.arith, specs.Prelude.{is_some, slice_get, if◌then◌else◌, option_map}}
@@ -11,13 +11,13 @@ use Rattle.machine_model.specs.Shown.{weight_in, listed}
 pub listed-pushed : (n : ℕ) (q : SoftirqView) → listed (pushed n q) ≡ listed q + 1
 listed-pushed n q = omega (arith, length-append q.list (n ∷ []))
 
--- what a call keeps
+-- what a call doesn't change
 pub record Same (q r : SoftirqView) : Type 0 where
   pub listed : listed r ≡ listed q
   pub some : is_some r.run ≡ is_some q.run
   pub weight : weight_in r.run ≡ weight_in q.run
 
--- one poll more, or none, only moves numbers
+-- one more poll, or none, only moves numbers
 next-moves : (own repoll list : List ℕ)
     → length ((filled own repoll list).1)
     + (length (asked_for (slice_get (filled own repoll list).0 0) ++ drop 1 (filled own repoll list).0) + length repoll)
@@ -57,7 +57,7 @@ ended-same list run began none = grind (arith, common_steps)
 pub listed-ended : (q : SoftirqView) → asked_in q.run ≡ None → listed (ended q) ≡ listed q
 listed-ended q none = ended-same q.list q.run q.began none
 
--- a poll that gave its whole weight puts its number back, any other lets it go
+-- a poll that used its whole weight puts its number back; any other one releases it
 polled-moves : (full : Bool) (work n : ℕ) (list : List ℕ) (run : Option RunView) (began : ℕ) → asked_in run ≡ Some n
     → let q : SoftirqView = record { list = list; run = run; began = began } in
     listed (polled_once (record { work = work; next = if full then Repoll else Gone }) q) + (if full then 0 else 1) ≡ listed q

@@ -23,7 +23,7 @@ arrive-exact moment device count before old new is least most value arrives =
       others = refl;
     })
 
--- the first of the processors went on until nothing is left, the others didn't yet
+-- the first processors have advanced until nothing is left, the others not yet
 pub record Finished (before now : Machine) (count : ℕ) : Type 0 where
   pub size : length now ≡ length before
   pub done : (n : ℕ) (p : ProcessorView) → n < count → slice_get before n ≡ Some p

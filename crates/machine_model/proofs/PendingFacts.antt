@@ -1,4 +1,4 @@
--- What is kept of the devices, as one of them changes.
+-- The cached values of the devices, as one of them changes.
 use Rattle.std.proofs.Common.{◌≡◌, ◌∙◌, ℕ, zero, suc, ◌+◌, ◌<◌, ◌≤◌, Bool, true, false, Option, Some, None, List, [], ◌∷◌, ◌++◌}
 use Rattle.std.proofs.Common.{length, replicate, slice_index_or, slice_set, refl, sym, ap, arith}
 use Rattle.std.specs.{Prelude.{◌==◌, nat_lt, position, if◌then◌else◌}, List.position_or_len, Option.option_map_or}
@@ -9,7 +9,7 @@ use Rattle.machine_model.specs.Device.{DeviceView, after_packet, is_masked, open
 use Rattle.machine_model.specs.{Devices.{Devices, asks_at, soonest_from, sooner, timer_at}, Shown.{earlier, pending_of}}
 use Rattle.machine_model.{specs.declared.devices.{Pending.Pending, Timer.Timer}, proofs.WeightFacts.{named, soonest-is}}
 
--- ---- the place that changed
+-- ---- the entry that changed
 
 set-same : (xs : Devices) (n : ℕ) → slice_set xs n (at n xs) ≡ xs
 set-same [] n = grind (arith, common_steps)
@@ -261,7 +261,7 @@ soonest-stays change n before after old own below timer stays is was =
 
 -- ---- changes after which all stays
 
--- the place asks as before, and its timer is the same
+-- the entry asks as before, and its timer is the same
 pending-same : (xs : Devices) (n : ℕ) (y : Option DeviceView) → n < length xs → asks_at y ≡ asks_at (at n xs)
     → timer_at n y ≡ timer_at n (at n xs)
     → pending_of (slice_set xs n y) ≡ pending_of xs
@@ -277,12 +277,12 @@ pending-phase : (xs : Devices) (n : ℕ) (d e : DeviceView) → n < length xs �
     → pending_of (slice_set xs n (Some e)) ≡ pending_of xs
 pending-phase xs n d e below here same = pending-same xs n (Some e) below (rw (here, same) refl) (rw (here, same) refl)
 
--- what was read in the place is the device there
+-- the value that was read from the entry is the device there
 there : (xs : Devices) (n : ℕ) (x : Option DeviceView) (d : DeviceView) → n < length xs → x ≡ slice_index_or xs n x → x ≡ Some d
     → at n xs ≡ Some d
 there xs n x d below found some = at-index xs n x below (sym found) ∙ some
 
--- what holds of the devices, after the one in this place changed
+-- what holds for the devices, after the one in this entry changed
 pub changed-kept : (f : DeviceView → DeviceView) (xs : Devices) (n : ℕ) (x : Option DeviceView) (d e : DeviceView)
     → n < length xs
     → x ≡ slice_index_or xs n x
@@ -331,7 +331,7 @@ pub opened-kept : (xs : Devices) (n capacity : ℕ) (e : DeviceView) (old : Pend
 opened-kept xs n capacity e old below none is few kept =
     (omega (arith, length-set xs n (Some e), few), kept ∙ sym (pending-same xs n (Some e) below (rw (none, is) refl) (rw (none, is) refl)))
 
--- places are added that are empty
+-- empty entries are added
 no-timer : (k count : ℕ) → soonest_from k (replicate count None) ≡ None
 unfolding soonest_from
 no-timer k zero = refl

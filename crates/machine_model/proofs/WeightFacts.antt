@@ -1,4 +1,4 @@
--- What devices, the poll list and the tasks weigh in what is left to be done, and which timer is the soonest.
+-- The weights of devices, the poll list and the tasks in the measure of remaining work, and which timer is the soonest.
 use Rattle.std.proofs.Common.{◌≡◌, ◌∙◌, ℕ, zero, suc, ◌+◌, ◌-◌, ◌*◌, ◌≤◌, Bool, true, false, Option, Some, None, List, [], ◌∷◌, ◌++◌}
 use Rattle.std.proofs.Common.{◌⊎◌, inl, inr, length, length-append, drop, ap, refl, arith}
 use Rattle.std.proofs.lemmas.{Bool.eqb-true, Grind.common_steps}
@@ -39,7 +39,7 @@ pub changed-weights : (w : ℕ) (f : DeviceView → DeviceView) (n : ℕ) (xs : 
     → weights w (changed f n xs) + weight_at w (at n xs) ≡ weights w xs + weight_at w (map_at f (at n xs))
 changed-weights w f n xs = sum-changed (weight_at w) f n xs
 
--- a change that adds at most so much to a device adds at most so much to all
+-- a change that adds at most this much to a device adds at most this much to all
 pub weights-most : (w more : ℕ) (f : DeviceView → DeviceView) (n : ℕ) (xs : Devices)
     → weight_at w (map_at f (at n xs)) ≤ weight_at w (at n xs) + more → weights w (changed f n xs) ≤ weights w xs + more
 weights-most w more f n xs most = omega (arith, changed-weights w f n xs, most)
@@ -67,7 +67,7 @@ unfolding map_at weight_at weight_of
 weight-delivered w now came None = refl
 weight-delivered w now came (Some d) = refl
 
--- a packet that is taken is one fewer
+-- a packet that is taken leaves one fewer
 pub drop-first : (xs : List ℕ) (came : ℕ) → slice_get xs 0 ≡ Some came → length (drop 1 xs) + 1 ≡ length xs
 drop-first [] came is = cc is
 drop-first (x ∷ xs) came is = omega arith
@@ -138,7 +138,7 @@ unfolding map_at weight_at
 looked-most w backlog None = omega arith
 looked-most w backlog (Some d) = omega (arith, weight-looked w backlog d)
 
--- a poll that completes may leave deferrals behind, if it gave packets
+-- a poll that completes may leave deferrals, if it processed packets
 pub weight-completed : (w now given : ℕ) (s : Settings) (d : DeviceView)
     → weight_of w (completed now given s d) ≤ weight_of w d + (if given == 0 then 0 else 5 * s.defer_hard_irqs)
 unfolding weight_of completed

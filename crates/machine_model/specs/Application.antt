@@ -7,11 +7,11 @@ use Rattle.machine_model.specs.declared.application.Activity.TheVariants.{Asleep
 pub record ApplicationView : Type 0 where
   -- the arrival times of the packets in its socket, the oldest first
   pub socket : Buffer ℕ
-  -- packets that a full socket refused
+  -- packets that a full socket dropped
   pub refused : ℕ
   -- from arrival to the end of the use
   pub waits : WaitsView
-  -- on a processor of its own: what it does, when that ends or ended last, and how often it was woken
+  -- on its own processor: what it does, when that ends or ended last, and how often it was woken
   pub activity : Activity
   pub end : ℕ
   pub wakes : ℕ
@@ -24,22 +24,22 @@ opened_application s =
 abbrev pub used : ℕ → ℕ → ApplicationView → ApplicationView
 used now came a = record a { waits = counted (now - came) a.waits }
 
--- ---- on a processor of its own
+-- ---- on its own processor
 
 abbrev pub is_awake : Activity → Bool
 is_awake Asleep = false
 is_awake _ = true
 
--- what it does ends at or before that moment
+-- its work ends at or before that time
 abbrev pub is_over : ℕ → ApplicationView → Bool
 is_over moment a = is_awake a.activity && nat_le a.end moment
 
--- what it does ends: a packet in hand was used
+-- its work ends: the packet in hand was used
 abbrev pub ended_by : Activity → ApplicationView → ApplicationView
 ended_by (Using came) a = used a.end came a
 ended_by _ a = a
 
--- it takes the oldest packet out of the socket into its hand, and sleeps if there is none
+-- it takes the oldest packet out of the socket, and sleeps if there is none
 abbrev pub takes_next : ℕ → List ℕ → ApplicationView → ApplicationView
 takes_next use_time [] a = record a { activity = Asleep }
 takes_next use_time (came ∷ more) a =
@@ -48,7 +48,7 @@ takes_next use_time (came ∷ more) a =
 unfoldable pub goes_on : ℕ → ApplicationView → ApplicationView
 goes_on use_time a = takes_next use_time a.socket.items (ended_by a.activity a)
 
--- it goes on to a moment, with at most these packets
+-- it advances to a time, with at most these packets
 unfoldable pub went_on_with : List ℕ → ℕ → ℕ → ApplicationView → ApplicationView
 went_on_with [] moment use_time a = if is_over moment a then goes_on use_time a else a
 went_on_with (came ∷ more) moment use_time a =
@@ -72,7 +72,7 @@ put came a = record a { socket = buffer (a.socket.items ++ came ∷ []) a.socket
 abbrev pub refuses : ApplicationView → ApplicationView
 refuses a = record a { refused = held (a.refused + 1) }
 
--- on a processor of its own it has gone on to this moment, and is woken if it sleeps
+-- on its own processor it has advanced to this time, and is woken if it sleeps
 unfoldable pub fed : ℕ → ℕ → Settings → ApplicationView → ApplicationView
 fed now came s a =
     let b = if s.apart then went_on now s.use_time a else a in

@@ -65,12 +65,12 @@ expired d = record d { phase = expired_phase d.phase }
 
 -- ---- a packet arrives
 
--- the card waits with its interrupt until then, unless it waits or asks already
+-- the card delays its interrupt until then, unless it waits or asks already
 abbrev pub coalesced : ℕ → Phase → Phase
 coalesced until Quiet = Coalescing until
 coalesced until phase = phase
 
--- the card has one more frame, and asks for an interrupt at once or a while later
+-- the card has one more frame, and asks for an interrupt now or some time later
 unfoldable pub notified : ℕ → Settings → DeviceView → DeviceView
 notified moment s d =
     let frames = held (d.frames + 1) in
@@ -101,7 +101,7 @@ raised_again d = record d { phase = if length d.ring == 0 then d.phase else Rais
 
 -- ---- a poll
 
--- A packet is looked for. With a backlog it is one of those taken, and if there is none the whole ring is taken.
+-- The next packet is taken. With a backlog it is one of those taken before, and if there is none the whole ring is taken.
 abbrev pub spliced : Bool → DeviceView → DeviceView
 spliced backlog d = if backlog && length d.taken == 0 then record d { ring = []; taken = d.ring } else d
 
@@ -124,7 +124,7 @@ completed now given s d =
     let defers = not (deferrals == 0) && not (s.gro_flush_timeout == 0) in
     record d { deferrals = deferrals - 1; phase = if defers then Deferred (held (now + s.gro_flush_timeout)) else Quiet }
 
--- a poll ends: with its whole weight the device is to be polled again, else it completes
+-- a poll ends: after one of the whole weight the device is polled again, otherwise it completes
 unfoldable pub polled : ℕ → ℕ → Settings → DeviceView → DeviceView
 polled now given s d =
     let e = record d { counts = record d.counts { polls = held (d.counts.polls + 1) } } in

@@ -11,7 +11,7 @@ Devices = Places DeviceView
 unfoldable pub with_device : ℕ → ℕ → Devices → Devices
 with_device capacity number devices = added number (opened capacity) (devices ++ replicate (number + 1 - length devices) None)
 
--- ---- of the device in a place, if there is one
+-- ---- for the device in an entry, if there is one
 
 abbrev pub asks_at : Option DeviceView → Bool
 asks_at place = option_map_or (λ d. asks d.phase) place false

@@ -1,4 +1,4 @@
--- What is true of each processor of the program: an invariant that the code needs. It isn't part of the machine's definition.
+-- The invariant of each processor of the program. It isn't part of the machine's definition.
 use Rattle.std.specs.Prelude.{◌≡◌, ◌≤◌, ◌<◌, ◌&&◌, not, Bool, true, false, is_some, ℕ, sum_by, Option, Some, None, if◌then◌else◌}
 use Rattle.{std.specs.Option.option_map_or, machine_words.specs.declared.settings.Settings.Settings}
 use Rattle.{machine_model.specs.Device.DeviceView}
@@ -17,7 +17,7 @@ scheduled_at place = option_map_or (λ d. if is_scheduled d.phase then 1 else 0)
 abbrev pub all_scheduled : Devices → ℕ
 all_scheduled devices = sum_by scheduled_at devices
 
--- the device that is polled, and how many packets its poll gave so far
+-- the device that is polled, and how many packets its poll processed so far
 abbrev pub polled_by : Work → Option ℕ
 polled_by (Poll number) = Some number
 polled_by (Packet packet) = Some packet.device
@@ -37,7 +37,7 @@ pub record Kept (settings : Settings) (work : Work) (devices : Devices) (softirq
   pub unused : has_list settings ≡ false → listed softirq ≡ 0
   -- the run polls the device that is polled
   pub asked : asked_in softirq.run ≡ (if settings.threaded then None else polled_by work)
-  -- the run's weight is the machine's, and a poll gives no more
+  -- the run's weight is the machine's, and a poll processes no more
   pub weight : is_some softirq.run ≡ true → weight_in softirq.run ≡ settings.weight
   pub within : given_by work < settings.weight
 

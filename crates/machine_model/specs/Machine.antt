@@ -1,4 +1,4 @@
--- The machine: its processors, what arrivals make of them, and what the report has.
+-- The machine: its processors, the effect of arrivals on them, and the contents of the report.
 use Rattle.std.specs.Prelude.{◌≡◌, ℕ, ◌-◌, ◌/◌, ◌%◌, if◌then◌else◌}
 use Rattle.{device_places.specs.Places.at, machine_words.specs.declared.settings.Settings.Settings}
 use Rattle.std.specs.Prelude.{◌^◌, List, length, replicate, slice_get, slice_set, Option, Some, None}
@@ -33,7 +33,7 @@ pub record Arrives (moment device : ℕ) (before after : Machine) : Type 0 where
   pub arrives : ArrivesAt moment (number_of device before) old new
   pub others : after ≡ slice_set before (processor_of device before) new
 
--- after the last arrival a processor advances until nothing is left, and then the application goes on until it sleeps
+-- after the last arrival a processor advances until nothing is left, and then the application advances until it sleeps
 abbrev pub FinishesAt : ProcessorView → ProcessorView → Type 0
 FinishesAt before after = (ready : ProcessorView) × Advances (2 ^ 64 - 1) before ready
     × (after ≡ record ready { application = went_on (2 ^ 64 - 1) ready.settings.use_time ready.application })
@@ -48,7 +48,7 @@ pub record Finishes (before after : Machine) : Type 0 where
 abbrev pub report_of : DeviceView → DeviceReport
 report_of d = record { counts = d.counts; waits = summary_of d.waits }
 
--- of a device that a packet arrived for
+-- for a device for which a packet arrived
 abbrev pub device_report : ℕ → Machine → Option DeviceReport
 device_report device m =
     option_and_then (λ p. option_map report_of (at (number_of device m) p.devices)) (slice_get m (processor_of device m))

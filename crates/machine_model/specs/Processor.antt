@@ -17,12 +17,12 @@ use Rattle.machine_model.specs.declared.processor.Upcoming.TheVariants.{Never, E
 
 pub record ProcessorView : Type 0 where
   pub settings : Settings
-  -- what is under way, when it ends, and when it began, or the time of what happened last
+  -- the work in progress, when it ends, and when it began, or the time of the last event
   pub work : Work
   pub ends : ℕ
   pub clock : ℕ
   pub devices : Devices
-  -- the poll list and the run; with threads what is runnable, but for a thread that polls
+  -- the poll list and the run; with threads the runnable tasks, except a thread that polls
   pub softirq : SoftirqView
   pub tasks : List Task
   -- what is left of a use that was interrupted
@@ -106,11 +106,11 @@ ends_run late p =
     let counts = record p.counts { runs = held (p.counts.runs + 1); squeezed = squeezed; late = alone } in
     record p { softirq = ended p.softirq; counts = counts }
 
--- the run under way, which made a poll, took its time
+-- the run in progress, which made a poll, has used up its time
 abbrev pub is_late : ProcessorView → Bool
 is_late p = nat_le p.settings.time_limit (p.clock - p.softirq.began)
 
--- the run under way: its end or its next poll
+-- the run in progress: its end or its next poll
 unfoldable pub goes_on : ProcessorView → ProcessorView
 goes_on p =
     let q = record p { softirq = next_of p.softirq } in
@@ -146,7 +146,8 @@ ends_interrupt number p =
     let q = delivers_oldest number (next_packet_at false (at number p.devices)) p in
     record q { devices = changed raised_again number q.devices }
 
--- a poll ends that gave so many packets: a device that is to be polled again is repolled by the run, or its thread stays first
+-- a poll that processed this many packets ends: a device that is polled again gets a repoll from the run, or its thread stays
+-- first
 unfoldable pub ends_poll : ℕ → ℕ → ProcessorView → ProcessorView
 ends_poll number given p =
     let full = given == p.settings.weight in
@@ -156,7 +157,7 @@ ends_poll number given p =
     if p.settings.threaded then record q { tasks = if full then Thread number ∷ q.tasks else q.tasks }
     else record q { softirq = polled_once once q.softirq }
 
--- a poll that gave so many packets looks for the next one
+-- a poll that processed this many packets takes the next one
 unfoldable pub looks : ℕ → ℕ → ProcessorView → ProcessorView
 looks number given p =
     let backlog = p.settings.backlog in
@@ -231,14 +232,14 @@ unfoldable pub after : ℕ → ProcessorView → ProcessorView
 after zero p = p
 after (suc count) p = step (after count p)
 
--- it advances to a moment: all happens that happens at or before that moment, one after the other, and no more
+-- it advances to a time: everything happens that happens at or before that time, in order, and no more
 pub record Advances (moment : ℕ) (p q : ProcessorView) : Type 0 where
   pub count : ℕ
   pub each : (n : ℕ) → n < count → is_due moment (after n p) ≡ true
   pub last : q ≡ after count p
   pub none : is_due moment q ≡ false
 
--- a packet arrives for a device of a processor that has advanced to that moment
+-- a packet arrives for a device of a processor that has advanced to that time
 unfoldable pub arrives : ℕ → ℕ → ProcessorView → ProcessorView
 arrives moment number p =
     let devices = with_device p.settings.ring number p.devices in

@@ -1,4 +1,4 @@
--- What the program holds, as the definition sees it: a driven run, and what is kept of the devices so that no step searches them.
+-- The program's state, as the definitions see it: a driven run, and cached values of the devices so that no step searches them.
 -- It isn't part of the machine's definition.
 use Rattle.std.specs.{Prelude.{ℕ, ◌+◌, ◌==◌, ◌||◌, ◌&&◌, nat_lt, Bool, true, false, ◌++◌, length, position, Option, Some, None}}
 use Rattle.std.specs.{Prelude.{if◌then◌else◌}, Option.option_map_or}
@@ -22,7 +22,7 @@ abbrev pub run_if : Bool → PollingRun → Option RunView
 run_if true run = Some (shown run)
 run_if false run = None
 
--- the most packets that a poll of the run may give
+-- the most packets that a poll of the run may process
 abbrev pub weight_in : Option RunView → ℕ
 weight_in run = option_map_or (λ r. r.weight) run 0
 

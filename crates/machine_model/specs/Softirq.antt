@@ -1,15 +1,15 @@
--- A processor's poll list, and the polling run that is under way over it (`struct softnet_data`).
+-- A processor's poll list, and the polling run in progress over it (`struct softnet_data`).
 use Rattle.std.specs.Prelude.{ℕ, ◌+◌, nat_le, ◌||◌, Bool, List, [], ◌∷◌, ◌++◌, drop, slice_get, Option, Some, None, if◌then◌else◌}
 use Rattle.{std.specs.Option.{option_and_then, option_map, option_map_or}, poll_runs.specs.{Polls.is_repoll, Turn.asked_for}}
 use Rattle.poll_runs.specs.declared.bench.Once.{Once}
 
 pub record RunView : Type 0 where
-  -- what it took and hasn't polled, and what is to be repolled
+  -- what it took and hasn't polled, and the repolls
   pub own : List ℕ
   pub repoll : List ℕ
-  -- the number that is being polled
+  -- the number whose poll is in progress
   pub asked : Option ℕ
-  -- its polls, and the packets that they gave together
+  -- its polls, and their packets
   pub polls : ℕ
   pub work : ℕ
   pub budget : ℕ
@@ -35,23 +35,24 @@ begun moment budget weight window q =
     record { own = q.list; repoll = []; asked = None; polls = 0; work = 0; budget = budget; weight = weight; window = window } in
     record { list = []; run = Some r; began = moment }
 
--- the work meets the budget, or the polls meet the window
+-- the work reaches the budget, or the number of polls the window
 abbrev pub is_spent : RunView → Bool
 is_spent r = nat_le r.budget r.work || nat_le r.window r.polls
 
--- what is left of its own, and the list: if all that it took is polled and nothing is to be repolled it takes the whole list
+-- what is left of its own numbers, and the list: if all that it took is polled and no repoll is pending, it takes the whole
+-- list
 abbrev pub filled : List ℕ → List ℕ → List ℕ → List ℕ × List ℕ
 filled [] [] list = (list, [])
 filled own repoll list = (own, list)
 
--- what is polled next, if anything is
+-- what is polled next, if anything
 abbrev pub next_from : List ℕ × List ℕ → RunView → SoftirqView → SoftirqView
 next_from (own, list) r q = record q { list = list; run = Some (record r { own = drop 1 own; asked = slice_get own 0 }) }
 
 unfoldable pub next_of : SoftirqView → SoftirqView
 next_of q = option_map_or (λ r. if is_spent r then q else next_from (filled r.own r.repoll q.list) r q) q.run q
 
--- what the poll did of the number that is being polled
+-- the outcome of the poll of that number
 abbrev pub polled_run : Once → RunView → RunView
 polled_run once r =
     let repoll = r.repoll ++ (if is_repoll once.next then asked_for r.asked else []) in
@@ -60,6 +61,6 @@ polled_run once r =
 unfoldable pub polled_once : Once → SoftirqView → SoftirqView
 polled_once once q = record q { run = option_map (polled_run once) q.run }
 
--- the run ends: what it took and didn't poll, what came meanwhile, and what is to be repolled
+-- the run ends: what it took and didn't poll, what arrived meanwhile, and the repolls
 unfoldable pub ended : SoftirqView → SoftirqView
 ended q = record q { list = option_map_or (λ r. r.own ++ q.list ++ r.repoll) q.run q.list; run = None }

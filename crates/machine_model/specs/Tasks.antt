@@ -18,7 +18,7 @@ abbrev pub runnable : Bool → List Task → List Task
 runnable true (Application ∷ more) = more
 runnable idle tasks = tasks
 
--- the first task runs: the application stays first, a thread is put first again if it is to poll again
+-- the first task runs: the application stays first, a thread is put first again if it polls again
 abbrev pub after_first : List Task → List Task
 after_first (Thread number ∷ more) = more
 after_first tasks = tasks

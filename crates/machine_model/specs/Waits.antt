@@ -3,7 +3,7 @@ use Rattle.std.specs.Prelude.{ℕ, ◌+◌, ◌-◌, ◌*◌, ◌/◌, ◌^◌, 
 use Rattle.std.specs.{Prelude.{slice_set, if◌then◌else◌}, Int.{leading_zeros, w64}}
 use Rattle.machine_model.specs.declared.waits.WaitCounts.{WaitCounts}
 
--- a time or a sum, which stays at the greatest number of 64 binary digits
+-- a time or a sum, which saturates at 64 bits
 abbrev pub held : ℕ → ℕ
 held sum = min sum (2 ^ 64 - 1)
 
@@ -18,8 +18,8 @@ pub record WaitsView : Type 0 where
 unfoldable pub no_waits : WaitsView
 no_waits = record { count = 0; sum = 0; most = 0; buckets = [] }
 
--- Its bucket is that of its first ten binary digits: the first 1024 buckets have one wait each, and each further 512 the waits
--- with one digit more.
+-- Its bucket is that of its first ten significant bits: the first 1024 buckets have one wait each, and each further 512 the
+-- waits with one bit more.
 abbrev pub bucket_of : ℕ → ℕ
 bucket_of wait = let rest = 54 - leading_zeros w64 wait in 512 * rest + wait / 2 ^ rest
 
@@ -43,16 +43,16 @@ counted wait w = record {
   buckets = one_more (bucket_of wait) (up_to (bucket_of wait) w.buckets);
 }
 
--- the first bucket that has, with those before it, so many waits
+-- the first bucket that, with those before it, has this many waits
 unfoldable pub first_with : ℕ → ℕ → List ℕ → ℕ
 first_with rank bucket [] = 0
 first_with rank bucket (count ∷ more) = if nat_le rank count then bucket else first_with (rank - count) (bucket + 1) more
 
--- the least wait of the first bucket that has, with those below it, so many of 1000 of the waits
+-- the least wait of the first bucket that, with those below it, has this many of 1000 of the waits
 abbrev pub wait_at : ℕ → WaitsView → ℕ
 wait_at share w = if w.count == 0 then 0 else least_of (first_with ((share * w.count + 999) / 1000) 0 w.buckets)
 
--- what the report has of them
+-- what the report shows of them
 abbrev pub summary_of : WaitsView → WaitCounts
 summary_of w =
     let mean = if w.count == 0 then 0 else held (w.sum / w.count) in

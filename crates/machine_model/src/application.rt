@@ -6,7 +6,7 @@ use machine_words::Settings;
 use std::alloc::{AllocError, Global};
 use std::marker::Model;
 
-/// What is reported of an application that has a processor of its own.
+/// What is reported of an application that has its own processor.
 #[derive(Clone, Copy, Debug, PartialEq, Eq)]
 pub struct ApplicationReport {
     /// When its last use ended, in nanoseconds; 0 if it was never woken.
@@ -15,7 +15,7 @@ pub struct ApplicationReport {
     pub wakes: u64,
 }
 
-/// What the application does on a processor of its own.
+/// What the application does on its own processor.
 #[derive(Clone, Copy, Debug, PartialEq, Eq)]
 pub enum Activity {
     /// It sleeps.
@@ -58,7 +58,7 @@ impl Application {
     ghost use Rattle.machine_model.specs.Waits.{summary_of};
     ghost use Rattle.machine_model.specs.Application.{fed, goes_on, has_place, is_awake, is_over, opened_application, used, went_on, woken_by};
 
-    /// An application with an empty socket.
+    /// Returns an application with an empty socket.
     pub(crate) fn new(alloc: Global, settings: &Settings) -> Result<Application, AllocError>
         ensures { IfOk result (λ a. a ≡ opened_application settings.now) }
     {
@@ -73,14 +73,14 @@ impl Application {
         })
     }
 
-    /// Whether its socket is empty.
+    /// Returns whether its socket is empty.
     pub(crate) fn is_idle(&self) -> bool
         ensures { result ≡ (length self.now.socket.items == 0) }
     {
         self.socket.is_empty()
     }
 
-    /// Whether its socket has room for a packet.
+    /// Returns whether its socket has room for a packet.
     pub(crate) fn has_place(&self) -> bool
         ensures { result ≡ has_place self.now }
     {
@@ -97,7 +97,8 @@ impl Application {
         self.socket.pop_front()
     }
 
-    /// The use of a packet that arrived then ends. Fails if there is no memory to count its wait; then nothing is counted.
+    /// Ends the use of a packet that arrived at `came`. Fails if the allocation for counting its wait fails; then nothing is
+    /// counted.
     pub(crate) fn use_packet(&mut self, now: u64, came: u64) -> Result<(), AllocError>
         ensures { OnOk result (self.new ≡ used now came self.old) }
     {
@@ -105,14 +106,14 @@ impl Application {
         Ok(())
     }
 
-    // Whether what it does ends at or before that moment.
+    // Returns whether its work ends at or before that time.
     fn is_over(&self, moment: u64) -> bool
         ensures { result ≡ is_over moment self.now }
     {
         self.activity != Activity::Asleep && self.end <= moment
     }
 
-    // What it does ends, and it takes the next packet or sleeps.
+    // Ends its work; it takes the next packet or sleeps.
     #[tactic(auto, unfolding(crate::specs::Application::goes_on))]
     fn go_on(&mut self, use_time: u32) -> Result<(), AllocError>
         ensures { OnOk result (self.new ≡ goes_on use_time self.old) }
@@ -130,7 +131,7 @@ impl Application {
         Ok(())
     }
 
-    /// On a processor of its own: it goes on to that moment. Fails if there is no memory to count a wait.
+    /// On its own processor: advances to that time. Fails if the allocation for counting a wait fails.
     pub(crate) fn go_on_until(&mut self, moment: u64, use_time: u32) -> Result<(), AllocError>
         ensures { OnOk result (self.new ≡ went_on moment use_time self.old) }
     {
@@ -140,7 +141,7 @@ impl Application {
         Ok(())
     }
 
-    // It is woken if it sleeps, and wakes until then.
+    // Wakes it if it sleeps; waking takes until `until`.
     fn wake(&mut self, until: u64)
         ensures { self.new ≡ woken_by self.old.activity until self.old }
     {
@@ -151,7 +152,8 @@ impl Application {
         }
     }
 
-    /// A packet that arrived then is delivered to it: a full socket refuses it. Fails if there is no memory to count a wait.
+    /// Delivers a packet that arrived at `came` to it: a full socket drops it. Fails if the allocation for counting a wait
+    /// fails.
     #[tactic(auto, unfolding(crate::specs::Application::fed))]
     pub(crate) fn feed(
         &mut self,
@@ -172,7 +174,7 @@ impl Application {
         Ok(())
     }
 
-    /// Packets that a full socket refused.
+    /// Packets that a full socket dropped.
     pub(crate) fn refused(&self) -> u64
         ensures { result ≡ self.now.refused }
     {
@@ -186,7 +188,7 @@ impl Application {
         self.waits.summary()
     }
 
-    /// What is reported of it on a processor of its own.
+    /// What is reported of it on its own processor.
     pub(crate) fn report(&self) -> ApplicationReport
         ensures { result ≡ record { end = self.now.end; wakes = self.now.wakes } }
     {

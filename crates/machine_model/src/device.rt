@@ -1,4 +1,4 @@
-//! One device: a queue of a card with its NAPI instance, and what was counted of it.
+//! One device: a queue of a card with its NAPI instance, and its counts.
 
 ghost use Rattle.std.specs.Prelude.{◌≡◌, ◌≤◌, Some, IfOk, OnOk};
 ghost use Rattle.machine_model.specs.Machine.{report_of};
@@ -11,14 +11,14 @@ use std::alloc::{AllocError, Global};
 use std::marker::Model;
 use std::mem;
 
-/// What was counted of a device.
+/// The counts of a device.
 #[derive(Clone, Copy, Debug, PartialEq, Eq)]
 pub struct DeviceCounts {
     /// Packets that arrived.
     pub arrived: u64,
-    /// Those of them that a full ring dropped.
+    /// Packets that a full ring dropped.
     pub dropped: u64,
-    /// Those that were delivered.
+    /// Packets that were delivered.
     pub polled: u64,
     /// Its interrupts, without those of its NAPI timer.
     pub interrupts: u64,
@@ -27,7 +27,7 @@ pub struct DeviceCounts {
 }
 
 impl DeviceCounts {
-    /// Nothing was counted.
+    /// Zero counts.
     pub const NONE: DeviceCounts = DeviceCounts {
         arrived: 0,
         dropped: 0,
@@ -40,7 +40,7 @@ impl DeviceCounts {
 /// What is reported of a device.
 #[derive(Clone, Copy, Debug, PartialEq, Eq)]
 pub struct DeviceReport {
-    /// What was counted.
+    /// The counts.
     pub counts: DeviceCounts,
     /// The waits of its packets, from arrival to delivery.
     pub waits: WaitCounts,
@@ -96,14 +96,14 @@ impl Model for Device {
 }
 
 impl Phase {
-    /// Whether the card doesn't notify of packets.
+    /// Returns whether the card doesn't notify of packets.
     fn is_masked(self) -> bool
         ensures { result ≡ is_masked self }
     {
         matches!(self, Phase::Scheduled | Phase::Deferred(_) | Phase::Fired)
     }
 
-    /// Whether an interrupt is to be taken up.
+    /// Returns whether an interrupt has to be taken up.
     fn asks(self) -> bool
         ensures { result ≡ asks self }
     {
@@ -120,7 +120,7 @@ impl Phase {
         }
     }
 
-    /// The phase after its timer expired.
+    /// Returns the phase after its timer expired.
     fn expired(self) -> Phase
         ensures { result ≡ expired_phase self }
     {
@@ -133,7 +133,7 @@ impl Phase {
 }
 
 impl Device {
-    /// A device with an empty ring for so many packets.
+    /// Returns a device with an empty ring of this capacity.
     pub(crate) fn new(alloc: Global, capacity: u32) -> Result<Device, AllocError>
         ensures { IfOk result (λ d. d ≡ opened capacity) }
     {
@@ -150,21 +150,21 @@ impl Device {
         })
     }
 
-    /// Whether it asks for an interrupt, or its NAPI timer expired.
+    /// Returns whether it asks for an interrupt, or its NAPI timer expired.
     pub(crate) fn asks(&self) -> bool
         ensures { result ≡ asks self.now.phase }
     {
         self.phase.asks()
     }
 
-    /// Whether its card doesn't notify of packets.
+    /// Returns whether its card doesn't notify of packets.
     pub(crate) fn is_masked(&self) -> bool
         ensures { result ≡ is_masked self.now.phase }
     {
         self.phase.is_masked()
     }
 
-    /// Whether its NAPI timer expired.
+    /// Returns whether its NAPI timer expired.
     pub(crate) fn is_fired(&self) -> bool
         ensures { result ≡ is_fired self.now.phase }
     {
@@ -178,14 +178,14 @@ impl Device {
         self.phase.timer()
     }
 
-    /// Its timer expires.
+    /// Expires its timer.
     pub(crate) fn expire(&mut self)
         ensures { self.new ≡ expired self.old }
     {
         self.phase = self.phase.expired();
     }
 
-    // The card has one more frame: it asks for an interrupt at once, or a while later.
+    // Counts one more frame for the card, which asks for an interrupt now or some time later.
     #[tactic(auto, unfolding(crate::specs::Device::notified))]
     fn notify(&mut self, moment: u64, settings: &Settings)
         ensures { self.new ≡ notified moment settings.now self.old }
@@ -199,7 +199,8 @@ impl Device {
         }
     }
 
-    /// A packet arrives: a full ring drops it, else a card that isn't masked notifies of it. Returns whether the ring took it.
+    /// Handles the arrival of a packet: a full ring drops it; otherwise a card that isn't masked notifies of it. Returns
+    /// whether the ring took it.
     #[tactic(auto, unfolding(crate::specs::Device::after_packet))]
     pub(crate) fn arrive(&mut self, moment: u64, settings: &Settings) -> bool
         ensures device { self.new ≡ after_packet moment settings.now self.old }
@@ -216,7 +217,7 @@ impl Device {
         true
     }
 
-    /// Its interrupt is taken up, or that of its NAPI timer.
+    /// Takes up its interrupt, or that of its NAPI timer.
     #[tactic(auto, unfolding(crate::specs::Device::interrupted))]
     pub(crate) fn interrupt(&mut self, polling: bool)
         ensures { self.new ≡ interrupted polling self.old }
@@ -234,7 +235,7 @@ impl Device {
         self.counts.interrupts = self.counts.interrupts.saturating_add(1);
     }
 
-    /// An interrupt without polling ends: it is raised again if the ring isn't empty.
+    /// Ends an interrupt without polling: it is raised again if the ring isn't empty.
     pub(crate) fn raise_again(&mut self)
         ensures { self.new ≡ raised_again self.old }
     {
@@ -243,7 +244,7 @@ impl Device {
         }
     }
 
-    /// Takes the packet that a poll takes next. With a backlog, the whole ring is taken at once when nothing taken is left
+    /// Takes the next packet of a poll. With a backlog, the whole ring is taken at once when none of those taken before is left
     /// (`process_backlog`).
     pub(crate) fn take_next(&mut self, backlog: bool) -> Option<u64>
         ensures packet { result ≡ next_packet backlog self.old }
@@ -258,7 +259,7 @@ impl Device {
         self.taken.pop_front()
     }
 
-    /// A packet that arrived then is delivered. Fails if there is no memory to count its wait; then nothing is counted.
+    /// Delivers a packet that arrived at `came`. Fails if the allocation for counting its wait fails; then nothing is counted.
     pub(crate) fn deliver(&mut self, now: u64, came: u64) -> Result<(), AllocError>
         ensures device { OnOk result (self.new ≡ delivered now came self.old) }
         ensures phase { self.new.phase ≡ self.old.phase }
@@ -268,7 +269,7 @@ impl Device {
         Ok(())
     }
 
-    // It is unmasked, unless its interrupt is deferred (`napi_complete_done`).
+    // Unmasks it, unless its interrupt is deferred (`napi_complete_done`).
     #[tactic(auto, unfolding(crate::specs::Device::completed))]
     fn complete(&mut self, now: u64, given: u32, settings: &Settings)
         ensures { self.new ≡ completed now given settings.now self.old }
@@ -286,7 +287,8 @@ impl Device {
         };
     }
 
-    /// A poll ends that gave so many packets. With the whole weight the device is to be polled again, else it completes.
+    /// Ends a poll that processed this many packets. After one of the whole weight the device is polled again; otherwise it
+    /// completes.
     #[tactic(auto, unfolding(crate::specs::Device::polled))]
     pub(crate) fn end_poll(&mut self, now: u64, given: u32, settings: &Settings)
         ensures { self.new ≡ polled now given settings.now self.old }

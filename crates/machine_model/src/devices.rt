@@ -22,16 +22,17 @@ pub struct Timer {
     pub device: u32,
 }
 
-/// What a processor asks for at each step. It is kept as its devices change, because a search goes through all of them.
+/// The requests that a processor reads at each step. They are cached as its devices change, because a search goes through all
+/// of them.
 #[derive(Clone, Copy)]
 pub(crate) struct Pending {
-    /// The lowest device that asks for an interrupt.
+    /// Returns the lowest device that asks for an interrupt.
     pub(crate) lowest: Option<usize>,
     /// The soonest timer.
     pub(crate) soonest: Option<Timer>,
 }
 
-/// The devices of a processor, each at its number there; each is made by its first packet.
+/// The devices of a processor, each at its number there; each is made when its first packet arrives.
 #[derive(Drop)]
 pub(crate) struct Devices {
     places: Vec<Option<Device>>,
@@ -51,7 +52,7 @@ impl Model for Devices {
         × (d.pending ≡ pending_of d.places.items) };
 }
 
-// Whether the device in this place, if there is one, asks for an interrupt.
+// Returns whether the device in this entry, if there is one, asks for an interrupt.
 fn asks(place: &Option<Device>) -> bool
     ensures { result ≡ asks_at place.now }
 {
@@ -61,7 +62,7 @@ fn asks(place: &Option<Device>) -> bool
     }
 }
 
-// The timer of the device in this place, if there is one and one is set.
+// Returns the timer of the device in this entry, if there is one and one is set.
 fn timer_in(place: &Option<Device>, device: u32) -> Option<Timer>
     ensures { result ≡ timer_at device place.now }
 {
@@ -69,7 +70,7 @@ fn timer_in(place: &Option<Device>, device: u32) -> Option<Timer>
     Some(Timer { at, device })
 }
 
-// The sooner of two timers, the first of two at one time.
+// Returns the sooner of two timers, the first if they are equal.
 fn sooner(first: Option<Timer>, second: Option<Timer>) -> Option<Timer>
     ensures { result ≡ sooner first second }
 {
@@ -80,7 +81,7 @@ fn sooner(first: Option<Timer>, second: Option<Timer>) -> Option<Timer>
     }
 }
 
-// The soonest timer of the devices in these places.
+// Returns the soonest timer of the devices in these entries.
 fn soonest_in(places: &[Option<Device>]) -> Option<Timer>
     requires { length places.now ≤ 64 }
     ensures { result ≡ soonest_from 0 places.now }
@@ -94,7 +95,7 @@ fn soonest_in(places: &[Option<Device>]) -> Option<Timer>
     best
 }
 
-// The sooner of two timers, and of two at one time that of the lower device.
+// Returns the sooner of two timers, and of two at the same time that of the lower device.
 fn earlier(first: Option<Timer>, second: Option<Timer>) -> Option<Timer>
     ensures { result ≡ earlier first second }
 {
@@ -108,14 +109,14 @@ fn earlier(first: Option<Timer>, second: Option<Timer>) -> Option<Timer>
     }
 }
 
-// The lowest device that asks for an interrupt.
+// Returns the lowest device that asks for an interrupt.
 fn lowest_in(places: &[Option<Device>]) -> Option<usize>
     ensures { result ≡ position asks_at places.now }
 {
     places.iter().position(|place| asks(place))
 }
 
-// Whether the lowest device that asks is below this one.
+// Returns whether the lowest device that asks is below this one.
 fn is_below(lowest: Option<usize>, number: usize) -> bool
     ensures { result ≡ option_map_or (λ other. nat_lt other number) lowest false }
 {
@@ -125,7 +126,7 @@ fn is_below(lowest: Option<usize>, number: usize) -> bool
     }
 }
 
-// Whether a timer is that of this device.
+// Returns whether a timer is that of this device.
 fn is_of(timer: Option<Timer>, number: usize) -> bool
     ensures { result ≡ option_map_or (λ t. t.device == number) timer false }
 {
@@ -135,7 +136,7 @@ fn is_of(timer: Option<Timer>, number: usize) -> bool
     }
 }
 
-// Whether the two are one timer.
+// Returns whether the two are the same timer.
 fn is_same(first: Option<Timer>, second: Option<Timer>) -> bool
     ensures { result ≡ true → first ≡ second }
 {
@@ -145,7 +146,7 @@ fn is_same(first: Option<Timer>, second: Option<Timer>) -> bool
     }
 }
 
-// The lowest device that asks, after this one changed.
+// Returns the lowest device that asks, after this one changed.
 fn lowest_after(lowest: Option<usize>, number: usize, places: &[Option<Device>]) -> Option<usize>
     requires { number < length places.now }
     ensures { (change : DeviceView → DeviceView) (before : Devices)
@@ -165,7 +166,7 @@ fn lowest_after(lowest: Option<usize>, number: usize, places: &[Option<Device>])
     lowest
 }
 
-// The soonest timer, after this device changed.
+// Returns the soonest timer, after this device changed.
 fn soonest_after(soonest: Option<Timer>, number: usize, places: &[Option<Device>]) -> Option<Timer>
     requires number { number < length places.now }
     requires few { length places.now ≤ 64 }
@@ -184,7 +185,7 @@ fn soonest_after(soonest: Option<Timer>, number: usize, places: &[Option<Device>
     earlier(soonest, own)
 }
 
-// What is kept of the devices, after this one changed.
+// Returns the cached requests, after this device changed.
 fn pending_after(pending: Pending, number: usize, places: &[Option<Device>]) -> Pending
     requires number { number < length places.now }
     requires few { length places.now ≤ 64 }
@@ -199,7 +200,7 @@ fn pending_after(pending: Pending, number: usize, places: &[Option<Device>]) -> 
     }
 }
 
-// Makes the places up to a number.
+// Adds empty entries up to a number.
 fn make_place(places: &mut Vec<Option<Device>>, number: usize) -> Result<(), AllocError>
     requires number { number < 64 }
     requires few { length places.old.items ≤ 64 }
@@ -224,7 +225,7 @@ impl Devices {
     ghost use Rattle.machine_model.specs.Devices.{asks_at, has_room_at, is_fired_at, next_packet_at, soonest_from, with_device};
     ghost use Rattle.machine_model.specs.Kept.{all_scheduled};
 
-    /// No devices.
+    /// Returns an empty table.
     pub(crate) fn new(alloc: Global) -> Devices
         ensures { result ≡ [] }
     {
@@ -237,7 +238,7 @@ impl Devices {
         }
     }
 
-    /// The lowest device that asks for an interrupt.
+    /// Returns the lowest device that asks for an interrupt.
     pub(crate) fn lowest_asking(&self) -> Option<usize>
         ensures lowest { result ≡ position asks_at self.now }
         ensures below { IfSome result (λ number. number < 64) }
@@ -252,7 +253,7 @@ impl Devices {
         self.pending.soonest
     }
 
-    /// Makes a device at its first packet, with a ring for so many packets. Fails if there is no memory for it.
+    /// Makes a device when its first packet arrives, with a ring of this capacity. Fails if the allocation fails.
     #[tactic(auto, unfolding(crate::specs::Devices::with_device))]
     pub(crate) fn open(
         &mut self,
@@ -271,7 +272,7 @@ impl Devices {
         Ok(())
     }
 
-    /// A packet arrives for a device. Returns whether its ring took it.
+    /// Handles the arrival of a packet for a device. Returns whether its ring took it.
     pub(crate) fn arrive(&mut self, number: usize, moment: u64, settings: &Settings) -> bool
         ensures devices { self.new ≡ changed (after_packet moment settings.now) number self.old }
         ensures room { result ≡ has_room_at (at number self.old) }
@@ -289,7 +290,7 @@ impl Devices {
         false
     }
 
-    /// The timer of a device expires.
+    /// Expires the timer of a device.
     pub(crate) fn expire(&mut self, number: usize)
         ensures { self.new ≡ changed expired number self.old }
     {
@@ -301,7 +302,7 @@ impl Devices {
         }
     }
 
-    /// Whether the NAPI timer of a device expired.
+    /// Returns whether the NAPI timer of a device expired.
     pub(crate) fn is_fired(&self, number: usize) -> bool
         ensures { result ≡ is_fired_at (at number self.now) }
     {
@@ -313,7 +314,7 @@ impl Devices {
         false
     }
 
-    /// The interrupt of a device is taken up.
+    /// Takes up the interrupt of a device.
     pub(crate) fn interrupt(&mut self, number: usize, polling: bool)
         ensures devices { self.new ≡ changed (interrupted polling) number self.old }
         ensures few { length self.new ≤ 64 }
@@ -326,7 +327,7 @@ impl Devices {
         }
     }
 
-    /// An interrupt of a device ends that delivered a packet without polling.
+    /// Ends an interrupt of a device that delivered a packet without polling.
     pub(crate) fn raise_again(&mut self, number: usize)
         ensures { self.new ≡ changed raised_again number self.old }
     {
@@ -338,7 +339,7 @@ impl Devices {
         }
     }
 
-    /// Takes the packet of a device that a poll takes next.
+    /// Takes the next packet of a device for a poll.
     pub(crate) fn take_next(&mut self, number: usize, backlog: bool) -> Option<u64>
         ensures packet { result ≡ next_packet_at backlog (at number self.old) }
         ensures devices { self.new ≡ changed (without_next backlog) number self.old }
@@ -351,7 +352,7 @@ impl Devices {
         None
     }
 
-    /// A packet of a device that arrived then is delivered. Fails if there is no memory to count its wait.
+    /// Delivers a packet of a device that arrived at `came`. Fails if the allocation for counting its wait fails.
     pub(crate) fn deliver(&mut self, number: usize, now: u64, came: u64) -> Result<(), AllocError>
         ensures devices { OnOk result (self.new ≡ changed (delivered now came) number self.old) }
         ensures scheduled { all_scheduled self.new ≡ all_scheduled self.old }
@@ -364,7 +365,7 @@ impl Devices {
         Ok(())
     }
 
-    /// A poll of a device ends that gave so many packets.
+    /// Ends a poll of a device that processed this many packets.
     pub(crate) fn end_poll(&mut self, number: usize, now: u64, given: u32, settings: &Settings)
         ensures { self.new ≡ changed (polled now given settings.now) number self.old }
     {

@@ -1,9 +1,9 @@
-//! Behind the door `machine`: a receiving machine in time, over the driven runs of one thread.
+//! Internal crate of the facade `machine`: a receiving machine over time, with polling runs of one thread.
 //!
-//! `specs/` is its definition: `Waits` has how waits are counted, `Device`, `Devices`, `Softirq` and `Application` what happens to
-//! a device, a poll list and an application, `Processor` what a processor takes up and what happens as time passes, `Machine` what
-//! arrivals make of all. `Shown` and `Kept` relate the program to it. Crates that state laws of the definition name its types
-//! (`Phase`, `Work` and the like), which are exported for that.
+//! `specs/` is its definition: `Waits` has how waits are counted, `Device`, `Devices`, `Softirq` and `Application` what happens
+//! to a device, a poll list and an application, `Processor` what a processor takes up and what happens as time passes,
+//! `Machine` the effect of arrivals on all. `Shown` and `Kept` relate the program to it. Crates that state laws of the
+//! definition name its types (`Phase`, `Work` and others), which are exported for that.
 #![tactic(auto)]
 
 mod application;

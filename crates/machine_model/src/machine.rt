@@ -10,7 +10,7 @@ use machine_words::Settings;
 use std::alloc::{AllocError, Global};
 use std::marker::Model;
 
-/// A receiving machine in time: processors that are independent of each other.
+/// A receiving machine over time: processors that are independent of each other.
 #[derive(Drop)]
 pub struct Machine {
     processors: Vec<Processor>,
@@ -27,7 +27,7 @@ impl Model for Machine {
 impl Machine {
     ghost use Rattle.std.specs.Prelude.{◌≡◌, ◌≤◌, ◌<◌, ◌*◌, Some, IfOk, OnOk, length, slice_get};
 
-    /// A machine at which no packet arrived yet. Fails if there is no memory for it.
+    /// Returns a machine at which no packet arrived yet. Fails if an allocation fails.
     pub fn new(alloc: Global, settings: &Settings) -> Result<Machine, AllocError>
         ensures machine { IfOk result (λ m. m ≡ opened_machine settings.now) }
         ensures processors { IfOk result (λ m. length m ≡ settings.now.processors) }
@@ -39,8 +39,9 @@ impl Machine {
         Ok(Machine { processors })
     }
 
-    /// A packet arrives for a device (1 to 64 for each processor) at a moment, in nanoseconds. Before it its processor advances to that
-    /// moment. Fails if there is no memory for the device or for counting a wait; the machine can't be used after that.
+    /// Handles the arrival of a packet for a device (1 to 64 for each processor) at a time in nanoseconds. Its processor first
+    /// advances to that time. Fails if an allocation for the device or for counting a wait fails; the machine can't be used
+    /// after that.
     pub fn arrive(&mut self, alloc: Global, moment: u64, device: u32) -> Result<(), AllocError>
         requires { (1 ≤ device) × (device ≤ 64 * length self.old) }
         ensures arrives { OnOk result (Arrives moment device self.old self.new) }
@@ -52,8 +53,8 @@ impl Machine {
         Ok(())
     }
 
-    /// After the last packet: each processor advances until nothing is left, and then its application goes on until it sleeps. Fails
-    /// if there is no memory for counting a wait; the machine can't be used after that.
+    /// Ends the run after the last packet: each processor advances until nothing is left, and then its application advances
+    /// until it sleeps. Fails if an allocation for counting a wait fails; the machine can't be used after that.
     pub fn finish(&mut self) -> Result<(), AllocError>
         ensures finishes { OnOk result (Finishes self.old self.new) }
         ensures processors { length self.new ≡ length self.old }
@@ -64,7 +65,7 @@ impl Machine {
         Ok(())
     }
 
-    /// What is reported of a device; None if no packet arrived for it.
+    /// Returns what is reported of a device; `None` if no packet arrived for it.
     pub fn device(&self, device: u32) -> Option<DeviceReport>
         requires { (1 ≤ device) × (device ≤ 64 * length self.now) }
         ensures { result ≡ device_report device self.now }
@@ -74,7 +75,7 @@ impl Machine {
         self.processors[number % count].device(number / count)
     }
 
-    /// What is reported of a processor, by its number from 0.
+    /// Returns what is reported of a processor, by its number from 0.
     pub fn processor(&self, number: usize) -> ProcessorReport
         requires { number < length self.now }
         ensures { Some result ≡ option_map processor_report (slice_get self.now number) }

@@ -23,21 +23,21 @@ use poll_runs::{Next, Once};
 use std::alloc::{AllocError, Global};
 use std::marker::Model;
 
-/// A packet that a poll took: its device, when it arrived, and how many packets the poll gave before it.
+/// A packet that a poll took: its device, when it arrived, and how many packets the poll processed before it.
 #[derive(Clone, Copy, Debug, PartialEq, Eq)]
 pub struct InHand {
     /// The number of its device.
     pub device: u32,
     /// When it arrived, in nanoseconds.
     pub came: u64,
-    /// The packets that its poll gave before it.
+    /// The packets that its poll processed before it.
     pub given: u32,
 }
 
 /// A piece of work of a processor.
 #[derive(Clone, Copy, Debug, PartialEq, Eq)]
 pub enum Work {
-    /// Nothing is under way.
+    /// No work is in progress.
     Nothing,
     /// The interrupt of a device.
     Interrupt(u32),
@@ -49,12 +49,12 @@ pub enum Work {
     Use(u64),
 }
 
-/// What is left of a use that was interrupted: when its packet arrived, and the time that it still takes.
+/// What is left of a use that was interrupted: when its packet arrived, and the remaining time.
 #[derive(Clone, Copy, Debug, PartialEq, Eq)]
 pub struct Rest {
     /// When its packet arrived, in nanoseconds.
     pub came: u64,
-    /// The time that it still takes, in nanoseconds.
+    /// The remaining time, in nanoseconds.
     pub left: u64,
 }
 
@@ -63,13 +63,13 @@ pub struct Rest {
 pub enum Upcoming {
     /// Nothing.
     Never,
-    /// The work under way ends.
+    /// The work in progress ends.
     Ends,
     /// A timer expires.
     Expires(Timer),
 }
 
-/// What was counted of a processor. Times are in nanoseconds.
+/// The counts of a processor. Times are in nanoseconds.
 #[derive(Clone, Copy, Debug, PartialEq, Eq)]
 pub struct ProcessorCounts {
     /// The interrupts of its devices.
@@ -80,13 +80,13 @@ pub struct ProcessorCounts {
     pub runs: u64,
     /// The polls, of runs and of threads.
     pub polls: u64,
-    /// The packets that the polls gave.
+    /// The packets that the polls processed.
     pub work: u64,
-    /// The runs that ended before all was polled (`time_squeeze`).
+    /// The runs that ended before everything was polled (`time_squeeze`).
     pub squeezed: u64,
-    /// Those of them that ended by time only.
+    /// Runs among them that ended only by time.
     pub late: u64,
-    /// The packets that a full socket refused.
+    /// The packets that a full socket dropped.
     pub refused: u64,
     /// The time of interrupts and of waking up.
     pub interrupt_time: u64,
@@ -99,18 +99,18 @@ pub struct ProcessorCounts {
 /// What is reported of a processor.
 #[derive(Clone, Copy, Debug, PartialEq, Eq)]
 pub struct ProcessorReport {
-    /// What was counted.
+    /// The counts.
     pub counts: ProcessorCounts,
     /// Its clock, in nanoseconds.
     pub end: u64,
     /// The waits of the packets that were used, from arrival to the end of the use.
     pub waits: WaitCounts,
-    /// The application, if it has a processor of its own.
+    /// The application, if it has its own processor.
     pub application: Option<ApplicationReport>,
 }
 
 impl ProcessorCounts {
-    /// Nothing was counted.
+    /// Zero counts.
     pub const NONE: ProcessorCounts = ProcessorCounts {
         interrupts: 0,
         timers: 0,
@@ -175,21 +175,21 @@ impl Model for Processor {
     ghost invariant = { λ p. Kept p.settings p.work p.devices p.softirq };
 }
 
-// Whether there is polling, and not interrupts only.
+// Returns whether there is polling, and not only interrupts.
 fn is_polling(settings: &Settings) -> bool
     ensures { result ≡ is_polling settings.now }
 {
     settings.budget != 0
 }
 
-// How a poll ends that gave its whole weight, or less.
+// Returns how a poll ends that used its whole weight, or less.
 fn next_after(full: bool) -> Next
     ensures { result ≡ (if full then Repoll else Gone) }
 {
     if full { Next::Repoll } else { Next::Gone }
 }
 
-// When work ends that begins at this time and takes so long.
+// Returns when work ends that begins at this time and takes this long.
 fn end_after(clock: u64, time: u32) -> u64
     ensures { result ≡ held (clock + time) }
 {
@@ -197,7 +197,7 @@ fn end_after(clock: u64, time: u32) -> u64
 }
 
 impl Processor {
-    // The instance of a device is scheduled (`____napi_schedule`).
+    // Schedules the instance of a device (`____napi_schedule`).
     fn schedule(&mut self, number: u32) -> Result<(), AllocError>
         requires work { self.old.work ≡ Nothing }
         requires polling { is_polling self.old.settings ≡ true }
@@ -213,7 +213,7 @@ impl Processor {
         }
     }
 
-    // An interrupt is taken up, of a card or of a NAPI timer.
+    // Takes up an interrupt, of a card or of a NAPI timer.
     #[tactic(auto, unfolding(crate::specs::Processor::interrupts))]
     fn interrupt(&mut self, number: u32) -> Result<(), AllocError>
         requires work { self.old.work ≡ Nothing }
@@ -267,7 +267,7 @@ impl Processor {
         }
     }
 
-    // The rest of an interrupted use, the first task, or the application.
+    // Continues with the rest of an interrupted use, the first task, or the application.
     fn leave_softirq(&mut self)
         requires { self.old.work ≡ Nothing }
         ensures { self.new ≡ leaves_softirq self.old.rest self.old }
@@ -282,7 +282,7 @@ impl Processor {
         }
     }
 
-    // A run begins and makes its first poll.
+    // Begins a run and makes its first poll.
     #[tactic(auto, unfolding(crate::specs::Processor::begins_run))]
     fn begin_run(&mut self)
         requires work { self.old.work ≡ Nothing }
@@ -304,7 +304,7 @@ impl Processor {
         }
     }
 
-    // No run is under way: the list, or what follows softirqs.
+    // Without a run in progress: continues with the list, or with what follows softirqs.
     #[tactic(auto, unfolding(crate::specs::Processor::rests))]
     fn rest(&mut self)
         requires work { self.old.work ≡ Nothing }
@@ -318,7 +318,7 @@ impl Processor {
         }
     }
 
-    // The run ends.
+    // Ends the run.
     #[tactic(auto, unfolding(crate::specs::Processor::ends_run))]
     fn end_run(&mut self, late: bool)
         requires { self.old.work ≡ Nothing }
@@ -335,7 +335,7 @@ impl Processor {
         self.counts.late = self.counts.late.saturating_add(u64::from(late && !spent));
     }
 
-    // A run is under way: its end or its next poll.
+    // With a run in progress: ends it or makes its next poll.
     #[tactic(auto, unfolding(crate::specs::Processor::goes_on))]
     fn go_on(&mut self)
         requires { self.old.work ≡ Nothing }
@@ -359,7 +359,7 @@ impl Processor {
         }
     }
 
-    // Takes up the first work that there is, unless some is under way.
+    // Takes up the first work that there is, unless some is in progress.
     #[tactic(auto, unfolding(crate::specs::Processor::takes_up))]
     fn take_up(&mut self) -> Result<(), AllocError>
         ensures { OnOk result (self.new ≡ takes_up self.old) }
@@ -378,7 +378,7 @@ impl Processor {
         Ok(())
     }
 
-    // A packet of a device is delivered, and the application is runnable if it took it.
+    // Delivers a packet of a device, and makes the application runnable if it took it.
     #[tactic(auto, unfolding(crate::specs::Processor::delivers))]
     fn deliver(&mut self, number: u32, came: u64) -> Result<(), AllocError>
         ensures { OnOk result (self.new ≡ delivers number came self.old) }
@@ -397,7 +397,7 @@ impl Processor {
         Ok(())
     }
 
-    // An interrupt without polling delivers the oldest packet.
+    // Delivers the oldest packet by an interrupt without polling.
     #[tactic(auto, unfolding(crate::specs::Processor::ends_interrupt))]
     fn end_interrupt(&mut self, number: u32) -> Result<(), AllocError>
         requires { is_polling self.old.settings ≡ false }
@@ -410,7 +410,7 @@ impl Processor {
         Ok(())
     }
 
-    // A poll ends that gave so many packets.
+    // Ends a poll that processed this many packets.
     #[tactic(auto, unfolding(crate::specs::Processor::ends_poll))]
     fn end_poll(&mut self, number: u32, given: u32) -> Result<(), AllocError>
         requires polled { polled_by self.old.work ≡ Some number }
@@ -433,7 +433,7 @@ impl Processor {
         Ok(())
     }
 
-    // A poll that gave so many packets looks for the next one.
+    // Takes the next packet for a poll that processed this many packets.
     #[tactic(auto, unfolding(crate::specs::Processor::looks))]
     fn look(&mut self, number: u32, given: u32) -> Result<(), AllocError>
         requires polled { polled_by self.old.work ≡ Some number }
@@ -455,7 +455,7 @@ impl Processor {
         self.end_poll(number, given)
     }
 
-    // What is under way ends.
+    // Ends the work in progress.
     #[tactic(auto, unfolding(crate::specs::Processor::ends_current))]
     fn end_current(&mut self) -> Result<(), AllocError>
         ensures { OnOk result (self.new ≡ ends_current self.old) }
@@ -484,7 +484,7 @@ impl Processor {
         Ok(())
     }
 
-    // A use is interrupted, and what is left of it is set aside.
+    // Interrupts a use, and sets aside what is left of it.
     fn set_aside(&mut self, moment: u64)
         ensures { self.new ≡ set_aside moment self.old.work self.old }
     {
@@ -498,7 +498,7 @@ impl Processor {
         }
     }
 
-    // An idle processor goes on at that time, or later if it is woken by an interrupt.
+    // Advances an idle processor to that time, or later if it is woken by an interrupt.
     fn wake(&mut self, moment: u64, asked: bool)
         ensures { self.new ≡ woken moment asked self.old }
     {
@@ -511,7 +511,7 @@ impl Processor {
         }
     }
 
-    // A device may ask for an interrupt: it disturbs an idle processor, and a use.
+    // Disturbs an idle processor, and a use, if a device asks for an interrupt.
     #[tactic(auto, unfolding(crate::specs::Processor::disturbed))]
     fn disturb(&mut self, moment: u64) -> Result<(), AllocError>
         ensures { OnOk result (self.new ≡ disturbed moment self.old) }
@@ -538,7 +538,7 @@ impl Processor {
         }
     }
 
-    // What happens next happens.
+    // Makes what happens next.
     #[tactic(auto, unfolding(crate::specs::Processor::step))]
     fn step(&mut self) -> Result<(), AllocError>
         ensures { OnOk result (self.new ≡ step self.old) }
@@ -556,7 +556,7 @@ impl Processor {
         }
     }
 
-    // Whether anything happens at or before that moment if no packet arrives.
+    // Returns whether anything happens at or before that time if no packet arrives.
     fn is_due(&self, moment: u64) -> bool
         ensures due { result ≡ is_due moment self.now }
         ensures kept { IsKept self.now }
@@ -570,7 +570,7 @@ impl Processor {
 }
 
 impl Processor {
-    /// A processor at which nothing happened yet.
+    /// Returns a processor at which nothing happened yet.
     pub(crate) fn new(alloc: Global, settings: &Settings) -> Result<Processor, AllocError>
         ensures { IfOk result (λ p. p ≡ opened_processor settings.now) }
     {
@@ -589,7 +589,7 @@ impl Processor {
         })
     }
 
-    /// Advances to a moment: all happens that happens at or before it.
+    /// Advances to a time: everything happens that happens at or before it.
     pub(crate) fn advance(&mut self, moment: u64) -> Result<(), AllocError>
         ensures { OnOk result (Advances moment self.old self.new) }
     {
@@ -599,7 +599,7 @@ impl Processor {
         Ok(())
     }
 
-    /// A packet arrives for a device of a processor that has advanced to that moment.
+    /// Handles the arrival of a packet for a device of a processor that has advanced to that time.
     #[tactic(auto, unfolding(crate::specs::Processor::arrives))]
     fn come(&mut self, alloc: Global, moment: u64, number: u32) -> Result<(), AllocError>
         requires { number < 64 }
@@ -617,7 +617,7 @@ impl Processor {
         Ok(())
     }
 
-    /// A packet arrives for a device; before it the processor advances to that moment.
+    /// Handles the arrival of a packet for a device; the processor first advances to that time.
     pub(crate) fn arrive(
         &mut self,
         alloc: Global,
@@ -632,7 +632,8 @@ impl Processor {
         Ok(())
     }
 
-    /// After the last packet: the processor advances until nothing is left, and then the application goes on until it sleeps.
+    /// Ends the run after the last packet: the processor advances until nothing is left, and then the application advances
+    /// until it sleeps.
     pub(crate) fn finish(&mut self) -> Result<(), AllocError>
         ensures { OnOk result (FinishesAt self.old self.new) }
     {
@@ -642,7 +643,7 @@ impl Processor {
         Ok(())
     }
 
-    /// What is reported of a device, if a packet arrived for it.
+    /// Returns what is reported of a device, if a packet arrived for it.
     pub(crate) fn device(&self, number: usize) -> Option<DeviceReport>
         ensures { result ≡ option_map report_of (at number self.now.devices) }
     {

@@ -9,7 +9,7 @@ ghost use Rattle.poll_runs.specs.Polls.{is_arrival};
 use poll_runs::{Next, Once, PlainList, PollList, PollingRun};
 use std::marker::Model;
 
-/// The poll list of a processor, and the run under way (`struct softnet_data`).
+/// The poll list of a processor, and the run in progress (`struct softnet_data`).
 #[derive(Drop)]
 pub(crate) struct Softirq {
     list: PlainList,
@@ -39,7 +39,7 @@ impl Softirq {
     ghost use Rattle.std.specs.Option.{option_map_or};
     ghost use Rattle.poll_runs.specs.Polls.{is_arrival};
 
-    /// No numbers, and no run.
+    /// Returns an empty list, without a run.
     pub(crate) fn new() -> Softirq
         ensures { result ≡ record { list = []; run = None; began = 0 } }
     {
@@ -51,14 +51,14 @@ impl Softirq {
         }
     }
 
-    /// Whether a run is under way.
+    /// Returns whether a run is in progress.
     pub(crate) fn is_running(&self) -> bool
         ensures { result ≡ is_some self.now.run }
     {
         self.is_running
     }
 
-    /// Whether the list is empty.
+    /// Returns whether the list is empty.
     pub(crate) fn is_empty(&self) -> bool
         ensures { result ≡ (length self.now.list == 0) }
     {
@@ -93,7 +93,7 @@ impl Softirq {
         self.began = moment;
     }
 
-    /// The number that the run polls next; None if the run is over.
+    /// Returns the number that the run polls next; `None` if the run is over.
     #[tactic(auto, unfolding(crate::specs::Softirq::next_of))]
     pub(crate) fn next(&mut self) -> Option<u32>
         requires { asked_in self.old.run ≡ None }
@@ -106,7 +106,7 @@ impl Softirq {
         self.run.next(&mut self.list)
     }
 
-    /// The poll of the number that is polled ended so.
+    /// Reports the outcome of the poll of that number.
     #[tactic(auto, unfolding(crate::specs::Softirq::polled_once))]
     pub(crate) fn polled(&mut self, once: Once)
         requires asked { is_some (asked_in self.old.run) ≡ true }

@@ -37,7 +37,7 @@ impl Tasks {
     ghost use Rattle.machine_model.specs.declared.tasks.Task.TheVariants.{Thread};
     ghost use Rattle.machine_model.specs.Tasks.{after_first, runnable, with_application};
 
-    /// No tasks.
+    /// Returns an empty list.
     pub(crate) fn new(alloc: Global) -> Tasks
         ensures { result ≡ [] }
     {
@@ -47,7 +47,7 @@ impl Tasks {
         }
     }
 
-    /// Adds a device's thread as the last. Fails if there is no memory for it; then the tasks are unchanged.
+    /// Appends a device's thread. Fails if the allocation fails; then the tasks are unchanged.
     pub(crate) fn push_thread(&mut self, number: u32) -> Result<(), AllocError>
         ensures { OnOk result (self.new ≡ self.old ++ Thread number ∷ []) }
     {
@@ -55,7 +55,7 @@ impl Tasks {
         Ok(())
     }
 
-    /// Adds a device's thread as the first. Fails if there is no memory for it; then the tasks are unchanged.
+    /// Adds a device's thread as the first. Fails if the allocation fails; then the tasks are unchanged.
     pub(crate) fn push_first(&mut self, number: u32) -> Result<(), AllocError>
         ensures { OnOk result (self.new ≡ Thread number ∷ self.old) }
     {
@@ -63,7 +63,7 @@ impl Tasks {
         Ok(())
     }
 
-    /// Adds the application as the last, unless it is there. Fails if there is no memory for it; then the tasks are unchanged.
+    /// Appends the application, unless it is in the list. Fails if the allocation fails; then the tasks are unchanged.
     #[tactic(auto, unfolding(crate::specs::Tasks::with_application))]
     pub(crate) fn push_application(&mut self) -> Result<(), AllocError>
         ensures { OnOk result (self.new ≡ with_application self.old) }
@@ -75,7 +75,8 @@ impl Tasks {
         Ok(())
     }
 
-    /// The task that runs next. An idle application is removed if it is first; a thread is taken out, and the application isn't.
+    /// Returns the task that runs next. An idle application is removed if it is first; a thread is removed, and the application
+    /// isn't.
     pub(crate) fn next(&mut self, idle: bool) -> Option<Task>
         ensures first { result ≡ slice_get (runnable idle self.old) 0 }
         ensures tasks { self.new ≡ after_first (runnable idle self.old) }
@@ -92,7 +93,7 @@ impl Tasks {
         }
     }
 
-    // An idle application is removed if it is first.
+    // Removes an idle application if it is first.
     fn remove_idle(&mut self, idle: bool)
         ensures { self.new ≡ runnable idle self.old }
     {

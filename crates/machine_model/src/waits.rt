@@ -6,17 +6,17 @@ ghost use Rattle.machine_model.specs.Waits.{bucket_of, counted, first_with, leas
 use std::alloc::{AllocError, Global};
 use std::marker::Model;
 
-/// The most buckets that there are.
+/// The number of buckets.
 const BUCKETS: usize = 28672;
 
-/// What the report has of waits, in nanoseconds.
+/// What the report shows of waits, in nanoseconds.
 #[derive(Clone, Copy, Debug, PartialEq, Eq)]
 pub struct WaitCounts {
     /// How many there are.
     pub count: u64,
     /// Their sum divided by their count, rounded down; 0 if there are none.
     pub mean: u64,
-    /// The median: the least wait of the first bucket that has, with those below it, half of them.
+    /// The median: the least wait of the first bucket that, with those below it, has half of them.
     pub wait50: u64,
     /// The 90th percentile.
     pub wait90: u64,
@@ -28,8 +28,8 @@ pub struct WaitCounts {
     pub most: u64,
 }
 
-/// Waits in nanoseconds: how many, their sum, the longest, and how many are in each bucket. It takes memory for the buckets up to
-/// that of the longest wait.
+/// Waits in nanoseconds: how many, their sum, the longest, and how many are in each bucket. It allocates the buckets up to that
+/// of the longest wait.
 #[derive(Drop)]
 pub struct Waits {
     count: u64,
@@ -49,7 +49,7 @@ impl Model for Waits {
     ghost invariant = { λ w. length w.buckets.items ≤ 28672 };
 }
 
-// The bucket of a wait.
+// Returns the bucket of a wait.
 fn bucket_of(wait: u64) -> usize
     ensures bucket { result ≡ bucket_of wait }
     ensures below { result < 28672 }
@@ -58,7 +58,7 @@ fn bucket_of(wait: u64) -> usize
     512 * rest as usize + (wait >> rest) as usize
 }
 
-// The first bucket that has, with those before it, so many waits; the first of all if there are fewer.
+// Returns the first bucket that, with those before it, has this many waits; the first of all if there are fewer.
 fn first_with(buckets: &[u64], mut rank: u64) -> usize
     ensures bucket { result ≡ first_with rank 0 buckets.now }
     ensures below { 0 < length buckets.now → result < length buckets.now }
@@ -73,7 +73,7 @@ fn first_with(buckets: &[u64], mut rank: u64) -> usize
     0
 }
 
-// The least wait of a bucket.
+// Returns the least wait of a bucket.
 fn least_of(bucket: usize) -> u64
     requires { bucket < 28672 }
     ensures { result ≡ least_of bucket }
@@ -97,7 +97,7 @@ fn extend(buckets: &mut Vec<u64>, bucket: usize) -> Result<(), AllocError>
 }
 
 impl Waits {
-    /// No waits, which take no memory.
+    /// Returns zero waits, which don't allocate.
     #[tactic(auto, unfolding(crate::specs::Waits::no_waits))]
     pub fn new(alloc: Global) -> Waits
         ensures { result ≡ no_waits }
@@ -110,7 +110,8 @@ impl Waits {
         }
     }
 
-    /// The least wait of the first bucket that has, with those below it, so many of 1000 of the waits; 0 if there are none.
+    /// Returns the least wait of the first bucket that, with those below it, has this many of 1000 of the waits; 0 if there are
+    /// none.
     pub fn wait_at(&self, share: u32) -> u64
         requires { share ≤ 1000 }
         ensures { result ≡ wait_at share self.now }
@@ -122,7 +123,7 @@ impl Waits {
         least_of(first_with(&self.buckets, rank as u64))
     }
 
-    /// What the report has of them.
+    /// What the report shows of them.
     pub fn summary(&self) -> WaitCounts
         ensures { result ≡ summary_of self.now }
     {
@@ -138,7 +139,7 @@ impl Waits {
         }
     }
 
-    /// Counts one wait more. Fails if there is no memory for the buckets up to its own; then no wait is counted.
+    /// Counts one more wait. Fails if the allocation of the buckets up to its own fails; then no wait is counted.
     #[tactic(auto, unfolding(crate::specs::Waits::counted))]
     pub fn count(&mut self, wait: u64) -> Result<(), AllocError>
         ensures { OnOk result (self.new ≡ counted wait self.old) }

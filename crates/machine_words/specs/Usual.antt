@@ -1,4 +1,4 @@
--- The machine of a program that is run without options.
+-- The default machine: that of a program that is run without options.
 use Rattle.std.specs.Prelude.{◌≡◌, false}
 use Rattle.machine_words.specs.declared.settings.Settings.{Settings}
 

@@ -10,7 +10,7 @@ option_names = codes "processors" ∷ codes "queues" ∷ codes "ring" ∷ codes 
     ∷ codes "threaded" ∷ codes "apart" ∷ codes "app-wake" ∷ codes "interrupt" ∷ codes "poll" ∷ codes "packet" ∷ codes "use"
     ∷ codes "wake" ∷ []
 
--- the number from `low` to `high` that one to ten digits write, or the default if the option isn't given
+-- the number from `low` to `high` that one to ten digits denote, or the default if the option isn't given
 abbrev pub number : ℕ → ℕ → ℕ → Option Text → Option ℕ
 number usual low high given = or_usual usual (number_within 10 low high) given
 
@@ -103,6 +103,6 @@ asked_with value = do
   costs ← costs_with value
   Some (record { sizes = sizes; polling = polling; coalescing = coalescing; tasks = tasks; costs = costs })
 
--- what the arguments ask for, or None if they are refused
+-- what the arguments ask for, or None if they are an error
 abbrev pub asked_for : List Text → Option Asked
 asked_for words = given_by option_names words >>= (λ given. asked_with (λ name. value_of name given))

@@ -1,4 +1,4 @@
-//! Behind the door `machine`: the settings of the receiving machine, and the arguments that ask for them.
+//! Internal crate of the facade `machine`: the settings of the receiving machine, and the arguments that ask for them.
 #![tactic(auto)]
 
 mod settings;

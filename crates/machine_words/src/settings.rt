@@ -6,16 +6,16 @@ pub const MOST_PROCESSORS: u32 = 64;
 /// The most queues of one device.
 pub const MOST_QUEUES: u32 = 64;
 
-/// The most packets that a ring or a socket holds.
+/// The greatest capacity of a ring or a socket, in packets.
 pub const MOST_PLACES: u32 = 65536;
 
-/// The largest budget of a run.
+/// The greatest budget of a run.
 pub const MOST_BUDGET: u32 = 65535;
 
-/// The largest weight of a poll.
+/// The greatest weight of a poll.
 pub const MOST_WEIGHT: u32 = 64;
 
-/// The largest window of a run.
+/// The greatest window of a run.
 pub const MOST_WINDOW: u32 = 65535;
 
 /// The most frames that a card waits for before it interrupts.
@@ -32,7 +32,7 @@ pub const MOST_TIME: u32 = 1000000000;
 pub struct Settings {
     /// Processors, 1 to 64. Queue q belongs to processor (q - 1) mod `processors`.
     pub processors: u32,
-    /// Queues of each device, 1 to 64, each with an instance of its own (`ethtool -L`, RSS). With one, a device is a queue.
+    /// Queues of each device, 1 to 64, each with its own instance (`ethtool -L`, RSS). With one, a device is a queue.
     pub queues: u32,
     /// Packets that a queue's ring holds, 1 to 65536 (`ethtool -G`; with `backlog`, `net.core.netdev_max_backlog`).
     pub ring: u32,
@@ -59,21 +59,21 @@ pub struct Settings {
     pub defer_hard_irqs: u32,
     /// The time of that timer, 0 to 1000000000 (`/sys/class/net/NAME/gro_flush_timeout`, `napi_watchdog`). With 0 there is none.
     pub gro_flush_timeout: u32,
-    /// Whether each device is polled by a thread of its own (`/sys/class/net/NAME/threaded`, `napi_threaded_poll`).
+    /// Whether each device is polled by its own thread (`/sys/class/net/NAME/threaded`, `napi_threaded_poll`).
     pub threaded: bool,
-    /// Whether the application has a processor of its own.
+    /// Whether the application has its own processor.
     pub apart: bool,
     /// The time from waking that application until it runs, 0 to 1000000000. Used with `apart` only.
     pub app_wake: u32,
-    /// What an interrupt takes, 0 to 1000000000.
+    /// The time of an interrupt, 0 to 1000000000.
     pub interrupt: u32,
-    /// What a poll takes before its first packet, 0 to 1000000000.
+    /// The time of a poll before its first packet, 0 to 1000000000.
     pub poll: u32,
-    /// What each packet of a poll takes, 0 to 1000000000.
+    /// The time of each packet of a poll, 0 to 1000000000.
     pub packet: u32,
-    /// What the application takes for a packet, 0 to 1000000000.
+    /// The time that the application uses a packet, 0 to 1000000000.
     pub use_time: u32,
-    /// What it takes to wake an idle processor, 0 to 1000000000. It counts as interrupt time.
+    /// The time to wake an idle processor, 0 to 1000000000. It counts as interrupt time.
     pub wake: u32,
     ghost processors_in: { (1 ≤ processors) × (processors ≤ 64) },
     ghost queues_in: { (1 ≤ queues) × (queues ≤ 64) },

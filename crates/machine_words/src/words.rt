@@ -76,7 +76,7 @@ pub(crate) struct Tasks {
     app_wake: u32,
 }
 
-/// What each piece of work takes.
+/// The time of each kind of work.
 #[derive(Clone, Copy)]
 pub(crate) struct Costs {
     interrupt: u32,
@@ -86,7 +86,7 @@ pub(crate) struct Costs {
     wake: u32,
 }
 
-// The number from `low` to `high` that is given for an option by one to ten digits, or the default.
+// Returns the number from `low` to `high` that one to ten digits of an option denote, or the default.
 fn number_in(matches: &ArgMatches<'_>, name: &str, usual: u32, low: u32, high: u32) -> Option<u32>
     ensures number { result
         ≡ or_usual usual (number_within 10 low high) (value_in matches.now name.now) }
@@ -95,7 +95,7 @@ fn number_in(matches: &ArgMatches<'_>, name: &str, usual: u32, low: u32, high: u
     option_number(matches, name, usual, 10, low, high)
 }
 
-// The time that is given for an option, at most a second, or the default.
+// Returns the time given for an option, at most a second, or the default.
 fn time_in(matches: &ArgMatches<'_>, name: &str, usual: u32) -> Option<u32>
     ensures number { result
         ≡ or_usual usual (number_within 10 0 1000000000) (value_in matches.now name.now) }
@@ -104,7 +104,7 @@ fn time_in(matches: &ArgMatches<'_>, name: &str, usual: u32) -> Option<u32>
     number_in(matches, name, usual, 0, MOST_TIME)
 }
 
-// The 0 or 1 that is given for an option, or the default 0.
+// Returns the 0 or 1 given for an option, or the default 0.
 fn flag_in(matches: &ArgMatches<'_>, name: &str) -> Option<bool>
     ensures { result ≡ flag (value_in matches.now name.now) }
 {
@@ -218,7 +218,7 @@ fn costs_in(matches: &ArgMatches<'_>) -> Option<Costs>
     })
 }
 
-// The machine that the values of the options ask for.
+// Returns the machine that the values of the options ask for.
 fn asked_by(matches: &ArgMatches<'_>) -> Option<Settings>
     ensures { option_map asked_of result ≡ asked_with (value_in matches.now) }
 {
@@ -254,15 +254,16 @@ fn asked_by(matches: &ArgMatches<'_>) -> Option<Settings>
 
 /// Returns the machine that the program's arguments ask for, with the defaults of [`Settings::default`] for the rest.
 ///
-/// An option is `--processors`, `--queues`, `--ring`, `--socket`, `--backlog`, `--budget`, `--weight`, `--window`, `--time-limit`,
-/// `--rx-nsecs`, `--rx-frames`, `--defer-hard-irqs`, `--gro-flush-timeout`, `--threaded`, `--apart`, `--app-wake`, `--interrupt`,
-/// `--poll`, `--packet`, `--use` or `--wake`, each at most once. Its value follows `=` in the same argument, or is the next
-/// argument. A value is one to ten ASCII digits, in the range of its field of [`Settings`]; for a flag it is 0 or 1.
+/// An option is `--processors`, `--queues`, `--ring`, `--socket`, `--backlog`, `--budget`, `--weight`, `--window`,
+/// `--time-limit`, `--rx-nsecs`, `--rx-frames`, `--defer-hard-irqs`, `--gro-flush-timeout`, `--threaded`, `--apart`,
+/// `--app-wake`, `--interrupt`, `--poll`, `--packet`, `--use` or `--wake`, each at most once. Its value follows `=` in the same
+/// argument, or is the next argument. A value is one to ten ASCII digits, in the range of its field of [`Settings`]; for a flag
+/// it is 0 or 1.
 ///
 /// # Errors
 ///
-/// [`WordFault::Usage`] if the arguments aren't so, `--help` among them. [`WordFault::OutOfMemory`] if an allocation failed,
-/// whatever the arguments are.
+/// [`WordFault::Usage`] if the arguments are invalid, which includes `--help`. [`WordFault::OutOfMemory`] if an allocation
+/// fails, whatever the arguments are.
 pub fn parse_words(alloc: Global, words: &[String]) -> Result<Settings, WordFault>
     ensures asked { IfOk result
         (λ asked. asked_for (map string_bytes words.now) ≡ Some (asked_of asked)) }

@@ -1,4 +1,4 @@
-//! Benches, and devices on them. Each answers whether it was refused once.
+//! Benches, and devices on them. Each function returns whether an allocation failed once.
 
 use anyhow::{Result, ensure};
 use device_model::{ReplayBench, SerialBench, SharedBench};
@@ -6,7 +6,7 @@ use poll_engine::Bench;
 use std::alloc::Global;
 use std::sync::Wait;
 
-// Device 2 is attached beside device 1, which has a packet. Where it is refused it isn't attached, and device 1 is as it was.
+// Attaches device 2 after device 1, which has a packet. If an allocation fails, it isn't attached, and device 1 is unchanged.
 fn device_is_attached<B: ReplayBench>(alloc: Global, bench: &mut B) -> Result<bool> {
     let first = bench.attach(alloc, 1, 256, 0).is_err();
     if first {

@@ -1,4 +1,4 @@
-//! Rings, tables, instances and lists. Each answers whether it was refused once.
+//! Rings, tables, instances and lists. Each function returns whether an allocation failed once.
 
 ghost use Rattle.std.specs.Prelude.{◌≡◌, ◌+◌, ℕ, Some, length, slice_get};
 ghost use Rattle.napi_calls.specs.declared.types.Caller.{Caller};
@@ -57,14 +57,14 @@ pub(crate) fn transmit_ring_is_made(alloc: Global) -> Result<bool> {
     Ok(refused)
 }
 
-// Whether a poll of this context gives the packet.
+// Returns whether a poll of this context returns the packet.
 fn gives_packet(mut ctx: RxCtx) -> bool {
     let mut batch = Batch::new();
     ctx.poll(64, &mut batch);
     batch.as_slice() == [PACKET].as_slice()
 }
 
-// The context comes back out of a table, by all its passes.
+// Closes a table with all its passes, and returns whether its context comes back.
 fn ended(table: StateTable, passes: Vec<Pass>) -> bool
     requires passes { (k : ℕ) (p : Pass) → slice_get passes.items k ≡ Some p → IsPassOf table p }
     requires count { length passes.items ≡ controller_of_table table + 1 }
@@ -92,7 +92,7 @@ pub(crate) fn table_is_made(alloc: Global) -> Result<bool> {
     Ok(true)
 }
 
-// The packet is polled of an instance, which is closed then.
+// Polls the packet of an instance, and closes it.
 fn polled(rt: &impl Wait, napi: Napi, mut callers: Vec<Caller>, control: Control<Off>) -> Result<()>
     requires callers { (k : ℕ) (c : Caller) → slice_get callers.items k ≡ Some c
         → IsSeatOf napi c.pass }
@@ -142,7 +142,7 @@ pub(crate) fn instance_is_made(rt: &impl Wait, alloc: Global) -> Result<bool> {
     Ok(true)
 }
 
-// Whether each end's push comes to the list.
+// Returns whether each end's push arrives at the list.
 fn gives_pushes<R: Wait + Drop>(mut list: SharedList<R>, mut ins: Vec<ListIn<R>>) -> bool {
     for k in 0..ins.len() {
         ins[k].push(5);

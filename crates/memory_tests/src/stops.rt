@@ -1,4 +1,4 @@
-//! Where memory is refused to a run no device acts, and where a thread is, the others stop.
+//! If an allocation of a run fails, no device acts, and if the start of a thread fails, the others stop.
 
 ghost use Rattle.std.specs.Prelude.{IfOk, vec_items};
 ghost use Rattle.std.specs.List.{All};
@@ -14,7 +14,7 @@ use std::thread::Threads;
 
 const ACTS: u32 = 10;
 
-// How often a held act looks whether the other device comes. What is refused is refused long before.
+// How often a delayed act looks whether the other device has come. A failure comes long before.
 const LOOKS: u32 = 500_000;
 
 /// A device of ten acts that do nothing, which counts them.
@@ -42,7 +42,7 @@ impl Device for Counting<'_> {
     }
 }
 
-/// Holds the first act of device 1 until device 2 comes to its own, but not for ever.
+/// Delays the first act of device 1 until device 2 reaches its own, but not forever.
 #[derive(Drop)]
 struct HoldsFirst {
     came: AtomicU32,
@@ -83,7 +83,7 @@ fn try_stations<'a>(
     Ok(stations)
 }
 
-// How many acts device 1 made in a run of two devices with a poller each, and what refused the run, if anything did.
+// Returns how many acts device 1 made in a run of two devices with a poller each, and the error of the run, if there is one.
 fn count<R: Threads + Wait + Sync>(rt: &R, alloc: Global) -> Result<(u32, Option<WorkFault>)> {
     let made = [AtomicU32::new(0), AtomicU32::new(0)];
     let gate = HoldsFirst {
@@ -101,7 +101,7 @@ fn count<R: Threads + Wait + Sync>(rt: &R, alloc: Global) -> Result<(u32, Option
     Ok((made[0].load(Ordering::SeqCst), fault))
 }
 
-// What refused the first run, if anything did. Another one goes through then.
+// Returns the error of the first run, if there is one. Another run succeeds then.
 pub(crate) fn acts_are_stopped<R: Threads + Wait + Sync>(
     rt: &R,
     alloc: Global,

@@ -1,4 +1,4 @@
-//! Traces, scripted devices, words and lines. Each answers whether it was refused once.
+//! Traces, scripted devices, arguments and messages. Each function returns whether an allocation failed once.
 
 use anyhow::{Result, ensure};
 use device_model::{ScriptDevice, Trace, TraceFault, opening_of, read_trace};
@@ -28,7 +28,7 @@ pub(crate) fn trace_is_read(alloc: Global) -> Result<bool> {
     Ok(refused)
 }
 
-// Whether the device was refused once.
+// Makes the device, and returns whether an allocation failed once.
 fn device_is_made(alloc: Global, trace: &Trace) -> Result<bool> {
     let opening = opening_of(trace.rows(), 2);
     ensure!(opening.is_some(), "the device isn't opened");

@@ -1,4 +1,4 @@
--- What is counted of a ring, as C has it: the same numbers.
+-- The counts of a ring, as C has them: the same numbers.
 use Rattle.rx_ring.specs.declared.packet.RxCounts.{RxCounts}
 use Rattle.rx_ring.specs.declared.packet.Totals.{Totals}
 use Rattle.napi_c.specs.declared.counts.FqCounts.{FqCounts}

@@ -1,11 +1,11 @@
--- A new shared instance, as its handles lead to it.
+-- A new shared instance, by its handles.
 use Rattle.std.specs.{Prelude.{◌≡◌, true, List, Option, Some, None}, Arc.arc_value, List.All}
 use Rattle.c_handles.specs.{Freeing.is_off, Handles.{IsSeatWith, LeadsToController}, Seats.IsResting}
 use Rattle.c_handles.specs.declared.{body.Body.Body, handle.FqHandle.FqHandle}
 use Rattle.napi_calls.specs.{Instance.first_of_instance, declared.types.Napi.Napi}
 use Rattle.rx_ring.specs.declared.ends.RxCtx.{RxCtx}
 
--- it leads to nothing
+-- it has no object
 abbrev pub IsFree : FqHandle → Type 0
 IsFree handle = handle.held.body ≡ None
 
@@ -16,11 +16,11 @@ abbrev pub LeadsToRestingBody : Napi → Option Body → Type 0
 LeadsToRestingBody n None = ⊥
 LeadsToRestingBody n (Some x) = IsSeatWith (λ s. ((arc_value s.napi).napi ≡ n) × IsResting s.hold) x
 
--- it leads to a caller of this instance, who is in no call
+-- it has a caller of this instance, which owns nothing and isn't within a call
 abbrev pub LeadsToRestingSeat : Napi → FqHandle → Type 0
 LeadsToRestingSeat n handle = LeadsToRestingBody n handle.held.body
 
--- the one leads to the controller of an instance that is off, and each other one to a caller of it
+-- the one has the controller of a disabled instance, and each other one a caller of it
 abbrev pub AreOfOne : FqHandle → List FqHandle → Type 0
 AreOfOne control seats = (n : Napi)
     × LeadsToController (λ c. ((arc_value c.napi).napi ≡ n) × (is_off c.power ≡ true)) control.held.body

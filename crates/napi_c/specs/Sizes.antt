@@ -1,4 +1,4 @@
--- The bytes of each struct of the header's, by its number there.
+-- The size of each struct of the header in bytes, by its number there.
 use Rattle.std.specs.Prelude.{ℕ, ◌==◌, if◌then◌else◌}
 
 abbrev pub size_in : ℕ → ℕ

@@ -1,23 +1,23 @@
-//! What is counted, as C has it.
+//! Counts, as C has them.
 ghost use Rattle.std.specs.Prelude.{◌≡◌};
 ghost use Rattle.napi_c.specs.Counts.{counted, totalled};
 
 use rx_ring::{RxCounts, Totals};
 
-/// What is counted of a ring's polls: `struct fq_counts`.
+/// The counts of a ring's polls: `struct fq_counts`.
 #[repr(C)]
 #[derive(Clone, Copy)]
 pub struct FqCounts {
     /// The polls.
     pub polls: u64,
-    /// The packets that they gave.
+    /// The packets that they returned.
     pub packets: u64,
     /// The bytes of these.
     pub bytes: u64,
 }
 
 impl FqCounts {
-    /// These.
+    /// Returns the counts for C.
     pub(crate) fn of(counts: RxCounts) -> FqCounts
         ensures { result ≡ counted counts }
     {
@@ -29,13 +29,13 @@ impl FqCounts {
     }
 }
 
-/// What is counted of a whole ring: `struct fq_totals`.
+/// The counts of a whole ring: `struct fq_totals`.
 #[repr(C)]
 #[derive(Clone, Copy)]
 pub struct FqTotals {
     /// The packets that were put.
     pub put: u64,
-    /// The packets that polls gave.
+    /// The packets that polls returned.
     pub polled: u64,
     /// The packets that were left in the ring.
     pub left: u64,
@@ -44,7 +44,7 @@ pub struct FqTotals {
 }
 
 impl FqTotals {
-    /// These.
+    /// Returns the counts for C.
     pub(crate) fn of(totals: Totals) -> FqTotals
         ensures { result ≡ totalled totals }
     {

@@ -1,4 +1,4 @@
-//! The two ends of a receive ring of which no instance has one, and what is counted of a ring.
+//! The two ends of a receive ring without an instance, and the counts of a ring.
 ghost use Rattle.std.specs.Prelude.{◌≡◌, ◌≢◌, ◌↔◌, Some, None, IsNone, IsSome};
 ghost use Rattle.rx_ring.specs.declared.packet.RxCounts.{RxCounts};
 ghost use Rattle.rx_ring.specs.ReceiveRing.{IsInOrder, totals_of};
@@ -17,7 +17,7 @@ use rx_ring::{RxCounts, finish};
 use std::alloc::Global;
 use std::mem;
 
-/// Gives a ring's poll end to a second handle: `ring` is its input from then on. In use where that one is set.
+/// Moves a ring's poll end to a second handle; `ring` keeps its input. Returns in use if the second handle is set.
 #[unsafe(no_mangle)]
 pub extern "C" fn fq_ring_split(alloc: Global, ring: &mut FqHandle, ctx: &mut FqHandle) -> u32
     ensures split { (r : Ring) → LeadsTo ring.old r → result ≡ OK
@@ -35,7 +35,7 @@ pub extern "C" fn fq_ring_split(alloc: Global, ring: &mut FqHandle, ctx: &mut Fq
     let Some(mut first) = ring.take(alloc) else {
         return status::BAD_HANDLE;
     };
-    // before memory is taken
+    // before it allocates
     if !matches!(&*first, Body::Ring(_)) {
         ring.put(first);
         return status::BAD_HANDLE;
@@ -55,7 +55,7 @@ pub extern "C" fn fq_ring_split(alloc: Global, ring: &mut FqHandle, ctx: &mut Fq
     status::OK
 }
 
-/// The end of a ring with both ends, as `rx_ring::finish`: its totals, and the handle leads to nothing.
+/// Finishes a ring with both ends, like `rx_ring::finish`: sets its totals; the handle has no object then.
 #[unsafe(no_mangle)]
 pub extern "C" fn fq_ring_finish(alloc: Global, ring: &mut FqHandle, totals: &mut FqTotals) -> u32
     ensures totals { (r : Ring) → LeadsTo ring.old r → (result ≡ OK)
@@ -94,8 +94,8 @@ fn counts_of(at: &Body) -> Option<RxCounts>
     }
 }
 
-/// What is counted of a ring's polls, of whoever has its poll end: a ring, a seat that polls, the controller of a disabled
-/// instance. Not allowed of any other.
+/// Sets the counts of a ring's polls, for an object that has its poll end: a ring, a seat that polls, the controller of a
+/// disabled instance. Not allowed for any other.
 #[unsafe(no_mangle)]
 pub extern "C" fn fq_count(alloc: Global, handle: &mut FqHandle, counts: &mut FqCounts) -> u32
     ensures counts { (c : RxCounts) → CountsAre c handle.old.held.body → (result ≡ OK)
@@ -132,7 +132,7 @@ fn shown_in(at: &Body, shown: &mut FqRingShown) -> u32
     status::OK
 }
 
-/// What the input of a ring shows, of a ring or of its input: its places, and how many packets were put.
+/// Sets the state of a ring's input, for a ring or its input: its capacity, and how many packets were put.
 #[unsafe(no_mangle)]
 pub extern "C" fn fq_ring_show(alloc: Global, handle: &mut FqHandle, shown: &mut FqRingShown) -> u32
     ensures shown { (i : Input) → LeadsToItsInput i handle.old.held.body → (result ≡ OK)

@@ -1,4 +1,4 @@
-//! What a handle leads to is freed.
+//! Freeing the objects of handles.
 ghost use Rattle.std.specs.Prelude.{◌≡◌, ◌≢◌, None};
 ghost use Rattle.c_handles.specs.Freeing.{is_freeable, free_status, abandon_status, move_status};
 ghost use Rattle.c_handles.specs.Status.{OK};
@@ -6,7 +6,7 @@ ghost use Rattle.c_handles.specs.Status.{OK};
 use c_handles::{Body, FqHandle, Hold, Power, status};
 use std::alloc::Global;
 
-// Whether nothing is lost with it but what it holds: nobody waits for it.
+// Returns whether no other object depends on it.
 fn is_freeable(body: &Body) -> bool
     ensures { result ≡ is_freeable body.now }
 {
@@ -18,8 +18,8 @@ fn is_freeable(body: &Body) -> bool
     }
 }
 
-/// Frees what a handle leads to, which then leads to nothing: ok; not allowed, and all stays, of a seat that doesn't rest, of a
-/// controller that isn't off, and of a list in a run; bad handle of one that leads to nothing.
+/// Frees a handle's object: returns ok, and the handle has none then; not allowed, without an effect, for a seat that owns
+/// something, for a controller of an enabled instance, and for a list in a run; bad handle if there is no object.
 #[unsafe(no_mangle)]
 pub extern "C" fn fq_free(alloc: Global, handle: &mut FqHandle) -> u32
     ensures status { result ≡ free_status handle.old.held.body }
@@ -36,7 +36,7 @@ pub extern "C" fn fq_free(alloc: Global, handle: &mut FqHandle) -> u32
     status::OK
 }
 
-/// Frees what a handle leads to, whatever its state is: ok, or bad handle of one that leads to nothing.
+/// Frees a handle's object, whatever its state is: returns ok, or bad handle if there is none.
 #[unsafe(no_mangle)]
 pub extern "C" fn fq_abandon(alloc: Global, handle: &mut FqHandle) -> u32
     ensures status { result ≡ abandon_status handle.old.held.body }
@@ -48,8 +48,7 @@ pub extern "C" fn fq_abandon(alloc: Global, handle: &mut FqHandle) -> u32
     }
 }
 
-/// Lets another handle lead to what this one leads to, which then leads to nothing: ok; bad handle of one that leads to nothing;
-/// in use where the other is set.
+/// Moves a handle's object to another handle: returns ok; bad handle if there is none; in use if the other handle has one.
 #[unsafe(no_mangle)]
 pub extern "C" fn fq_move(alloc: Global, from: &mut FqHandle, to: &mut FqHandle) -> u32
     ensures moved { result ≡ OK → (to.new.held.body ≡ from.old.held.body)

@@ -11,7 +11,7 @@ ghost use Rattle.c_handles.specs.Status.{OK, dql_status};
 use c_handles::status;
 use dql_core::Dql;
 
-/// A byte queue limit in the caller's own memory: `struct fq_dql`. C never writes its fields.
+/// A byte queue limit in the caller's memory: `struct fq_dql`. C never writes its fields.
 #[repr(C)]
 #[derive(Drop)]
 pub struct FqDql {
@@ -19,17 +19,17 @@ pub struct FqDql {
     pub dql: Dql,
 }
 
-/// What [`fq_dql_new`] answers: `struct fq_dql_new`.
+/// The result of [`fq_dql_new`]: `struct fq_dql_new`.
 #[repr(C)]
 #[derive(Drop)]
 pub struct FqDqlNew {
-    /// The limit, or one of 0 where it is refused.
+    /// The limit; zeros if the call failed.
     pub dql: FqDql,
     /// Ok, or bad bounds.
     pub status: u32,
 }
 
-/// A new limit, as `Dql::new`.
+/// Returns a new limit, like `Dql::new`.
 #[unsafe(no_mangle)]
 pub extern "C" fn fq_dql_new(min: u32, max: u32, hold: u64, now: u64) -> FqDqlNew
     ensures ok { result.status ≡ OK → Shows result.dql.dql (opening min max hold now) }
@@ -54,7 +54,7 @@ pub extern "C" fn fq_dql_new(min: u32, max: u32, hold: u64, now: u64) -> FqDqlNe
     }
 }
 
-/// The same, in place of the limit that is there, which stays where it is refused.
+/// The same, in place of an existing limit, which is unchanged if the call fails.
 #[unsafe(no_mangle)]
 pub extern "C" fn fq_dql_renew(dql: &mut FqDql, min: u32, max: u32, hold: u64, now: u64) -> u32
     ensures ok { result ≡ OK → Shows dql.new.dql (opening min max hold now) }
@@ -71,7 +71,7 @@ pub extern "C" fn fq_dql_renew(dql: &mut FqDql, min: u32, max: u32, hold: u64, n
     }
 }
 
-/// As `Dql::queued`.
+/// Like `Dql::queued`.
 #[unsafe(no_mangle)]
 pub extern "C" fn fq_dql_queued(dql: &mut FqDql, count: u32) -> u32
     ensures ok { (s : Limit) → Shows dql.old.dql s → result ≡ OK
@@ -86,7 +86,7 @@ pub extern "C" fn fq_dql_queued(dql: &mut FqDql, count: u32) -> u32
     }
 }
 
-/// As `Dql::completed`.
+/// Like `Dql::completed`.
 #[unsafe(no_mangle)]
 pub extern "C" fn fq_dql_completed(dql: &mut FqDql, count: u32, now: u64) -> u32
     ensures ok { (s : Limit) → Shows dql.old.dql s → result ≡ OK
@@ -101,7 +101,7 @@ pub extern "C" fn fq_dql_completed(dql: &mut FqDql, count: u32, now: u64) -> u32
     }
 }
 
-/// As `Dql::reset`.
+/// Like `Dql::reset`.
 #[unsafe(no_mangle)]
 pub extern "C" fn fq_dql_reset(dql: &mut FqDql, now: u64)
     ensures { (s : Limit) → Shows dql.old.dql s → Shows dql.new.dql (after_reset s now) }
@@ -109,7 +109,7 @@ pub extern "C" fn fq_dql_reset(dql: &mut FqDql, now: u64)
     dql.dql.reset(now);
 }
 
-/// As `Dql::limit`.
+/// Like `Dql::limit`.
 #[unsafe(no_mangle)]
 pub extern "C" fn fq_dql_limit(dql: &FqDql) -> u32
     ensures { (s : Limit) → Shows dql.now.dql s → result ≡ s.limit }
@@ -117,7 +117,7 @@ pub extern "C" fn fq_dql_limit(dql: &FqDql) -> u32
     dql.dql.limit()
 }
 
-/// As `Dql::avail`.
+/// Like `Dql::avail`.
 #[unsafe(no_mangle)]
 pub extern "C" fn fq_dql_avail(dql: &FqDql) -> i64
     ensures { (s : Limit) → Shows dql.now.dql s → result ≡ avail_of s }
@@ -125,7 +125,7 @@ pub extern "C" fn fq_dql_avail(dql: &FqDql) -> i64
     dql.dql.avail()
 }
 
-/// As `Dql::in_flight`.
+/// Like `Dql::in_flight`.
 #[unsafe(no_mangle)]
 pub extern "C" fn fq_dql_in_flight(dql: &FqDql) -> u32
     ensures { (s : Limit) → Shows dql.now.dql s → result ≡ in_flight_of s }

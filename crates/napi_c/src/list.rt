@@ -7,7 +7,7 @@ ghost use Rattle.c_handles.specs.Status.{OK, IN_USE, OUT_OF_MEMORY};
 use c_handles::{Body, FqHandle, FqRunReport, Lister, status};
 use std::alloc::Global;
 
-/// A new poll list of one thread.
+/// Makes a poll list of one thread.
 #[unsafe(no_mangle)]
 pub extern "C" fn fq_list_new(alloc: Global, handle: &mut FqHandle) -> u32
     ensures made { result ≡ OK → LeadsToList IsNewList handle.new.held.body }
@@ -39,7 +39,7 @@ fn push_in(at: &mut Body, id: u32) -> u32
     }
 }
 
-/// Puts a number at the list's tail: ok, in use where it stands there or waits in the run, full where list and run hold 64.
+/// Appends a number to the list: returns ok, in use if list or run has it already, full if they hold 64.
 #[unsafe(no_mangle)]
 pub extern "C" fn fq_list_push(alloc: Global, handle: &mut FqHandle, id: u32) -> u32
     ensures { ListMakes (IsPush id) handle.old result handle.new }
@@ -88,7 +88,7 @@ fn begin_in(at: &mut Body, budget: u32, weight: u32, window: u32) -> u32
     }
 }
 
-/// Begins a run, as `PollingRun::begin`.
+/// Starts a run, like `PollingRun::begin`.
 #[unsafe(no_mangle)]
 pub extern "C" fn fq_run_begin(
     alloc: Global,
@@ -117,7 +117,7 @@ fn next_in(at: &mut Body, id: &mut u32) -> u32
     }
 }
 
-/// The number that is to be polled next: ok, or done where the run is over, as `PollingRun::next`.
+/// Sets the number to poll next: returns ok, or done if the run is over, like `PollingRun::next`.
 #[unsafe(no_mangle)]
 pub extern "C" fn fq_run_next(alloc: Global, handle: &mut FqHandle, id: &mut u32) -> u32
     ensures makes { ListMakes (IsNext id.old id.new) handle.old result handle.new }
@@ -140,7 +140,8 @@ fn polled_in(at: &mut Body, work: u32, next: u32) -> u32
     }
 }
 
-/// What the poll did, as `PollingRun::polled`. In use where its number comes back to a list on which it stands.
+/// Reports what the poll did, like `PollingRun::polled`. Returns in use if its number would return to a list that has it
+/// already.
 #[unsafe(no_mangle)]
 pub extern "C" fn fq_run_polled(alloc: Global, handle: &mut FqHandle, work: u32, next: u32) -> u32
     ensures { ListMakes (IsPolled work next) handle.old result handle.new }
@@ -163,7 +164,7 @@ fn end_in(at: &mut Body, report: &mut FqRunReport) -> u32
     }
 }
 
-/// Ends the run, as `PollingRun::end`.
+/// Ends the run, like `PollingRun::end`.
 #[unsafe(no_mangle)]
 pub extern "C" fn fq_run_end(alloc: Global, handle: &mut FqHandle, report: &mut FqRunReport) -> u32
     ensures makes { ListMakes (IsEnd report.old report.new) handle.old result handle.new }

@@ -1,8 +1,8 @@
-//! The version and the names of numbers, for callers that have no inline functions of C's header.
+//! The version and the names of numbers, for callers that can't use the inline functions of C's header.
 ghost use Rattle.std.specs.Prelude.{◌≡◌, ◌≤◌, length};
 
-// Writes a text and a 0 behind it, where there is room for both, and answers its length.
-fn write(text: &[u8], to: &mut [u8]) -> usize
+/// Writes a text and a 0 after it, if there is room for both, and returns the text's length.
+pub fn write(text: &[u8], to: &mut [u8]) -> usize
     ensures length { result ≡ length text.now }
     ensures kept { length to.new ≤ result → to.new ≡ to.old }
 {
@@ -13,7 +13,8 @@ fn write(text: &[u8], to: &mut [u8]) -> usize
     text.len()
 }
 
-/// The library's version, into an array: its length. Where there is no room for it and a 0 behind it the array stays.
+/// Writes the library's version into an array, and returns its length. If there is no room for it and a 0 after it, the array
+/// is unchanged.
 #[unsafe(no_mangle)]
 pub extern "C" fn fq_version(to: &mut [u8]) -> usize
     ensures kept { length to.new ≤ result → to.new ≡ to.old }
@@ -21,7 +22,7 @@ pub extern "C" fn fq_version(to: &mut [u8]) -> usize
     write(b"1.0.0", to)
 }
 
-/// The name of a status, in the same way; "?" of a number that is none.
+/// The name of a status, in the same way; "?" for a number that isn't one.
 #[unsafe(no_mangle)]
 pub extern "C" fn fq_status_text(status: u32, to: &mut [u8]) -> usize
     ensures kept { length to.new ≤ result → to.new ≡ to.old }
@@ -29,7 +30,7 @@ pub extern "C" fn fq_status_text(status: u32, to: &mut [u8]) -> usize
     write(status_name(status), to)
 }
 
-/// The name of a trace's fault, in the same way; "?" of a number that is none.
+/// The name of a trace's error, in the same way; "?" for a number that isn't one.
 #[unsafe(no_mangle)]
 pub extern "C" fn fq_fault_text(fault: u32, to: &mut [u8]) -> usize
     ensures kept { length to.new ≤ result → to.new ≡ to.old }

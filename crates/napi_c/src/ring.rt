@@ -13,7 +13,7 @@ use c_handles::{Body, FqHandle, Input, Ring, status};
 use rx_ring::{Batch, MAX_WEIGHT, Packet, ring};
 use std::alloc::Global;
 
-/// As `rx_ring::ring`.
+/// Like `rx_ring::ring`.
 #[unsafe(no_mangle)]
 pub extern "C" fn fq_ring_new(alloc: Global, handle: &mut FqHandle, capacity: usize) -> u32
     ensures made { result ≡ OK → LeadsToRing (IsNewRing capacity) handle.new.held.body }
@@ -45,7 +45,7 @@ pub extern "C" fn fq_ring_new(alloc: Global, handle: &mut FqHandle, capacity: us
     }
 }
 
-/// As `RxIn::put`.
+/// Like `RxIn::put`.
 #[unsafe(no_mangle)]
 pub extern "C" fn fq_ring_put(alloc: Global, handle: &mut FqHandle, number: u64, bytes: u32) -> u32
     ensures ok { (r : Ring) → LeadsTo handle.old r → result ≡ OK
@@ -84,7 +84,7 @@ fn put_into(body: &mut Body, packet: Packet) -> u32
     }
 }
 
-/// As `RxIn::put_all`: the first `count` of these packets were put.
+/// Like `RxIn::put_all`: the first `count` of these packets were put.
 #[unsafe(no_mangle)]
 pub extern "C" fn fq_ring_put_all(
     alloc: Global,
@@ -138,7 +138,7 @@ fn put_all_into(body: &mut Body, packets: &[Packet], count: &mut usize) -> u32
     }
 }
 
-/// As `RxCtx::poll`, into an array: the packets are the first `count` of it.
+/// Like `RxCtx::poll`, into an array: the packets are its first `count` elements.
 #[unsafe(no_mangle)]
 pub extern "C" fn fq_ring_poll(
     alloc: Global,

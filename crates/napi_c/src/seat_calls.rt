@@ -1,4 +1,4 @@
-//! The calls of the callers of a shared instance. Each makes one try, and answers changed where another thread came between.
+//! The calls of the callers of a shared instance. Each makes one attempt, and returns changed if another thread interfered.
 ghost use Rattle.rx_ring.specs.declared.packet.Packet.{Packet};
 ghost use Rattle.std.specs.Prelude.{◌≡◌, ◌≢◌, ◌<◌, ◌≤◌, ◌⊎◌, List, true, false, length, take, Some, None};
 ghost use Rattle.napi_model.specs.declared.state.Kind.{Kind};
@@ -27,7 +27,7 @@ fn step_in(at: &mut Body, call: SeatCall) -> u32
     }
 }
 
-// Makes a call on the caller that a handle leads to. It stands in each export once, where the call is known.
+// Makes a call on a handle's caller. It is inlined into each export, where the call is known.
 #[inline(always)]
 fn on_seat(alloc: Global, handle: &mut FqHandle, call: SeatCall) -> u32
     ensures { SeatMakes call handle.old result handle.new }
@@ -56,7 +56,7 @@ fn look_in(at: &mut Body, word: &mut u64) -> u32
     }
 }
 
-/// As `look` of what the caller is: the state word, of the bits that are set.
+/// Sets the state word, as a sum of bits, in every state of the caller.
 #[unsafe(no_mangle)]
 pub extern "C" fn fq_seat_look(alloc: Global, handle: &mut FqHandle, word: &mut u64) -> u32
     ensures shows { SeatShows word.old word.new handle.old result handle.new }
@@ -70,7 +70,7 @@ pub extern "C" fn fq_seat_look(alloc: Global, handle: &mut FqHandle, word: &mut 
     status
 }
 
-/// As `Caller::try_schedule`: granted, missed, disabled or changed; not allowed where the caller doesn't rest.
+/// Like `Caller::try_schedule`: returns granted, missed, disabled or changed; not allowed if the caller owns the instance.
 #[unsafe(no_mangle)]
 pub extern "C" fn fq_seat_schedule(alloc: Global, handle: &mut FqHandle) -> u32
     ensures { SeatMakes seat_call.Schedule handle.old result handle.new }
@@ -78,7 +78,7 @@ pub extern "C" fn fq_seat_schedule(alloc: Global, handle: &mut FqHandle) -> u32
     on_seat(alloc, handle, SeatCall::Schedule)
 }
 
-/// As `Granted::hand`: ok; bad kind; not allowed where the instance isn't granted to the caller.
+/// Like `Granted::hand`: returns ok; bad kind; not allowed if the caller wasn't granted the instance.
 #[unsafe(no_mangle)]
 pub extern "C" fn fq_seat_hand(alloc: Global, handle: &mut FqHandle, kind: u32) -> u32
     ensures made { (k : Kind) → kind_in kind ≡ Some k
@@ -91,7 +91,7 @@ pub extern "C" fn fq_seat_hand(alloc: Global, handle: &mut FqHandle, kind: u32) 
     on_seat(alloc, handle, SeatCall::Hand(kind))
 }
 
-/// As `Caller::take`: taken or not there; bad kind; not allowed where the caller doesn't rest.
+/// Like `Caller::take`: returns taken or not there; bad kind; not allowed if the caller owns the instance.
 #[unsafe(no_mangle)]
 pub extern "C" fn fq_seat_take(alloc: Global, handle: &mut FqHandle, kind: u32) -> u32
     ensures made { (k : Kind) → kind_in kind ≡ Some k
@@ -104,7 +104,7 @@ pub extern "C" fn fq_seat_take(alloc: Global, handle: &mut FqHandle, kind: u32) 
     on_seat(alloc, handle, SeatCall::Take(kind))
 }
 
-/// As `Polling::requeue`: ok, or not allowed where the caller doesn't poll.
+/// Like `Polling::requeue`: returns ok; not allowed if the caller doesn't poll.
 #[unsafe(no_mangle)]
 pub extern "C" fn fq_seat_requeue(alloc: Global, handle: &mut FqHandle) -> u32
     ensures { SeatMakes seat_call.Requeue handle.old result handle.new }
@@ -112,8 +112,8 @@ pub extern "C" fn fq_seat_requeue(alloc: Global, handle: &mut FqHandle) -> u32
     on_seat(alloc, handle, SeatCall::Requeue)
 }
 
-/// As `Polling::try_complete`: released, again or changed; held where it busy polls (`Busy::complete_held`); not allowed where
-/// it doesn't poll.
+/// Like `Polling::try_complete`: returns released, again or changed; held if it busy polls (`Busy::complete_held`); not allowed
+/// if it doesn't poll.
 #[unsafe(no_mangle)]
 pub extern "C" fn fq_seat_complete(alloc: Global, handle: &mut FqHandle) -> u32
     ensures makes { SeatMakes seat_call.Complete handle.old result handle.new }
@@ -127,7 +127,7 @@ pub extern "C" fn fq_seat_complete(alloc: Global, handle: &mut FqHandle) -> u32
     on_seat(alloc, handle, SeatCall::Complete)
 }
 
-/// As `Caller::try_busy`: taken, busy or changed; not allowed where the caller doesn't rest.
+/// Like `Caller::try_busy`: returns taken, busy or changed; not allowed if the caller owns the instance.
 #[unsafe(no_mangle)]
 pub extern "C" fn fq_seat_busy_take(alloc: Global, handle: &mut FqHandle) -> u32
     ensures { SeatMakes seat_call.BusyTake handle.old result handle.new }
@@ -135,7 +135,7 @@ pub extern "C" fn fq_seat_busy_take(alloc: Global, handle: &mut FqHandle) -> u32
     on_seat(alloc, handle, SeatCall::BusyTake)
 }
 
-/// As `Busy::try_stop`: ok, after which the caller polls once more, or changed; not allowed where it doesn't busy poll.
+/// Like `Busy::try_stop`: returns ok, after which the caller polls once more, or changed; not allowed if it doesn't busy poll.
 #[unsafe(no_mangle)]
 pub extern "C" fn fq_seat_busy_stop(alloc: Global, handle: &mut FqHandle) -> u32
     ensures { SeatMakes seat_call.BusyStop handle.old result handle.new }
@@ -143,7 +143,7 @@ pub extern "C" fn fq_seat_busy_stop(alloc: Global, handle: &mut FqHandle) -> u32
     on_seat(alloc, handle, SeatCall::BusyStop)
 }
 
-/// As `Caller::set_threaded`: ok, or not allowed where the caller doesn't rest.
+/// Like `Caller::set_threaded`: returns ok; not allowed if the caller owns the instance.
 #[unsafe(no_mangle)]
 pub extern "C" fn fq_seat_set_threaded(alloc: Global, handle: &mut FqHandle, threaded: bool) -> u32
     ensures { SeatMakes (seat_call.SetThreaded threaded) handle.old result handle.new }
@@ -162,8 +162,8 @@ fn poll_in(at: &mut Body, weight: usize, batch: &mut Batch) -> u32
     }
 }
 
-/// As `Polling::poll`, into an array: the packets are the first `count` of it. Bad weight where it isn't 1 to 64, no room where
-/// the array is shorter than the weight, and not allowed where the caller doesn't poll: these give none.
+/// Like `Polling::poll`, into an array: the packets are its first `count` elements. Returns bad weight if the weight isn't 1 to
+/// 64, no room if the array is shorter than the weight, and not allowed if the caller doesn't poll; these poll nothing.
 #[unsafe(no_mangle)]
 pub extern "C" fn fq_seat_poll(
     alloc: Global,
@@ -216,7 +216,7 @@ fn answers_in(at: &Body, answers: &mut FqAnswers) -> u32
     }
 }
 
-/// How often the calls of a seat were answered what.
+/// Sets the counts of the results of a seat's calls.
 #[unsafe(no_mangle)]
 pub extern "C" fn fq_seat_count(
     alloc: Global,

@@ -1,4 +1,4 @@
-//! The instance of one thread, in memory of the caller's.
+//! The instance of one thread, in the caller's memory.
 ghost use Rattle.std.specs.Prelude.{◌≡◌, ◌↔◌, IsNone, IfSome};
 ghost use Rattle.napi_model.specs.Step.{opening, MayCall, answer_of, seen_of};
 ghost use Rattle.napi_model.specs.Word.{word_of};
@@ -6,29 +6,29 @@ ghost use Rattle.napi_c.specs.Serial.{is_set, place_in, state_in, Steps};
 
 use napi_model::{Call, Event, Flags, Operation, Place, State, encode};
 
-/// An instance: `struct fq_napi`. Whatever its bytes are, it is one: a flag is set unless its byte is 0.
+/// An instance: `struct fq_napi`. All bytes are valid: a flag is set unless its byte is 0.
 #[repr(C)]
 #[derive(Clone, Copy)]
 pub struct FqNapi {
-    /// SCHED: a poll is asked for or under way.
+    /// SCHED: a poll is requested or in progress.
     pub sched: u8,
-    /// MISSED: one more has to follow.
+    /// MISSED: another poll has to follow.
     pub missed: u8,
     /// DISABLE: a disable is pending.
     pub disable: u8,
-    /// NPSVC: the controller has it.
+    /// NPSVC: the instance is disabled.
     pub npsvc: u8,
     /// IN_BUSY_POLL.
     pub in_busy_poll: u8,
-    /// THREADED: it is handed to its own thread.
+    /// THREADED: it is scheduled on its own thread.
     pub threaded: u8,
-    /// SCHED_THREADED: it was.
+    /// SCHED_THREADED: it was scheduled on its own thread.
     pub sched_threaded: u8,
-    /// 0 nobody, 1 granted, 2 on the list, 3 with its thread, 4 polled, and else with the controller.
+    /// 0 no owner, 1 granted, 2 on the list, 3 waits for its thread, 4 polled, otherwise disabled.
     pub place: u8,
-    /// Who owns it there.
+    /// The number of its owner.
     pub owner: u32,
-    /// Who alone disables and enables it.
+    /// The number of the caller that may disable and enable it.
     pub controller: u32,
 }
 
@@ -45,7 +45,7 @@ fn place_of(place: u8, owner: u32) -> Place
     }
 }
 
-// The number and the owner of a place.
+// Returns the number and the owner of a place.
 fn numbers_of(place: Place) -> (u8, u32)
     ensures { place_in result.0 result.1 ≡ place }
 {
@@ -59,7 +59,8 @@ fn numbers_of(place: Place) -> (u8, u32)
     }
 }
 
-fn state_of(napi: &FqNapi) -> State
+/// The state that the struct's bytes are.
+pub fn state_of(napi: &FqNapi) -> State
     ensures { result ≡ state_in napi.now }
 {
     State {
@@ -102,7 +103,7 @@ fn napi_of(state: State, controller: u32) -> FqNapi
     }
 }
 
-/// Makes the call where it may be made, and answers its reply.
+/// Makes the call if it is allowed, and returns its reply.
 pub fn step(napi: &mut FqNapi, caller: u32, call: Call) -> Option<Operation>
     ensures refused { IsNone result ↔ ¬ MayCall caller call (state_in napi.old) }
     ensures answer { IfSome result (λ o. o ≡ answer_of call (state_in napi.old)) }
@@ -118,7 +119,7 @@ pub fn step(napi: &mut FqNapi, caller: u32, call: Call) -> Option<Operation>
     Some(operation)
 }
 
-/// As `SerialNapi::new`.
+/// Like `SerialNapi::new`.
 #[unsafe(no_mangle)]
 pub extern "C" fn fq_napi_new(controller: u32) -> FqNapi
     ensures state { state_in result ≡ opening controller }
@@ -127,7 +128,7 @@ pub extern "C" fn fq_napi_new(controller: u32) -> FqNapi
     napi_of(State::opening(controller), controller)
 }
 
-/// The same, in memory of the caller's that may hold anything.
+/// The same, in the caller's memory, which may hold anything.
 #[unsafe(no_mangle)]
 pub extern "C" fn fq_napi_init(napi: &mut FqNapi, controller: u32)
     ensures state { state_in napi.new ≡ opening controller }
@@ -136,7 +137,7 @@ pub extern "C" fn fq_napi_init(napi: &mut FqNapi, controller: u32)
     *napi = fq_napi_new(controller);
 }
 
-/// The state word, as `encode`.
+/// The state word, like `encode`.
 #[unsafe(no_mangle)]
 pub extern "C" fn fq_napi_word(napi: &FqNapi) -> u64
     ensures { result ≡ word_of (seen_of (state_in napi.now)) }

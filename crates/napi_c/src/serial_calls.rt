@@ -1,4 +1,4 @@
-//! What anyone may call on the instance of one thread.
+//! The calls on the instance of one thread, by any caller.
 ghost use Rattle.std.specs.Prelude.{◌≡◌, ◌≢◌, ◌↔◌, ◌⊎◌, true, false, None, Some};
 ghost use Rattle.napi_model.specs.declared.event.Operation.TheVariants as operation;
 ghost use Rattle.napi_model.specs.declared.event.Prep.TheVariants as prep;
@@ -14,7 +14,7 @@ use crate::serial::{FqNapi, step};
 use c_handles::{kind_of, status};
 use napi_model::{Call, Done, Operation, Prep};
 
-/// As `SerialNapi::schedule`: granted, missed or disabled.
+/// Like `SerialNapi::schedule`: returns granted, missed or disabled.
 #[unsafe(no_mangle)]
 pub extern "C" fn fq_napi_schedule(napi: &mut FqNapi, who: u32) -> u32
     ensures granted { result ≡ GRANTED
@@ -35,7 +35,7 @@ pub extern "C" fn fq_napi_schedule(napi: &mut FqNapi, who: u32) -> u32
     }
 }
 
-/// As `SerialNapi::hand`: ok, not allowed where the caller doesn't own it, or bad kind.
+/// Like `SerialNapi::hand`: returns ok, not allowed if the caller doesn't own it, or bad kind.
 #[unsafe(no_mangle)]
 pub extern "C" fn fq_napi_hand(napi: &mut FqNapi, who: u32, kind: u32) -> u32
     ensures made { result ≡ OK → (k : Kind) → kind_in kind ≡ Some k
@@ -55,7 +55,7 @@ pub extern "C" fn fq_napi_hand(napi: &mut FqNapi, who: u32, kind: u32) -> u32
     }
 }
 
-/// As `SerialNapi::take`: taken, not there, or bad kind.
+/// Like `SerialNapi::take`: returns taken, not there, or bad kind.
 #[unsafe(no_mangle)]
 pub extern "C" fn fq_napi_take(napi: &mut FqNapi, who: u32, kind: u32) -> u32
     ensures taken { result ≡ TAKEN → (k : Kind) → kind_in kind ≡ Some k
@@ -79,7 +79,7 @@ pub extern "C" fn fq_napi_take(napi: &mut FqNapi, who: u32, kind: u32) -> u32
     }
 }
 
-/// As `SerialNapi::complete`: released, again, held, or not allowed where the caller doesn't poll it.
+/// Like `SerialNapi::complete`: returns released, again, held, or not allowed if the caller doesn't poll it.
 #[unsafe(no_mangle)]
 pub extern "C" fn fq_napi_complete(napi: &mut FqNapi, who: u32) -> u32
     ensures released { result ≡ RELEASED
@@ -100,7 +100,7 @@ pub extern "C" fn fq_napi_complete(napi: &mut FqNapi, who: u32) -> u32
     }
 }
 
-/// As `SerialNapi::busy_take`: taken, or busy where the instance isn't idle.
+/// Like `SerialNapi::busy_take`: returns taken, or busy if the instance isn't idle.
 #[unsafe(no_mangle)]
 pub extern "C" fn fq_napi_busy_take(napi: &mut FqNapi, who: u32) -> u32
     ensures taken { result ≡ TAKEN → Steps napi.old who operation.BusyTake napi.new }
@@ -114,7 +114,7 @@ pub extern "C" fn fq_napi_busy_take(napi: &mut FqNapi, who: u32) -> u32
     }
 }
 
-/// As `SerialNapi::busy_stop`: ok, or not allowed where the caller doesn't busy poll it.
+/// Like `SerialNapi::busy_stop`: returns ok, or not allowed if the caller doesn't busy poll it.
 #[unsafe(no_mangle)]
 pub extern "C" fn fq_napi_busy_stop(napi: &mut FqNapi, who: u32) -> u32
     ensures made { result ≡ OK → Steps napi.old who operation.BusyStop napi.new }
@@ -128,7 +128,7 @@ pub extern "C" fn fq_napi_busy_stop(napi: &mut FqNapi, who: u32) -> u32
     }
 }
 
-/// As `SerialNapi::set_threaded`, by whoever calls.
+/// Like `SerialNapi::set_threaded`, by any caller.
 #[unsafe(no_mangle)]
 pub extern "C" fn fq_napi_set_threaded(napi: &mut FqNapi, who: u32, threaded: bool)
     ensures { Steps napi.old who (operation.SetThreaded threaded) napi.new }

@@ -1,4 +1,4 @@
-//! What the controller of the instance of one thread may call.
+//! The calls of the controller on the instance of one thread.
 ghost use Rattle.std.specs.Prelude.{◌≡◌, ◌↔◌, ◌⊎◌, IsNone, IfSome, true, false};
 ghost use Rattle.napi_model.specs.declared.event.Operation.TheVariants as operation;
 ghost use Rattle.napi_model.specs.declared.event.Call.TheVariants as call;
@@ -10,7 +10,7 @@ use crate::serial::{FqNapi, step};
 use c_handles::status;
 use napi_model::{Call, Operation};
 
-// A call of the controller's.
+// Makes a call of the controller.
 fn control(napi: &mut FqNapi, who: u32, call: Call) -> Option<Operation>
     ensures refused { IsNone result
         ↔ ¬ ((who ≡ napi.old.controller) × MayCall who call (state_in napi.old)) }
@@ -24,7 +24,7 @@ fn control(napi: &mut FqNapi, who: u32, call: Call) -> Option<Operation>
     step(napi, who, call)
 }
 
-/// As `SerialNapi::mark_disable`: ok, or not allowed where the caller may not.
+/// Like `SerialNapi::mark_disable`: returns ok, or not allowed.
 #[unsafe(no_mangle)]
 pub extern "C" fn fq_napi_mark_disable(napi: &mut FqNapi, who: u32) -> u32
     ensures made { result ≡ OK → Steps napi.old who operation.MarkDisable napi.new }
@@ -39,7 +39,7 @@ pub extern "C" fn fq_napi_mark_disable(napi: &mut FqNapi, who: u32) -> u32
     }
 }
 
-/// As `SerialNapi::take_disable`: taken, busy, or not allowed where the caller may not.
+/// Like `SerialNapi::take_disable`: returns taken, busy, or not allowed.
 #[unsafe(no_mangle)]
 pub extern "C" fn fq_napi_take_disable(napi: &mut FqNapi, who: u32) -> u32
     ensures taken { result ≡ TAKEN → Steps napi.old who (operation.TakeDisable true) napi.new }
@@ -56,7 +56,7 @@ pub extern "C" fn fq_napi_take_disable(napi: &mut FqNapi, who: u32) -> u32
     }
 }
 
-/// As `SerialNapi::unmark`: ok, or not allowed where the caller may not.
+/// Like `SerialNapi::unmark`: returns ok, or not allowed.
 #[unsafe(no_mangle)]
 pub extern "C" fn fq_napi_unmark(napi: &mut FqNapi, who: u32) -> u32
     ensures made { result ≡ OK → Steps napi.old who operation.Unmark napi.new }
@@ -71,7 +71,7 @@ pub extern "C" fn fq_napi_unmark(napi: &mut FqNapi, who: u32) -> u32
     }
 }
 
-/// As `SerialNapi::enable`: ok, or not allowed where the caller may not.
+/// Like `SerialNapi::enable`: returns ok, or not allowed.
 #[unsafe(no_mangle)]
 pub extern "C" fn fq_napi_enable(napi: &mut FqNapi, who: u32, threaded: bool) -> u32
     ensures made { result ≡ OK → Steps napi.old who (operation.Enable threaded) napi.new }

@@ -1,4 +1,4 @@
-//! A shared instance is made over the poll context of a ring.
+//! Making a shared instance over the poll context of a ring.
 ghost use Rattle.std.specs.Prelude.{◌≡◌, ◌≢◌, ◌≤◌, ◌<◌, ◌⊎◌, ◌↔◌, ℕ, true, false, Some, length, slice_get, IfOk, IfErr, IsTrue};
 ghost use Rattle.std.specs.List.{All};
 ghost use Rattle.std.specs.Arc.{arc_value};
@@ -34,7 +34,7 @@ struct Opened {
     ghost control_is: { IsSeatOf (arc_value napi).napi off.pass },
 }
 
-// Makes an instance of the ring's context. Where memory is out the ring comes back.
+// Makes an instance with the ring's context. Returns the ring if an allocation fails.
 fn open(alloc: Global, ring: Ring, callers: u32) -> Result<(Input, Opened), Ring>
     requires { (2 ≤ callers) × (callers ≤ 8) }
     ensures input { IfOk result (λ r. r.0 ≡ ring.input) }
@@ -50,7 +50,7 @@ fn open(alloc: Global, ring: Ring, callers: u32) -> Result<(Input, Opened), Ring
     match Arc::new(alloc, Shared { napi }) {
         Ok(napi) => Ok((input, Opened { napi, callers, off })),
         Err(refused) => {
-            // which tells that the context is the ring's
+            // this shows that the context belongs to the ring
             names_tell_rings();
             match close(refused.value.into_napi(), callers, off) {
                 Ok(ctx) => Err(Ring { input, ctx }),
@@ -60,7 +60,7 @@ fn open(alloc: Global, ring: Ring, callers: u32) -> Result<(Input, Opened), Ring
     }
 }
 
-// Takes the memory for what a handle is to lead to.
+// Allocates the memory for a handle's object.
 fn reserve(alloc: Global, handle: &mut FqHandle) -> bool {
     match Box::new(alloc, Body::Gone) {
         Ok(body) => {
@@ -71,7 +71,7 @@ fn reserve(alloc: Global, handle: &mut FqHandle) -> bool {
     }
 }
 
-// Takes it for all, or for none.
+// Allocates it for all handles, or for none.
 fn reserve_all(alloc: Global, control: &mut FqHandle, seats: &mut [FqHandle]) -> bool
     ensures { result ≡ false → IsFree control.new × AreFree seats.new }
 {
@@ -85,7 +85,7 @@ fn reserve_all(alloc: Global, control: &mut FqHandle, seats: &mut [FqHandle]) ->
     is_there
 }
 
-// Lets them lead to nothing.
+// Removes the objects of these handles.
 fn clear(alloc: Global, control: &mut FqHandle, seats: &mut [FqHandle])
     ensures control { IsFree control.new }
     ensures seats { AreFree seats.new }
@@ -96,7 +96,7 @@ fn clear(alloc: Global, control: &mut FqHandle, seats: &mut [FqHandle])
     }
 }
 
-// Lets a handle lead to this, over the memory that it has.
+// Sets the object of a handle, in the memory that it has.
 fn fill(alloc: Global, handle: &mut FqHandle, body: Body) -> bool
     ensures { result ≡ true → handle.new.held.body ≡ Some body }
 {
@@ -177,7 +177,7 @@ fn give(alloc: Global, opened: Opened, control: &mut FqHandle, seats: &mut [FqHa
     status::OUT_OF_MEMORY
 }
 
-// Makes an instance over the ring that is there, of which its input stays.
+// Makes an instance over a handle's ring, whose input stays in the handle.
 fn share(alloc: Global, body: &mut Body, control: &mut FqHandle, seats: &mut [FqHandle]) -> u32
     requires { (2 ≤ length seats.old) × (length seats.old ≤ 8) }
     ensures made { result ≡ OK → AreOfOne control.new seats.new }
@@ -190,7 +190,7 @@ fn share(alloc: Global, body: &mut Body, control: &mut FqHandle, seats: &mut [Fq
     ensures kept { result ≢ OK → result ≢ OUT_OF_MEMORY → (control.new ≡ control.old)
         × (seats.new ≡ seats.old) × (body.new ≡ body.old) }
 {
-    // before memory is taken
+    // before it allocates
     if !matches!(&*body, Body::Ring(_)) {
         return status::BAD_HANDLE;
     }
@@ -213,8 +213,8 @@ fn share(alloc: Global, body: &mut Body, control: &mut FqHandle, seats: &mut [Fq
     }
 }
 
-/// As `Napi::new`, over the context of a ring: `input` is then its input end alone, and `control` and `seats`, 2 to 8, lead to
-/// the controller and the callers. Where memory is out all stays as it was.
+/// Like `Napi::new`, with the context of a ring: `input` then has only its input end, and `control` and `seats`, 2 to 8, the
+/// controller and the callers. If an allocation fails, nothing changes.
 #[unsafe(no_mangle)]
 pub extern "C" fn fq_shared_new(
     alloc: Global,
@@ -250,8 +250,8 @@ pub extern "C" fn fq_shared_new(
     status
 }
 
-/// As `Napi::new`, over no ring of the caller's: its polls read what they will, and `fq_seat_poll` gives none. `control` and
-/// `seats` as in [`fq_shared_new`].
+/// Like `Napi::new`, without a ring, for a card that polls its own: `fq_seat_poll` returns no packets. `control` and `seats` as
+/// in [`fq_shared_new`].
 #[unsafe(no_mangle)]
 pub extern "C" fn fq_shared_bare(
     alloc: Global,

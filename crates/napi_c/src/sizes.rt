@@ -10,7 +10,7 @@ use rx_ring::Packet;
 use std::mem::size_of;
 use tx_ring::TxState;
 
-/// The bytes of a struct, by its number (`enum fq_struct`); 0 of a number that is none.
+/// Returns the size of a struct in bytes, by its number (`enum fq_struct`); 0 for a number that isn't one.
 #[unsafe(no_mangle)]
 pub extern "C" fn fq_struct_size(which: u32) -> usize
     ensures { result ≡ size_in which }

@@ -28,7 +28,7 @@ fn status_of(fault: TxFault) -> u32
     }
 }
 
-/// As `Dql::new`, and `TxRing::new` over that limit.
+/// Like `Dql::new`, and `TxRing::new` with that limit.
 #[unsafe(no_mangle)]
 pub extern "C" fn fq_tx_new(
     alloc: Global,
@@ -70,7 +70,7 @@ pub extern "C" fn fq_tx_new(
     }
 }
 
-/// As `TxRing::send`.
+/// Like `TxRing::send`.
 #[unsafe(no_mangle)]
 pub extern "C" fn fq_tx_send(alloc: Global, handle: &mut FqHandle, bytes: u32) -> u32
     ensures ok { (t : TransmitQueue) → TxShows handle.old t → result ≡ OK
@@ -103,7 +103,7 @@ fn send_in(body: &mut Body, bytes: u32) -> u32
     }
 }
 
-/// As `TxRing::done`.
+/// Like `TxRing::done`.
 #[unsafe(no_mangle)]
 pub extern "C" fn fq_tx_done(alloc: Global, handle: &mut FqHandle, count: u32, now: u64) -> u32
     ensures ok { (t : TransmitQueue) → TxShows handle.old t → result ≡ OK
@@ -136,7 +136,7 @@ fn done_in(body: &mut Body, count: u32, now: u64) -> u32
     }
 }
 
-/// As `TxRing::state`, into the caller's struct.
+/// Like `TxRing::state`, into the caller's struct.
 #[unsafe(no_mangle)]
 pub extern "C" fn fq_tx_state(alloc: Global, handle: &mut FqHandle, state: &mut TxState) -> u32
     ensures shown { (t : TransmitQueue) → TxShows handle.old t → (result ≡ OK)

@@ -1,4 +1,4 @@
--- What callers delivered, call after call.
+-- What callers delivered, over a sequence of calls.
 use Rattle.std.proofs.Common.{◌≡◌, ℕ, zero, suc, ◌<◌, List, [], ◌∷◌, ◌++◌, length, drop, sym, ap, ◌∙◌, subst, append-nil, arith}
 use Rattle.rx_ring.specs.declared.{packet.Packet.Packet, ends.{RxCtx.RxCtx, RxIn.RxIn}}
 use Rattle.rx_ring.specs.Ends.{RingName, ring_name, received_list, IsOneRing, SameIn}
@@ -10,7 +10,7 @@ use Rattle.napi_calls.specs.{Packets.{delivered, own_delivered, received_before,
 pub delivers_none : (p q : Pass) → Quiet p q → Delivers p [] q
 delivers_none p q h = ap packets_of h ∙ sym (append-nil (packets_of (own_delivered p)))
 
--- who gives nothing back before and behind
+-- a caller that delivers nothing before or after
 pub delivers_behind : (a : List Packet) (p q r : Pass) → Quiet p q → Delivers q a r → Delivers p a r
 delivers_behind a p q r h k = k ∙ ap (λ (l : List Delivery). packets_of l ++ a) h
 
@@ -26,13 +26,13 @@ delivers_back p q x g num =
     ∙ ap (λ (l : List Delivery). own_delivered p ++ l) (own_one_yes n (polled p x) g.laid))
     ∙ packets_snoc (own_delivered p) d
 
--- a context that has received just what was delivered was not polled since
+-- a context that has received exactly what was delivered wasn't polled since
 pub polled_none : (p : Pass) (x : RxCtx) → received_list x ≡ received_before p → polled p x ≡ []
 polled_none p x e =
     let all : received_list x ≡ received_before p ++ [] = e ∙ sym (append-nil (received_before p)) in
     ap (drop (length (received_before p))) all ∙ drop_front (received_before p) []
 
--- a new seat that delivered these
+-- the deliveries of a seat that was new
 pub delivered_all : (n : Napi) (c : ℕ) (p q : Pass) (a : List Packet) (ds : List Delivery) → IsNewSeat n c p → number_of q ≡ number_of p
     → Delivers p a q → own_deliveries (number_of q) ds ≡ own_delivered q → packets_of (own_deliveries c ds) ≡ a
 delivered_all n c p q a ds new num h exact =
@@ -62,7 +62,7 @@ others ds two more (suc (suc zero)) low = two
 others ds two more (suc (suc (suc n))) low = ap packets_of (more (suc (suc (suc n))) (omega arith))
 others ds two more c low = absurd (omega (arith, low))
 
--- contexts of one name are of one ring
+-- contexts with the same name belong to the same ring
 pub named_ring : (input : RxIn) (x y : RxCtx) → IsOneRing input x → ring_name x ≡ ring_name y → IsOneRing input y
 named_ring input x y one same = (
   sym (ap (λ (n : RingName). n.0) same) ∙ one.0,
@@ -72,7 +72,7 @@ named_ring input x y one same = (
   sym (ap (λ (n : RingName). n.3) same) ∙ one.3,
 )
 
--- an end that put packets is still an end of that ring
+-- after packets were put, an end still belongs to the same ring
 pub same_input : (before after : RxIn) (p : Pass) → SameIn before after → IsInputOf before p → IsInputOf after p
 same_input before after p same fed =
     (fed.0, fed.1, (fed.2.0 ∙ sym same.0.0, fed.2.1 ∙ sym same.0.1, fed.2.2 ∙ sym same.0.2, fed.2.3 ∙ sym same.0.3))

@@ -1,4 +1,4 @@
--- The list of all seats at the end, and its one history.
+-- The list of all seats at the end, and the one history.
 use Rattle.napi_model.specs.{Step.{opening, IsControl}, declared.event.Event.Event, History.{LegalHistory, state_after}, Laws.is_owner}
 use Rattle.std.proofs.Common.{◌≡◌, ◌≢◌, ℕ, zero}
 use Rattle.rx_ring.specs.{declared.ends.RxCtx.RxCtx, Ends.{RingName, ring_name, received_list}}
@@ -25,7 +25,7 @@ pub seats_more : (cs : List Caller) (c : Caller) → seats_of (cs ++ c ∷ []) �
 seats_more [] c = refl
 seats_more (x ∷ xs) c = ap (λ (l : List Pass). x.pass ∷ l) (seats_more xs c)
 
--- the seats of the callers made so far, one more, and those that are left
+-- the seats of the callers made so far, one more, and the remaining ones
 pub next_seat : (cs : List Caller) (all rest : List Pass) (p : Pass) (n : ℕ) → all ≡ seats_of cs ++ p ∷ rest → n ≡ length cs
     → (n < length all) × (slice_get all n ≡ Some p)
 next_seat cs all rest p n e is =

@@ -42,7 +42,7 @@ new_controls {t} {last} {of} p new =
       flag = ap view.disable_in new.view ∙ unflagged last of last;
     }
 
--- the controller's has the context that was handed in
+-- the controller's seat has the first context of the instance
 pub new_exact : {t : StateTable} {last : ℕ} {of : RxCtx} (p q : Pass) (x : RxCtx) → IsNew t last of last p → ctx_of p ≡ Some x
     → view_of q ≡ view_of p → received_list x ≡ view.received_in (view_of q)
 new_exact {t} {last} {of} p q x new is same =
@@ -63,7 +63,7 @@ new_seat n {last} {of} {c} p table e count ring = record {
   nothing_delivered = ap view.delivered e;
 }
 
--- of a list that is split before an element, the element's place
+-- the position of the element at which a list is split
 pub here : {A : Type 0} (xs ys zs : List A) (y : A) → zs ≡ xs ++ y ∷ ys → slice_get zs (length xs) ≡ Some y
 here xs ys zs y e = ap (λ l. slice_get l (length xs)) e ∙ get_mid xs ys y
 

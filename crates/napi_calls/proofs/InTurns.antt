@@ -1,4 +1,4 @@
--- The history of two callers in turn: each number's events, and how many there are in all.
+-- The history of two callers that alternate: each number's events, and how many there are in all.
 use Rattle.std.proofs.Common.{◌≡◌, ◌≢◌, ℕ, zero, suc, ◌+◌, ◌<◌, Bool, true, false, List, [], ◌∷◌, ◌++◌, length, eqb, eq-eqb, ne_eqb}
 use Rattle.std.proofs.Common.{eqb-true, true≢false, refl, sym, ap, ◌∙◌, arith}
 use Rattle.napi_model.specs.declared.event.Event.{Event}
@@ -6,7 +6,7 @@ use Rattle.{napi_model.specs.{declared.event.Operation.Operation, History.own}, 
 use Rattle.napi_calls.proofs.Alone.{own_at, own_off}
 use Rattle.napi_calls.specs.{declared.types.Napi.Napi, Seats.{number_of, own_list}, Instance.IsNewSeat, Made.{Made, events}}
 
--- the events of a number whose seat was new, and then made these
+-- the events of a number whose seat was new, and which then made these
 pub own_of : (n : Napi) (c : ℕ) (p q : Pass) (os : List Operation) (h : List Event) → IsNewSeat n c p → Made p os q
     → own (number_of q) h ≡ own_list q → own c h ≡ events c os
 own_of n c p q os h new m exact =
@@ -27,7 +27,7 @@ own_nothing : length {A = Event} [] ≡ length (own 0 []) + length (own 1 []) + 
 unfolding own
 own_nothing = refl
 
--- of three numbers each event is one of theirs
+-- with three numbers, each event belongs to one of them
 pub three_lists : (h : List Event) → Few h → length h ≡ length (own 0 h) + length (own 1 h) + length (own 2 h)
 three_lists [] few = own_nothing
 three_lists (e ∷ es) few = by e.caller refl (three_lists es (few_behind e es few))

@@ -1,4 +1,4 @@
--- What a call made, step by step, and call by call.
+-- The operations of a call, step by step, and of a sequence of calls.
 use Rattle.std.proofs.Common.{◌≡◌, ◌≢◌, ℕ, List, [], ◌∷◌, ◌++◌, flat_map, Option, Some, None, false, refl, sym, ap, ◌∙◌, subst, append-nil}
 use Rattle.{std.proofs.{Common.append_assoc, lemmas.List.{map-append, Concat.flat_map-append}}, napi_model.specs.declared.event.Event.Event}
 use Rattle.napi_model.specs.declared.event.{Call.Call, Operation.{Operation, TheVariants.{Look, MarkDisable, TakeDisable}}}
@@ -31,7 +31,7 @@ nothing {r} {c} {p} st = record {
   shows = shows_of st;
 }
 
--- the slot is no event
+-- moving the context isn't an event
 pub still : {p q : Pass} {os : List Operation} (r : Pass) → Made p os q → SameTable q r → view_of r ≡ view_of q → Made p os r
 still {p} {q} {os} r m t e = record {
   seat = seat_same m.seat
@@ -45,7 +45,7 @@ still {p} {q} {os} r m t e = record {
   };
 }
 
--- one step more
+-- one more step
 pub step : {p q : Pass} {os : List Operation} {o : Operation} (r : Pass) → Made p os q → SameTable q r → Steps (view_of q) o (view_of r)
     → Made p (os ++ o ∷ []) r
 step {p} {q} {os} {o} r m t g =
@@ -76,7 +76,7 @@ more {p} {q} {r} {os} o ps m n =
       shows = n.shows;
     }
 
--- ---- tries that were lost
+-- ---- failed attempts
 
 pub lost : {p q : Pass} (c : Call) (x y : Seen) → GoesOn c x.flags → y ≢ x → Made p (Look x ∷ Look y ∷ []) q → WasLost c p q
 lost c x y on differ m = (record { first = x; goes_on = on; second = y; differ = differ }, m)
@@ -90,7 +90,7 @@ more_lost {p} {q} {r} {c} ts m w =
           (more (Look t.first) (Look t.second ∷ []) m w.1),
     )
 
--- the mark, and then the tries that decided nothing
+-- the mark, and then the attempts that decided nothing
 abbrev pub Waited : Pass → Pass → Type 0
 Waited p q = (ts : List (Option (Lost Call.TakeDisable))) × Made p (MarkDisable ∷ flat_map waits ts) q
 

@@ -1,4 +1,4 @@
--- What steps do with the packets, one after another.
+-- The effect of consecutive steps on the packets.
 use Rattle.std.proofs.Common.{◌≡◌, ℕ, Bool, true, false, List, [], ◌∷◌, ◌++◌, length, drop, Some, refl, sym, ap, ◌∙◌, subst, append_assoc}
 use Rattle.rx_ring.specs.{declared.{packet.Packet.Packet, ends.RxCtx.RxCtx}, Ends.{received_list, is_beside}}
 use Rattle.{napi_model.specs.declared.event.Operation.Operation, napi_word.specs.{declared.{table.Pass.Pass, view.Holds.Holds}, View.View}}
@@ -22,18 +22,18 @@ same_more a b = record {
   polls = b.polls ∙ a.polls;
 }
 
--- what lies in the slot is the context that was laid there
+-- the slot contains the context that was put there
 same_laid : {x : RxCtx} (p : Pass) (y : RxCtx) → IsLaid x p → ctx_of p ≡ Some y → IsSame x y
 same_laid {x} p y l is =
     subst (λ (z : RxCtx). IsSame x z) (some_is (sym l.within ∙ is))
     (record { ring = l.ring; received = l.received; known = l.known; polls = l.polls })
 
--- ---- who delivers nothing
+-- ---- callers that deliver nothing
 
 pub quiet_step : {o : Operation} (p q : Pass) → Steps (view_of p) o (view_of q) → Delivers slot.stays p.seat.me q.seat.me → Quiet p q
 quiet_step p q s g = ap (λ (n : ℕ). own_deliveries n (delivered q)) s.number ∙ ap (own_deliveries (number_of p)) g.shifts.0 ∙ g.exact
 
--- who hasn't the slot gives nothing back
+-- a caller that doesn't have the slot delivers nothing
 pub quiet_given : {o : Operation} (p q : Pass) → Steps (view_of p) o (view_of q) → owns_slot (view_of p) ≡ false
     → Delivers slot.given p.seat.me q.seat.me → Quiet p q
 quiet_given p q s none g =
@@ -49,9 +49,9 @@ quiet_still p q r h e = ap (λ (v : View). own_deliveries (view.number_of v) (vi
 pub quiet_more : (p q r : Pass) → Quiet p q → Quiet q r → Quiet p r
 quiet_more p q r a b = b ∙ a
 
--- ---- who has the context
+-- ---- the owner of the context
 
--- by its mark a pass has the slot
+-- a pass owns the slot if its mark says so
 pub owns : (p : Pass) (h : Holds) → p.holds ≡ h → has_slot h ≡ true → owns_slot (view_of p) ≡ true
 owns p h e has = p.right ∙ ap has_slot e ∙ has
 
@@ -67,7 +67,7 @@ held_still r h e = record { deliveries = ap view.delivered e ∙ h.deliveries; r
 pub held_more : {p q r : Pass} → HoldsOn p q → HoldsOn q r → HoldsOn p r
 held_more a b = record { deliveries = b.deliveries ∙ a.deliveries; received = b.received ∙ a.received }
 
--- ---- who takes it
+-- ---- taking the context
 
 pub taken : {o : Operation} (p q r : Pass) (x : RxCtx) → Steps (view_of p) o (view_of q) → Delivers slot.taken p.seat.me q.seat.me
     → received_list x ≡ received_of q → view_of r ≡ view_of q → is_beside x ≡ false → IsFresh p r x
@@ -84,9 +84,9 @@ fresh_held p q r x f h num = record {
   unmarked = f.unmarked;
 }
 
--- ---- who gives it back
+-- ---- giving the context back
 
--- p has the context out, q has it in the slot, from where the step gave it away
+-- p has the context out of the slot; q has it in the slot, which its step gives back
 pub gives_back : (p q r : Pass) (x : RxCtx) → HoldsOn p q → number_of q ≡ number_of p → IsLaid x q → owns_slot (view_of q) ≡ true
     → Delivers slot.given q.seat.me r.seat.me → GivesBack p x r
 gives_back p q r x h num l has g =
@@ -100,7 +100,7 @@ gives_back p q r x h num l has g =
       deliveries = e.4 ∙ (λ i. before i ++ delivery (num i) (packets i) e.0 ∷ []);
     }
 
--- the exchange was lost, and the context came out again
+-- the exchange failed, and the context was taken out again
 pub got_back : (p q r s : Pass) (x y : RxCtx) → HoldsOn p q → IsLaid x q → owns_slot (view_of q) ≡ true
     → Delivers slot.stays q.seat.me r.seat.me → view_of s ≡ view_of r → ctx_of r ≡ Some y → HoldsOn p s × IsSame x y
 got_back p q r s x y h l has g same is =
@@ -115,7 +115,7 @@ gives_behind h num s g = record {
 
 -- ---- what was polled
 
--- a poll adds its batch
+-- a poll appends its batch
 pub polled_more : (before now next batch : List Packet) → Continues before now → next ≡ now ++ batch
     → drop (length before) next ≡ drop (length before) now ++ batch
 polled_more before now next batch has e =

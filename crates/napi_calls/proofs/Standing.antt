@@ -13,7 +13,7 @@ use Rattle.napi_calls.specs.{Knows.{Controls, Has}, Seats.{number_of, controller
 use Rattle.napi_word.specs.Slot as slot
 use Rattle.napi_word.specs.View as view
 
--- ---- places as a number has them
+-- ---- places, as a caller sees them
 
 pub is_kept : (c : ℕ) (p q : Place) (b : Bool) → is_owner c p ≡ b → is_owner c q ≡ is_owner c p → (is_owner c p ≡ true → q ≡ p)
     → own_place c q ≡ own_place c p
@@ -42,7 +42,7 @@ pub hand_free : (k : Kind) (c : ℕ) (s : State) → own_place c (after_by c (Ha
 hand_free Kind.List c s = refl
 hand_free Kind.Thread c s = refl
 
--- ---- what the types say
+-- ---- what the types imply
 
 pub shows_of : {r : ℕ → Place} {c : ℕ} {p : Pass} → Stands r c p → ShowsLegal p
 shows_of {r} {c} {p} st = record {
@@ -71,7 +71,7 @@ is_control {c} {p} st =
 
 -- ---- steps
 
--- the place behind the event has to be said; the rest is the step's own
+-- only the place after the event has to be given; the rest follows from the step
 standing : (r : ℕ → Place) (c : ℕ) (p : Pass) (o : Operation) (q : Pass) → (g : Steps (view_of p) o (view_of q)) → number_of p ≡ c
     → own_place c (after_by c o (found p o q g)).place ≡ r c → Stands r c q
 standing r c p o q g num is = record {
@@ -87,7 +87,7 @@ pub made : {s : ℕ → Place} {c : ℕ} {p : Pass} {o : Operation} (r : ℕ →
     → ((n : State) → own_place c (after_by c o n).place ≡ r c) → Stands r c q
 made {s} {c} {p} {o} r q st g is = standing r c p o q g st.number (is (found p o q g))
 
--- an event that leaves the place leaves the role, whatever others did before it
+-- an event that keeps the place keeps the role, whatever others did before it
 pub kept : {r : ℕ → Place} {c : ℕ} {p : Pass} {o : Operation} (q : Pass) → Stands r c p → Steps (view_of p) o (view_of q)
     → ((n : State) → (after_by c o n).place ≡ n.place) → Stands r c q
 kept {r} {c} {p} {o} q st g leaves =
@@ -101,7 +101,7 @@ kept {r} {c} {p} {o} q st g leaves =
 pub looked : {r : ℕ → Place} {c : ℕ} {p : Pass} {x : Seen} (q : Pass) → Stands r c p → Steps (view_of p) (Look x) (view_of q) → Stands r c q
 looked q st g = kept q st g (λ s. refl)
 
--- the slot changes nothing that is shown
+-- moving the context changes nothing that is shown
 pub moved : {r : ℕ → Place} {c : ℕ} {p : Pass} (q : Pass) → Stands r c p → view_of q ≡ view_of p → Stands r c q
 moved {r} {c} {p} q st e = record {
   number = ap view.number_of e ∙ st.number;
@@ -110,14 +110,14 @@ moved {r} {c} {p} q st e = record {
   place = ap (λ (v : View). own_place c (view.state_in v).place) e ∙ st.place;
 }
 
--- a look tells the flags of the state that it leaves
+-- a look returns the flags of the state that it leaves
 pub looked_flags : {x : Seen} (p q : Pass) → Steps (view_of p) (Look x) (view_of q) → x.flags ≡ (state_of q).flags
 looked_flags {x} p q g = ap (λ (y : Seen). y.flags) (step_of (view_of p) (Look x) (view_of q) g).0
     ∙ ap (λ (s : State). s.flags) (sym (state_stepped p (Look x) q g))
 
--- ---- who polls
+-- ---- the poller
 
--- nobody busy polls what was granted
+-- a granted instance isn't busy polled
 pub granted_unbusy : {c : ℕ} {p : Pass} → Stands Granted c p → BusyPolls false p
 granted_unbusy {c} {p} st = unbusy (controller_of p) (shown p) (shows_of st).legal (λ is. subst IsPolled (is_granted st) is)
 
@@ -125,7 +125,7 @@ pub busy_taken : {c : ℕ} {p : Pass} {k : Kind} (q : Pass) → Stands Free c p 
     → BusyPolls false q
 busy_taken {c} {p} {k} q st g = (take_polls (view_of p) (view_of q) k g).1
 
--- an event that makes it so, and one that changes nothing
+-- an event that sets whether the caller busy polls, and one that changes nothing
 pub busy_made : {b : Bool} {r : ℕ → Place} {c : ℕ} {p : Pass} {o : Operation} (q : Pass) → Stands r c p → Steps (view_of p) o (view_of q)
     → ((c : ℕ) (s : State) → (after_by c o s).flags.in_busy_poll ≡ b) → BusyPolls b q
 busy_made {b} {r} {c} {p} {o} q st g is =
@@ -144,7 +144,7 @@ busy_looked q st busy g = busy_kept q st busy g (λ n s. refl)
 pub busy_moved : {b : Bool} {c : ℕ} {p : Pass} (q : Pass) → Stands Polling c p → BusyPolls b p → view_of q ≡ view_of p → BusyPolls b q
 busy_moved {b} q st busy e = ap (λ (v : View). (view.state_in v).flags.in_busy_poll) e ∙ busy
 
--- the context comes out of the slot as the pass has it there
+-- the context is taken out of the slot as the pass has it there
 pub outside : (p q : Pass) (x : RxCtx) → q.holds ≡ Out → view_of q ≡ view_of p → ring_of p ≡ Some (ring_name x)
     → received_list x ≡ received_of p → Has q (Some x)
 outside p q x out same ring is = record {
@@ -155,7 +155,7 @@ outside p q x out same ring is = record {
       (subst (λ (l : List Packet). view.Continues (view.received_in (view_of p)) l) (sym is) p.received);
 }
 
--- a step that leaves the slot leaves what the context has received since
+-- a step that leaves the slot keeps what the context has received since
 pub stays_has : (p q : Pass) (x : RxCtx) → Has p (Some x) → q.holds ≡ p.holds → ring_of q ≡ ring_of p
     → Delivers slot.stays p.seat.me q.seat.me → Has q (Some x)
 stays_has p q x h holds ring g = record {
@@ -177,7 +177,7 @@ controls_moved {r} {b} {p} q k e = record {
   flag = ap (λ (v : View). (view.state_in v).flags.disable) e ∙ k.flag;
 }
 
--- the flag behind an event that makes it so, and behind one that leaves it
+-- the flag after an event that sets it, and after one that keeps it
 flag_made : (b : Bool) (p : Pass) (o : Operation) (q : Pass) → Steps (view_of p) o (view_of q)
     → ((c : ℕ) (s : State) → (after_by c o s).flags.disable ≡ b) → (state_of q).flags.disable ≡ b
 flag_made b p o q g is = ap (λ (s : State). s.flags.disable) (state_stepped p o q g) ∙ is (number_of p) (found p o q g)
@@ -233,7 +233,7 @@ one_ring {p} {ctx} input has fed =
       sym (ap (λ (n : RingName). n.3) same) ∙ fed.2.3,
     )
 
--- a context that was taken has received just what was delivered
+-- a context that was taken has received exactly what was delivered
 pub fresh : (p q r : Pass) (x : RxCtx) → Delivers slot.taken p.seat.me q.seat.me → received_list x ≡ received_of q → view_of r ≡ view_of q
     → received_list x ≡ view.received_in (view_of r)
 fresh p q r x g is same =

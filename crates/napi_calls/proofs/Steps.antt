@@ -1,4 +1,4 @@
--- What one step tells of the seat that made it, in the words of seats.
+-- What one step says about the seat that made it.
 use Rattle.std.proofs.Common.{◌≡◌, ℕ, List, [], ◌∷◌, ◌++◌, refl, sym, ap, ◌∙◌, subst, append_assoc}
 use Rattle.napi_model.specs.{declared.{event.{Event.Event, Operation.Operation}, state.State.State}, Step.{event, opening, after_by}}
 use Rattle.{napi_model.specs.History.{LegalHistory, own}, napi_word.specs.{declared.{table.Pass.Pass, view.Strand.Strand}, View.View}}
@@ -17,7 +17,7 @@ own_begins [] h all = (h, refl)
 own_begins (x ∷ xs) h all = all 0 x refl
 
 module _ (p : Pass) (o : Operation) (q : Pass) (g : Steps (view_of p) o (view_of q)) where
-  -- the state that the event found: others may have changed it since p looked
+  -- the state in which the event took place: others may have changed it since p looked
   abbrev pub found : State
   found = found_state (view_of p) o (view_of q) g
 

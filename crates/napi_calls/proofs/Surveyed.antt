@@ -35,7 +35,7 @@ module _ (k : ℕ) (h : List Event) (looker : ℕ) (seen : Seen) (ds : List Deli
         place = ap (λ (t : State). own_place c t.place) state_is ∙ is_kept c had now (is_owner c had) refl owner place ∙ st.place;
       }
 
-  -- who polls, or busy polls, does so still
+  -- a caller that polls, or busy polls, still does
   pub busy_up : {b : Bool} {c : ℕ} → Stands place.Polling c p → BusyPolls b p → BusyPolls b q
   busy_up {b} {c} st busy = ap (λ (t : State). t.flags.in_busy_poll) state_is
       ∙ u.busy (ap (is_owner (number_of p)) (is_polling st) ∙ eq-eqb (number_of p) (number_of p) refl) ∙ busy
@@ -46,7 +46,7 @@ module _ (k : ℕ) (h : List Event) (looker : ℕ) (seen : Seen) (ds : List Deli
     flag = ap (λ (t : State). t.flags.disable) state_is ∙ u.disable c.stands.number ∙ c.flag;
   }
 
-  -- who has the slot had seen all deliveries
+  -- the owner of the slot had seen all deliveries
   kept_received : has_slot p.holds ≡ true → view.received_in (view_of q) ≡ view.received_in (view_of p)
   kept_received has = received_as (view_of p) (view_of q) u.ring (u.delivered ∙ sym (u.held (p.right ∙ has)))
 

@@ -1,4 +1,4 @@
--- Between two surveys of an instance with three callers one of its numbers alone makes calls.
+-- Between two surveys of an instance with three callers, only one of its numbers makes calls.
 use Rattle.std.specs.Prelude.{◌≡◌, ◌<◌, ◌≤◌, ℕ, nat_eq, List, [], ◌∷◌, ◌++◌, flat_map, MatchBool}
 use Rattle.{rx_ring.specs.declared.packet.Packet.Packet, napi_model.specs.declared.event.{Event.Event, Call.Call, Operation.Operation}}
 use Rattle.napi_model.specs.{declared.{event.Operation.TheVariants.Look, state.{Seen.Seen, State.State}}, Step.{event, opening}}
@@ -14,7 +14,7 @@ pub record Shows (h : List Event) (ds : List Delivery) (c : ℕ) (p : Pass) : Ty
   pub exact : own c h ≡ own_list p
   pub delivers : delivered p ≡ ds
 
--- the seats of the numbers 0 to 3 show it, and nobody else has an event, or a delivery
+-- the seats of the numbers 0 to 3 show it, and no other number has an event or a delivery
 pub record AllShow (h : List Event) (ds : List Delivery) (first second third last : Pass) : Type 0 where
   pub zeroth : Shows h ds 0 first
   pub one : Shows h ds 1 second
@@ -23,12 +23,12 @@ pub record AllShow (h : List Event) (ds : List Delivery) (first second third las
   pub others : (n : ℕ) → 3 < n → own n h ≡ []
   pub few : (n : ℕ) → 3 < n → own_deliveries n ds ≡ []
 
--- of the seats the one of number c made these operations and delivered these packets, and the others made nothing
+-- the seat of number c made these operations and delivered these packets, and the others made none
 abbrev pub MakesAlone : ℕ → List Operation → List Packet → ℕ → Pass → Pass → Type 0
 MakesAlone c os packets n p q = MatchBool (nat_eq n c) (Made p os q × Delivers p packets q) (q ≡ p)
 
--- Until the survey's look the history grew by just these, each legal in the state that it met, and the deliveries by just those
--- packets. The look is next and leaves the state, and all seats show it.
+-- Until the survey's look, the history grew by exactly these operations, each legal in the state that it met, and the
+-- deliveries by exactly these packets. The look comes next and doesn't change the state, and all seats show it.
 pub record GrewBy (c : ℕ) (os : List Operation) (packets : List Packet) (h found : List Event) (look : Event) (ds later : List Delivery)
     (first second third last : Pass) : Type 0 where
   pub grown : found ≡ h ++ events c os
@@ -37,8 +37,8 @@ pub record GrewBy (c : ℕ) (os : List Operation) (packets : List Packet) (h fou
   pub gave : packets_of later ≡ packets_of ds ++ packets
   pub all : AllShow (found ++ look ∷ []) later first second third last
 
--- law: where all seats show the whole history and all deliveries, and then one of them makes calls alone, a survey by whomever shows
--- just these behind it, and its look
+-- law: if all seats show the whole history and all deliveries, and then only one of them makes calls, a survey by any of them
+-- shows exactly these calls after it, and its own look
 abbrev pub OneActsAlone : Type 0
 OneActsAlone =
     (c : ℕ) (os : List Operation) (packets : List Packet) (h : List Event) (ds : List Delivery)
@@ -49,7 +49,7 @@ OneActsAlone =
     → (s : Surveys 3 looker seen (first' ∷ second' ∷ third' ∷ last' ∷ []) (a ∷ b ∷ d ∷ e ∷ []))
     → GrewBy c os packets h s.found (event looker (Look seen)) ds s.deliveries a b d e
 
--- law: who acts alone loses no try, since nothing comes between its two looks
+-- law: a caller that alone makes calls never fails an attempt, because nothing comes between its two looks
 abbrev pub NoneIsLost : Type 0
 NoneIsLost =
     (controller c : ℕ) (call : Call) (s : State) (ts : List (Lost call)) (os : List Operation)

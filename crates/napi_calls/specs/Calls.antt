@@ -1,4 +1,4 @@
--- The events of each answer.
+-- The events of each result.
 use Rattle.std.specs.Prelude.{Bool, true, false, List, [], ◌∷◌, ◌++◌, flat_map, Option, Result, Ok, Err}
 use Rattle.napi_model.specs.declared.{state.{Seen.Seen, Kind.Kind}, event.Operation.TheVariants.{Look, Schedule, Take, Complete, BusyTake}}
 use Rattle.napi_model.specs.{declared.event.Operation.TheVariants.{BusyStop, MarkDisable, TakeDisable, Unmark, Enable}, Step.MayBusyTake}
@@ -16,14 +16,14 @@ use Rattle.napi_calls.specs.declared.answers.TryBusy.TheVariants as try_busy
 use Rattle.napi_calls.specs.declared.answers.TryStop.TheVariants as try_stop
 use Rattle.napi_calls.specs.declared.answers.TryTake.TheVariants as try_take
 
--- the seat with which the caller goes on
+-- the seat that the caller has afterwards
 abbrev pub seat_of : TryPrep → Pass
 seat_of (try_prep.Granted g) = g.pass
 seat_of (try_prep.Missed c) = c.pass
 seat_of (try_prep.Disabled c) = c.pass
 seat_of (try_prep.Changed c) = c.pass
 
--- ---- one try
+-- ---- one attempt
 
 -- `napi_schedule_prep`
 abbrev pub Prepares : Pass → TryPrep → Type 0
@@ -32,7 +32,7 @@ Prepares p (try_prep.Missed c) = (x : Seen) × Made p (Look x ∷ Schedule prep.
 Prepares p (try_prep.Disabled c) = Made p (Schedule prep.Disabled ∷ []) c.pass
 Prepares p (try_prep.Changed c) = WasLost call.Schedule p c.pass
 
--- between its two steps something is run, where there are two: it left itself the same, or it ran
+-- something is run between the two steps, if there are two: otherwise it is unchanged
 abbrev pub RunsUnlessDisabled : TryPrep → Type 0 → Type 0 → Type 0
 RunsUnlessDisabled (try_prep.Disabled c) same ran = same
 RunsUnlessDisabled (try_prep.Granted g) same ran = ran
@@ -49,7 +49,7 @@ RunsUnlessRefused (try_busy.Refused c) same ran = same
 RunsUnlessRefused (try_busy.Taken b) same ran = ran
 RunsUnlessRefused (try_busy.Changed c) same ran = ran
 
--- `net_rx_action` and `napi_thread_wait`, which find the instance or don't
+-- `net_rx_action` and `napi_thread_wait`, which find the instance or not
 abbrev pub Takes : Kind → Pass → Result Polling Caller → Type 0
 Takes k p (Ok w) = Made p (Take k true ∷ []) w.pass
 Takes k p (Err c) = Made p (Take k false ∷ []) c.pass
@@ -60,7 +60,7 @@ TriesToComplete p (try_done.Released c) = (x : Seen) × Made p (Look x ∷ Compl
 TriesToComplete p (try_done.Again g) = (x : Seen) × Made p (Look x ∷ Complete done.Again ∷ []) g.pass
 TriesToComplete p (try_done.Changed w) = WasLost call.Complete p w.pass
 
--- `napi_busy_loop`: refused exactly where the look says that the instance may not be taken
+-- `napi_busy_loop`: it fails exactly if the look shows that the instance may not be taken
 abbrev pub TriesToBusyPoll : Pass → TryBusy → Type 0
 TriesToBusyPoll p (try_busy.Taken b) = (x : Seen) × MayBusyTake x.flags × Made p (Look x ∷ BusyTake ∷ []) b.pass
 TriesToBusyPoll p (try_busy.Refused c) = (x : Seen) × ¬ MayBusyTake x.flags × Made p (Look x ∷ []) c.pass
@@ -71,7 +71,7 @@ abbrev pub TriesToStop : Pass → TryStop → Type 0
 TriesToStop p (try_stop.Stopped w) = (x : Seen) × Made p (Look x ∷ BusyStop ∷ []) w.pass
 TriesToStop p (try_stop.Changed b) = WasLost call.BusyStop p b.pass
 
--- `napi_disable`, behind its mark
+-- `napi_disable`, after its mark
 abbrev pub TriesToTake : Pass → TryTake → Type 0
 TriesToTake p (try_take.Taken c) = (x : Seen) × Made p (Look x ∷ TakeDisable true ∷ Unmark ∷ []) c.pass
 TriesToTake p (try_take.Busy c) = Made p (TakeDisable false ∷ []) c.pass
@@ -81,7 +81,7 @@ TriesToTake p (try_take.Changed c) = WasLost call.TakeDisable p c.pass
 abbrev pub EnablesAt : Bool → Pass → Pass → Type 0
 EnablesAt threaded p q = (x : Seen) × Made p (Look x ∷ Enable threaded ∷ []) q
 
--- ---- try after try: those that were lost, and the one that decided
+-- ---- repeated attempts: those that failed, and the one that decided
 
 abbrev pub Schedules : Pass → Sched → Type 0
 Schedules p (sched.Granted g) =
@@ -105,7 +105,7 @@ BusyPolling p (Err c) =
 abbrev pub Stops : Pass → Pass → Type 0
 Stops p q = (ts : List (Lost call.BusyStop)) × (x : Seen) × Made p (flat_map looks ts ++ Look x ∷ BusyStop ∷ []) q
 
--- the mark, and then the tries
+-- the mark, and then the attempts
 abbrev pub Disables : Pass → Pass → Type 0
 Disables p q = (ts : List (Option (Lost call.TakeDisable))) × (x : Seen)
     × Made p ((MarkDisable ∷ flat_map waits ts) ++ Look x ∷ TakeDisable true ∷ Unmark ∷ []) q

@@ -1,4 +1,4 @@
--- What an instance was that is closed: its one history.
+-- The one history of a closed instance.
 use Rattle.std.specs.Prelude.{◌≡◌, ℕ, ◌<◌, ◌≤◌, List, [], ◌∷◌, ◌++◌, length, slice_get, Some, false}
 use Rattle.rx_ring.specs.{declared.ends.RxCtx.RxCtx, Ends.{ring_name, received_list}}
 use Rattle.napi_model.specs.{declared.{state.Place.TheVariants.Control, event.Event.Event}, Step.opening, History.LegalHistory}
@@ -13,37 +13,38 @@ abbrev pub seats_of : List Caller → List Pass
 seats_of [] = []
 seats_of (c ∷ cs) = c.pass ∷ seats_of cs
 
--- of all of these seats
+-- for each of these seats
 abbrev pub Each : List Pass → (Pass → Type 0) → Type 0
 Each seats P = (k : ℕ) (p : Pass) → slice_get seats k ≡ Some p → P p
 
--- k is the controller's number, and these are all the seats of an instance, the controller's too
+-- k is the controller's number, and these are all the seats of an instance, including the controller's
 pub record IsHistoryOf (k : ℕ) (seats : List Pass) (h : List Event) : Type 0 where
   pub legal : LegalHistory k (opening k) h
-  -- whatever a seat has seen begins it
+  -- whatever a seat has seen is a prefix of it
   pub begins : Each seats (λ p. IsPrefix (shown p) h)
-  -- each own list is exact, each number has its seat, and nobody else has an event
+  -- each own list is exact, each number has its seat, and no other number has an event
   pub exact : Each seats (λ p. own (number_of p) h ≡ own_list p)
   pub all : (c : ℕ) → c ≤ k → (i : ℕ) × (p : Pass) × (slice_get seats i ≡ Some p) × (number_of p ≡ c)
   pub only : (c : ℕ) → k < c → own c h ≡ []
-  -- the longest list shown is the whole of it
+  -- the longest list shown is all of it
   pub longest : Each seats (λ p. Each seats (λ q. length (shown q) ≤ length (shown p)) → shown p ≡ h)
-  -- it ends in the controller's hands
+  -- at its end the controller owns the instance
   pub ends : (state_after (opening k) h).place ≡ Control k
   -- every accepted schedule is followed by a Released, with a poll start between it and the next one
   pub served : (front : List Event) (e : Event) (rest : List Event) → h ≡ front ++ e ∷ rest
       → IsAcceptedSchedule (state_after (opening k) front) e → IsServed false rest
 
--- all callers were there, there is one such history, and the context is that of the ring that was handed in
+-- all callers were given, there is exactly one such history, and the context is that of the ring with which the instance was
+-- made
 pub record IsClosed (n : Napi) (callers : List Caller) (control : Pass) (ctx : RxCtx) : Type 0 where
   pub all : length callers ≡ callers_of n
   pub history : List Event
   pub is : IsHistoryOf (callers_of n) (seats_of callers ++ control ∷ []) history
   pub ring : ring_name ctx ≡ ring_of_instance n
-  -- one delivery for each event that gave the context back, in their order; each caller's own are those that it made
+  -- one delivery for each event that gave the context back, in order; each caller's own are those that it made
   pub deliveries : List Delivery
   pub order : deliverers deliveries ≡ givers (opening (callers_of n)) history
   pub own_exact : Each (seats_of callers ++ control ∷ []) (λ p. own_deliveries (number_of p) deliveries ≡ own_delivered p)
   pub own_only : (c : ℕ) → callers_of n < c → own_deliveries c deliveries ≡ []
-  -- the context has received what it had when it was handed in, and then these, joined: each packet once
+  -- the context has received what it had when the instance was made, and then these, concatenated: each packet once
   pub received : received_list ctx ≡ received_by (first_of_instance n) deliveries

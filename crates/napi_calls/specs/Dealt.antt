@@ -1,4 +1,4 @@
--- What two pollers received of one ring, of which they are the callers 0 and 1.
+-- What two pollers, the callers 0 and 1, received from one ring.
 use Rattle.std.specs.Prelude.{◌≡◌, ℕ, ◌<◌, List, [], ◌++◌}
 use Rattle.rx_ring.specs.declared.packet.Packet.{Packet}
 use Rattle.napi_word.specs.{declared.{table.Pass.Pass, view.Delivery.Delivery}, View.{own_deliveries, packets_of}}
@@ -8,8 +8,8 @@ use Rattle.napi_calls.specs.Packets.{own_delivered}
 abbrev pub Delivers : Pass → List Packet → Pass → Type 0
 Delivers p packets q = packets_of (own_delivered q) ≡ packets_of (own_delivered p) ++ packets
 
--- all packets put are those of some deliveries, joined, and then those that are left; the first poller's are its own deliveries,
--- joined, the second one's too, and nobody else has one
+-- all packets put are those of some deliveries, concatenated, and then those that are left; each poller's packets are those of
+-- its own deliveries, and no other caller has a delivery
 pub record IsDealt (put first second left : List Packet) : Type 0 where
   pub deliveries : List Delivery
   pub whole : put ≡ packets_of deliveries ++ left

@@ -1,4 +1,4 @@
--- The numbers of the faults.
+-- The numbers of the errors.
 use Rattle.std.specs.Prelude.{ℕ, Bool, true, false, ◌||◌, nat_lt}
 use Rattle.napi_calls.specs.declared.fault.NewFault.{NewFault}
 use Rattle.napi_calls.specs.declared.fault.{NewFault.TheVariants.{OutOfMemory, BadCount}, CloseFault.{CloseFault, TheVariants.NotAll}}
@@ -14,7 +14,7 @@ close_fault_number NotAll = 1
 abbrev pub is_bad_count : ℕ → Bool
 is_bad_count n = nat_lt n 2 || nat_lt 8 n
 
--- the one fault with which so many callers can be refused
+-- the only error of a call with this many callers
 abbrev pub fault_of : Bool → NewFault
 fault_of true = BadCount
 fault_of false = OutOfMemory

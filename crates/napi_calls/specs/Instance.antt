@@ -1,26 +1,26 @@
--- What a contract sees of an instance, and its new seats.
+-- An instance and its new seats, as contracts see them.
 use Rattle.std.specs.Prelude.{◌≡◌, ℕ, Some, []}
 use Rattle.rx_ring.specs.{declared.ends.RxCtx.RxCtx, Ends.RingName}
 use Rattle.napi_word.specs.{declared.table.Pass.Pass, Passes.{IsPassOf, ring_of_table, first_of_table}}
 use Rattle.napi_calls.specs.{declared.types.Napi.Napi, Seats.{number_of, controller_of, shown, own_list, ring_of}, Packets.delivered}
 
--- how many callers were made with it; the controller has this number
+-- the number of callers, which is also the controller's number
 abbrev pub callers_of : Napi → ℕ
 callers_of n = n.callers
 
--- the ring whose context was handed in
+-- the ring of the context with which the instance was made
 abbrev pub ring_of_instance : Napi → RingName
 ring_of_instance n = ring_of_table n.table
 
--- the context that was handed in
+-- the context with which the instance was made
 abbrev pub first_of_instance : Napi → RxCtx
 first_of_instance n = first_of_table n.table
 
--- the seat is one of this instance
+-- the seat belongs to this instance
 abbrev pub IsSeatOf : Napi → Pass → Type 0
 IsSeatOf n p = IsPassOf n.table p
 
--- a seat as it was made: it has seen nothing, and its own list is empty
+-- a new seat: it has seen nothing, and its own list is empty
 pub record IsNewSeat (n : Napi) (number : ℕ) (p : Pass) : Type 0 where
   pub instance : IsSeatOf n p
   pub number_is : number_of p ≡ number

@@ -1,4 +1,4 @@
--- What the type of a value says of its seat.
+-- What the type of a value says about its seat.
 use Rattle.std.specs.Prelude.{◌≡◌, ℕ, Bool, cond, List, Option, Some, None}
 use Rattle.rx_ring.specs.declared.ends.RxCtx.{RxCtx}
 use Rattle.rx_ring.specs.{declared.packet.Packet.Packet, Ends.{RingName, ring_name, received_list}}
@@ -8,26 +8,26 @@ use Rattle.{napi_word.specs.declared.view.Holds.TheVariants.{Nothing, Out}, napi
 use Rattle.napi_calls.specs.Seats.{own_list, state_of, ring_of}
 use Rattle.napi_model.specs.declared.state.Place.TheVariants as place
 
--- the place as number c has it: where another has it or nobody, that is all one
+-- the place as number c sees it, which doesn't distinguish other owners from none
 abbrev pub own_place : ℕ → Place → Place
 own_place c p = cond (is_owner c p) p place.Nobody
 
--- who owns nothing
+-- the role of a caller that owns nothing
 abbrev pub Free : ℕ → Place
 Free c = place.Nobody
 
--- number c shows a legal history and its exact own list, and has this place in the state that the history leads to
+-- number c shows a legal history and its exact own list, and has this place in the state after the history
 pub record Stands (role : ℕ → Place) (c : ℕ) (p : Pass) : Type 0 where
   pub number : number_of p ≡ c
   pub legal : ∥ LegalHistory (controller_of p) (opening (controller_of p)) (shown p) ∥₁
   pub exact : own c (shown p) ≡ own_list p
   pub place : own_place c (state_of p).place ≡ role c
 
--- who polls knows whether it busy polls
+-- a caller that polls knows whether it busy polls
 abbrev pub BusyPolls : Bool → Pass → Type 0
 BusyPolls busy p = (state_of p).flags.in_busy_poll ≡ busy
 
--- the controller stands so too, and knows the disable flag
+-- the same for the controller, which also knows the disable flag
 pub record Controls (role : ℕ → Place) (disable : Bool) (p : Pass) : Type 0 where
   pub stands : Stands role (controller_of p) p
   pub flag : (state_of p).flags.disable ≡ disable
@@ -44,10 +44,9 @@ abbrev pub received_held : Option RxCtx → List Packet → List Packet
 received_held (Some x) known = received_list x
 received_held None known = known
 
--- the context is out of the instance's slot, in the hands of the value, and is that of the ring that was handed in; or
--- the value has none
+-- the value has the context, out of the instance's slot, and it is that of the instance's ring; or the value has none
 pub record Has (p : Pass) (ctx : Option RxCtx) : Type 0 where
   pub holds : p.holds ≡ held ctx
   pub ring : ring_of p ≡ ring_held ctx (ring_of p)
-  -- it has received what was delivered, and maybe more since
+  -- it has received all packets delivered, and maybe more since
   pub received : Continues (received_in (view_of p)) (received_held ctx (received_in (view_of p)))

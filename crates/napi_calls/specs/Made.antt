@@ -6,7 +6,7 @@ use Rattle.{napi_word.specs.declared.table.Pass.Pass, napi_calls.specs.Seats.{Sa
 use mathlib.Core.List.{IsPrefix}
 use Rattle.napi_model.specs.declared.event.Call.TheVariants as call
 
--- the events of number c that did these, with these replies
+-- the events of number c with these operations, with their replies
 abbrev pub events : ℕ → List Operation → List Event
 events c os = map (event c) os
 
@@ -16,18 +16,18 @@ EndsWith [] h = Unit {0}
 EndsWith (e ∷ []) h = (before : List Event) × (h ≡ before ++ e ∷ [])
 EndsWith (e ∷ f ∷ es) h = EndsWith (f ∷ es) h
 
--- a call of p made these events, in this order, each after all that p had seen, and q is what it left
+-- a call of p made these events, in this order, each after all that p had seen, and q is p afterwards
 pub record Made (p : Pass) (os : List Operation) (q : Pass) : Type 0 where
   pub seat : SameSeat p q
-  -- what was shown before begins what is shown now
+  -- what was shown before is a prefix of what is shown now
   pub begins : IsPrefix (shown p) (shown q)
-  -- the own list grew by just these
+  -- the own list grew by exactly these
   pub grown : own_list q ≡ own_list p ++ events (number_of p) os
   -- the last of them is the last that is shown
   pub ends : EndsWith (events (number_of p) os) (shown q)
   pub shows : ShowsLegal q
 
--- with these flags a call goes on to its exchange
+-- with these flags, a call continues with its exchange
 abbrev pub GoesOn : Call → Flags → Type 0
 GoesOn call.Schedule f = f.disable ≡ false
 GoesOn call.Complete f = f.in_busy_poll ≡ false
@@ -37,7 +37,7 @@ GoesOn call.TakeDisable f = (f.disable ≡ true) × (f.sched ≡ false) × (f.np
 GoesOn (call.Enable threaded) f = f.disable ≡ false
 GoesOn _ f = Unit {0}
 
--- a look by which the call goes on, and then one more that shows another state: what was decided by the first was lost
+-- a look after which the call continues, and then one that shows another state: the attempt failed
 pub record Lost (c : Call) : Type 0 where
   pub first : Seen
   pub goes_on : GoesOn c first.flags
@@ -47,11 +47,11 @@ pub record Lost (c : Call) : Type 0 where
 abbrev pub looks : {c : Call} → Lost c → List Operation
 looks t = Look t.first ∷ Look t.second ∷ []
 
--- a try to take the instance for a disable was lost, or found it busy
+-- an attempt to take the instance for a disable that failed or found it busy
 abbrev pub waits : Option (Lost call.TakeDisable) → List Operation
 waits (Some t) = looks t
 waits None = TakeDisable false ∷ []
 
--- the call was lost: its two looks are all that it made
+-- the attempt failed: its two looks are all that it made
 abbrev pub WasLost : Call → Pass → Pass → Type 0
 WasLost c p q = (t : Lost c) × Made p (looks t) q

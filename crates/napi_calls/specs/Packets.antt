@@ -1,5 +1,5 @@
--- What a call does with the packets of its instance's ring: who takes the context has all that was delivered, and who gives it
--- back delivers what it polled since.
+-- The effect of a call on the packets of its instance's ring: a caller that takes the context has all that was delivered; one
+-- that gives it back delivers what it polled since.
 use Rattle.std.specs.Prelude.{◌≡◌, ℕ, false, List, [], ◌∷◌, ◌++◌, length, drop, Result, Ok, Err}
 use Rattle.rx_ring.specs.{declared.{packet.Packet.Packet, ends.RxCtx.RxCtx}, Ends.{SameCtx, received_list, known_list, polls_of, is_beside}}
 use Rattle.napi_word.specs.{declared.{table.Pass.Pass, view.Delivery.Delivery}, Passes.view_of}
@@ -14,52 +14,52 @@ use Rattle.napi_calls.specs.declared.answers.TryBusy.TheVariants as try_busy
 use Rattle.napi_calls.specs.declared.answers.TryStop.TheVariants as try_stop
 use Rattle.napi_calls.specs.declared.answers.TryTake.TheVariants as try_take
 
--- the deliveries that a seat has seen, and those of its own number among them
+-- the deliveries that a seat has seen, and its own ones among them
 abbrev pub delivered : Pass → List Delivery
 delivered p = view.delivered (view_of p)
 
 abbrev pub own_delivered : Pass → List Delivery
 own_delivered p = view.own_deliveries (number_of p) (delivered p)
 
--- what the context has received by those
+-- the packets that the context has received by these
 abbrev pub received_before : Pass → List Packet
 received_before p = view.received_in (view_of p)
 
--- what the context has received since its owner took it
+-- the packets that the context has received since its owner took it
 abbrev pub polled : Pass → RxCtx → List Packet
 polled p ctx = drop (length (received_before p)) (received_list ctx)
 
--- the context is the same, but that the mark of `beside` may have ended
+-- the context is the same, except that the mark of `beside` may be cleared
 pub record IsSame (before after : RxCtx) : Type 0 where
   pub ring : SameCtx before after
   pub received : received_list after ≡ received_list before
   pub known : known_list after ≡ known_list before
   pub polls : polls_of after ≡ polls_of before
 
--- ---- what a call does, of which p is the seat before and q the one after
+-- ---- the effect of a call, with the seat p before and q after it
 
 -- its caller delivered nothing; others may have
 abbrev pub Quiet : Pass → Pass → Type 0
 Quiet p q = own_delivered q ≡ own_delivered p
 
--- its caller has the context throughout, so that nobody delivers
+-- its caller has the context throughout, so no caller delivers
 pub record HoldsOn (p q : Pass) : Type 0 where
   pub deliveries : delivered q ≡ delivered p
   pub received : received_before q ≡ received_before p
 
--- it took the context, which has received just what was delivered, and whose next poll looks at the ring
+-- it took the context, which has received exactly what was delivered, and whose next poll reads the ring
 pub record IsFresh (p q : Pass) (ctx : RxCtx) : Type 0 where
   pub quiet : Quiet p q
   pub received : received_list ctx ≡ received_before q
   pub unmarked : is_beside ctx ≡ false
 
--- it gave the context back as it was: one delivery more, of what was polled since it was taken
+-- it gave the context back as it was: one more delivery, of what was polled since it was taken
 pub record GivesBack (p : Pass) (ctx : RxCtx) (q : Pass) : Type 0 where
   pub laid : RxCtx
   pub same : IsSame ctx laid
   pub deliveries : delivered q ≡ delivered p ++ view.delivery (number_of p) (polled p ctx) laid ∷ []
 
--- ---- by each answer
+-- ---- by each result
 
 abbrev pub PreparesQuietly : Pass → TryPrep → Type 0
 PreparesQuietly p answer = Quiet p (seat_of answer)

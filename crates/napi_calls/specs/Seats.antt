@@ -1,4 +1,4 @@
--- What a seat of an instance shows. The other definitions here speak of seats by these words alone.
+-- What a seat of an instance shows. The other definitions here use only these on seats.
 use Rattle.std.specs.Prelude.{◌≡◌, ℕ, List, Option, Some}
 use Rattle.rx_ring.specs.{declared.ends.{RxIn.RxIn, RxCtx.RxCtx}, Ends.RingName}
 use Rattle.{rx_ring.specs.Ends.{ring_name, IsOneRing}, napi_model.specs.{declared.{event.Event.Event, state.State.State}, Step.opening}}
@@ -24,7 +24,7 @@ own_list p = view.mine (view_of p)
 abbrev pub state_of : Pass → State
 state_of p = state_after (opening (controller_of p)) (shown p)
 
--- the ring whose context was handed in with the instance
+-- the ring of the context with which the instance was made
 abbrev pub ring_of : Pass → Option RingName
 ring_of p = view.ring_of (view_of p)
 
@@ -35,7 +35,7 @@ pub record SameSeat (p q : Pass) : Type 0 where
   pub controller : controller_of q ≡ controller_of p
   pub ring : ring_of q ≡ ring_of p
 
--- the history shown is one of the one-thread NAPI object, and the own list is the number's events in it
+-- the history shown is legal for the one-thread NAPI object, and the own list is the number's events in it
 pub record ShowsLegal (p : Pass) : Type 0 where
   pub legal : LegalHistory (controller_of p) (opening (controller_of p)) (shown p)
   pub exact : own (number_of p) (shown p) ≡ own_list p

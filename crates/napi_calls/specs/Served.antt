@@ -7,13 +7,13 @@ abbrev pub Either : Bool → Type 0 → Type 0 → Type 0
 Either true a b = a
 Either false a b = b
 
--- whether a poll has started; the operation; what is left to show where it starts a poll; what else
+-- by whether a poll has started, and the operation: what remains to be shown if it starts a poll, and otherwise
 abbrev pub ServedAt : Bool → Operation → Type 0 → Type 0 → Type 0
 ServedAt true (Complete Released) started rest = Unit {0}
 ServedAt false (Complete Released) started rest = ⊥
 ServedAt b o started rest = Either (starts_poll o) started rest
 
--- a Released comes, and a poll starts before the first that comes, unless one has started
+-- a Released follows, and a poll starts before the first one, unless one has started
 unfoldable pub IsServed : Bool → List Event → Type 0
 IsServed b [] = ⊥
 IsServed b (e ∷ es) = ServedAt b e.operation (IsServed true es) (IsServed b es)

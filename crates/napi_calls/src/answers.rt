@@ -1,57 +1,57 @@
-//! What the calls answer, with the value that goes on.
+//! The results of the calls, each with the value for the next call.
 use crate::types::{Busy, Caller, Control, Granted, Marked, Off, Polling};
 
-/// The answer to one try to schedule.
+/// The result of one attempt to schedule.
 pub enum TryPrep {
-    /// The instance is this caller's, who has to hand it over (`napi_schedule_prep` answers true).
+    /// The caller owns the instance, and has to queue it (`napi_schedule_prep` returns true).
     Granted(Granted),
-    /// A poll is asked for already; it is noted that one more has to follow.
+    /// A poll is requested already, and another one will follow it.
     Missed(Caller),
-    /// The instance is disabled, or a disable is pending: nothing is asked for.
+    /// The instance is disabled, or a disable is pending: no poll was requested.
     Disabled(Caller),
     /// The state changed between the look and the exchange: nothing is decided.
     Changed(Caller),
 }
 
-/// The answer to a schedule.
+/// The result of a schedule.
 pub enum Sched {
-    /// The instance is this caller's, who has to hand it over (`napi_schedule_prep` answers true).
+    /// The caller owns the instance, and has to queue it (`napi_schedule_prep` returns true).
     Granted(Granted),
-    /// A poll is asked for already; it is noted that one more has to follow.
+    /// A poll is requested already, and another one will follow it.
     Missed(Caller),
-    /// The instance is disabled, or a disable is pending: nothing is asked for.
+    /// The instance is disabled, or a disable is pending: no poll was requested.
     Disabled(Caller),
 }
 
-/// The answer to one try to complete.
+/// The result of one attempt to complete.
 pub enum TryDone {
-    /// Nobody has the instance any more (`napi_complete_done` answers true).
+    /// No caller owns the instance any more (`napi_complete_done` returns true).
     Released(Caller),
-    /// A poll was asked for meanwhile: the instance is this caller's, who has to hand it over again.
+    /// A poll was requested meanwhile: the caller still owns the instance, and has to queue it again.
     Again(Granted),
     /// The state changed between the look and the exchange: nothing is decided.
     Changed(Polling),
 }
 
-/// The answer to a complete.
+/// The result of a completion.
 pub enum Completed {
-    /// Nobody has the instance any more (`napi_complete_done` answers true).
+    /// No caller owns the instance any more (`napi_complete_done` returns true).
     Released(Caller),
-    /// A poll was asked for meanwhile: the instance is this caller's, who has to hand it over again.
+    /// A poll was requested meanwhile: the caller still owns the instance, and has to queue it again.
     Again(Granted),
 }
 
-/// The answer to one try to busy poll.
+/// The result of one attempt to busy poll.
 pub enum TryBusy {
-    /// The instance is this caller's, who busy polls it.
+    /// The caller owns the instance, and busy polls it.
     Taken(Busy),
-    /// A poll is asked for or under way, or the instance is disabled, or a disable is pending.
+    /// A poll is requested or in progress, or the instance is disabled, or a disable is pending.
     Refused(Caller),
     /// The state changed between the look and the exchange: nothing is decided.
     Changed(Caller),
 }
 
-/// The answer to one try to stop busy polling.
+/// The result of one attempt to stop busy polling.
 pub enum TryStop {
     /// The caller polls the instance once more.
     Stopped(Polling),
@@ -59,11 +59,11 @@ pub enum TryStop {
     Changed(Busy),
 }
 
-/// The answer to one try to take the instance for a disable.
+/// The result of one attempt to take the instance for a disable.
 pub enum TryTake {
-    /// The instance is disabled, and the disable is pending no more.
+    /// The instance is disabled, and the disable isn't pending any more.
     Taken(Control<Off>),
-    /// A poll is asked for or under way: nothing is decided.
+    /// A poll is requested or in progress: nothing is decided.
     Busy(Control<Marked>),
     /// The state changed between the look and the exchange: nothing is decided.
     Changed(Control<Marked>),

@@ -1,11 +1,11 @@
-//! What happens between the two steps of a call.
+//! Code that runs between the two steps of a call.
 
-/// Acts between the look and the exchange of one call, as another thread may. A call runs it once, where it gets that far.
+/// Acts between the look and the exchange of one call, as another thread may. A call runs it once, if it gets that far.
 pub trait Between {
-    // What a run makes of itself. An `impl` that tells nothing of it writes `run` alone.
+    // How a run changes the value. An `impl` that states nothing about it has only `run`.
     ghost ran: { Self → Self → Type 0 } = { λ _ _. Unit {0} };
 
-    /// Is run there.
+    /// Runs once, between the look and the exchange.
     fn run(&mut self)
         ensures { ran self.old self.new };
 }

@@ -1,4 +1,4 @@
-//! Busy polling: the call of a caller that begins it, and the calls of one that busy polls.
+//! Busy polling: the call of a caller that starts it, and the calls of one that busy polls.
 ghost use Rattle.std.specs.Prelude.{◌≡◌, ◌≤◌, [], ◌∷◌, ◌++◌, length, Some, true};
 ghost use Rattle.napi_model.specs.declared.state.Place.TheVariants as place;
 ghost use Rattle.napi_model.specs.declared.event.Done.TheVariants.{Held};
@@ -19,8 +19,8 @@ use rx_ring::{Batch, MAX_WEIGHT, RxCounts, RxIn};
 use std::sync::Wait;
 
 impl Caller {
-    /// Takes an idle instance to busy poll it, once (`napi_busy_loop`): a look, and an exchange. It doesn't wait. `Refused`
-    /// exactly where the look shows DISABLE, SCHED or IN_BUSY_POLL.
+    /// Tries once to take an idle instance to busy poll it (`napi_busy_loop`): a look, and an exchange. It doesn't wait.
+    /// Returns `Refused` exactly if the look shows DISABLE, SCHED or IN_BUSY_POLL.
     #[inline]
     pub fn try_busy(self, napi: &Napi) -> TryBusy
         requires { IsSeatOf napi.now self.pass }
@@ -30,7 +30,7 @@ impl Caller {
         self.try_busy_between(napi, &mut Nothing)
     }
 
-    /// As [`try_busy`](Caller::try_busy), and runs `between` after the look, unless that answers `Refused`.
+    /// Like [`try_busy`](Caller::try_busy); it runs `between` after the look, unless it returns `Refused`.
     #[inline]
     pub fn try_busy_between<B: Between>(self, napi: &Napi, between: &mut B) -> TryBusy
         requires { IsSeatOf napi.now self.pass }
@@ -54,7 +54,8 @@ impl Caller {
         }
     }
 
-    /// Takes an idle instance to busy poll it, try after try until one decides (`napi_busy_loop`). `Err`: it was refused.
+    /// Takes an idle instance to busy poll it, and retries until an attempt decides (`napi_busy_loop`). Returns `Err` if the
+    /// instance isn't idle.
     pub fn busy<R: Wait>(self, rt: &R, napi: &Napi) -> Result<Busy, Caller>
         requires { IsSeatOf napi.now self.pass }
         ensures events { BusyPolling self.pass result }
@@ -80,7 +81,7 @@ impl Busy {
         self.number
     }
 
-    /// What any caller knows that busy polls, and that its context is that of the instance's ring.
+    /// States what is known of any caller that busy polls, and that its context belongs to the instance's ring.
     pub fn knows(&self)
         ensures shows { ShowsLegal self.now.pass }
         ensures place { (state_of self.now.pass).place ≡ place.Polling (number_of self.now.pass) }
@@ -88,7 +89,7 @@ impl Busy {
         ensures context { ring_of self.now.pass ≡ Some (ring_name self.now.ctx) }
     {}
 
-    /// What the state word tells: the flags, and to whom the instance was handed while nobody has taken it.
+    /// Reads the state word: the flags, and in which queue the instance waits until it is taken.
     pub fn look(&mut self, napi: &Napi) -> Seen
         requires { IsSeatOf napi.now self.old.pass }
         ensures event { Made self.old.pass (Look result ∷ []) self.new.pass }
@@ -98,7 +99,7 @@ impl Busy {
         napi.table.look(&mut self.pass)
     }
 
-    /// Polls once, as [`Polling::poll`].
+    /// Polls once, like [`Polling::poll`].
     #[inline]
     pub fn poll(&mut self, weight: usize, batch: &mut Batch) -> usize
         requires { (1 ≤ weight) × (weight ≤ MAX_WEIGHT) }
@@ -111,14 +112,14 @@ impl Busy {
         self.ctx.poll(weight, batch)
     }
 
-    /// What is counted of the ring's polls so far, those of other callers too.
+    /// The counts of the ring's polls so far, including those of other callers.
     pub fn counts(&self) -> RxCounts
         ensures { result ≡ counts_of (polls_of self.now.ctx) (received_list self.now.ctx) }
     {
         self.ctx.counts()
     }
 
-    /// The ends of the ring meet, as for [`Polling::beside`].
+    /// Lets the ends of the ring meet, like [`Polling::beside`].
     pub fn beside(&mut self, input: &mut RxIn)
         requires { IsInputOf input.old self.old.pass }
         ensures meets { Meets input.old self.old.ctx input.new self.new.ctx }
@@ -128,7 +129,7 @@ impl Busy {
     }
 
     /// Completes a poll whose work is below its weight (`napi_complete_done`, which does nothing under IN_BUSY_POLL): the
-    /// caller busy polls on.
+    /// caller keeps busy polling.
     #[inline]
     pub fn complete_held(&mut self, napi: &Napi)
         requires { IsSeatOf napi.now self.old.pass }
@@ -139,8 +140,8 @@ impl Busy {
         napi.table.complete_load(&mut self.pass);
     }
 
-    /// Stops busy polling, in one try (`busy_poll_stop`): a look, and an exchange. It doesn't wait. What was scheduled
-    /// meanwhile is answered by the poll that has to follow.
+    /// Tries once to stop busy polling (`busy_poll_stop`): a look, and an exchange. It doesn't wait. The poll that has to
+    /// follow serves what was scheduled meanwhile.
     #[inline]
     pub fn try_stop(self, napi: &Napi) -> TryStop
         requires { IsSeatOf napi.now self.pass }
@@ -150,7 +151,7 @@ impl Busy {
         self.try_stop_between(napi, &mut Nothing)
     }
 
-    /// As [`try_stop`](Busy::try_stop), and runs `between` after the look.
+    /// Like [`try_stop`](Busy::try_stop); it runs `between` after the look.
     #[inline]
     pub fn try_stop_between<B: Between>(self, napi: &Napi, between: &mut B) -> TryStop
         requires { IsSeatOf napi.now self.pass }
@@ -171,7 +172,7 @@ impl Busy {
         }
     }
 
-    /// Stops busy polling, try after try until one decides (`busy_poll_stop`).
+    /// Stops busy polling, and retries until an attempt decides (`busy_poll_stop`).
     pub fn stop<R: Wait>(self, rt: &R, napi: &Napi) -> Polling
         requires { IsSeatOf napi.now self.pass }
         ensures events { Stops self.pass result.pass }

@@ -17,20 +17,20 @@ use napi_model::{Kind, Prep, Seen};
 use std::sync::Wait;
 
 impl Caller {
-    /// The caller's number, from 0 on, in the order in which [`Napi::new`] gave the callers out.
+    /// The caller's number, from 0 on, in the order of the callers of [`Napi::new`].
     pub fn number(&self) -> u32
         ensures { result ≡ number_of self.now.pass }
     {
         self.number
     }
 
-    /// What any caller knows, wherever it comes from.
+    /// States what is known of any caller, wherever it comes from.
     pub fn knows(&self)
         ensures shows { ShowsLegal self.now.pass }
         ensures place { ¬ IsOwnedBy (number_of self.now.pass) (state_of self.now.pass).place }
     {}
 
-    /// What the state word tells: the flags, and to whom the instance was handed while nobody has taken it.
+    /// Reads the state word: the flags, and in which queue the instance waits until it is taken.
     #[inline]
     pub fn look(&mut self, napi: &Napi) -> Seen
         requires { IsSeatOf napi.now self.old.pass }
@@ -40,7 +40,7 @@ impl Caller {
         napi.table.look(&mut self.pass)
     }
 
-    /// Says whether polls are from now on handed to the instance's own thread (`dev_set_threaded`). Allowed in any state.
+    /// Sets whether the instance is scheduled on its own thread from now on (`dev_set_threaded`). Allowed in any state.
     pub fn set_threaded(&mut self, napi: &Napi, threaded: bool)
         requires { IsSeatOf napi.now self.old.pass }
         ensures event { Made self.old.pass (SetThreaded threaded ∷ []) self.new.pass }
@@ -49,7 +49,8 @@ impl Caller {
         napi.table.threaded(&mut self.pass, threaded);
     }
 
-    /// Asks for a poll, once (`napi_schedule_prep`): a look, and an exchange. It doesn't wait; at most two steps are made.
+    /// Tries once to request a poll (`napi_schedule_prep`): a look, and an exchange. It doesn't wait; it makes at most two
+    /// steps.
     #[inline]
     pub fn try_schedule(self, napi: &Napi) -> TryPrep
         requires { IsSeatOf napi.now self.pass }
@@ -59,7 +60,7 @@ impl Caller {
         self.try_schedule_between(napi, &mut Nothing)
     }
 
-    /// As [`try_schedule`](Caller::try_schedule), and runs `between` after the look, unless that answers `Disabled`.
+    /// Like [`try_schedule`](Caller::try_schedule); it runs `between` after the look, unless it returns `Disabled`.
     #[inline]
     pub fn try_schedule_between<B: Between>(self, napi: &Napi, between: &mut B) -> TryPrep
         requires { IsSeatOf napi.now self.pass }
@@ -81,7 +82,7 @@ impl Caller {
         }
     }
 
-    /// Asks for a poll, try after try until one decides (`napi_schedule_prep`).
+    /// Requests a poll, and retries until an attempt decides (`napi_schedule_prep`).
     pub fn schedule<R: Wait>(self, rt: &R, napi: &Napi) -> Sched
         requires { IsSeatOf napi.now self.pass }
         ensures events { Schedules self.pass result }
@@ -99,8 +100,8 @@ impl Caller {
         unreachable!()
     }
 
-    /// Takes the instance from the list or the thread to which it was handed, and its poll context out of the slot
-    /// (`net_rx_action`, `napi_thread_wait`). `Err`: it wasn't there, and nothing changed.
+    /// Takes the instance from the list or from its thread's queue, and its poll context out of the slot (`net_rx_action`,
+    /// `napi_thread_wait`). Returns `Err`, and changes nothing, if the instance isn't there.
     #[inline]
     pub fn take(self, napi: &Napi, kind: Kind) -> Result<Polling, Caller>
         requires { IsSeatOf napi.now self.pass }
@@ -116,7 +117,7 @@ impl Caller {
     }
 }
 
-/// A look of each. All that the first has seen is then the beginning of what the second has seen.
+/// Makes a look with each. All that the first has seen is then a prefix of what the second has seen.
 pub fn meet(napi: &Napi, first: &mut Caller, second: &mut Caller)
     requires first { IsSeatOf napi.now first.old.pass }
     requires second { IsSeatOf napi.now second.old.pass }

@@ -1,4 +1,4 @@
-//! The calls of the controller, who enables and disables the instance.
+//! The calls of the controller, which enables and disables the instance.
 ghost use Rattle.std.specs.Prelude.{◌≡◌, [], ◌∷◌, MatchResult, Some, true, false};
 ghost use Rattle.napi_model.specs.declared.state.Place.TheVariants as place;
 ghost use Rattle.napi_model.specs.declared.event.Call.TheVariants.{Enable};
@@ -19,7 +19,7 @@ use rx_ring::{RxCounts, RxIn};
 use std::sync::Wait;
 
 impl Control<On> {
-    /// What the controller of an enabled instance knows.
+    /// States what is known of the controller of an enabled instance.
     pub fn knows(&self)
         ensures shows { ShowsLegal self.now.pass }
         ensures number { number_of self.now.pass ≡ controller_of self.now.pass }
@@ -27,7 +27,7 @@ impl Control<On> {
         ensures flag { (state_of self.now.pass).flags.disable ≡ false }
     {}
 
-    /// Marks that a disable is pending: from now on schedules are refused (the first step of `napi_disable`).
+    /// Marks a disable as pending (the first step of `napi_disable`): from now on requests for a poll fail.
     pub fn mark(self, napi: &Napi) -> Control<Marked>
         requires { IsSeatOf napi.now self.pass }
         ensures event { Made self.pass (MarkDisable ∷ []) result.pass }
@@ -44,7 +44,7 @@ impl Control<On> {
         }
     }
 
-    /// Disables the instance (`napi_disable`): marks it, and tries until whoever has it has released it.
+    /// Disables the instance (`napi_disable`): marks it, and retries until its owner has released it.
     pub fn disable<R: Wait>(self, rt: &R, napi: &Napi) -> Control<Off>
         requires { IsSeatOf napi.now self.pass }
         ensures events { Disables self.pass result.pass }
@@ -53,8 +53,8 @@ impl Control<On> {
         self.disable_pausing(rt, napi, &mut Nothing)
     }
 
-    /// As [`disable`](Control::disable), and runs `pause` after each try that found the instance busy: there a thread leaves
-    /// the processor to others (`usleep_range` there), so that whoever has the instance can go on.
+    /// Like [`disable`](Control::disable); it runs `pause` after each attempt that finds the instance busy, so that a thread
+    /// can yield the processor to the owner (`usleep_range` in the kernel).
     pub fn disable_pausing<R: Wait, P: Between>(
         self,
         rt: &R,
@@ -81,7 +81,7 @@ impl Control<On> {
 }
 
 impl Control<Marked> {
-    /// What the controller of an instance knows that it marked.
+    /// States what is known of the controller of an instance that it marked.
     pub fn knows(&self)
         ensures shows { ShowsLegal self.now.pass }
         ensures number { number_of self.now.pass ≡ controller_of self.now.pass }
@@ -89,8 +89,8 @@ impl Control<Marked> {
         ensures flag { (state_of self.now.pass).flags.disable ≡ true }
     {}
 
-    /// Takes the instance where nobody has it, in one try, and clears the mark of the disable (the second and the third
-    /// step of `napi_disable`). It doesn't wait.
+    /// Tries once to take the instance, if no caller owns it, and clears the mark of the disable (the second and third step of
+    /// `napi_disable`). It doesn't wait.
     pub fn try_take(self, napi: &Napi) -> TryTake
         requires { IsSeatOf napi.now self.pass }
         ensures events { TriesToTake self.pass result }
@@ -99,7 +99,7 @@ impl Control<Marked> {
         self.try_take_between(napi, &mut Nothing)
     }
 
-    /// As [`try_take`](Control::try_take), and runs `between` after the load, unless that answers `Busy`.
+    /// Like [`try_take`](Control::try_take); it runs `between` after the load, unless it returns `Busy`.
     pub fn try_take_between<B: Between>(self, napi: &Napi, between: &mut B) -> TryTake
         requires { IsSeatOf napi.now self.pass }
         ensures events { TriesToTake self.pass result }
@@ -136,8 +136,8 @@ impl Control<Marked> {
 }
 
 impl Control<Off> {
-    /// What the controller of a disabled instance knows, and that its context is that of the instance's ring, which has
-    /// received just what was delivered.
+    /// States what is known of the controller of a disabled instance, and that its context belongs to the instance's ring and
+    /// has received exactly what was delivered.
     pub fn knows(&self)
         ensures shows { ShowsLegal self.now.pass }
         ensures number { number_of self.now.pass ≡ controller_of self.now.pass }
@@ -147,7 +147,7 @@ impl Control<Off> {
         ensures received { received_list self.now.state.ctx ≡ received_before self.now.pass }
     {}
 
-    /// What is counted of the ring's polls so far.
+    /// The counts of the ring's polls so far.
     pub fn counts(&self) -> RxCounts
         ensures { result ≡ counts_of (polls_of self.now.state.ctx)
             (received_list self.now.state.ctx) }
@@ -155,7 +155,7 @@ impl Control<Off> {
         self.state.ctx.counts()
     }
 
-    /// The ends of the ring meet.
+    /// Lets the ends of the ring meet.
     pub fn beside(&mut self, input: &mut RxIn)
         requires { IsInputOf input.old self.old.pass }
         ensures meets { Meets input.old self.old.state.ctx input.new self.new.state.ctx }
@@ -164,9 +164,9 @@ impl Control<Off> {
         rx_ring::beside(input, &mut self.state.ctx);
     }
 
-    /// Enables the instance, in one try, and says whether its polls are handed to its own thread (`napi_enable`): a look,
-    /// and an exchange. The context goes back to the slot. It doesn't wait. `Err`: the state changed between the two, and
-    /// nothing is decided.
+    /// Tries once to enable the instance, and sets whether it is scheduled on its own thread (`napi_enable`): a look, and an
+    /// exchange. The context goes back to the slot. It doesn't wait. Returns `Err` if the state changed between the two;
+    /// nothing is decided then.
     pub fn try_enable(self, napi: &Napi, threaded: bool) -> Result<Control<On>, Control<Off>>
         requires { IsSeatOf napi.now self.pass }
         ensures events { MatchResult result (λ r. EnablesAt threaded self.pass r.pass)
@@ -177,7 +177,7 @@ impl Control<Off> {
         self.try_enable_between(napi, threaded, &mut Nothing)
     }
 
-    /// As [`try_enable`](Control::try_enable), and runs `between` after the look.
+    /// Like [`try_enable`](Control::try_enable); it runs `between` after the look.
     pub fn try_enable_between<B: Between>(
         self,
         napi: &Napi,
@@ -210,7 +210,7 @@ impl Control<Off> {
         }
     }
 
-    /// Enables the instance, try after try until one decides (`napi_enable`).
+    /// Enables the instance, and retries until an attempt decides (`napi_enable`).
     pub fn enable<R: Wait>(self, rt: &R, napi: &Napi, threaded: bool) -> Control<On>
         requires { IsSeatOf napi.now self.pass }
         ensures events { Enables threaded self.pass result.pass }

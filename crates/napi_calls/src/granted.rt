@@ -1,4 +1,4 @@
-//! The calls of a caller to whom the instance was granted.
+//! The calls of a caller that was granted the instance.
 ghost use Rattle.std.specs.Prelude.{◌≡◌, [], ◌∷◌, false};
 ghost use Rattle.napi_model.specs.declared.state.Place.TheVariants as place;
 ghost use Rattle.napi_model.specs.declared.event.Operation.TheVariants.{Look, Hand};
@@ -18,14 +18,14 @@ impl Granted {
         self.number
     }
 
-    /// What any caller knows to whom the instance was granted.
+    /// States what is known of any caller that was granted the instance.
     pub fn knows(&self)
         ensures shows { ShowsLegal self.now.pass }
         ensures place { (state_of self.now.pass).place ≡ place.Granted (number_of self.now.pass) }
         ensures flag { (state_of self.now.pass).flags.in_busy_poll ≡ false }
     {}
 
-    /// What the state word tells: the flags, and to whom the instance was handed while nobody has taken it.
+    /// Reads the state word: the flags, and in which queue the instance waits until it is taken.
     #[inline]
     pub fn look(&mut self, napi: &Napi) -> Seen
         requires { IsSeatOf napi.now self.old.pass }
@@ -35,7 +35,7 @@ impl Granted {
         napi.table.look(&mut self.pass)
     }
 
-    /// Hands the instance over to the list or to its thread (`____napi_schedule`).
+    /// Queues the instance on the list or for its thread (`____napi_schedule`).
     #[inline]
     pub fn hand(self, napi: &Napi, kind: Kind) -> Caller
         requires { IsSeatOf napi.now self.pass }

@@ -1,4 +1,4 @@
-//! An instance is made, and closed.
+//! Making and closing an instance.
 ghost use Rattle.std.specs.Prelude.{◌≡◌, ◌≢◌, ◌<◌, ◌≤◌, ◌+◌, ◌-◌, ℕ, [], ◌∷◌, ◌++◌, length, IfOk, IfErr, Some, slice_get, false, vec_capacity};
 ghost use Rattle.rx_ring.specs.declared.ends.RxCtx.{RxCtx};
 ghost use Rattle.napi_word.specs.declared.table.Pass.{Pass};
@@ -17,27 +17,27 @@ use napi_word::{Ended, Pass, StateTable, TableBack};
 use rx_ring::RxCtx;
 use std::alloc::Global;
 
-/// An instance isn't made, and its poll context comes back.
+/// A failed attempt to make an instance, with its arguments.
 pub struct NewBack {
-    /// Why not.
+    /// Why it failed.
     pub fault: NewFault,
-    /// The context that was handed in, as it was.
+    /// The context that was passed in, unchanged.
     pub ctx: RxCtx,
 }
 
-/// An instance isn't closed, and all that was handed in comes back.
+/// A failed attempt to close an instance, with its arguments.
 pub struct CloseBack {
-    /// Why not.
+    /// Why it failed.
     pub fault: CloseFault,
-    /// The instance, as it was.
+    /// The instance, unchanged.
     pub napi: Napi,
-    /// The callers that were handed in, as they were.
+    /// The callers, unchanged.
     pub callers: Vec<Caller>,
-    /// The controller, as it was.
+    /// The controller, unchanged.
     pub control: Control<Off>,
 }
 
-/// The next of an instance's callers, from the list that [`Napi::new`] gave: the last that is left there.
+/// Removes and returns the next caller from the list that [`Napi::new`] returned: the last that is left in it.
 pub fn next_caller(napi: &Napi, callers: &mut Vec<Caller>) -> Caller
     requires some { 1 ≤ length callers.old.items }
     requires seats { (k : ℕ) (c : Caller) → slice_get callers.old.items k ≡ Some c
@@ -53,7 +53,7 @@ pub fn next_caller(napi: &Napi, callers: &mut Vec<Caller>) -> Caller
     caller
 }
 
-// The controller's new pass, with the context taken out of the slot.
+// Returns the controller of a new pass, with the context taken out of the slot.
 fn control_of(table: &StateTable, mut pass: Pass, last: u32) -> Control<Off>
     requires { (ctx : RxCtx) × IsNew table.now last ctx last pass }
     ensures table { IsPassOf table.now result.pass }
@@ -66,7 +66,7 @@ fn control_of(table: &StateTable, mut pass: Pass, last: u32) -> Control<Off>
     }
 }
 
-// A caller's new pass.
+// Returns the caller of a new pass.
 fn caller_of(pass: Pass, number: u32) -> Caller
     requires { (t : StateTable) × (last : ℕ) × (ctx : RxCtx) × (number < last)
         × IsNew t last ctx number pass }
@@ -82,7 +82,7 @@ fn is_bad(callers: u32) -> bool
     callers < 2 || 8 < callers
 }
 
-// The callers of new passes, in their order.
+// Returns the callers of new passes, in order.
 fn seat_callers(passes: Vec<Pass>, mut callers: Vec<Caller>) -> Vec<Caller>
     requires new { (t : StateTable) × (last : ℕ) × (ctx : RxCtx) × (length passes.items ≤ last)
         × (last ≤ 8)
@@ -102,12 +102,12 @@ fn seat_callers(passes: Vec<Pass>, mut callers: Vec<Caller>) -> Vec<Caller>
 }
 
 impl Napi {
-    /// A new instance over the poll context of a receive ring (`netif_napi_add`), with its callers and its controller. It
-    /// is disabled. The callers have the numbers from 0 on, in their order, and the controller's is their count. This is
-    /// the only call that takes memory.
+    /// Returns a new instance over the poll context of a receive ring (`netif_napi_add`), with its callers and its controller.
+    /// It is disabled. The callers have the numbers from 0 on, in order, and the controller's is their count. This is the only
+    /// call that allocates.
     ///
-    /// Refused by [`BadCount`](NewFault::BadCount) where `callers` isn't 2 to 8, and else only by
-    /// [`OutOfMemory`](NewFault::OutOfMemory), where there is no memory. The context comes back.
+    /// Fails with [`BadCount`](NewFault::BadCount) if `callers` isn't 2 to 8, otherwise only with
+    /// [`OutOfMemory`](NewFault::OutOfMemory), if an allocation fails. Both return the context.
     pub fn new(
         alloc: Global,
         ctx: RxCtx,
@@ -154,10 +154,10 @@ impl Napi {
     }
 }
 
-/// Closes a disabled instance (`netif_napi_del`) and hands out its poll context. Where callers are missing it is
-/// refused by [`NotAll`](CloseFault::NotAll), and all three come back as they were.
+/// Closes a disabled instance (`netif_napi_del`) and returns its poll context. Fails with [`NotAll`](CloseFault::NotAll) if
+/// callers are missing, and returns all three arguments unchanged.
 ///
-/// Here the one history is read off.
+/// Its contract states the one history.
 pub fn close(
     napi: Napi,
     mut callers: Vec<Caller>,

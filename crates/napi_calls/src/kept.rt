@@ -1,13 +1,13 @@
-//! A seat of an instance must be spent, and a thread's closure holds only what may be dropped: `Kept` takes a seat there.
+//! A seat of an instance is linear, but a thread's closure holds only values that can be dropped: `Kept` carries a seat there.
 ghost use Rattle.std.specs.Prelude.{◌≡◌};
 
 use std::sync::Wait;
 
-/// Keeps a value that must be spent, where only what may be dropped can stand, as in a thread's closure and in what a
-/// thread answers. To drop it never returns, so that nothing is lost: it is to be opened.
+/// Carries a linear value where only values that can be dropped are allowed, as in a thread's closure and its result. Its drop
+/// never returns, so the value can't be lost: open it instead.
 pub struct Kept<R: Wait + Drop, T> {
     rt: R,
-    /// The value.
+    /// The linear value.
     pub value: T,
 }
 
@@ -20,14 +20,14 @@ impl<R: Wait + Drop, T> Drop for Kept<R, T> {
 }
 
 impl<R: Wait + Drop, T> Kept<R, T> {
-    /// Keeps a value. `rt` is what its drop would wait with.
+    /// Wraps a value. `rt` is the capability by which its drop would wait.
     pub fn new(rt: R, value: T) -> Self
         ensures { result.value ≡ value }
     {
         Kept { rt, value }
     }
 
-    /// Gives the value back.
+    /// Returns the value.
     pub fn open(self) -> T
         ensures { result ≡ self.value }
     {

@@ -1,15 +1,14 @@
-//! The typed calls on a shared NAPI instance: which call is allowed where is shown by types, and what each call did by
-//! contracts.
+//! The typed calls on a shared NAPI instance: types show which call is allowed when, and contracts what each call did.
 //!
 //! [`Napi::new`] makes an instance over a receive ring's poll context, disabled, with its callers and its controller. A
-//! [`Caller`] asks for polls and takes the instance to poll it; a [`Granted`] caller has to hand it over; [`Polling`] has
-//! the poll context, and so has a [`Busy`] caller, who busy polls; [`Control`] enables and disables the instance. Each is a seat of a thread of its own and must be
-//! spent: it goes into the next call, and at last into [`close`].
+//! [`Caller`] requests polls and takes the instance to poll it; a [`Granted`] caller has to queue it; [`Polling`] has the poll
+//! context, and so has [`Busy`], which busy polls; [`Control`] enables and disables the instance. Each is a seat for one
+//! thread, and linear: it goes into the next call, and at last into [`close`].
 //!
-//! Every call is a few atomic steps on one word, with no lock. Whatever the threads' schedule, these stand in one legal
-//! history of the one-thread object of `napi_model`. `specs/` says it: `Seats` what each value shows of that history,
-//! `Made` what a call adds to it, `Calls` the events of each answer, `Knows` what a value's type says, `Closed` what the
-//! history is at the end.
+//! Every call is a few atomic steps on one word, without a lock. However the threads are scheduled, these steps form one legal
+//! history of the one-thread object of `napi_model`. In `specs/`, `Seats` defines what each value shows of that history, `Made`
+//! what a call adds to it, `Calls` the events of each result, `Knows` what a value's type says, `Closed` the history at the
+//! end.
 //!
 //! The `_between` forms run something between the look and the exchange of one call, for tests and simulators.
 #![tactic(auto)]

@@ -1,4 +1,4 @@
-//! The calls of a poller, who has the poll context.
+//! The calls of a poller, which has the poll context.
 ghost use Rattle.std.specs.Prelude.{◌≡◌, ◌≤◌, [], ◌∷◌, ◌++◌, length, Some, false};
 ghost use Rattle.napi_model.specs.declared.state.Kind.TheVariants as kind;
 ghost use Rattle.napi_model.specs.declared.state.Place.TheVariants as place;
@@ -26,7 +26,7 @@ impl Polling {
         self.number
     }
 
-    /// What any poller knows, and that its context is that of the instance's ring.
+    /// States what is known of any poller, and that its context belongs to the instance's ring.
     pub fn knows(&self)
         ensures shows { ShowsLegal self.now.pass }
         ensures place { (state_of self.now.pass).place ≡ place.Polling (number_of self.now.pass) }
@@ -34,7 +34,7 @@ impl Polling {
         ensures context { ring_of self.now.pass ≡ Some (ring_name self.now.ctx) }
     {}
 
-    /// What the state word tells: the flags, and to whom the instance was handed while nobody has taken it.
+    /// Reads the state word: the flags, and in which queue the instance waits until it is taken.
     #[inline]
     pub fn look(&mut self, napi: &Napi) -> Seen
         requires { IsSeatOf napi.now self.old.pass }
@@ -45,8 +45,8 @@ impl Polling {
         napi.table.look(&mut self.pass)
     }
 
-    /// Polls once, as a driver's `poll` (`__napi_poll` calls it): the batch is emptied, and then has the ring's next
-    /// packets, at most `weight`, which is 1 to 64. Answers how many these are. The history stays as it was.
+    /// Polls once, like a driver's `poll` that `__napi_poll` calls: clears the batch and fills it with the ring's next packets,
+    /// at most `weight`, which is 1 to 64. Returns how many these are. The history doesn't change.
     #[inline]
     pub fn poll(&mut self, weight: usize, batch: &mut Batch) -> usize
         requires { (1 ≤ weight) × (weight ≤ MAX_WEIGHT) }
@@ -59,14 +59,14 @@ impl Polling {
         self.ctx.poll(weight, batch)
     }
 
-    /// What is counted of the ring's polls so far, those of other callers too.
+    /// The counts of the ring's polls so far, including those of other callers.
     pub fn counts(&self) -> RxCounts
         ensures { result ≡ counts_of (polls_of self.now.ctx) (received_list self.now.ctx) }
     {
         self.ctx.counts()
     }
 
-    /// The ends of the ring meet: a poll right after it gives exactly the lesser of its weight and what the ring holds.
+    /// Lets the ends of the ring meet: a poll right after it returns exactly the lesser of its weight and what the ring holds.
     pub fn beside(&mut self, input: &mut RxIn)
         requires { IsInputOf input.old self.old.pass }
         ensures meets { Meets input.old self.old.ctx input.new self.new.ctx }
@@ -75,7 +75,7 @@ impl Polling {
         rx_ring::beside(input, &mut self.ctx);
     }
 
-    /// Hands the instance to the list again, to be polled once more (the repoll of `napi_poll`). The context goes back.
+    /// Queues the instance on the list again, to be polled once more (the repoll of `napi_poll`). The context goes back.
     #[inline]
     pub fn requeue(self, napi: &Napi) -> Caller
         requires { IsSeatOf napi.now self.pass }
@@ -92,7 +92,7 @@ impl Polling {
         Caller { pass, number }
     }
 
-    /// Ends the poll, in one try (`napi_complete_done`): a look, and an exchange. It doesn't wait.
+    /// Tries once to end the poll (`napi_complete_done`): a look, and an exchange. It doesn't wait.
     #[inline]
     pub fn try_complete(self, napi: &Napi) -> TryDone
         requires { IsSeatOf napi.now self.pass }
@@ -102,7 +102,7 @@ impl Polling {
         self.try_complete_between(napi, &mut Nothing)
     }
 
-    /// As [`try_complete`](Polling::try_complete), and runs `between` after the look.
+    /// Like [`try_complete`](Polling::try_complete); it runs `between` after the look.
     #[inline]
     pub fn try_complete_between<B: Between>(self, napi: &Napi, between: &mut B) -> TryDone
         requires { IsSeatOf napi.now self.pass }
@@ -129,7 +129,7 @@ impl Polling {
         }
     }
 
-    /// Ends the poll, try after try until one decides (`napi_complete_done`).
+    /// Ends the poll, and retries until an attempt decides (`napi_complete_done`).
     pub fn complete<R: Wait>(self, rt: &R, napi: &Napi) -> Completed
         requires { IsSeatOf napi.now self.pass }
         ensures events { Completes self.pass result }

@@ -1,16 +1,16 @@
-//! What may cross threads.
+//! Which values may cross threads.
 use crate::types::{Busy, Caller, Control, Granted, Marked, Napi, Off, On, Polling};
 
 fn shared<T: Sync>() {}
 
 fn sent<T: Send>() {}
 
-/// An instance is shared by its threads.
+/// Proves that threads can share an instance (`Sync`).
 pub fn is_shared() {
     shared::<Napi>();
 }
 
-/// Each value on which calls are made may be sent to another thread.
+/// Proves that each value on which calls are made can be sent to another thread (`Send`).
 pub fn is_sent() {
     sent::<Napi>();
     sent::<Caller>();

@@ -13,9 +13,9 @@ use crate::types::{Busy, Caller, Control, Mode, Napi, Polling};
 use napi_model::Seen;
 use napi_word::Pass;
 
-/// The three callers of an instance and its controller meet at once, while none of them is within a call, and the controller
-/// makes a look, whose answer comes last. Then each shows the whole history, which ends in that look and in which there is no
-/// more of its own than it had made, and all deliveries.
+/// Lets the three callers of an instance and its controller meet at once, while none of them is within a call; the controller
+/// makes a look, which is returned last. Then each shows the whole history, which ends in that look and has no more events of
+/// its own than it had made, and all deliveries.
 #[inline]
 pub fn survey<S: Mode>(
     napi: &Napi,
@@ -68,8 +68,8 @@ pub fn survey<S: Mode>(
     )
 }
 
-/// As [`survey`], while one of the callers polls the instance: two others, the controller, who has nothing of the instance,
-/// and the one who polls meet at once, and whoever polls makes the look. The poll context stays in its hands.
+/// Like [`survey`], while one of the callers polls the instance: two others, the controller, which doesn't own the instance,
+/// and the poller meet at once, and the poller makes the look. It keeps the poll context.
 #[inline]
 pub fn survey_polling<S: Mode>(
     napi: &Napi,
@@ -104,7 +104,7 @@ pub fn survey_polling<S: Mode>(
     (first, second, control, polling, seen)
 }
 
-/// As [`survey_polling`], while one of the callers busy polls the instance.
+/// Like [`survey_polling`], while one of the callers busy polls the instance.
 #[inline]
 pub fn survey_busy<S: Mode>(
     napi: &Napi,
@@ -139,7 +139,7 @@ pub fn survey_busy<S: Mode>(
     (first, second, control, busy, seen)
 }
 
-// Two callers and a controller who has nothing of the instance meet with the pass of who polls it, which looks.
+// Lets two callers and a controller that don't own the instance meet with the pass of the poller, which looks.
 fn survey_beside<S: Mode>(
     napi: &Napi,
     first: Caller,
@@ -188,15 +188,15 @@ fn survey_beside<S: Mode>(
 
 ghost use Rattle.napi_calls.specs.Alone.{NoneIsLost, OneActsAlone};
 
-/// The law of surveys: where three callers and the controller of an instance all show the whole history, and then one of them
-/// alone makes calls, the next survey shows just its operations behind it, each legal in the state that it met, and then its
-/// own look, which changes no state; and just the packets that were delivered by those operations behind those before.
+/// The law of surveys: if three callers and the controller of an instance all show the whole history, and then only one of them
+/// makes calls, the next survey shows exactly its operations after it, each legal in the state that it met, and then its own
+/// look, which doesn't change the state; and exactly the packets that were delivered by those operations after those before.
 pub fn one_acts_alone()
     ensures { OneActsAlone }
 {}
 
-/// Who acts alone loses no try: a legal run of one caller's operations, one right behind the other, has no two looks of which the
-/// second shows another state.
+/// A caller that alone makes calls never fails an attempt: a legal sequence of its operations has no two consecutive looks that
+/// show different states.
 pub fn none_is_lost()
     ensures { NoneIsLost }
 {}

@@ -1,4 +1,4 @@
-//! The values on which calls are made. Each has a seat of the instance, with what its type says of it, and must be spent.
+//! The values on which calls are made. Each has a seat of the instance, with what its type says about it, and is linear.
 ghost use Rattle.std.specs.Prelude.{◌≡◌, Some, true, false};
 ghost use Rattle.napi_model.specs.declared.state.Place.TheVariants as place;
 ghost use Rattle.napi_word.specs.View.{received_in};
@@ -8,28 +8,29 @@ ghost use Rattle.napi_calls.specs.Knows.{Free, Stands, BusyPolls, Controls, Has,
 use napi_word::{Pass, StateTable};
 use rx_ring::RxCtx;
 
-/// An instance (`struct napi_struct`), which its threads share. Every call takes it beside the value on which it is made.
+/// An instance (`struct napi_struct`), which its threads share. Every call takes it as an argument, next to the value on which
+/// it is made.
 pub struct Napi {
     pub(crate) table: StateTable,
     pub(crate) callers: u32,
     ghost count: { controller_of_table table ≡ callers },
 }
 
-/// A caller that owns nothing: an interrupt, a poller or a thread poller at rest.
+/// A caller that owns nothing: an interrupt handler, or a poller or thread that isn't polling.
 pub struct Caller {
     pub(crate) pass: Pass,
     pub(crate) number: u32,
     ghost stands: { Stands Free number pass },
 }
 
-/// A caller to whom the instance was granted, and who has to hand it over.
+/// A caller that was granted the instance, and has to queue it.
 pub struct Granted {
     pub(crate) pass: Pass,
     pub(crate) number: u32,
     ghost stands: { Stands place.Granted number pass },
 }
 
-/// A caller that polls the instance. It has the poll context, which never leaves it but to the instance's slot.
+/// A caller that polls the instance. It has the poll context, which moves only to the instance's slot.
 pub struct Polling {
     pub(crate) pass: Pass,
     pub(crate) number: u32,
@@ -39,8 +40,8 @@ pub struct Polling {
     ghost has: { Has pass (Some ctx) },
 }
 
-/// A caller that busy polls the instance: it polls it, and whoever schedules meanwhile is answered by one more poll of its.
-/// It has the poll context, as [`Polling`] has, and goes on as one.
+/// A caller that busy polls the instance. It makes one more poll at the end, which serves all requests that came meanwhile. It
+/// has the poll context, like [`Polling`], and becomes one.
 pub struct Busy {
     pub(crate) pass: Pass,
     pub(crate) number: u32,
@@ -50,13 +51,13 @@ pub struct Busy {
     ghost has: { Has pass (Some ctx) },
 }
 
-/// What the controller has done with the instance last: [`Off`], [`On`] or [`Marked`].
+/// What the controller did last with the instance: [`Off`], [`On`] or [`Marked`].
 pub trait Mode {
     ghost use Rattle.std.specs.Prelude.{ℕ, Bool, Option};
     ghost use Rattle.rx_ring.specs.declared.ends.RxCtx.{RxCtx};
     ghost use Rattle.napi_model.specs.declared.state.Place.{Place};
 
-    // The place as the controller has it, the disable flag, and the context that the controller has.
+    // The place as the controller sees it, the disable flag, and the context that the controller has.
     ghost role: { ℕ → Place };
 
     ghost disable: { Bool };
@@ -74,7 +75,7 @@ pub struct Off {
 #[derive(Drop)]
 pub struct On;
 
-/// A disable is pending: the instance is to be taken from whoever has it, as soon as that one releases it.
+/// A disable is pending: the controller takes the instance as soon as its owner releases it.
 #[derive(Drop)]
 pub struct Marked;
 
@@ -111,7 +112,7 @@ impl Mode for Marked {
     ghost ctx = { λ s. None };
 }
 
-/// The controller of an instance: the driver's open and stop.
+/// The controller of an instance, which a driver's open and stop functions use.
 pub struct Control<S: Mode> {
     pub(crate) pass: Pass,
     pub(crate) state: S,

@@ -1,4 +1,4 @@
--- The program: what it writes and how it ends, of the words after its name and the bytes of its input.
+-- The program: what it writes and its exit status, by its arguments and the bytes of its input.
 use Rattle.std.specs.Prelude.{◌≡◌, ℕ, List, Option, Some, None}
 use Rattle.machine_report.specs.Answer.{IsReportOf}
 use Rattle.machine_report.specs.Answer.{IsFaultOf as IsFaultOfArrivals}
@@ -13,7 +13,7 @@ use Rattle.replay_text.specs.declared.program.ProgramFault.{ProgramFault}
 use Rattle.replay_text.specs.declared.program.ProgramFault.TheVariants.{Run}
 use Rattle.replay_words.specs.Given.{Text}
 
--- the words ask for this machine
+-- the arguments ask for this machine
 abbrev pub AskFor : List Text → Settings → Type 0
 AskFor words settings = asked_for words ≡ Some (asked_of settings)
 
@@ -21,12 +21,13 @@ AskFor words settings = asked_for words ≡ Some (asked_of settings)
 abbrev pub IsReport : List Text → List ℕ → List ℕ → Type 0
 IsReport words = IsTextBy (AskFor words) IsReportOf
 
--- the fault is that of the words or, by what they ask for, that of the bytes; else the reader, the memory or the writer failed
+-- the error is that of the arguments or, with their settings, that of the bytes; otherwise the reader, an allocation or the
+-- writer failed
 abbrev pub IsFault : List Text → Option (List ℕ) → ProgramFault MachineFault → Type 0
 IsFault words input = IsFaultOf (asked_for words ≡ None) (AskFor words)
     (λ settings. IsFaultBy IsOutside (IsFaultOfArrivals settings) input)
 
--- if the output failed a part of the report of the bytes read was written, and on each other fault nothing
+-- if the output failed, a part of the report of the bytes read was written, and after each other error nothing
 abbrev pub LeavesOutput : (List ℕ → List ℕ → Type 0) → Option (List ℕ) → Option (List ℕ) → Option (List ℕ)
     → ProgramFault MachineFault → Type 0
 LeavesOutput IsText = LeavesBy (Run OutputFailed) IsText

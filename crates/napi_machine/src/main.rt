@@ -1,5 +1,5 @@
-//! `napi_machine` is a receiving machine in time: processors on which an interrupt, a poll, a packet and its use take the time that
-//! the words name. It reads arrivals from standard input and writes its report to standard output.
+//! `napi_machine` is a receiving machine over time: processors on which an interrupt, a poll, a packet and its use take the
+//! times that the options name. It reads arrivals from standard input and writes its report to standard output.
 #![tactic(auto)]
 
 mod program;
@@ -10,7 +10,7 @@ use replay_text::{ProgramFault, end_by, given_words};
 use std::io;
 use std::process::ExitCode;
 
-// The program over its real ends.
+// Runs the program with the real standard input and outputs.
 fn main(rt: HostRuntime) -> ExitCode {
     let mut errors = rt.stderr();
     match given_words(&rt) {

@@ -1,4 +1,4 @@
-//! The whole program, but for its real ends: from the words, the input and the two outputs to the exit status.
+//! The whole program as a function of its arguments, its input and its two outputs.
 
 ghost use Rattle.std.specs.Prelude.{◌≡◌, ◌≢◌, IfErr, OnOk, map, string_bytes};
 ghost use Rattle.std.specs.Io.KnownBytes.{Keeps};
@@ -15,7 +15,7 @@ use std::alloc::Global;
 use std::io::{Read, Write};
 use std::process::ExitCode;
 
-// Runs the machine that the words ask for on the arrivals of the input, and writes its report.
+// Runs the machine that the arguments ask for on the arrivals of the input, and writes its report.
 fn run_asked<R: Read + Drop, W: Write>(
     alloc: Global,
     words: &[String],
@@ -37,10 +37,10 @@ fn run_asked<R: Read + Drop, W: Write>(
     }
 }
 
-/// Runs the program: the machine that the words after its name ask for runs on the arrivals of `input`; its report goes to
-/// `output`, or the line of the fault to `errors`; and how it ended is said.
+/// Runs the program: runs the machine that its arguments ask for on the arrivals of `input`, writes its report to `output` or
+/// the message of an error to `errors`, and returns the exit status.
 ///
-/// The status is 0 exactly where the report was written.
+/// The status is 0 exactly if the report was written.
 pub(crate) fn run_program<R: Read + Drop, W: Write, E: Write>(
     alloc: Global,
     words: &[String],
@@ -48,7 +48,7 @@ pub(crate) fn run_program<R: Read + Drop, W: Write, E: Write>(
     output: &mut W,
     errors: &mut E,
 ) -> ExitCode
-    // What is written is the report of the bytes read, by the settings that the words ask for, and nothing else.
+    // What is written is the report of the bytes read, with the settings that the arguments ask for, and nothing else.
     ensures written { exit_status result ≡ 0 → Writes (IsReport (map string_bytes words.now))
         (R.remaining input) (W.contents output.old) (W.contents output.new) }
     ensures quiet { exit_status result ≡ 0 → Keeps (E.contents errors.old) (E.contents errors.new) }

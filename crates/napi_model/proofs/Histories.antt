@@ -1,4 +1,4 @@
--- Histories that grow at their end, and histories joined.
+-- Appending to a history, and concatenating histories.
 use Rattle.std.proofs.Common.{◌≡◌, ◌≢◌, ℕ, ◌+◌, ◌<◌, List, [], ◌∷◌, ◌++◌, length, take, drop, get_or, nat_eq, eqb, true, false, refl, sym}
 use Rattle.std.proofs.{Common.{ap, ◌∙◌, subst, ⊎_elim}, lemmas.{Bool.Decides.eqb_tells, List.{Elements.filter-append, take_more}}}
 use Rattle.{std.proofs.lemmas.List.take-append-drop, napi_model.specs.History.{IsLegalFor, LegalHistory, state_after, own}}
@@ -36,7 +36,7 @@ pub own-append : (c : ℕ) (g h : List Event) → own c (g ++ h) ≡ own c g ++ 
 unfolding own
 own-append c g h = filter-append (λ (e : Event). nat_eq e.caller c) g h
 
--- where a caller has no events, the first isn't its
+-- if a caller has no events in a history, the first event is another caller's
 pub own_first : (c : ℕ) (e : Event) (h : List Event) → own c (e ∷ h) ≡ [] → (e.caller ≢ c) × (own c h ≡ [])
 unfolding own
 own_first c e h none = ⊎_elim

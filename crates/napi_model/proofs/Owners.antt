@@ -10,7 +10,7 @@ use Rattle.napi_model.specs.Laws.{IsControlled, SchedClearIsNobody, BusyPollIsPo
 use Rattle.napi_model.{specs.Laws.{OthersLeaveOwnership, ControlIsTheControllers, OthersLeaveDisable}, proofs.Histories.state_after-append}
 use Rattle.napi_model.proofs.Histories.{legal_front, legal_back, own_first}
 
--- ---- SCHED clear, and nobody has the instance
+-- ---- SCHED clear implies that the place is Nobody
 
 hand_apart : (c : ℕ) (s : State) → s.place ≡ Nobody → MayHand c Kind.List s → ⊥
 hand_apart c s e h = ⊎_elim (λ (g : s.place ≡ Granted c). cc) (λ (g : Polls c false s). let p = g.0 in cc) h
@@ -57,7 +57,7 @@ busy_after k s [] sound busy l = busy
 busy_after k s (e ∷ h) sound busy l =
     busy_after k (after s e) h (sound_by e.caller e.operation s l.0.0 sound) (busy_by e.caller e.operation s l.0.0 sound busy) l.1
 
--- ---- SCHED_THREADED, and the instance is handed over or polled
+-- ---- SCHED_THREADED implies that the instance is queued for its thread or polled
 
 pub threads_by : (c : ℕ) (o : Operation) (s : State) → IsLegalBy c o s → IsSound s → ThreadsIsHanded s → ThreadsIsHanded (after_by c o s)
 threads_by c (Schedule Prep.Granted) s l sound handed = λ e. absurd (subst IsHandedOrPolled (sound l.1) (handed e))
@@ -104,7 +104,7 @@ ownership_by_others c b Unmark s apart l sound = refl
 ownership_by_others c b (Enable threaded) s apart l sound = sym (ap (is_owner c) l.0 ∙ ne_eqb b c apart)
 ownership_by_others c b (SetThreaded threaded) s apart l sound = refl
 
--- from any sound state
+-- by induction over a history, from any sound state
 pub ownership_kept : (k c : ℕ) (s : State) (h : List Event)
     → IsSound s → LegalHistory k s h → own c h ≡ [] → is_owner c (state_after s h).place ≡ is_owner c s.place
 unfolding LegalHistory state_after
@@ -120,9 +120,9 @@ others_leave_ownership k c s h others sound l none =
     let kept = ownership_kept k c t others (sound_after k s h sound (legal_front k s h others l)) (legal_back k s h others l) none in
     ap (λ (u : State). is_owner c u.place) (state_after-append s h others) ∙ kept
 
--- ---- where an owner stands
+-- ---- the place of an owner
 
--- who owns the instance elsewhere, doesn't own it here
+-- a caller that owns the instance in another place doesn't own it here
 not_owner : {A : Type 0} (c : ℕ) (p q : Place) → p ≡ q → is_owner c q ≡ false → IsOwnedBy c p → A
 not_owner c p q is other owned = absurd (true≢false (sym owned ∙ ap (is_owner c) is ∙ other))
 
@@ -144,7 +144,7 @@ owned_by_others c b (TakeDisable true) s apart l sound owned = not_owner c s.pla
 owned_by_others c b (Enable threaded) s apart l sound owned = not_owner c s.place (Control b) l.0 (ne_eqb b c apart) owned
 owned_by_others c b o s apart l sound owned = refl
 
--- from any sound state
+-- by induction over a history, from any sound state
 pub owner_kept : (k c : ℕ) (s : State) (h : List Event)
     → IsSound s → LegalHistory k s h → own c h ≡ [] → IsOwnedBy c s.place → stand_of (state_after s h) ≡ stand_of s
 unfolding LegalHistory state_after

@@ -1,4 +1,5 @@
--- A `Seen` has 2 ^ 7 * 3 values: a fact of each is a test that computes. And equality of two, by the derived `==`.
+-- A `Seen` has 2 ^ 7 * 3 values, so a fact about all of them is proved by a test that computes. Also: its derived `==` is
+-- equality.
 use Rattle.std.proofs.{Common.{◌≡◌, ◌&&◌, Bool, true, false, Option, Some, None, refl, sym, true≢false}, Math.Bool.beq}
 use Rattle.std.{proofs.lemmas.Bool.and_parts, specs.Option.option_eq}
 use Rattle.napi_model.specs.declared.state.{Kind.{Kind, TheVariants.{List, Thread}}, Seen.Seen}

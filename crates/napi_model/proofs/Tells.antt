@@ -1,4 +1,4 @@
--- The word tells the next word.
+-- The state word before an operation determines the word after it.
 use Rattle.std.proofs.Common.{◌≡◌, ℕ, Option, true, refl, sym, ap}
 use Rattle.napi_model.specs.Step.{IsLegalBy, after_by, seen_of, seen_after}
 use Rattle.napi_model.specs.{Step.{handed_at, handed_after, flags_after, place_after}, declared.state.{State.State, Seen.Seen, Flags.Flags}}

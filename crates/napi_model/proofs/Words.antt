@@ -1,4 +1,4 @@
--- The word tells what was seen: sums of bits.
+-- The state word determines the `Seen` that it encodes: sums of bits.
 use Rattle.std.proofs.Common.{◌≡◌, ◌≢◌, ◌⊎◌, ℕ, ◌+◌, ◌*◌, ◌^◌, ◌<◌, min, ◌&&◌, not, ◌==◌, eqb, eq-eqb, ne_eqb, zero, suc, ⊎_elim, Bool}
 use Rattle.std.proofs.{Common.{true, false, refl, sym, ap, ◌∙◌, subst, inl, inr, arith, bit_and, bit_or, true≢false}, lemmas.Bool.and_parts}
 use Rattle.std.proofs.lemmas.{Bool.{eqb-true, Decides.eqb_tells}, Nat.{or_disjoint, and-not, and_comm, pow_pos, Bits.bit_at_and}}
@@ -17,7 +17,7 @@ and_apart n a b e =
     let none : min (bit_at a i) (bit_at b i) ≡ 0 = sym (bit_at_and a b i) ∙ ap (λ m. bit_at m i) e ∙ bit_at-zero i in
     simp (bit_at_and, bit_at-zero) (omega (arith, none)))
 
--- a sum of bits that don't meet is read part by part
+-- a sum of disjoint bit masks can be read one mask at a time
 and_sum : (n a b : ℕ) → bit_and a b ≡ 0 → bit_and n (a + b) ≡ bit_and n a + bit_and n b
 and_sum n a b e =
     ap (λ m. bit_and n m) (sym (or_disjoint a b e))
@@ -43,7 +43,7 @@ none_or_all v bit zero e small positive = inl (omega (arith, e))
 none_or_all v bit (suc zero) e small positive = inr ((omega (arith, e)), (omega (arith, e)))
 none_or_all v bit (suc (suc b)) e small positive = absurd (omega arith)
 
--- one bit of a word is the bit, or nothing
+-- one bit of a word is that bit or 0
 bit_is : (w k : ℕ) → bit_and w (2 ^ k) ≡ bit_if (not (bit_and w (2 ^ k) == 0)) (2 ^ k)
 bit_is w k =
     let bit = 2 ^ k in
@@ -62,7 +62,7 @@ seen_in-word s = seen_is (seen_in (word_of s)) s (seen_holds (λ x. same_seen (s
 pub word_of-injective : (x y : Seen) → word_of x ≡ word_of y → x ≡ y
 word_of-injective x y e = sym (seen_in-word x) ∙ ap seen_in e ∙ seen_in-word y
 
--- the bits joined are their sum
+-- the disjunction of the bits is their sum
 pub joined_bits : (s : Seen) →
     bit_or (bit_or
     (bit_or
@@ -83,7 +83,7 @@ joined_bits s =
     (bit_if x.flags.in_busy_poll 64)) (bit_if x.flags.threaded 256)) (bit_if x.flags.sched_threaded 512)) (mark_word x.handed))
     (word_of x)) refl s)
 
--- a word of what was seen has no other bit, and not both marks
+-- the word of a `Seen` has no unnamed bit, and at most one mark
 well_formed : (s : Seen) → (eqb (bit_and (word_of s) other_bits) 0 && not (eqb (bit_and (word_of s) both_marks) both_marks)) ≡ true
 unfolding word_of
 well_formed s = seen_holds (λ x. eqb (bit_and (word_of x) other_bits) 0 && not (eqb (bit_and (word_of x) both_marks) both_marks)) refl s
@@ -96,7 +96,7 @@ not_malformed s m =
     (λ (both : bit_and (word_of s) both_marks ≡ both_marks). true≢false (sym (and_parts _ _ t).1 ∙ ap not (eq-eqb _ _ both)))
     m
 
--- a word with no other bit is its bits with names
+-- a word with no unnamed bit is the sum of its named bits
 named_only : (w : ℕ) → w < 18446744073709551616 → bit_and w other_bits ≡ 0 → bit_and w named_bits ≡ w
 named_only w small e =
     let parts = and-not 64 named_bits w (omega arith) small in
@@ -110,7 +110,7 @@ mark_cases true false h = refl
 mark_cases false true h = refl
 mark_cases false false h = refl
 
--- one of the marks at most
+-- at most one of the marks is set
 marks_sum : (w : ℕ) → ¬ (bit_and w both_marks ≡ both_marks)
     → bit_and w 4294967296 + bit_and w 8589934592 ≡ mark_word (mark_in (not (bit_and w 4294967296 == 0)) (not (bit_and w 8589934592 == 0)))
 marks_sum w one =
@@ -123,7 +123,7 @@ marks_sum w one =
     one (omega (arith, sum, queued ∙ ap (λ b. bit_if b 4294967296) t.0, to_thread ∙ ap (λ b. bit_if b 8589934592) t.1)) in
     omega (arith, queued, to_thread, mark_cases p q both)
 
--- a well-formed word is the word of what its bits say
+-- a well-formed word is the encoding of the `Seen` that its bits decode to
 pub word_of-seen_in : (w : ℕ) → w < 18446744073709551616 → ¬ IsMalformed w → word_of (seen_in w) ≡ w
 unfolding word_of seen_in
 word_of-seen_in w small ok =

@@ -4,11 +4,11 @@ use Rattle.napi_model.specs.declared.state.Place.{Place}
 use Rattle.napi_model.specs.declared.state.{Place.TheVariants.{Nobody, Granted, Listed, ToThread, Polling, Control}, State.State}
 use Rattle.napi_model.specs.{declared.event.Event.Event, History.{LegalHistory, state_after, own}}
 
--- SCHED says that somebody has the instance: clear, nobody has it
+-- a state is sound if SCHED clear implies that the place is Nobody
 abbrev pub IsSound : State → Type 0
 IsSound s = s.flags.sched ≡ false → s.place ≡ Nobody
 
--- whether caller c owns the instance in this place
+-- whether caller c owns the instance, by its place
 abbrev pub is_owner : ℕ → Place → Bool
 is_owner c Nobody = false
 is_owner c (Granted owner) = nat_eq owner c
@@ -20,11 +20,11 @@ is_owner c (Control owner) = nat_eq owner c
 abbrev pub IsOwnedBy : ℕ → Place → Type 0
 IsOwnedBy c p = is_owner c p ≡ true
 
--- where an owner stands: in which place, and whether it busy polls
+-- what concerns an owner: the place, and whether the instance is busy polled
 abbrev pub stand_of : State → Place × Bool
 stand_of s = (s.place, s.flags.in_busy_poll)
 
--- only who polls the instance busy polls it
+-- the place is a Polling
 abbrev pub IsPolled : Place → Type 0
 IsPolled (Polling c) = Unit {0}
 IsPolled _ = ⊥
@@ -32,7 +32,7 @@ IsPolled _ = ⊥
 abbrev pub BusyIsPolled : State → Type 0
 BusyIsPolled s = s.flags.in_busy_poll ≡ true → IsPolled s.place
 
--- only an instance that was handed over or is polled is its thread's
+-- the instance is queued for its thread or polled
 abbrev pub IsHandedOrPolled : Place → Type 0
 IsHandedOrPolled Listed = Unit {0}
 IsHandedOrPolled ToThread = Unit {0}
@@ -42,29 +42,30 @@ IsHandedOrPolled _ = ⊥
 abbrev pub ThreadsIsHanded : State → Type 0
 ThreadsIsHanded s = s.flags.sched_threaded ≡ true → IsHandedOrPolled s.place
 
--- only the controller controls the instance
+-- the instance is disabled, and k is the controller
 abbrev pub IsControlled : ℕ → State → Type 0
 IsControlled controller s = (c : ℕ) → s.place ≡ Control c → c ≡ controller
 
--- law: with SCHED clear the place is Nobody, in every state that a legal history leads to
+-- law: in every state that a legal history leads to, SCHED clear implies that the place is Nobody
 abbrev pub SchedClearIsNobody : Type 0
 SchedClearIsNobody =
     (controller : ℕ) (start : State) (h : List Event)
     → IsSound start → LegalHistory controller start h → IsSound (state_after start h)
 
--- law: IN_BUSY_POLL stands only while the place is a Polling, in every state that a legal history leads to
+-- law: in every state that a legal history leads to, IN_BUSY_POLL is set only if the place is a Polling
 abbrev pub BusyPollIsPolling : Type 0
 BusyPollIsPolling =
     (controller : ℕ) (start : State) (h : List Event)
     → IsSound start → BusyIsPolled start → LegalHistory controller start h → BusyIsPolled (state_after start h)
 
--- law: SCHED_THREADED stands only while the instance is handed over or polled, in every state that a legal history leads to
+-- law: in every state that a legal history leads to, SCHED_THREADED is set only if the instance is queued for its thread or
+-- polled
 abbrev pub SchedThreadedIsHanded : Type 0
 SchedThreadedIsHanded =
     (controller : ℕ) (start : State) (h : List Event)
     → IsSound start → ThreadsIsHanded start → LegalHistory controller start h → ThreadsIsHanded (state_after start h)
 
--- law: whatever others do, an owner stays where it is, and busy polls or doesn't as before
+-- law: no operation of another caller changes an owner's place or whether it busy polls
 abbrev pub OthersLeaveOwner : Type 0
 OthersLeaveOwner =
     (controller caller : ℕ) (start : State) (h others : List Event)
@@ -72,26 +73,26 @@ OthersLeaveOwner =
     → IsOwnedBy caller (state_after start h).place
     → stand_of (state_after start (h ++ others)) ≡ stand_of (state_after start h)
 
--- law: whatever others do, nobody becomes an owner by it, and no owner ceases to be one
+-- law: no operation of another caller makes a caller an owner or takes its ownership away
 abbrev pub OthersLeaveOwnership : Type 0
 OthersLeaveOwnership =
     (controller caller : ℕ) (start : State) (h others : List Event)
     → IsSound start → LegalHistory controller start (h ++ others) → own caller others ≡ []
     → is_owner caller (state_after start (h ++ others)).place ≡ is_owner caller (state_after start h).place
 
--- law: the place Control bears the controller's number, in every state that a legal history leads to
+-- law: in every state that a legal history leads to, the number in the place Control is the controller's
 abbrev pub ControlIsTheControllers : Type 0
 ControlIsTheControllers =
     (controller : ℕ) (start : State) (h : List Event)
     → IsControlled controller start → LegalHistory controller start h → IsControlled controller (state_after start h)
 
--- law: whatever others than the controller do, the disable flag stays
+-- law: no operation of a caller other than the controller changes the disable flag
 abbrev pub OthersLeaveDisable : Type 0
 OthersLeaveDisable =
     (controller : ℕ) (start : State) (h others : List Event)
     → LegalHistory controller start (h ++ others) → own controller others ≡ []
     → (state_after start (h ++ others)).flags.disable ≡ (state_after start h).flags.disable
 
--- law: a caller's own list of two histories joined is its two own lists joined
+-- law: the own list of two concatenated histories is the concatenation of their own lists
 abbrev pub OwnOfJoined : Type 0
 OwnOfJoined = (caller : ℕ) (g h : List Event) → own caller (g ++ h) ≡ own caller g ++ own caller h

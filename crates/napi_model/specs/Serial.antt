@@ -1,4 +1,4 @@
--- The one-thread object: what its private fields hold, and a call of it as a legal step.
+-- The one-thread object: what its private fields hold, and each call as a legal step.
 use Rattle.std.specs.Prelude.{◌≡◌, ℕ}
 use Rattle.napi_model.specs.declared.{state.State.State, event.Operation.Operation}
 use Rattle.napi_model.specs.{declared.serial.SerialNapi.SerialNapi, Step.{event, LegalStep}}

@@ -15,15 +15,15 @@ abbrev pub no_flags : Flags
 no_flags =
     record { sched = false; missed = false; disable = false; npsvc = false; in_busy_poll = false; threaded = false; sched_threaded = false }
 
--- a new instance is disabled, in its controller's hands
+-- a new instance is disabled and belongs to its controller
 abbrev pub opening : ℕ → State
 opening controller = record { flags = record no_flags { sched = true; npsvc = true }; place = Control controller }
 
--- enabled, not threaded, and no poll is asked for
+-- enabled, not threaded, and no poll is requested
 abbrev pub idle : State
 idle = record { flags = no_flags; place = Nobody }
 
--- the place where an instance waits that was handed to the list, or to the thread
+-- the place of an instance that waits on the poll list, or for its thread
 abbrev pub place_of : Kind → Place
 place_of List = Listed
 place_of Thread = ToThread
@@ -36,7 +36,7 @@ handed_at ToThread = Some Thread
 handed_at (Polling c) = None
 handed_at (Control c) = None
 
--- what the word tells of a state
+-- what the state word shows of a state
 abbrev pub seen_of : State → Seen
 seen_of s = record { flags = s.flags; handed = handed_at s.place }
 
@@ -44,18 +44,18 @@ abbrev pub IsControl : Place → Type 0
 IsControl (Control c) = Unit {0}
 IsControl _ = ⊥
 
--- ---- the table of legal steps: from which states, with which reply, and what is left
+-- ---- the table of legal steps: from which states, with which reply, and the state after
 
--- caller c polls an instance, and busy polls it or doesn't
+-- caller c polls the instance, and busy polls it or not
 abbrev pub Polls : ℕ → Bool → State → Type 0
 Polls c busy s = (s.place ≡ Polling c) × (s.flags.in_busy_poll ≡ busy)
 
--- caller c may hand an instance over: to the list what it was granted or polls, to the thread what it was granted
+-- caller c may queue an instance: on the list if it was granted or polls it, for the thread if it was granted
 abbrev pub MayHand : ℕ → Kind → State → Type 0
 MayHand c List s = (s.place ≡ Granted c) ⊎ Polls c false s
 MayHand c Thread s = s.place ≡ Granted c
 
--- an instance with none of these may be taken, to busy poll it
+-- the flags of an instance that a caller may take to busy poll it: none of these is set
 abbrev pub MayBusyTake : Flags → Type 0
 MayBusyTake f = (f.disable ≡ false) × (f.sched ≡ false) × (f.in_busy_poll ≡ false)
 
@@ -88,7 +88,7 @@ IsLegalBy c (Enable threaded) s = (s.place ≡ Control c) × (s.flags.disable �
 -- `dev_set_threaded`
 IsLegalBy c (SetThreaded threaded) s = Unit {0}
 
--- what an operation does to the flags; those that it doesn't name stay
+-- the flags after an operation; those that it doesn't name keep their value
 abbrev pub flags_after : Operation → Flags → Flags
 flags_after (Schedule prep.Granted) f = record f { sched = true }
 flags_after (Schedule prep.Missed) f = record f { missed = true }
@@ -104,7 +104,7 @@ flags_after (Enable threaded) f = record f { sched = false; npsvc = false; threa
 flags_after (SetThreaded threaded) f = record f { threaded = threaded }
 flags_after _ f = f
 
--- where caller c's operation leaves the instance
+-- the place of the instance after an operation of caller c
 abbrev pub place_after : ℕ → Operation → Place → Place
 place_after c (Schedule prep.Granted) p = Granted c
 place_after c (Hand kind) p = place_of kind
@@ -119,7 +119,7 @@ place_after c _ p = p
 abbrev pub after_by : ℕ → Operation → State → State
 after_by c o s = record { flags = flags_after o s.flags; place = place_after c o s.place }
 
--- what the word tells after an operation, by what it told before
+-- the queue in which the instance waits after an operation, if it does
 abbrev pub handed_after : Operation → Option Kind → Option Kind
 handed_after (Hand kind) handed = Some kind
 handed_after (Take kind true) handed = None
@@ -137,11 +137,11 @@ IsLegal s e = IsLegalBy e.caller e.operation s
 abbrev pub after : State → Event → State
 after s e = after_by e.caller e.operation s
 
--- the relation: what isn't listed isn't legal
+-- the relation: a step is legal only if the table lists it
 abbrev pub LegalStep : State → Event → State → Type 0
 LegalStep s e t = IsLegal s e × (t ≡ after s e)
 
--- ---- calls, and the replies that a state determines
+-- ---- calls, and the reply that a state determines
 
 abbrev pub call_of : Operation → Call
 call_of (Look seen) = call.Look

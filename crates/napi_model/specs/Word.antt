@@ -1,5 +1,5 @@
--- The state word. The flags have the bits of `NAPI_STATE_..` in include/linux/netdevice.h; the two marks of an instance
--- that was handed over and not yet taken, bits 32 and 33, are this project's own.
+-- The state word. The flags have the bits of `NAPI_STATE_..` in include/linux/netdevice.h; bits 32 and 33, of an instance that
+-- is queued and not yet taken, are this project's own.
 use Rattle.std.specs.Prelude.{◌≡◌, ◌≢◌, ◌==◌, not, ℕ, ◌+◌, ◌-◌, Bool, true, false, ◌⊎◌, bit_and, Option, Some, None}
 use Rattle.napi_model.specs.declared.state.{Flags.Flags, Kind.{Kind, TheVariants.{List, Thread}}, Seen.Seen}
 
@@ -24,18 +24,18 @@ word_of s = flags_word s.flags + mark_word s.handed
 abbrev pub both_marks : ℕ
 both_marks = 4294967296 + 8589934592
 
--- the bits of 64 that have a name here, and those that have none
+-- the named bits among the 64, and the unnamed ones
 abbrev pub named_bits : ℕ
 named_bits = 1 + 2 + 4 + 8 + 64 + 256 + 512 + both_marks
 
 abbrev pub other_bits : ℕ
 other_bits = 18446744073709551615 - named_bits
 
--- a bit with no name is set, or both marks are
+-- an unnamed bit is set, or both marks are
 abbrev pub IsMalformed : ℕ → Type 0
 IsMalformed word = (bit_and word other_bits ≢ 0) ⊎ (bit_and word both_marks ≡ both_marks)
 
--- what the bits with names say
+-- what the named bits decode to
 abbrev pub has_bit : ℕ → ℕ → Bool
 has_bit word bit = not (bit_and word bit == 0)
 

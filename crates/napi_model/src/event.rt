@@ -1,39 +1,39 @@
-//! The calls on an instance, what they are answered, and events: calls with their replies.
+//! The calls on an instance, their replies, and events: calls with their replies.
 
 use crate::{Kind, Seen};
 
-/// What a request for a poll is answered. `napi_schedule_prep` answers true exactly for `Granted`.
+/// The reply to a request for a poll. `napi_schedule_prep` returns true exactly for `Granted`.
 #[derive(Clone, Copy, PartialEq, Eq, Debug)]
 pub enum Prep {
-    /// The instance is the caller's, to be handed over.
+    /// The caller owns the instance, and has to queue it.
     Granted,
-    /// A poll is asked for or under way already; another follows it.
+    /// A poll is requested or in progress already; another one follows it.
     Missed,
-    /// A disable is pending; nothing was written.
+    /// A disable is pending; nothing changed.
     Disabled,
 }
 
-/// What a completion is answered. `napi_complete_done` answers true exactly for `Released`.
+/// The reply to a completion. `napi_complete_done` returns true exactly for `Released`.
 #[derive(Clone, Copy, PartialEq, Eq, Debug)]
 pub enum Done {
-    /// Nobody owns the instance any more.
+    /// No caller owns the instance any more.
     Released,
-    /// A request was missed: the instance is the caller's, to be handed over again.
+    /// A request was missed: the caller still owns the instance, and has to queue it again.
     Again,
-    /// The instance is busy polled: the caller polls it still.
+    /// The instance is busy polled: the caller still polls it.
     Held,
 }
 
-/// What a caller may ask of an instance.
+/// A call on an instance.
 #[derive(Clone, Copy, PartialEq, Eq, Debug)]
 pub enum Call {
     /// Read the word.
     Look,
     /// Ask for a poll (`napi_schedule_prep`).
     Schedule,
-    /// Hand a granted or polled instance over (`____napi_schedule`).
+    /// Queue a granted or polled instance (`____napi_schedule`).
     Hand(Kind),
-    /// Take an instance that was handed over.
+    /// Take a queued instance.
     Take(Kind),
     /// End a poll (`napi_complete_done`).
     Complete,
@@ -45,9 +45,9 @@ pub enum Call {
     MarkDisable,
     /// Try to take the instance for the controller (`napi_disable`).
     TakeDisable,
-    /// Clear the mark (`napi_disable`).
+    /// Clear the mark of a pending disable (`napi_disable`).
     Unmark,
-    /// Give a disabled instance free, threaded if true (`napi_enable`).
+    /// Enable a disabled instance, threaded if true (`napi_enable`).
     Enable(bool),
     /// Set whether the instance is threaded (`dev_set_threaded`).
     SetThreaded(bool),
@@ -56,13 +56,13 @@ pub enum Call {
 /// A call together with its reply.
 #[derive(Clone, Copy, PartialEq, Eq, Debug)]
 pub enum Operation {
-    /// A look, and what the word told.
+    /// A read of the word, and what it showed.
     Look(Seen),
     /// A request for a poll, and its reply (`napi_schedule_prep`).
     Schedule(Prep),
-    /// The instance was handed over (`____napi_schedule`).
+    /// The instance was queued (`____napi_schedule`).
     Hand(Kind),
-    /// A take. True is Taken, false NotThere.
+    /// An attempt to take the instance: whether it was taken.
     Take(Kind, bool),
     /// A completion, and its reply (`napi_complete_done`).
     Complete(Done),
@@ -72,13 +72,13 @@ pub enum Operation {
     BusyStop,
     /// A disable was marked as pending (`napi_disable`).
     MarkDisable,
-    /// A take for the controller (`napi_disable`). True is Taken, false Busy.
+    /// An attempt to take the instance for the controller (`napi_disable`): whether it was taken.
     TakeDisable(bool),
-    /// The mark was cleared (`napi_disable`).
+    /// The mark of a pending disable was cleared (`napi_disable`).
     Unmark,
-    /// The instance was given free, threaded if true (`napi_enable`).
+    /// The instance was enabled, threaded if true (`napi_enable`).
     Enable(bool),
-    /// It was set whether the instance is threaded (`dev_set_threaded`).
+    /// The instance was set to threaded or not (`dev_set_threaded`).
     SetThreaded(bool),
 }
 
@@ -87,6 +87,6 @@ pub enum Operation {
 pub struct Event {
     /// The caller's number.
     pub caller: u32,
-    /// What it did, with the reply.
+    /// The operation, with its reply.
     pub operation: Operation,
 }

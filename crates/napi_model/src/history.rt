@@ -1,4 +1,4 @@
-//! Histories, and what is read off them.
+//! Functions on histories.
 
 ghost use Rattle.std.specs.Prelude.{◌≡◌, ◌↔◌, ◌+◌, ◌<◌, IsTrue, IsNone, IfSome, IfOk, length, take};
 ghost use Rattle.napi_model.specs.History.{state_after, IsLegalFor, LegalHistory, own, IsPollStart, IsAcceptedSchedule};
@@ -6,7 +6,7 @@ ghost use Rattle.napi_model.specs.History.{state_after, IsLegalFor, LegalHistory
 use crate::{Event, Operation, Place, Prep, State};
 use std::alloc::{AllocError, Global};
 
-/// The state that a list of events leaves.
+/// Returns the state after a list of events.
 pub fn state_after(start: State, history: &[Event]) -> State
     ensures { result ≡ state_after start history.now }
 {
@@ -17,7 +17,7 @@ pub fn state_after(start: State, history: &[Event]) -> State
     state
 }
 
-/// A caller's events in a history, in their order.
+/// Returns the events of one caller in a history, in order. Fails if the allocation fails.
 #[tactic(auto, unfolding(crate::specs::History::own))]
 pub fn own(alloc: Global, caller: u32, history: &[Event]) -> Result<Vec<Event>, AllocError>
     ensures { IfOk result (λ events. events.items ≡ own caller history.now) }
@@ -29,7 +29,8 @@ pub fn own(alloc: Global, caller: u32, history: &[Event]) -> Result<Vec<Event>, 
         .collect(alloc)
 }
 
-/// Whether by this event an instance that was handed over is taken, or its busy polling stopped: then its next poll begins.
+/// Returns whether this event begins a poll: a successful take, or the end of busy polling, after which the caller polls once
+/// more.
 pub fn is_poll_start(event: Event) -> bool
     ensures { IsTrue result ↔ IsPollStart event }
 {
@@ -39,8 +40,8 @@ pub fn is_poll_start(event: Event) -> bool
     )
 }
 
-/// Whether this event, in this state, is a request that a poll has to follow: granted, or missed while the instance isn't
-/// in its controller's hands.
+/// Returns whether this event, in this state, is a request that must be followed by a poll: it was granted, or it was missed
+/// while the instance wasn't the controller's.
 pub fn is_accepted_schedule(state: State, event: Event) -> bool
     ensures { IsTrue result ↔ IsAcceptedSchedule state event }
 {
@@ -64,8 +65,8 @@ fn is_legal_for(controller: u32, state: State, event: Event) -> bool
     state.is_legal(event) && (!is_controls || event.caller == controller)
 }
 
-/// The index of the first event that isn't legal where it stands, in a history of an instance with this controller; `None`
-/// where the whole history is legal.
+/// Returns the index of the first illegal event in a history of an instance with this controller, or `None` if the whole
+/// history is legal.
 pub fn first_illegal(controller: u32, start: State, history: &[Event]) -> Option<usize>
     ensures legal { IsNone result ↔ LegalHistory controller start history.now }
     ensures before { IfSome result (λ i. LegalHistory controller start (take i history.now)) }

@@ -1,9 +1,9 @@
-//! The one-thread NAPI object: its state, its legal steps and histories, its state word, and [`SerialNapi`], which makes
-//! the steps.
+//! The one-thread NAPI object: its state, its legal steps and histories, its state word, and [`SerialNapi`], which executes the
+//! steps.
 //!
-//! The rules are those of the packet polling core of Linux 6.6 (`net/core/dev.c`, `include/linux/netdevice.h`). The
-//! definitions that every contract cites are in `specs/`: `Step` has the table of legal steps, `History` what a list of
-//! events leaves, `Word` the bits.
+//! The rules are those of the packet polling core of Linux 6.6 (`net/core/dev.c`, `include/linux/netdevice.h`). All contracts
+//! cite the definitions in `specs/`: `Step` has the table of legal steps, `History` the state after a list of events, `Word`
+//! the bits.
 #![tactic(auto)]
 
 pub mod bits;

@@ -1,11 +1,11 @@
-//! The instance of one thread.
+//! The instance for one thread.
 
 use crate::{Call, Done, Event, Flags, Kind, Operation, Place, Prep, Seen, State};
 
 /// A NAPI instance that one thread at a time calls: the kernel's rules without its races.
 ///
-/// A caller is a number. The controller, named when the instance is made, alone disables and enables it. Nothing here
-/// allocates, waits or refuses: what a call needs of its caller is its condition.
+/// A caller is a number. Only the controller, named when the instance is made, disables and enables it. No call allocates,
+/// waits or fails: what a call requires of its caller is a precondition, checked by the prover.
 #[derive(Drop, Debug)]
 pub struct SerialNapi {
     state: State,
@@ -18,7 +18,7 @@ impl SerialNapi {
     ghost use Rattle.napi_model.specs.Step.{opening, seen_of, IsControl, MayHand, MayCall, answer_of, schedule_reply, take_reply, complete_reply, take_disable_reply, MayBusyTake, Polls};
     ghost use Rattle.napi_model.specs.Serial.{state_of, controller_of, Steps};
 
-    /// A new instance, disabled: SCHED and NPSVC are set, and the place is `Control(controller)` (`netif_napi_add`).
+    /// Returns a new instance, disabled: SCHED and NPSVC are set, and the place is `Control(controller)` (`netif_napi_add`).
     pub fn new(controller: u32) -> SerialNapi
         ensures state { state_of result ≡ opening controller }
         ensures controller { controller_of result ≡ controller }
@@ -36,22 +36,22 @@ impl SerialNapi {
         self.look().flags
     }
 
-    /// Where the instance stands.
+    /// The place of the instance: who owns it, or where it waits.
     pub fn place(&self) -> Place
         ensures { result ≡ (state_of self.now).place }
     {
         self.state.place
     }
 
-    /// What the state word tells.
+    /// Reads the state word.
     pub fn look(&self) -> Seen
         ensures { result ≡ seen_of (state_of self.now) }
     {
         self.state.seen()
     }
 
-    // The step of a call that the caller may make here, as the table of steps has it: the reply that the state determines, and
-    // the state that it leaves.
+    // Makes a call that the caller may make in this state: returns the reply that the table of steps determines, and changes
+    // the state as it says.
     fn step(&mut self, caller: u32, call: Call) -> Operation
         requires { MayCall caller call (state_of self.old) }
         ensures answer { result ≡ answer_of call (state_of self.old) }
@@ -62,9 +62,9 @@ impl SerialNapi {
         operation
     }
 
-    /// Asks for a poll (`napi_schedule_prep`). With DISABLE set the answer is `Disabled` and nothing changes. Otherwise with
-    /// SCHED clear it is `Granted`: SCHED is set, and the caller has to [`hand`](SerialNapi::hand) the instance over.
-    /// With SCHED set it is `Missed`, and MISSED tells the poller to poll once more.
+    /// Requests a poll (`napi_schedule_prep`). If DISABLE is set, it returns `Disabled` and changes nothing. Otherwise, if
+    /// SCHED is clear, it returns `Granted` and sets SCHED, and the caller has to [`hand`](SerialNapi::hand) the instance over.
+    /// If SCHED is set, it returns `Missed` and sets MISSED, so the poller polls once more.
     pub fn schedule(&mut self, who: u32) -> Prep
         ensures step { Steps self.old who (operation.Schedule result) self.new }
         ensures reply { result ≡ schedule_reply (state_of self.old) }
@@ -75,8 +75,8 @@ impl SerialNapi {
         reply
     }
 
-    /// Hands over what the caller was granted, or puts what it polls back on the list (`____napi_schedule`). For the thread
-    /// SCHED_THREADED is set.
+    /// Queues an instance that the caller was granted, or puts one that it polls back on the list (`____napi_schedule`). For
+    /// the thread, it also sets SCHED_THREADED.
     pub fn hand(&mut self, who: u32, kind: Kind)
         requires { MayHand who kind (state_of self.old) }
         ensures { Steps self.old who (operation.Hand kind) self.new }
@@ -84,7 +84,7 @@ impl SerialNapi {
         self.step(who, Call::Hand(kind));
     }
 
-    /// Takes an instance that was handed over, to poll it. False says that it wasn't there, and nothing changed.
+    /// Takes a queued instance, to poll it. Returns false, and changes nothing, if the instance isn't in that queue.
     pub fn take(&mut self, who: u32, kind: Kind) -> bool
         ensures step { Steps self.old who (operation.Take kind result) self.new }
         ensures reply { result ≡ take_reply kind (state_of self.old) }
@@ -95,9 +95,9 @@ impl SerialNapi {
         taken
     }
 
-    /// Ends a poll (`napi_complete_done`). With MISSED set the answer is `Again`: MISSED is cleared, and the caller has to
-    /// hand the instance over once more. Otherwise it is `Released`: SCHED is cleared. SCHED_THREADED is cleared in both.
-    /// While the caller busy polls the answer is `Held` instead, and nothing changes.
+    /// Ends a poll (`napi_complete_done`). If MISSED is set, it clears MISSED and returns `Again`, and the caller has to queue
+    /// the instance again. Otherwise it clears SCHED and returns `Released`. Both clear SCHED_THREADED. While the caller busy
+    /// polls, it returns `Held` instead and changes nothing.
     pub fn complete(&mut self, who: u32) -> Done
         requires { (state_of self.old).place ≡ Place.Polling who }
         ensures step { Steps self.old who (operation.Complete result) self.new }
@@ -109,8 +109,8 @@ impl SerialNapi {
         reply
     }
 
-    /// Takes an idle instance, to busy poll it: SCHED and IN_BUSY_POLL are set, and the place is `Polling(who)` (the
-    /// `cmpxchg` of `napi_busy_loop`). False says that DISABLE, SCHED or IN_BUSY_POLL is set, and this was a look.
+    /// Takes an idle instance, to busy poll it (the `cmpxchg` of `napi_busy_loop`): sets SCHED and IN_BUSY_POLL; the place
+    /// becomes `Polling(who)`. Returns false, as a mere read of the word, if DISABLE, SCHED or IN_BUSY_POLL is set.
     pub fn busy_take(&mut self, who: u32) -> bool
         ensures taken { IsTrue result → Steps self.old who operation.BusyTake self.new }
         ensures refused { IsFalse result
@@ -125,7 +125,7 @@ impl SerialNapi {
         true
     }
 
-    /// Stops busy polling: IN_BUSY_POLL and MISSED are cleared, and the caller polls once more (`busy_poll_stop`).
+    /// Stops busy polling (`busy_poll_stop`): clears IN_BUSY_POLL and MISSED, and the caller polls once more.
     pub fn busy_stop(&mut self, who: u32)
         requires { Polls who true (state_of self.old) }
         ensures { Steps self.old who operation.BusyStop self.new }
@@ -133,7 +133,7 @@ impl SerialNapi {
         self.step(who, Call::BusyStop);
     }
 
-    /// Marks a disable as pending: from now on requests are answered `Disabled` (`napi_disable` sets DISABLE first).
+    /// Marks a disable as pending (`napi_disable` sets DISABLE first): from now on requests for a poll return `Disabled`.
     pub fn mark_disable(&mut self, who: u32)
         requires controller { who ≡ controller_of self.old }
         requires unmarked { (state_of self.old).flags.disable ≡ false }
@@ -143,8 +143,8 @@ impl SerialNapi {
         self.step(who, Call::MarkDisable);
     }
 
-    /// Tries to take the instance for the controller. False says that SCHED or NPSVC is set still, and nothing changed.
-    /// Otherwise both are set, THREADED is cleared, and the place is `Control(who)` (the loop of `napi_disable`).
+    /// Tries to take the instance for the controller (the loop of `napi_disable`): sets SCHED and NPSVC and clears THREADED;
+    /// the place becomes `Control(who)`. Returns false, and changes nothing, if SCHED or NPSVC is set.
     pub fn take_disable(&mut self, who: u32) -> bool
         requires controller { who ≡ controller_of self.old }
         requires marked { (state_of self.old).flags.disable ≡ true }
@@ -157,7 +157,7 @@ impl SerialNapi {
         taken
     }
 
-    /// Clears the mark of a disable that is done (`napi_disable` clears DISABLE last).
+    /// Clears the mark of a pending disable (`napi_disable` clears DISABLE last).
     pub fn unmark(&mut self, who: u32)
         requires controller { who ≡ controller_of self.old }
         requires place { (state_of self.old).place ≡ Place.Control who }
@@ -167,8 +167,8 @@ impl SerialNapi {
         self.step(who, Call::Unmark);
     }
 
-    /// Gives a disabled instance free (`napi_enable`): SCHED and NPSVC are cleared, THREADED is set where `threaded` is true
-    /// and stays otherwise, and MISSED stays.
+    /// Enables a disabled instance (`napi_enable`): clears SCHED and NPSVC, and sets THREADED if `threaded` is true. MISSED,
+    /// and otherwise THREADED, keep their value.
     pub fn enable(&mut self, who: u32, threaded: bool)
         requires controller { who ≡ controller_of self.old }
         requires place { (state_of self.old).place ≡ Place.Control who }
@@ -178,7 +178,7 @@ impl SerialNapi {
         self.step(who, Call::Enable(threaded));
     }
 
-    /// Sets or clears THREADED, in any state, whoever asks (`dev_set_threaded`).
+    /// Sets or clears THREADED, in any state and by any caller (`dev_set_threaded`).
     pub fn set_threaded(&mut self, threaded: bool)
         ensures step { (who : ℕ) → Steps self.old who (operation.SetThreaded threaded) self.new }
         ensures controller { controller_of self.new ≡ controller_of self.old }

@@ -5,9 +5,9 @@ use crate::{Call, Done, Event, Operation, Prep};
 /// The flags of an instance that `include/linux/netdevice.h` names `NAPI_STATE_..`.
 #[derive(Clone, Copy, PartialEq, Eq, Debug)]
 pub struct Flags {
-    /// A poll is asked for or under way, or the instance is disabled (`NAPI_STATE_SCHED`).
+    /// A poll is requested or in progress, or the instance is disabled (`NAPI_STATE_SCHED`).
     pub sched: bool,
-    /// It was asked for again while SCHED was set (`NAPI_STATE_MISSED`).
+    /// A poll was requested again while SCHED was set (`NAPI_STATE_MISSED`).
     pub missed: bool,
     /// A disable is pending (`NAPI_STATE_DISABLE`).
     pub disable: bool,
@@ -15,9 +15,9 @@ pub struct Flags {
     pub npsvc: bool,
     /// The instance is busy polled (`NAPI_STATE_IN_BUSY_POLL`).
     pub in_busy_poll: bool,
-    /// Polls are made by the instance's own thread (`NAPI_STATE_THREADED`).
+    /// The instance is polled by its own thread (`NAPI_STATE_THREADED`).
     pub threaded: bool,
-    /// The instance was handed to its thread, which hasn't completed it since (`NAPI_STATE_SCHED_THREADED`).
+    /// The instance was scheduled on its thread, which hasn't completed it since (`NAPI_STATE_SCHED_THREADED`).
     pub sched_threaded: bool,
 }
 
@@ -36,15 +36,15 @@ impl Flags {
         sched_threaded: false,
     };
 
-    /// Whether an instance with these flags may be taken, to busy poll it: none of DISABLE, SCHED and IN_BUSY_POLL is set
-    /// (`napi_busy_loop`, the test before its `cmpxchg`).
+    /// Returns whether an instance with these flags may be taken to busy poll it: none of DISABLE, SCHED and IN_BUSY_POLL is
+    /// set (`napi_busy_loop`, the test before its `cmpxchg`).
     pub fn may_busy_take(self) -> bool
         ensures { IsTrue result ↔ MayBusyTake self }
     {
         !self.disable && !self.sched && !self.in_busy_poll
     }
 
-    /// The flags after an operation: those that it doesn't name stay.
+    /// Returns the flags after an operation; those that it doesn't name keep their value.
     #[inline]
     pub fn after(self, operation: Operation) -> Flags
         ensures { result ≡ flags_after operation self }
@@ -89,7 +89,7 @@ impl Flags {
     }
 }
 
-/// To whom a scheduled instance is handed.
+/// The queue for a scheduled instance.
 #[derive(Clone, Copy, PartialEq, Eq, Debug)]
 pub enum Kind {
     /// The poll list of the softirq (`____napi_schedule`, `list_add_tail`).
@@ -98,12 +98,12 @@ pub enum Kind {
     Thread,
 }
 
-/// What the state word tells: the flags, and to whom the instance was handed while nobody has taken it yet.
+/// What the state word shows: the flags, and in which queue the instance waits until it is taken.
 #[derive(Clone, Copy, PartialEq, Eq, Debug)]
 pub struct Seen {
     /// The flags (`struct napi_struct`, `state`).
     pub flags: Flags,
-    /// To whom it was handed; `None` where it wasn't, or has been taken.
+    /// The queue in which the instance waits; `None` if it isn't queued, or was taken.
     pub handed: Option<Kind>,
 }
 
@@ -111,7 +111,7 @@ impl Seen {
     ghost use Rattle.std.specs.Prelude.{◌≡◌};
     ghost use Rattle.napi_model.specs.Step.{handed_after, seen_after};
 
-    /// What the word tells after an operation, by what it told before.
+    /// Returns what the word shows after an operation.
     #[inline]
     pub fn after(self, operation: Operation) -> Seen
         ensures { result ≡ seen_after operation self }
@@ -128,20 +128,21 @@ impl Seen {
     }
 }
 
-/// Where an instance stands, with the number of the caller that owns it there. The word doesn't tell the number.
+/// The place of an instance: the queue in which it waits, or the number of the caller that owns it. The state word doesn't
+/// contain the number.
 #[derive(Clone, Copy, PartialEq, Eq, Debug)]
 pub enum Place {
-    /// Enabled, and no poll is asked for.
+    /// Enabled, and no poll is requested.
     Nobody,
-    /// The caller was granted the schedule and has still to hand the instance over.
+    /// The caller was granted the poll, and has to queue the instance.
     Granted(u32),
     /// On the poll list.
     Listed,
-    /// Handed to the instance's thread.
+    /// Waits for the instance's thread.
     ToThread,
-    /// The caller polls it, and has the poll context.
+    /// The caller polls it, and owns the poll context.
     Polling(u32),
-    /// Disabled, in the hands of the controller.
+    /// Disabled; the controller owns it.
     Control(u32),
 }
 
@@ -149,7 +150,7 @@ impl Place {
     ghost use Rattle.std.specs.Prelude.{◌≡◌};
     ghost use Rattle.napi_model.specs.Step.{place_after};
 
-    // Where a caller's operation leaves an instance that stands here.
+    // Returns the place of the instance after an operation of a caller.
     fn after(self, caller: u32, operation: Operation) -> Place
         ensures { result ≡ place_after caller operation self }
     {
@@ -172,7 +173,7 @@ impl Place {
 pub struct State {
     /// The flags (`struct napi_struct`, `state`).
     pub flags: Flags,
-    /// Where it stands.
+    /// The place: who owns the instance, or where it waits.
     pub place: Place,
 }
 
@@ -183,7 +184,7 @@ impl State {
     ghost use Rattle.napi_model.specs.Step.{opening, idle, seen_of, seen_after, IsLegal, IsLegalBy, after, LegalStep, MayCall, call_of, answer_of};
     ghost use Rattle.napi_model.specs.Laws.{IsSound};
 
-    /// A new instance: disabled, in its controller's hands.
+    /// Returns the state of a new instance: disabled, owned by its controller.
     pub fn opening(controller: u32) -> State
         ensures { result ≡ opening controller }
     {
@@ -198,7 +199,7 @@ impl State {
         }
     }
 
-    /// Enabled, not threaded, and no poll is asked for.
+    /// Returns the state that is enabled and not threaded, with no poll requested.
     pub fn idle() -> State
         ensures { result ≡ idle }
     {
@@ -208,7 +209,7 @@ impl State {
         }
     }
 
-    /// What the state word tells of it.
+    /// Returns what the state word shows of this state.
     pub fn seen(self) -> Seen
         ensures { result ≡ seen_of self }
     {
@@ -223,7 +224,7 @@ impl State {
         }
     }
 
-    /// Whether the event is a legal step from here, by its reply too.
+    /// Returns whether the event, with its reply, is a legal step from this state.
     pub fn is_legal(self, event: Event) -> bool
         ensures { IsTrue result ↔ IsLegal self event }
     {
@@ -259,15 +260,15 @@ impl State {
         }
     }
 
-    /// The state after an event: the flags that the event doesn't name stay.
+    /// Returns the state after an event; flags that the event doesn't name keep their value.
     pub fn after(self, event: Event) -> State
         ensures state { result ≡ after self event }
 
-        // From a legal event there is this one next state and no other.
+        // A legal event has exactly one next state.
         ensures next { IsLegal self event → LegalStep self event result }
         ensures only { (other : State) → LegalStep self event other → other ≡ result }
 
-        // The word tells the next word, though it doesn't tell who has the instance.
+        // The word before a legal event determines the word after it, though it doesn't contain the owner.
         ensures seen { IsSound self → IsLegal self event
             → seen_of result ≡ seen_after event.operation (seen_of self) }
     {
@@ -277,7 +278,7 @@ impl State {
         }
     }
 
-    /// Whether a caller may make this call here. Where it may not, no reply to the call is legal.
+    /// Returns whether a caller may make this call in this state. If it may not, no reply to the call is legal.
     pub fn may_call(self, caller: u32, call: Call) -> bool
         ensures may { IsTrue result ↔ MayCall caller call self }
         ensures none { IsFalse result → (o : Operation) → call_of o ≡ call
@@ -299,7 +300,7 @@ impl State {
         }
     }
 
-    /// The call with its reply: the one that is legal here.
+    /// Returns the call with its reply: the only one that is legal in this state.
     pub fn answer(self, caller: u32, call: Call) -> Operation
         requires { MayCall caller call self }
         ensures answer { result ≡ answer_of call self }

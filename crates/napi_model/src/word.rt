@@ -1,5 +1,5 @@
-//! The state word: the flags at the kernel's bits (`struct napi_struct`, `state`), and two marks above them that tell to whom
-//! the instance was handed.
+//! The state word: the flags at the kernel's bits (`struct napi_struct`, `state`), and above them two bits for the queue in
+//! which the instance waits.
 
 ghost use Rattle.std.specs.Prelude.{◌≡◌, ◌↔◌, IsTrue, IsNone, IfSome, Some};
 ghost use Rattle.napi_model.specs.declared.state.Seen.{Seen};
@@ -37,8 +37,8 @@ fn mark(handed: Option<Kind>) -> u64
     }
 }
 
-/// The state word: the flags' bits of `include/linux/netdevice.h`, and bit 32 or 33 while the instance is handed to the
-/// list or to the thread.
+/// Returns the state word: the flags' bits of `include/linux/netdevice.h`, and bit 32 or 33 while the instance is queued on the
+/// list or for the thread.
 #[tactic(auto, using(crate::proofs::Words::joined_bits))]
 pub fn encode(seen: Seen) -> u64
     ensures { result ≡ word_of seen }
@@ -87,9 +87,9 @@ fn is_malformed(word: u64) -> bool
     word & OTHER_BITS != 0 || word & BOTH_MARKS == BOTH_MARKS
 }
 
-/// What a state word tells, or `None` where a bit without a name or both marks are set.
+/// Returns what a state word shows, or `None` if an unnamed bit or both bits 32 and 33 are set.
 ///
-/// It judges bits alone: a word with the mark of the list and without SCHED is decoded, though no instance reaches it.
+/// It checks only the bits: a word with bit 32 and without SCHED is decoded, though no instance ever has it.
 pub fn decode(word: u64) -> Option<Seen>
     ensures malformed { IsNone result ↔ IsMalformed word }
     ensures word { IfSome result (λ seen. word_of seen ≡ word) }
@@ -103,7 +103,7 @@ pub fn decode(word: u64) -> Option<Seen>
     Some(read(word))
 }
 
-/// What a word tells that is known to be a state word: the inverse of [`encode`], with no test.
+/// Returns what a valid state word shows: the inverse of [`encode`], without a check.
 pub fn decode_known(word: u64) -> Seen
     requires { (seen : Seen) × (word_of seen ≡ word) }
     ensures word { word_of result ≡ word }

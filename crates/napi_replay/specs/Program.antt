@@ -1,4 +1,4 @@
--- The whole program: what it writes and how it ends, of the words after its name and the bytes of its input.
+-- The whole program: what it writes and its exit status, by its arguments and the bytes of its input.
 use Rattle.std.specs.Prelude.{◌≡◌, ℕ, List, Option, Some, None, Ok, Err}
 use Rattle.replay_threads.specs.Answer.{RanBy, threads_of}
 use Rattle.replay_threads.specs.Answer.{IsOutside as IsOutsideThreads}
@@ -15,7 +15,7 @@ use Rattle.replay_words.specs.declared.mode.Mode.{Mode}
 use Rattle.replay_words.specs.declared.mode.Mode.TheVariants.{Serial, Shared, Threads}
 use Rattle.replay_words.specs.declared.settings.Settings.{Settings}
 
--- the words ask for this mode and these settings
+-- the arguments ask for this mode and these settings
 abbrev pub AskFor : List Text → Mode × Settings → Type 0
 AskFor words asked = asked_for words ≡ Some (asked_of asked)
 
@@ -25,34 +25,35 @@ IsReportIn Serial s bytes text = replay_of s bytes ≡ Ok text
 IsReportIn Shared s bytes text = replay_of s bytes ≡ Ok text
 IsReportIn Threads s bytes text = threads_of bytes ≡ Ok text
 
--- a mode's fault of these bytes
+-- an error of these bytes in this mode
 abbrev pub IsFaultIn : Mode → Settings → List ℕ → ReplayFault → Type 0
 IsFaultIn Serial s bytes fault = replay_of s bytes ≡ Err fault
 IsFaultIn Shared s bytes fault = replay_of s bytes ≡ Err fault
 IsFaultIn Threads s bytes fault = threads_of bytes ≡ Err fault
 
--- no fault of the bytes: the reader, the memory or the writer failed, or in threads mode a thread; no gate is ever shut
+-- an error that doesn't come from the bytes: the reader, an allocation or the writer failed, or in threads mode a thread; no
+-- gate ever stops the run
 abbrev pub IsOutsideIn : Mode → ReplayFault → Type 0
 IsOutsideIn Serial fault = IsOutside fault
 IsOutsideIn Shared fault = IsOutside fault
 IsOutsideIn Threads fault = IsOutsideThreads ⊥ fault
 
--- the text is the report of these bytes in the mode and by the settings that the words ask for
+-- the text is the report of these bytes in the mode and with the settings that the arguments ask for
 abbrev pub IsReport : List Text → List ℕ → List ℕ → Type 0
 IsReport words = IsTextBy (AskFor words) (λ asked. IsReportIn asked.0 asked.1)
 
--- the fault is that of the words or of the bytes; else the reader, the memory, a writer or a thread failed
+-- the error is that of the arguments or of the bytes; otherwise the reader, an allocation, a writer or a thread failed
 abbrev pub IsFault : List Text → Option (List ℕ) → ProgramFault ReplayFault → Type 0
 IsFault words input = IsFaultOf (asked_for words ≡ None) (AskFor words)
     (λ asked. IsFaultBy (IsOutsideIn asked.0) (IsFaultIn asked.0 asked.1) input)
 
--- In shared mode the rows of the bytes read were played over instances that threads could share, and in threads mode polled as these
--- settings say, with a gate that is always open.
+-- In shared mode, the rows of the bytes read were processed on instances that threads could share; in threads mode, they were
+-- polled with these settings and a gate that is always open.
 abbrev pub RanIn : Type 0 → Mode → Settings → Option (List ℕ) → Type 0
 RanIn R Serial s input = Unit
 RanIn R Shared s input = RanShared s input
 RanIn R Threads s input = (told : List Polled) × RanBy R (λ by. Unit {0}) s input told
 
--- in the mode and by the settings that the words ask for
+-- in the mode and with the settings that the arguments ask for
 abbrev pub Ran : Type 0 → List Text → Option (List ℕ) → Type 0
 Ran R words input = (asked : Mode × Settings) × AskFor words asked × RanIn R asked.0 asked.1 input

@@ -1,7 +1,7 @@
 //! `napi_replay` plays a trace of network events through the packet polling core, and reports what it did.
 //!
-//! The trace is standard input, the report standard output, and a fault one line on standard error. The exit status is 0,
-//! or that of the fault. The words after the program's name ask for a mode and for the numbers of a run.
+//! It reads the trace from standard input, and writes the report to standard output, or the message of an error, one line, to
+//! standard error. The exit status is 0, or that of the error. The arguments select a mode and the settings of a run.
 #![tactic(auto)]
 
 mod program;
@@ -11,7 +11,7 @@ use replay_text::{ProgramFault, ReplayFault, end_by, given_words};
 use std::io;
 use std::process::ExitCode;
 
-// The program over its real ends.
+// Runs the program with the real standard input and outputs.
 fn main(rt: HostRuntime) -> ExitCode {
     let mut errors = rt.stderr();
     match given_words(&rt) {

@@ -1,4 +1,4 @@
-//! The whole program, but for its real ends: from the words, the input and the two outputs to the exit status.
+//! The whole program as a function of its arguments, its input and its two outputs.
 
 ghost use Rattle.std.specs.Prelude.{◌≡◌, ◌≢◌, IfErr, OnOk, map, string_bytes};
 ghost use Rattle.std.specs.Io.KnownBytes.{Keeps};
@@ -51,7 +51,7 @@ where
     }
 }
 
-// Replays the input as the words ask for, and writes the report.
+// Replays the input as the arguments ask for, and writes the report.
 fn replay_asked<H: Threads + Wait + Sync, R: Read + Drop, W: Write>(
     rt: &H,
     alloc: Global,
@@ -75,10 +75,10 @@ fn replay_asked<H: Threads + Wait + Sync, R: Read + Drop, W: Write>(
     }
 }
 
-/// Runs the program: replays `input` as the words after its name ask for, writes the report to `output` or the line of the
-/// fault to `errors`, and says how it ended.
+/// Runs the program: replays `input` as its arguments ask for, writes the report to `output` or the message of an error to
+/// `errors`, and returns the exit status.
 ///
-/// The status is 0 exactly where the report was written. In threads mode no gate is ever shut.
+/// The status is 0 exactly if the report was written. In threads mode, the gate is always open.
 pub fn run_program<H: Threads + Wait + Sync, R: Read + Drop, W: Write, E: Write>(
     rt: &H,
     alloc: Global,
@@ -87,12 +87,12 @@ pub fn run_program<H: Threads + Wait + Sync, R: Read + Drop, W: Write, E: Write>
     output: &mut W,
     errors: &mut E,
 ) -> ExitCode
-    // What is written is the report of the bytes read, in the mode and by the settings that the words ask for, and nothing
-    // else.
+    // What is written is the report of the bytes read, in the mode and with the settings that the arguments ask for, and
+    // nothing else.
     ensures written { exit_status result ≡ 0 → Writes (IsReport (map string_bytes words.now))
         (R.remaining input) (W.contents output.old) (W.contents output.new) }
-    // In shared mode its rows were played over shared instances; in threads mode they were polled by the settings that the words
-    // ask for.
+    // In shared mode its rows were processed on shared instances; in threads mode they were polled with the settings that the
+    // arguments ask for.
     ensures run { exit_status result ≡ 0
         → Ran (Bor H) (map string_bytes words.now) (R.remaining input) }
     ensures quiet { exit_status result ≡ 0 → Keeps (E.contents errors.old) (E.contents errors.new) }

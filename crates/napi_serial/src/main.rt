@@ -1,5 +1,5 @@
-//! `napi_serial` is the serial mode of `napi_replay` in a program of its own, which stands on nothing that threads share: for
-//! words that ask for serial mode it answers the same bytes with the same status. Words that ask for another mode it refuses.
+//! `napi_serial` is the serial mode of `napi_replay` as a program without any dependency on threads: for arguments that ask for
+//! serial mode it writes the same bytes and has the same exit status. Any other mode is a usage error.
 #![tactic(auto)]
 
 mod program;
@@ -9,7 +9,7 @@ use replay_text::{ProgramFault, ReplayFault, end_by, given_words};
 use std::io;
 use std::process::ExitCode;
 
-// The program over its real ends.
+// Runs the program with the real standard input and outputs.
 fn main(rt: HostRuntime) -> ExitCode {
     let mut errors = rt.stderr();
     match given_words(&rt) {

@@ -1,4 +1,4 @@
--- The whole program: what it writes and how it ends, of the words after its name and the bytes of its input.
+-- The whole program: what it writes and its exit status, by its arguments and the bytes of its input.
 use Rattle.std.specs.Prelude.{◌≡◌, ℕ, List, Option, Some, None, Ok, Err}
 use Rattle.napi_series.specs.Series.{series_by}
 use Rattle.napi_series.specs.Words.{series_asked_for}
@@ -11,7 +11,7 @@ use Rattle.replay_words.specs.Words.{Text, asked_of}
 use Rattle.replay_words.specs.declared.mode.Mode.TheVariants.{Serial}
 use Rattle.replay_words.specs.declared.settings.Settings.{Settings}
 
--- the words ask for a line of each so many rows, by these settings
+-- the arguments ask for a line for every so many rows, with these settings
 abbrev pub AskFor : List Text → ℕ × Settings → Type 0
 AskFor words asked = series_asked_for words ≡ Some (asked.0, asked_of (Serial, asked.1))
 
@@ -19,7 +19,7 @@ AskFor words asked = series_asked_for words ≡ Some (asked.0, asked_of (Serial,
 abbrev pub IsSeries : List Text → List ℕ → List ℕ → Type 0
 IsSeries words = IsTextBy (AskFor words) (λ asked bytes text. series_by asked.1 asked.0 bytes ≡ Ok text)
 
--- the fault is that of the words or of the bytes; else the reader, the memory or the writer failed
+-- the error is that of the arguments or of the bytes; otherwise the reader, an allocation or the writer failed
 abbrev pub IsFault : List Text → Option (List ℕ) → ProgramFault ReplayFault → Type 0
 IsFault words input = IsFaultOf (series_asked_for words ≡ None) (AskFor words)
     (λ asked. IsFaultBy IsOutside (λ bytes fault. series_by asked.1 asked.0 bytes ≡ Err fault) input)

@@ -1,5 +1,5 @@
--- The series of a trace: a CSV line behind each row, or behind each Nth one, with the values that the report of the rows so
--- far would have.
+-- The series of a trace: a CSV line after each row, or after each Nth one, with the values that the report of the rows so far
+-- would have.
 use Rattle.std.specs.Prelude.{ℕ, zero, suc, ◌+◌, ◌-◌, ◌%◌, ◌==◌, Bool, true, List, [], ◌∷◌, ◌++◌, Option, Some, None, Result, Ok, Err}
 use Rattle.std.specs.Prelude.{codes, decimal, flat_map, if◌then◌else◌, length}
 use Rattle.std.specs.Fmt.{signed_decimal}
@@ -23,7 +23,7 @@ use Rattle.replay_rows.specs.declared.line.Line.TheVariants.{Softirq, Kthread, B
 abbrev pub header : List ℕ
 header = codes "row,moment,device,state,waiting,arrived,dropped,polled,in_flight,limit,avail,stopped,polls,work,squeezed,word,list,gave\n"
 
--- fields, a comma before each
+-- fields, each preceded by a comma
 abbrev pub fields : List (List ℕ) → List ℕ
 fields texts = flat_map (λ text. codes "," ++ text) texts
 
@@ -31,13 +31,13 @@ fields texts = flat_map (λ text. codes "," ++ text) texts
 abbrev pub row_fields : ℕ → Row → List ℕ
 row_fields n row = decimal n ++ fields (decimal row.moment ∷ decimal row.device ∷ [])
 
--- the device: its state, the packets that wait in its ring, that arrived, that were dropped, that were polled
+-- the device: its state, and the packets that are in its ring, that arrived, that were dropped, that were polled
 abbrev pub device_fields : Option DeviceCounts → List ℕ
 device_fields None = codes ",,,,,"
 device_fields (Some counts) =
     fields (state_word counts.state ∷ decimal counts.left ∷ decimal counts.arrived ∷ decimal counts.dropped ∷ decimal counts.polled ∷ [])
 
--- its transmit side, where that had a row: the bytes in flight (sent and not complete), the limit, the bytes that may still be
+-- its transmit side, if it had a row: the bytes in flight (sent and not complete), the limit, the bytes that may still be
 -- queued, whether the queue is stopped
 abbrev pub queue_fields : Bool → Option DeviceCounts → List ℕ
 queue_fields true (Some counts) =
@@ -58,37 +58,38 @@ abbrev pub word_field : Option DeviceCounts → List ℕ
 word_field None = codes ","
 word_field (Some counts) = codes "," ++ decimal counts.word
 
--- what the row makes of its device, and what it polled
+-- the effect of the row on its device, and what it polled
 abbrev pub told_fields : ℕ → Row → Bool → Option DeviceCounts → Option Line → List ℕ
 told_fields n row used counts polled =
     row_fields n row ++ (device_fields counts ++ (queue_fields used counts ++ (run_fields polled ++ word_field counts)))
 
--- what a device gave in a row that polled it, by what is told of it before the row and behind it: its number and the packets
+-- how many packets a device processed in a row that polled it, by its counts before and after the row: its number and the
+-- packets
 abbrev pub gave : ℕ → Option DeviceCounts → Option DeviceCounts → List ℕ
 gave device (Some before) (Some after) =
     if before.polls == after.polls then [] else codes " " ++ (decimal device ++ (codes ":" ++ decimal (after.polled - before.polled)))
 gave device before after = []
 
--- each device that row n + 1 polled gave so many packets
+-- for each device that row n + 1 polled, its packets
 abbrev pub gave_in : Settings → List Row → ℕ → ℕ → List ℕ
 gave_in s rows n device = gave device (counts_after s rows n device) (counts_after s rows (n + 1) device)
 
--- the poll list behind row n + 1, and what each device gave that this polled
+-- the poll list after row n + 1, and how many packets each device processed that this row polled
 abbrev pub list_fields : Settings → List Row → ℕ → List ℕ
 list_fields s rows n = codes "," ++ (spaced (list_after s rows (n + 1)) ++ (codes "," ++ lines_below (gave_in s rows n) 17))
 
--- the line of a row that stands behind n others
+-- the line of a row that follows n others
 abbrev pub line_after : Settings → List Row → ℕ → Option Row → List ℕ
 line_after s rows n None = []
 line_after s rows n (Some row) =
     told_fields (n + 1) row (is_used_after rows (n + 1) row.device) (counts_after s rows (n + 1) row.device) (polled_after s rows (n + 1))
     ++ (list_fields s rows n ++ codes "\n")
 
--- the same, where the row has one
+-- the same, if the row has a line
 abbrev pub part_after : Settings → ℕ → List Row → ℕ → Option Row → List ℕ
 part_after s every rows n row = if (n + 1) % every == 0 then line_after s rows n row else []
 
--- the lines behind the first n rows
+-- the lines after the first n rows
 unfoldable pub lines_to : Settings → ℕ → List Row → ℕ → List ℕ
 lines_to s every rows zero = []
 lines_to s every rows (suc n) = lines_to s every rows n ++ part_after s every rows n (slice_get rows n)
@@ -96,7 +97,7 @@ lines_to s every rows (suc n) = lines_to s every rows n ++ part_after s every ro
 abbrev pub text_of : Settings → ℕ → List Row → List ℕ
 text_of s every rows = header ++ lines_to s every rows (length rows)
 
--- the series of a trace's rows, or the fault that their report has
+-- the series of a trace's rows, or the error that their report has
 abbrev pub series_in : Result ReplayState ReplayFault → List ℕ → Result (List ℕ) ReplayFault
 series_in (Ok w) text = Ok text
 series_in (Err fault) text = Err fault
@@ -104,7 +105,7 @@ series_in (Err fault) text = Err fault
 abbrev pub series_of : Settings → ℕ → List Row → Result (List ℕ) ReplayFault
 series_of s every rows = series_in (after_all s rows) (text_of s every rows)
 
--- that of a text: of its rows, or the first fault of the trace
+-- the series of a text: of its rows, or the first error of the trace
 abbrev pub answer_of : Settings → ℕ → Result (List Row) TraceFault → Result (List ℕ) ReplayFault
 answer_of s every (Ok rows) = series_of s every rows
 answer_of s every (Err fault) = Err (Trace fault)

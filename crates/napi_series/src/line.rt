@@ -90,8 +90,8 @@ fn add_word(text: &mut String, counts: Option<DeviceCounts>) -> Result<(), Alloc
     Ok(())
 }
 
-/// Adds what is told of a row: the row, its device, the device's transmit side where that had a row, what a row that polled
-/// did, and the device's state word.
+/// Appends the fields of a row: the row, its device, the device's transmit side if it had a row, what a row that polled did,
+/// and the device's state word.
 pub(crate) fn add_told(
     text: &mut String,
     number: u32,
@@ -110,7 +110,7 @@ pub(crate) fn add_told(
     add_word(text, counts)
 }
 
-// Adds what a device gave in a row, where that polled it.
+// Appends how many packets a device processed in a row, if the row polled it.
 fn add_gave(
     text: &mut String,
     device: u32,
@@ -129,7 +129,7 @@ fn add_gave(
     Ok(())
 }
 
-// Adds what each device gave in the row between.
+// Appends how many packets each device processed in the row between.
 fn add_given(
     text: &mut String,
     before: &SerialReplay,
@@ -145,8 +145,8 @@ fn add_given(
     Ok(())
 }
 
-/// Adds the poll list behind a row, and what each device gave that the row polled, by a replay that stands before the row and one
-/// behind it.
+/// Appends the poll list after a row, and how many packets each device processed that the row polled, from a replay before the
+/// row and one after it.
 pub(crate) fn add_list(
     text: &mut String,
     before: &SerialReplay,

@@ -1,8 +1,8 @@
-//! `napi_series` plays a trace as `napi_replay` does, and writes a CSV line behind each row: what the report of the rows so far
-//! would tell of the row's device, and what the row polled.
+//! `napi_series` plays a trace like `napi_replay`, and writes a CSV line after each row: what the report of the rows so far
+//! would show of the row's device, and what the row polled.
 //!
-//! The words after the program's name are those of `napi_replay`; before them, `--every N` asks for each Nth row alone. Faults,
-//! their lines and their exit statuses are those of `napi_replay`.
+//! Its arguments are those of `napi_replay`; before them, `--every N` asks for only every Nth row. Errors, their messages and
+//! their exit statuses are those of `napi_replay`.
 #![tactic(auto)]
 
 mod line;
@@ -15,7 +15,7 @@ use replay_text::{ProgramFault, ReplayFault, end_by, given_words};
 use std::io;
 use std::process::ExitCode;
 
-// The program over its real ends.
+// Runs the program with the real standard input and outputs.
 fn main(rt: HostRuntime) -> ExitCode {
     let mut errors = rt.stderr();
     match given_words(&rt) {

@@ -19,14 +19,14 @@ use std::io::{Read, Write};
 const HEADER: &str =
     "row,moment,device,state,waiting,arrived,dropped,polled,in_flight,limit,avail,stopped,polls,work,squeezed,word,list,gave\n";
 
-// A replay that stands before a row, and one behind it.
+// A replay before a row, and one after it.
 #[derive(Drop)]
 struct Steps {
     before: SerialReplay,
     after: SerialReplay,
 }
 
-// Adds the line of the row of that index, where it has one.
+// Appends the line of the row with this index, if it has one.
 fn add_part(
     text: &mut String,
     settings: &Settings,
@@ -62,7 +62,7 @@ fn add_part(
     Ok(())
 }
 
-// The series of the rows.
+// Returns the series of the rows.
 fn series_of(
     alloc: Global,
     settings: &Settings,
@@ -90,10 +90,10 @@ fn series_of(
     Ok(text)
 }
 
-/// Plays a trace on one thread, and writes its series: a line behind each row whose number is a multiple of `every`.
+/// Replays a trace on one thread, and writes its series: a line after each row whose number is a multiple of `every`.
 ///
-/// Nothing is written before the whole trace is read and played, so on every fault but `OutputFailed` nothing was. On
-/// that one a front of the series was, and not all of it. Want of memory may come before any other fault.
+/// It writes nothing before the whole trace is read and processed. So after every error but `OutputFailed` nothing was written;
+/// after that one, a proper prefix of the series. `OutOfMemory` may take precedence over any other error.
 pub(crate) fn write_series<R: Read + Drop, W: Write>(
     alloc: Global,
     reader: R,
@@ -107,10 +107,10 @@ pub(crate) fn write_series<R: Read + Drop, W: Write>(
         (Writes (λ bytes text. series_by settings.now every bytes ≡ Ok text)
         (R.remaining reader) (W.contents writer.old) (W.contents writer.new)) }
 
-    // A fault is that of the bytes read, unless the reader, the memory or the writer failed.
+    // An error is that of the bytes read, unless the reader, an allocation or the writer failed.
     ensures fault { IfErr result (IsFaultBy IsOutside
         (λ bytes fault. series_by settings.now every bytes ≡ Err fault) (R.remaining reader)) }
-    // Where the output failed less than the whole series was written, and on each other fault nothing.
+    // If the output failed, less than the whole series was written, and after each other error nothing.
     ensures output { IfErr result
         (Leaves (λ bytes text. series_by settings.now every bytes ≡ Ok text)
         (R.remaining reader) (W.contents writer.old) (W.contents writer.new)) }

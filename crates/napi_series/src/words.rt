@@ -1,4 +1,4 @@
-//! The words after the program's name.
+//! The command line.
 
 ghost use Rattle.std.specs.Prelude.{◌≡◌, ◌≤◌, None, Err, IfOk, IfSome, map, option_map, string_bytes};
 ghost use Rattle.napi_series.specs.Program.{AskFor};
@@ -9,7 +9,7 @@ ghost use Rattle.replay_words.specs.declared.words.WordFault.TheVariants.{OutOfM
 use replay_words::{Settings, WordFault, number_of, parse_serial_words};
 use std::alloc::Global;
 
-// How many rows make one line, and the other words.
+// Returns how many rows make one line, and the remaining arguments.
 fn split_every(words: &[String]) -> Option<(u32, &[String])>
     ensures split { option_map (λ s. (s.0, map string_bytes s.1.now)) result
         ≡ every_of (map string_bytes words.now) }
@@ -23,12 +23,12 @@ fn split_every(words: &[String]) -> Option<(u32, &[String])>
     }
 }
 
-/// How many rows make one line, 1 to 99999, and the settings of the replay. `--every` and its number stand before the other
-/// words, which are those of `napi_replay`; the mode is serial, in which rows stand in their order.
+/// Returns how many rows make one line, 1 to 99999, and the settings of the replay. `--every` and its number come before the
+/// other arguments, which are those of `napi_replay`; the mode is serial, which processes the rows in order.
 ///
 /// # Errors
 ///
-/// [`WordFault::Usage`] where the words aren't so; [`WordFault::OutOfMemory`] where memory was refused.
+/// [`WordFault::Usage`] if the arguments are invalid; [`WordFault::OutOfMemory`] if an allocation fails.
 pub(crate) fn parse_series_words(
     alloc: Global,
     words: &[String],

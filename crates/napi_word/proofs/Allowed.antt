@@ -1,4 +1,4 @@
--- A step is allowed where it is a legal one whose word is right, at each state that the view allows.
+-- A step is allowed if, in each state that the view allows, it is legal and writes the right word.
 use Rattle.napi_word.specs.{Told.{told, laid_down}, View.{View, is_pass, number_of, place_in, ring_of, delivery, own_deliveries, delivered}}
 use Rattle.napi_word.specs.{View.{received_by, received_in, first_in, last_of, Continues}, declared.view.{Key.Key, Delivery.Delivery}}
 use Rattle.napi_word.specs.{declared.view.Holds.{Holds, TheVariants.{Nothing, Within, Out}}, Rule.{Home, Homes, Owned, Fits, Kept, Holding}}
@@ -58,9 +58,9 @@ set_one : (homes : Homes) (a : Maybe Content) → length homes ≡ 1 → set hom
 set_one (x ∷ []) a e = refl
 set_one homes a e = absurd (omega arith)
 
--- ---- what a step owes
+-- ---- the obligations of a step
 
--- how the step may move the slot, from one place to another
+-- how the step may move the slot, between two places
 abbrev pub Fitting : Moves → ℕ → Place → Place → Type 0
 Fitting stays c p q = (is_out q ≡ is_out p) × (has_at c q ≡ has_at c p)
 Fitting taken c p q = (is_out p ≡ false) × (has_at c q ≡ true)
@@ -102,7 +102,7 @@ module _ (key : Key) (id : ℕ) (me : Me Content View) (h : Holds) (tie : Tied h
   shown_now : delivered me.0 ≡ o.first.delivered
   shown_now = ap delivered o.is
 
-  -- who has the slot knows all deliveries
+  -- the owner of the slot knows all deliveries
   all_known : has_at c now.place ≡ true → o.first.delivered ≡ r.deliveries
   all_known = owned_now.has
 
@@ -139,7 +139,7 @@ module _ (key : Key) (id : ℕ) (me : Me Content View) (h : Holds) (tie : Tied h
     received_then : (ds : List Delivery) → received_in (w ds) ≡ received_by ring ds
     received_then ds = ap (λ (x : RxCtx). received_by x ds) fits_now.ring
 
-    -- a context that is kept in hand has still received what was delivered
+    -- a context that its owner keeps has still received all packets delivered
     received_kept : (l : Carried) → hold_of l ≡ Some h → IsPrefix (received_in me.0) (carried_received l me.0)
         → IsPrefix (received_in (w r.deliveries)) (carried_received l (w r.deliveries))
     received_kept [] e p = prefix_self (received_in (w r.deliveries))
@@ -148,7 +148,7 @@ module _ (key : Key) (id : ℕ) (me : Me Content View) (h : Holds) (tie : Tied h
         subst (λ (xs : List Packet). IsPrefix xs (received_list x))
         (received_now ∙ ap (received_by ring) (all_known (has_now ∙ some_held k x l e)) ∙ sym (received_then r.deliveries)) p
 
-    -- how the slot and the deliveries go on
+    -- how the slot and the deliveries change
     pub record Went (m : Moves) : Type 0 where
       pub ds : List Delivery
       pub more : More now (event c d) r.deliveries ds
@@ -270,7 +270,7 @@ module _ (key : Key) (slots id : ℕ) (me : Me Content View) (one : slots ≡ 1)
         ),
       )
 
-  -- an empty slot goes back, where the view says that the pass has it
+  -- an empty slot is returned, if the view says that the pass owns it
   pub lays_down : h ≡ Out → Allows (Holding key) slots id me 0 (λ n. n) (laid_down me)
   lays_down out s holding len at fits =
       let r = running key s holding id me.0 at p in

@@ -1,4 +1,4 @@
--- All strands of one seat catch up with the whole history by a look.
+-- By a look, all strands of one seat learn the whole history.
 use Rattle.std.proofs.Common.{◌≡◌, ◌≢◌, ℕ, zero, suc, List, [], ◌∷◌, ◌++◌, length, slice_get, Some, None, Bool, true, unwrap_or, is_some}
 use Rattle.std.proofs.Common.{refl, sym, ap, ◌∙◌, subst, inr, arith, true≢false}
 use Rattle.atomic_table.specs.Table.{Me, keeps, Allows}
@@ -35,7 +35,7 @@ module _ (key : Key) (s : St) (r : Kept key s) (id : ℕ) (v : View) (at : get_e
   abbrev all_made : List Event
   all_made = r.history ++ look_made ∷ []
 
-  -- whoever looks is at the front alone
+  -- among the strands, only the first has the number of the caller that looks
   front_alone : (k : ℕ) (x : Strand) → get_elem? v k ≡ maybe.some x → x.number ≡ Some (number_of v) → k ≡ 0
   front_alone k x is n =
       ap (λ (p : ℕ × ℕ). p.1) (sym ((r.strands id v at k x is).owned (number_of v) n).here ∙ (owned key s r id v at o).here)
@@ -127,9 +127,9 @@ surveys key slots id me p s holding len at fits =
       },
     )
 
--- ---- what a view has of it
+-- ---- what a view shows of the history
 
--- a strand that shows the whole, with this own list
+-- a strand that shows all, with this own list
 abbrev pub shows_all : List Event → List Delivery → List Event → Strand → Strand
 shows_all h ds own x = record x { seen = h; mine = own; delivered = ds }
 
@@ -187,7 +187,7 @@ catches_up k h e ds v w o list more n exact is =
     seen : Napi
     seen = state_after (opening k) o.first.seen
 
--- whoever looked made a step
+-- the caller that looked made a step
 pub made_step : (h : List Event) (x : Seen) (ds : List Delivery) (p q : Pass)
     → IsWhole (controller_of (view_of p)) (h ++ event (number_of (view_of p)) (Look x) ∷ []) ds
     → CatchesUp h (event (number_of (view_of p)) (Look x)) ds (view_of p) (view_of q)
@@ -227,7 +227,7 @@ made_step h x ds p q whole u grows begins delivered_begins table holds slot = re
     k : ℕ
     k = controller_of (view_of p)
 
--- a slot that is held goes with it
+-- a slot that the pass owns stays with it
 received_caught : (l : Carried) (hold : Holds) (v w : View) → hold_of l ≡ Some hold → (has_slot hold ≡ true → received_in w ≡ received_in v)
     → Continues (received_in v) (carried_received l v) → Continues (received_in w) (carried_received l w)
 received_caught [] hold v w e same p = of_prefix _ _ (prefix_self (received_in w))
@@ -235,7 +235,7 @@ received_caught ((k, None) ∷ l) hold v w e same p = of_prefix _ _ (prefix_self
 received_caught ((k, Some x) ∷ l) hold v w e same p =
     subst (λ (xs : List Packet). Continues xs (received_list x)) (sym (same (some_held k x l e))) p
 
--- a look leaves the state
+-- a look doesn't change the state
 pub state_looked : (s : Napi) (h : List Event) (c : ℕ) (x : Seen) → state_after s (h ++ event c (Look x) ∷ []) ≡ state_after s h
 state_looked s h c x = state_after-snoc s h (event c (Look x))
 
@@ -252,7 +252,7 @@ tied_up h c x ds v w l hold u tie = record {
       received_caught l hold v w tie.marked (λ has. received_as v w u.ring (u.delivered ∙ sym (u.held (tie.right ∙ has)))) tie.received;
 }
 
--- ---- the strands of four passes, together and apart again
+-- ---- the strands of four passes, joined and split again
 at_length : (l : View) (y : Strand) → get_elem? (l ++ y ∷ []) (length l) ≡ maybe.some y
 at_length [] y = refl
 at_length (x ∷ l) y = at_length l y
@@ -267,7 +267,7 @@ looked_more : (h : List Event) (e : Event) (ds : List Delivery) (l : View) (y : 
 looked_more h e ds [] y p = absurd (true≢false (sym p))
 looked_more h e ds (x ∷ l) y p = ap (λ (m : View). looked h e ds x ∷ m) (caught_more (h ++ e ∷ []) ds l y)
 
--- what comes behind a pass is not at the front
+-- the strand after a pass's own ones isn't the first
 not_front : (l : View) → is_pass l ≡ true → length l ≢ 0
 not_front [] p e = true≢false (sym p)
 not_front (x ∷ xs) p e = absurd (omega (arith, e))
@@ -300,7 +300,7 @@ module _ (v0 v1 v2 v3 : View) (o0 : Open v0) (o1 : Open v1) (o2 : Open v2) (o3 :
     looked_by = ap number_of is ∙ ap (λ (l : View). number_of (((l ++ o0.first ∷ []) ++ o1.first ∷ []) ++ o2.first ∷ [])) o3.is
         ∙ sym (ap number_of o3.is)
 
-    -- where each strand is
+    -- the position of each strand
     at_third : get_elem? j (length two) ≡ maybe.some o2.first
     at_third = ap (λ (l : View). get_elem? l (length two)) is ∙ at_length two o2.first
 
@@ -369,7 +369,7 @@ module _ (v0 v1 v2 v3 : View) (o0 : Open v0) (o1 : Open v1) (o2 : Open v2) (o3 :
           pub knows_at : (k : ℕ) (z : Strand) (c : ℕ) → get_elem? j k ≡ maybe.some z → z.number ≡ Some c → Knew (controller_of v3) h ds z c
           knows_at k z c there n = subst (λ (m : ℕ). Knew m h ds z c) led_by (knows k z c there n)
 
-          -- whoever isn't at the front has another number
+          -- a strand that isn't the first has another number
           apart : (k : ℕ) (v : View) (o : Open v) → get_elem? j k ≡ maybe.some o.first → k ≢ 0 → number_of v3 ≢ number_of v
           apart k v o there behind same = behind (once k o.first there (o.numbered ∙ ap Some (sym same ∙ sym looked_by)))
 
@@ -432,7 +432,7 @@ of_both_four P a b c d a' b' c' d' x y z w (suc (suc (suc zero))) p q e f =
     subst (λ (r : Pass). P r q) (some_is e) (subst (P d) (some_is f) w)
 of_both_four P a b c d a' b' c' d' x y z w (suc (suc (suc (suc i)))) p q e f = absurd (cc)
 
--- ---- what was seen is what is answered
+-- ---- what was seen is what the call returns
 pub answers_step : {p q : Pass} {x y : Seen} → y ≡ x → Makes p (Look x) stays q → Makes p (Look y) stays q
 answers_step {p} {q} e m = subst (λ (s : Seen). Makes p (Look s) stays q) (sym e) m
 
@@ -597,7 +597,7 @@ module _ (p0 p1 p2 p3 : Pass) (m1 m2 m3 : Me Content View) (e1 : m1 ≡ (with_fr
         (third_named (view_of p0) (view_of p1) (view_of p2) (view_of p3) q0 q1 q2 q3 p3.is_pass m3.0 all_in t.first t.firsts)
         (last_named (view_of p0) (view_of p1) (view_of p2) (view_of p3) q0 q1 q2 q3 p3.is_pass m3.0 all_in t.first t.firsts)
 
-    -- the word is that of the state behind the whole history
+    -- the word encodes the state after the whole history
     pub told_is : t.seen ≡ seen_of (state_after (opening (controller_of (view_of p3))) whole_now)
     told_is = t.told ∙ ap (λ (k : ℕ). seen_of (state_after (opening k) hs)) led
         ∙ ap seen_of (sym (state_looked (opening (controller_of (view_of p3))) hs (number_of (view_of p3)) t.seen))

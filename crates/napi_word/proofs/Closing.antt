@@ -1,4 +1,4 @@
--- The end of a table: what its passes had, and what stands behind their views.
+-- The end of a table: what its passes held, and the strands of their views.
 use Rattle.napi_word.proofs.{Keeps.{St, Open, opened, running, owner_since, place_since}, Deliveries.some_is, Places.{has_owner, has_same}}
 use Rattle.napi_word.proofs.{Places.is_false, Whole.whole, Counting.{numbers_of, numbers_length, find_number, every_number, no_more}}
 use Rattle.napi_word.specs.{Rule.{Fits, Kept, Holding}, declared.view.{Key.Key, Holds.{Holds, TheVariants.{Nothing, Within, Out}}}}
@@ -33,7 +33,7 @@ pub is_pass_more : (xs ys : View) → is_pass xs ≡ true → is_pass (xs ++ ys)
 is_pass_more [] ys e = absurd (true≢false (sym e))
 is_pass_more (x ∷ xs) ys e = e
 
--- ---- the passes' views, one after the other
+-- ---- the concatenated views of the passes
 stands_in : (ps : List Pass) (k : ℕ) (p : Pass) → slice_get ps k ≡ Some p → Stands (view_of p) (views_of ps)
 stands_in [] k p e = absurd (cc)
 stands_in (q ∷ ps) zero p e = subst (λ (y : Pass). Stands (view_of y) (views_of (q ∷ ps))) (some_is e) (at_right (views_of ps) (view_of q))
@@ -43,7 +43,7 @@ at_mid : (l m : View) (x : Strand) (xs : View) → m ≡ x ∷ xs → get_elem? 
 at_mid [] m x xs is = ap (λ (y : View). get_elem? y 0) is
 at_mid (y ∷ l) m x xs is = at_mid l m x xs is
 
--- ---- what was found in the passes' hands
+-- ---- what the passes held
 pub gathered_none : Gathered [] [] (record { ctx = None; out = false })
 gathered_none = record {
   views = refl;
@@ -114,13 +114,13 @@ module _ (t : StateTable) (passes : List Pass) (v : View) (id : ℕ) (f : Found)
   abbrev front : (q : Pass) → Open (view_of q)
   front q = opened (view_of q) q.is_pass
 
-  -- what the rule says of a pass's own strand
+  -- the rule for a pass's own strand
   stood : (k : ℕ) (q : Pass) → slice_get passes k ≡ Some q → (j : ℕ) × Fits key h r.deliveries r.seat (id, j) (front q).first
   stood k q e =
       let o = front q in
       let y = stands_in passes k q e 0 o.first (ap (λ (l : View). get_elem? l 0) o.is) in
       (y.0, r.strands id v at y.0 o.first (ap (λ (l : View). get_elem? l y.0) g.views ∙ y.1))
-      -- ---- no number is there twice, so all are there
+      -- ---- no number occurs twice, so all occur
 
   abbrev place_of : ℕ → ℕ
   place_of n = (r.seat n).1
@@ -265,7 +265,7 @@ module _ (t : StateTable) (passes : List Pass) (v : View) (id : ℕ) (f : Found)
   pub rings : (k : ℕ) (q : Pass) → slice_get passes k ≡ Some q → ring_of (view_of q) ≡ Some (ring_name key.ring.value)
   rings k q e = ap ring_of (front q).is ∙ ap (λ (x : RxCtx). Some (ring_name x)) (stood k q e).1.ring
 
-  -- who has the slot by the history, has it by its mark
+  -- the owner of the slot by the history has it by its mark
   has_nothing : (c : ℕ) → ((k : ℕ) (q : Pass) → slice_get passes k ≡ Some q → q.holds ≡ Nothing) → has_at c now.place ≡ false
   has_nothing c empty = dite (dec_le c key.controller)
       (λ low.
@@ -312,7 +312,7 @@ module _ (t : StateTable) (passes : List Pass) (v : View) (id : ℕ) (f : Found)
 
   module _ (slots : List Content) (each : (k : ℕ) (y : Content) → get_elem? s.homes k ≡ Maybe.some (Maybe.some y)
       → get_elem? slots k ≡ Maybe.some y) (slot : Content) (there : get_elem? slots 0 ≡ Maybe.some slot) where
-    -- nobody had anything: the context is in the slot
+    -- no pass held the context: it is in the slot
     in_slot : f.out ≡ false → f.ctx ≡ None → (x : RxCtx) × (slot ≡ Some x) × (ring_name x ≡ ring_name key.ring.value)
     in_slot out none =
         let home = r.slot (at_home (λ k q e. third q.holds (g.none_out out k q e) (g.none_within none k q e))) in

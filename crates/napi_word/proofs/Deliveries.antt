@@ -1,4 +1,4 @@
--- Deliveries that grow at their end, and who may add one.
+-- Appending to the deliveries, and who may do so.
 use Rattle.std.proofs.Common.{◌≡◌, ◌≢◌, ℕ, List, [], ◌∷◌, ◌++◌, Bool, true, false, not, ◌&&◌, nat_eq, eq-eqb, ne_eqb, refl, sym, ap, ◌∙◌}
 use Rattle.std.proofs.{Common.{append_assoc, length, drop, subst, Option, Some, unwrap_or, true≢false}, lemmas.List.append-nil}
 use Rattle.{std.proofs.lemmas.{List.Elements.filter-append, Bool.eqb-true}, atomic_table.specs.Table.Me}
@@ -62,7 +62,7 @@ has_one a b (Polling c) x y = sym (eqb-true c a x) ∙ eqb-true c b y
 has_one a b (Control c) x y = sym (eqb-true c a x) ∙ eqb-true c b y
 has_one a b p x y = absurd (true≢false (sym x))
 
--- others' events leave who has the slot
+-- events of others don't change who has the slot
 pub has_others : (k n : ℕ) (s : Napi) (e : Event) → IsSound s → IsLegalFor k s e → e.caller ≢ n
     → has_at n (after s e).place ≡ has_at n s.place
 unfolding LegalHistory state_after
@@ -85,7 +85,7 @@ pub givers_none : (s : Napi) → givers s [] ≡ []
 unfolding givers
 givers_none s = refl
 
--- where the slot stays, it isn't given
+-- if the slot keeps its owner, it isn't given back
 pub not_given : (c : ℕ) (p q : Place) → is_out q ≡ is_out p → (has_at c p && not (is_out q)) ≡ false
 not_given c p q same = by (has_at c p) refl
   where
@@ -93,7 +93,7 @@ not_given c p q same = by (has_at c p) refl
     by true e = (λ i. e i && not (same i)) ∙ ap not (has_out c p e)
     by false e = ap (λ (b : Bool). b && not (is_out q)) e
 
--- c adds at most a delivery of its own, and that where it has the slot
+-- c adds at most one delivery, of its own, and only if it has the slot
 pub record More (now : Napi) (e : Event) (ds ds' : List Delivery) : Type 0 where
   pub begins : (l : List Delivery) → IsPrefix l ds → IsPrefix l ds'
   pub order : deliverers ds' ≡ deliverers ds ++ one_if (is_given now e) e.caller
@@ -123,9 +123,9 @@ pub own_deliveries_none : (c : ℕ) → own_deliveries c [] ≡ []
 unfolding own_deliveries
 own_deliveries_none c = refl
 
--- ---- what a view tells once what it shows of deliveries is known
+-- ---- what a view shows once its deliveries are known
 
--- the same context and deliveries: the same ring, and the same received
+-- the same context and deliveries: the same ring, and the same packets received
 pub ring_as : (v w : View) → first_in w ≡ first_in v → ring_of w ≡ ring_of v
 ring_as [] [] e = refl
 ring_as (x ∷ xs) (y ∷ ys) e = ap (λ (r : Option RxCtx). Some (ring_name (unwrap_or r x.ring))) e
@@ -136,7 +136,7 @@ received_as [] [] e d = refl
 received_as (x ∷ xs) (y ∷ ys) e d = λ i. received_by (unwrap_or (e i) x.ring) (d i)
 received_as v w e d = absurd (cc)
 
--- a step that leaves the slot with its owner leaves what was received before it
+-- a step that leaves the slot with its owner keeps what was received before it
 pub received_stays : (me me' : Me Content View) → Delivers stays me me' → owns_slot me.0 ≡ true → received_in me'.0 ≡ received_in me.0
 received_stays me me' g owns = received_as me.0 me'.0 g.first (g.shifts.0 ∙ g.held owns)
 

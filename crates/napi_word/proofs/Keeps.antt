@@ -1,4 +1,4 @@
--- One event more keeps the rule.
+-- One more event preserves the rule.
 use Rattle.napi_word.proofs.{Owns.{own_mine, own_other, own_rest, begins_self, begins_more}, Deliveries.{prefix_self, has_others}}
 use Rattle.napi_word.{proofs.Deliveries.{givers_snoc, More, some_is}, specs.{Events.Steps, Slot.{Content, has_at, is_out, is_given}}}
 use Rattle.napi_word.specs.{Slot.one_if, View.{View, is_pass, number_of, controller_of, mine, ring_of, state_in, place_in, disable_in}}
@@ -18,7 +18,7 @@ use mathlib.Core.Option as maybe
 abbrev pub St : Type 0
 St = State Content View
 
--- ---- what a pass's view begins with
+-- ---- the first strand of a pass's view
 pub record Open (v : View) : Type 0 where
   pub first : Strand
   pub extra : View
@@ -33,7 +33,7 @@ pub opened : (v : View) → is_pass v ≡ true → Open v
 opened [] p = absurd (true≢false (sym p))
 opened (x ∷ xs) p = record { first = x; extra = xs; is = refl; numbered = numbered_of x.number p }
 
--- the strand after the event, behind the history h
+-- the strand after the event, which follows the history h
 abbrev pub grown : Strand → ℕ → List Event → Operation → List Delivery → Strand
 grown x c h o ds = record x { seen = h ++ event c o ∷ []; mine = x.mine ++ event c o ∷ []; delivered = ds }
 
@@ -49,7 +49,7 @@ running key s h id v at p = ⊎_elim
     none zero e = true≢false (sym p ∙ ap is_pass (sym (maybe.some-injective _ _ e)))
     none (suc j) e = maybe.some-ne-none v (sym e)
 
--- what a pass's view tells of the state
+-- what a pass's view determines of the state
 pub record Knows (k : ℕ) (v : View) (c : ℕ) (now : Napi) : Type 0 where
   pub number : number_of v ≡ c
   pub controller : controller_of v ≡ k
@@ -61,7 +61,7 @@ pub record Knows (k : ℕ) (v : View) (c : ℕ) (now : Napi) : Type 0 where
   pub busy : is_owner c (place_in v) ≡ true → now.flags.in_busy_poll ≡ busy_in v
   pub disable : c ≡ k → now.flags.disable ≡ disable_in v
 
--- ---- what the rule says of a strand with a number: since the list that it has seen, others alone made events
+-- ---- the rule for a strand with a number: since the list that it has seen, only others made events
 module _ (key : Key) (s : St) (r : Kept key s) (p : ℕ × ℕ) (x : Strand) (f : Fits key r.history r.deliveries r.seat p x) (c : ℕ)
     (numbered : x.number ≡ Some c) where
   abbrev state_first : Napi
@@ -106,7 +106,7 @@ module _ (key : Key) (s : St) (r : Kept key s) (p : ℕ × ℕ) (x : Strand) (f 
   disable_since y = ap (λ (u : Napi). u.flags.disable) parts
       ∙ disable_kept key.controller state_seen later back (subst (λ (d : ℕ). own d later ≡ []) y none)
 
--- ---- a step of the seat id
+-- ---- one more event, which other strands of the seat may have seen
 module _ (key : Key) (s : St) (r : Kept key s) (id : ℕ) (v : View) (at : get_elem? s.views id ≡ maybe.some v) (o : Open v) where
   abbrev c : ℕ
   c = number_of v
@@ -171,7 +171,7 @@ module _ (key : Key) (s : St) (r : Kept key s) (id : ℕ) (v : View) (at : get_e
     exact : own c (h ++ e ∷ []) ≡ o.first.mine ++ e ∷ []
     exact = own_mine c h e refl ∙ ap (λ (l : List Event). l ++ e ∷ []) owned.whole
 
-    -- the other seats' strands stay
+    -- the strands of other seats don't change
     others : IsLegalFor key.controller now e → More now e r.deliveries ds → (j k : ℕ) → j ≢ id → (x : Strand)
         → Fits key h r.deliveries r.seat (j, k) x → Fits key (h ++ e ∷ []) ds r.seat (j, k) x
     others legal more j k apart x f = record {
@@ -233,7 +233,7 @@ module _ (key : Key) (s : St) (r : Kept key s) (id : ℕ) (v : View) (at : get_e
       few_deliver = λ n above. more.others n (λ (same : c ≡ n). let low = owned.few in absurd (omega arith)) ∙ r.few_deliver n above;
     }
 
-    -- the word becomes f of what it was, which is the word of the state after
+    -- the word becomes f of the old one, which encodes the state after the event
     pub steps : TailFits → (f : ℕ → ℕ) → f (word_of (seen_of now)) ≡ word_of (seen_of (after now e)) → IsLegalFor key.controller now e
         → More now e r.deliveries ds
         → (homes : Homes) → (is_out (after now e).place ≡ false → Home key.ring.value ds homes)
@@ -269,7 +269,7 @@ module _ (key : Key) (s : St) (r : Kept key s) (id : ℕ) (v : View) (at : get_e
           (knows.disable (top ∙ knows.controller));
     }
 
-  -- ---- a load that is no event, and leaves the view
+  -- ---- a load that is no event and doesn't change the view
   pub again : (homes : Homes) → (is_out now.place ≡ false → Home key.ring.value r.deliveries homes)
       → Kept key record { words = set s.words 0 (get_or s.words 0 0); homes = homes; views = set s.views id v }
   again homes slot = record {

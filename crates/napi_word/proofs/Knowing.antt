@@ -1,4 +1,4 @@
--- What a pass knows by its last event.
+-- What a pass knows from its last event.
 use Rattle.std.proofs.Common.{eq-eqb, ◌≡◌, ℕ, List, [], ◌∷◌, Bool, true, false, refl, sym, ap, ◌∙◌, subst}
 use Rattle.napi_model.specs.declared.state.{State.State as Napi, Seen.Seen, Kind.Kind, Place.TheVariants.{Granted, Polling}}
 use Rattle.napi_model.specs.declared.event.{Done.TheVariants.{Again, Held}, Event.Event, Operation.{Operation, TheVariants.Look}}
@@ -8,7 +8,7 @@ use Rattle.napi_model.proofs.{Histories.{legal_front, legal_back, state_after-sn
 use Rattle.napi_word.specs.{View.{View, number_of, controller_of, state_at, state_in, place_in, disable_in}, Events.Steps, Told.done_of}
 use Rattle.napi_word.{specs.Passes.{HasController, HasPoll}, proofs.Places.is_false}
 
--- IN_BUSY_POLL stands at a Polling alone
+-- IN_BUSY_POLL is set only if the place is a Polling
 pub unbusy : (k : ℕ) (h : List Event) → LegalHistory k (opening k) h → ¬ IsPolled (state_after (opening k) h).place
     → (state_after (opening k) h).flags.in_busy_poll ≡ false
 unbusy k h legal none =
@@ -16,7 +16,7 @@ unbusy k h legal none =
     (λ e. none (busy_after k (opening k) h (opens_sound k) (opens_unbusy k) legal e))
 
 module _ (v : View) (o : Operation) (w : View) (g : Steps v o w) where
-  -- the state that the event found
+  -- the state in which the event took place
   abbrev pub found_state : Napi
   found_state = state_at v g.before
 
@@ -41,7 +41,7 @@ module _ (v : View) (o : Operation) (w : View) (g : Steps v o w) where
   state_then = (λ i. state_after (opening (g.controller i)) (g.ends i))
       ∙ state_after-snoc (opening (controller_of v)) g.before (event (number_of v) o)
 
-  -- where the pass is after an event of its own
+  -- the place of the pass after its own event
   pub place_then : place_in w ≡ (after_by (number_of v) o found_state).place
   place_then = ap (λ (s : Napi). s.place) state_then
 
@@ -49,7 +49,7 @@ not_polled : (k : Kind) → ¬ IsPolled (place_of k)
 not_polled Kind.List is = is
 not_polled Kind.Thread is = is
 
--- what a pass was granted, or polls
+-- a pass that was granted the instance, or polls it
 pub schedule_grants : (v w : View) → Steps v (Schedule Prep.Granted) w → place_in w ≡ Granted (number_of w)
 schedule_grants v w g = place_then v (Schedule Prep.Granted) w g ∙ ap Granted (sym g.number)
 
@@ -69,7 +69,7 @@ pub never_held : (missed : Bool) → Held ≡ done_of missed → ⊥
 never_held true e = cc
 never_held false e = cc
 
--- an event that changes nothing leaves what its pass knows
+-- an event that changes nothing keeps what its pass knows
 module _ (v : View) (o : Operation) (w : View) (g : Steps v o w)
     (quiet : after_by (number_of v) o (found_state v o w g) ≡ found_state v o w g) where
   pub quiet_polls : {b : Bool} → HasPoll b v → HasPoll b w
@@ -80,7 +80,7 @@ module _ (v : View) (o : Operation) (w : View) (g : Steps v o w)
         ap (λ (s : Napi). s.flags.in_busy_poll) (state_then v o w g ∙ quiet) ∙ g.busy owner ∙ is.1,
       )
 
--- looks: of who polls, and of the controller
+-- looks: of the poller, and of the controller
 module _ (v : View) (x : Seen) (w : View) (g : Steps v (Look x) w) where
   pub look_polls : {b : Bool} → HasPoll b v → HasPoll b w
   look_polls = quiet_polls v (Look x) w g refl

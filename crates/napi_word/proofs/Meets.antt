@@ -1,4 +1,4 @@
--- What a pass that took in a note shows after its next step.
+-- What a pass that joined a note shows after its next step.
 use Rattle.std.proofs.Common.{◌≡◌, List, [], ◌∷◌, length, true, refl, sym, subst, true≢false}
 use Rattle.atomic_table.proofs.Lists.{at_longer}
 use Rattle.{atomic_table.{proofs.Lists.at_last, specs.Table.Me}, napi_model.specs.declared.event.{Event.Event, Operation.Operation}}
@@ -6,7 +6,7 @@ use Rattle.{napi_model.specs.Step.event, napi_word.specs.{View.{View, is_pass, n
 use Rattle.napi_word.{specs.{Events.Steps, Slot.{Content, Carried, stays, Delivers}}, proofs.Owns.begins_more}
 use mathlib.Core.List.{IsPrefix}
 
--- a step of a pass that took in another is a step of the pass
+-- a step of a pass that joined another one is a step of the pass
 pub steps_joined : (v w : View) (o : Operation) (u : View) → is_pass v ≡ true → Steps (joined v w) o u → Steps v o u
 steps_joined [] w o u p g = absurd (true≢false (sym p))
 steps_joined (x ∷ xs) w o u p g = record {
@@ -26,7 +26,7 @@ steps_joined (x ∷ xs) w o u p g = record {
   disable = g.disable;
 }
 
--- and what a look tells of deliveries
+-- and what a look shows of the deliveries
 pub delivers_joined : (v w : View) (l : Carried) (y : Me Content View) → is_pass v ≡ true → Delivers stays (joined v w, l) y
     → Delivers stays (v, l) y
 delivers_joined [] w l y p g = absurd (true≢false (sym p))

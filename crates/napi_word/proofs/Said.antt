@@ -1,4 +1,4 @@
--- What a seat did, once the word that it found is decoded.
+-- The operation of a seat, by the decoded word that it found.
 use Rattle.std.proofs.Common.{◌<◌, sym, subst, arith}
 use Rattle.napi_word.specs.declared.table.StateTable.{StateTable}
 

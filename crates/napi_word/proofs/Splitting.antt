@@ -1,4 +1,4 @@
--- Seats are split off and joined.
+-- Seats are split and joined.
 use Rattle.std.proofs.Common.{◌≡◌, ◌≢◌, ◌⊎◌, ℕ, zero, suc, ◌+◌, ◌<◌, List, [], ◌∷◌, ◌++◌, length, set, Bool, true, cond, eqb, eq-eqb}
 use Rattle.std.proofs.Common.{ne_eqb, refl, sym, ap, ◌∙◌, subst, inl, inr, ⊎_elim, arith}
 use Rattle.atomic_table.specs.Table.{Splits, Joins}
@@ -22,14 +22,14 @@ within_length [] b j e = absurd (maybe.some-ne-none b (sym e))
 within_length (x ∷ xs) b zero e = omega arith
 within_length (x ∷ xs) b (suc j) e = let low = within_length xs b j e in omega (arith, low)
 
--- of two lists joined, with the place in the list that it is from
+-- an element of two concatenated lists, by the list that it is from
 pub at_join : {A : Type 0} (l m : List A) (b : A) (j : ℕ) → get_elem? (l ++ m) j ≡ maybe.some b
     → (get_elem? l j ≡ maybe.some b) ⊎ ((i : ℕ) × (length l + i ≡ j) × (get_elem? m i ≡ maybe.some b))
 at_join [] m b j e = inr (j, omega arith, e)
 at_join (x ∷ xs) m b zero e = inl e
 at_join (x ∷ xs) m b (suc j) e = ⊎_elim (λ t. inl t) (λ t. let h = t.1 in inr (t.0, omega (arith, h), t.2)) (at_join xs m b j e)
 
--- a strand moves to another place
+-- a strand moves to another position
 refit : (key : Key) (h : List Event) (ds : List Delivery) (seat seat' : ℕ → ℕ × ℕ) (p q : ℕ × ℕ) (x : Strand)
     → ((c : ℕ) → seat c ≡ p → seat' c ≡ q) → Fits key h ds seat p x → Fits key h ds seat' q x
 refit key h ds seat seat' p q x goes f = record {
@@ -42,7 +42,7 @@ refit key h ds seat seat' p q x goes f = record {
   begun = f.begun;
 }
 
--- other views behind the same history, whose strands are theirs
+-- other views of the same history, whose strands fit their positions
 other_views : {key : Key} {s : St} (r : Kept key s) (seat : ℕ → ℕ × ℕ) (views : List View)
     → ((j : ℕ) (u : View) → get_elem? views j ≡ maybe.some u → (k : ℕ) (z : Strand) → get_elem? u k ≡ maybe.some z
     → Fits key r.history r.deliveries seat (j, k) z)
@@ -61,7 +61,7 @@ other_views r seat views strands =
       few_deliver = r.few_deliver;
     }
 
--- ---- the second strand is given away
+-- ---- the second strand becomes a seat of its own
 module _ (key : Key) (id : ℕ) (x y : Strand) (ys : View) (s : St) (r : Kept key s)
     (at : get_elem? s.views id ≡ maybe.some (x ∷ y ∷ ys)) where
   abbrev N : ℕ
@@ -138,7 +138,7 @@ notes key id v p s holding at =
         }
     one r x f j (suc k) z e = absurd (maybe.some-ne-none z (sym e))
 
--- ---- a seat is taken in, or the front of it
+-- ---- a seat is joined, or its first strand
 module _ (key : Key) (id : ℕ) (v : View) (other : ℕ) (w u : View)
     (from : (i : ℕ) (z : Strand) → get_elem? u i ≡ maybe.some z → get_elem? w i ≡ maybe.some z) (s : St) (r : Kept key s)
     (at : get_elem? s.views id ≡ maybe.some v) (apart : other ≢ id)

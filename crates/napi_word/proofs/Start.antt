@@ -45,7 +45,7 @@ pub owns_nothing : (last : ℕ) (of : RxCtx) (c : ℕ) → c < last → owns_slo
 unfolding state_after
 owns_nothing last of c low = ne_eqb last c (λ e. omega (arith, low, e))
 
--- the next number's strand is the second
+-- the strand of the next number is the second
 pub maker_more : (last : ℕ) (of : RxCtx) (n : ℕ) → n < last
     → maker_at last of n ≡ strand last of last ∷ strand last of n ∷ strands_from last of (n + 1) (last - (n + 1))
 maker_more last of n low = let e : last - n ≡ suc (last - (n + 1)) = omega (arith, low) in
@@ -61,7 +61,7 @@ module _ (key : Key) where
   abbrev of : RxCtx
   of = key.ring.value
 
-  -- where each number's strand is
+  -- the position of each number's strand
   abbrev seat : ℕ → ℕ × ℕ
   seat c = (0, cond (eqb c last) 0 (suc c))
 
@@ -153,7 +153,7 @@ pub new_as : {t : StateTable} (k l : ℕ) (x y : RxCtx) (i j : ℕ) (p q : Pass)
     → IsNew t l y j q
 new_as {t} k l x y i j p q a b d e new = subst (λ (z : ℕ × RxCtx × ℕ × Pass). IsNew t z.0 z.1 z.2 z.3) (λ f. (a f, b f, d f, e f)) new
 
--- what lies in the slot is the same
+-- the slot still has the same content
 pub still_laid : {x : RxCtx} (p q : Pass) → ctx_of q ≡ ctx_of p → IsLaid x p → IsLaid x q
 still_laid p q same l = record {
   laid = l.laid;

@@ -1,4 +1,4 @@
--- A list that has each number's events is the whole history.
+-- A prefix of the history that has each number's events is the whole history.
 use Rattle.std.proofs.Common.{◌≡◌, ℕ, ◌<◌, ◌≤◌, List, [], ◌∷◌, ◌++◌, length, drop, refl, sym, ap, ◌∙◌, arith, append_assoc, lt_of_not-le}
 use Rattle.{std.proofs.lemmas.List.append-nil, napi_model.specs.{declared.event.Event.Event, History.own}}
 use Rattle.{napi_model.proofs.Histories.{own_first, own-append}, napi_word.proofs.Owns.own_rest}
@@ -9,7 +9,7 @@ nobody_none : (xs : List Event) → ((c : ℕ) → own c xs ≡ []) → xs ≡ [
 nobody_none [] h = refl
 nobody_none (e ∷ es) h = absurd ((own_first e.caller e es (h e.caller)).0 refl)
 
--- of two prefixes of one list the shorter is one of the longer
+-- of two prefixes of one list, the shorter is a prefix of the longer
 shorter_begins : (xs ys h : List Event) → IsPrefix xs h → IsPrefix ys h → length xs ≤ length ys → IsPrefix xs ys
 shorter_begins [] ys h a b le = (ys, refl)
 shorter_begins (x ∷ xs) [] h a b le = absurd (omega arith)
@@ -39,7 +39,7 @@ between c xs ys h mine a b first last =
     let front : own c a.0 ≡ [] = front_none (own c a.0) (own c b.0) (sym (own-append c a.0 b.0) ∙ none) in
     ap (λ (l : List Event). own c l) (sym a.1) ∙ own-append c xs a.0 ∙ (λ i. first i ++ front i) ∙ append-nil mine
 
--- a prefix l that is no shorter than what each number up to the last has seen
+-- a prefix l that is at least as long as what each number up to the last has seen
 pub whole : (last : ℕ) (h l : List Event) → IsPrefix l h
     → ((c : ℕ) → c ≤ last
     → (seen : List Event) × (mine : List Event) × IsPrefix seen h × (own c seen ≡ mine) × (own c h ≡ mine) × (length seen ≤ length l))

@@ -1,4 +1,4 @@
--- The contract of every step: one event more.
+-- The contract of every step: one more event.
 use Rattle.std.specs.Prelude.{◌≡◌, ℕ, Bool, true, false, List, [], ◌∷◌, ◌++◌, Option, Some, None, Result, Ok, Err}
 use Rattle.napi_model.specs.declared.{state.Seen.Seen, event.{Prep.Prep, Done.Done, Operation.{Operation, TheVariants.{Look, Schedule}}}}
 use Rattle.napi_model.specs.{declared.event.{Operation.TheVariants.{Complete, TakeDisable}, Event.Event}, Step.{event, opening}}
@@ -9,32 +9,32 @@ use lib.ListN.{get_elem?}
 use mathlib.Core.Option as maybe
 use Rattle.napi_model.specs.declared.event.Prep.TheVariants as prep
 
--- the pass made its event, behind all that had happened until then
+-- the pass made its event, after everything that had happened until then
 pub record Steps (v : View) (o : Operation) (w : View) : Type 0 where
   -- the whole history, just before
   pub before : List Event
-  -- it begins with all that the pass had seen, by itself or from those that it met
+  -- it begins with all that the pass had seen, by itself or from passes that it met
   pub begins : (k : ℕ) (x : Strand) → get_elem? v k ≡ maybe.some x → IsPrefix x.seen before
-  -- the event is the next one, and now the pass shows all
+  -- the event comes next, and then the pass shows the whole history
   pub ends : shown w ≡ before ++ event (number_of v) o ∷ []
   -- the history is legal
   pub legal : LegalHistory (controller_of v) (opening (controller_of v)) (shown w)
-  -- the own list grew by the event alone, and is the caller's events in the history
+  -- the own list grew by exactly this event, and is the caller's events in the history
   pub grows : mine w ≡ mine v ++ event (number_of v) o ∷ []
   pub exact : own (number_of v) (shown w) ≡ mine w
-  -- number, controller and ring stay
+  -- number, controller and ring don't change
   pub pass : is_pass w ≡ true
   pub number : number_of w ≡ number_of v
   pub controller : controller_of w ≡ controller_of v
   pub ring : ring_of w ≡ ring_of v
-  -- what others can't have changed since: whether the caller owns the instance, where it has it and whether it busy polls
-  -- it, and, for the controller, the disable flag
+  -- what others can't have changed since: whether the caller owns the instance, its place if so, whether it busy polls, and,
+  -- for the controller, the disable flag
   pub owner : is_owner (number_of v) (state_at v before).place ≡ is_owner (number_of v) (place_in v)
   pub place : is_owner (number_of v) (place_in v) ≡ true → (state_at v before).place ≡ place_in v
   pub busy : is_owner (number_of v) (place_in v) ≡ true → (state_at v before).flags.in_busy_poll ≡ busy_in v
   pub disable : number_of v ≡ controller_of v → (state_at v before).flags.disable ≡ disable_in v
 
--- ---- each answer as an operation
+-- ---- each result as an operation
 
 abbrev pub by_load : Option Seen → Operation
 by_load None = Schedule prep.Disabled
@@ -52,7 +52,7 @@ abbrev pub by_take_load : Option Seen → Operation
 by_take_load None = TakeDisable false
 by_take_load (Some x) = Look x
 
--- an exchange with one operation, where it wins
+-- an exchange with one operation, if it succeeds
 abbrev pub by_swap : Operation → Result (Unit {0}) Seen → Operation
 by_swap o (Ok u) = o
 by_swap o (Err x) = Look x

@@ -1,4 +1,4 @@
--- Passes to a table, and what a step makes of one.
+-- The passes of a table, and the effect of a step on one.
 use Rattle.std.specs.Prelude.{◌≡◌, ◌≢◌, ℕ, ◌<◌, Bool, true, false, List, [], ◌∷◌, Option, Some}
 use Rattle.rx_ring.specs.{declared.{packet.Packet.Packet, ends.RxCtx.RxCtx}, Ends.{RingName, ring_name, SameCtx, received_list, known_list}}
 use Rattle.{rx_ring.specs.Ends.{polls_of, is_beside}, napi_model.specs.declared.state.{Kind.Kind, Place.TheVariants.Control}}
@@ -11,11 +11,11 @@ use Rattle.napi_model.specs.Step as step
 abbrev pub view_of : Pass → View
 view_of p = p.seat.me.0
 
--- the context in the slot, where the pass holds it there
+-- the context in the slot, if the pass owns the slot and the context is in it
 abbrev pub ctx_of : Pass → Option RxCtx
 ctx_of p = ctx_in p.seat.me.1
 
--- the context was laid into the slot: it is the same but for the mark of `beside`, which is gone
+-- the context was put into the slot: it is the same, except that the mark of `beside` is cleared
 pub record IsLaid (ctx : RxCtx) (p : Pass) : Type 0 where
   pub laid : RxCtx
   pub within : ctx_of p ≡ Some laid
@@ -25,11 +25,12 @@ pub record IsLaid (ctx : RxCtx) (p : Pass) : Type 0 where
   pub polls : polls_of laid ≡ polls_of ctx
   pub unmarked : is_beside laid ≡ false
 
--- what the context in the slot has received, where the pass holds it, else what was delivered by what the pass shows
+-- the packets that the context in the slot has received, if the pass owns it; otherwise those delivered, as far as the pass has
+-- seen
 abbrev pub received_of : Pass → List Packet
 received_of p = carried_received p.seat.me.1 (view_of p)
 
--- the pass is one to this table
+-- the pass belongs to this table
 abbrev pub IsPassOf : StateTable → Pass → Type 0
 IsPassOf t p = p.seat.table_id ≡ t.table.shared.table_id
 
@@ -39,36 +40,36 @@ SameTable before after = after.seat.table_id ≡ before.seat.table_id
 abbrev pub controller_of_table : StateTable → ℕ
 controller_of_table t = t.table.shared.key.controller
 
--- the ring whose context was handed in
+-- the ring of the context with which the table was made
 abbrev pub ring_of_table : StateTable → RingName
 ring_of_table t = ring_name t.table.shared.key.ring.value
 
--- the context that was handed in
+-- the context with which the table was made
 abbrev pub first_of_table : StateTable → RxCtx
 first_of_table t = t.table.shared.key.ring.value
 
--- the contract of every step: the pass made this event, and what it holds of the slot moved so
+-- the contract of every step: the pass made this event, and its hold on the slot changed accordingly
 pub record Makes (before : Pass) (o : Operation) (m : Moves) (after : Pass) : Type 0 where
   pub table : SameTable before after
   pub holds : after.holds ≡ moved m before.holds
   pub event : Steps (view_of before) o (view_of after)
   pub packets : Delivers m before.seat.me after.seat.me
 
--- the slot is no event: what the pass knows stays
+-- moving the context isn't an event: what the pass knows doesn't change
 pub record Keeps (before : Pass) (after : Pass) : Type 0 where
   pub table : SameTable before after
   pub view : view_of after ≡ view_of before
 
--- ---- what a pass has to be for a step
+-- ---- what a step requires of its pass
 
--- where it holds the slot, the context is in it
+-- if it owns the slot, the context is in it
 abbrev pub IsWithin : Pass → Type 0
 IsWithin p = p.holds ≢ Out
 
 abbrev pub HandsOver : Kind → Pass → Type 0
 HandsOver kind p = step.MayHand (number_of (view_of p)) kind (state_in (view_of p))
 
--- by the list that it shows, a pass polls the instance, and busy polls it or doesn't
+-- by the list that it shows, a pass polls the instance, and busy polls it or not
 abbrev pub HasPoll : Bool → View → Type 0
 HasPoll busy v = step.Polls (number_of v) busy (state_in v)
 
@@ -90,22 +91,22 @@ Controls p = place_in (view_of p) ≡ Control (number_of (view_of p))
 abbrev pub IsNoOwner : Pass → Type 0
 IsNoOwner p = is_owner (number_of (view_of p)) (place_in (view_of p)) ≡ false
 
--- the disable flag is so, as far as the pass has seen
+-- the value of the disable flag, as far as the pass has seen
 abbrev pub Disable : Bool → Pass → Type 0
 Disable on p = disable_in (view_of p) ≡ on
 
--- the context is one of the ring that the pass names
+-- the context belongs to the ring that the pass names
 abbrev pub OfItsRing : Pass → RxCtx → Type 0
 OfItsRing p ctx = ring_of (view_of p) ≡ Some (ring_name ctx)
 
 abbrev pub tie_of : (p : Pass) → Tied p.holds p.seat.me
 tie_of p = record { marked = p.marked; right = p.right; ring = p.ring; unmarked = p.unmarked; received = p.received }
 
--- the pass of number c, which has seen nothing and done nothing; the controller's has the slot, with the context in it
+-- the pass of number c, which has seen and done nothing; the controller's has the slot, with the context in it
 pub record IsNew (t : StateTable) (controller : ℕ) (ctx : RxCtx) (c : ℕ) (p : Pass) : Type 0 where
   pub table : IsPassOf t p
   pub view : view_of p ≡ strand controller ctx c ∷ []
   pub others : c < controller → p.holds ≡ Nothing
   pub own : c ≡ controller → p.holds ≡ Within
-  -- the controller's has the context that was handed in, but for the mark of `beside`
+  -- the controller's has the context that the table was made with, except for the mark of `beside`
   pub laid : c ≡ controller → IsLaid ctx p

@@ -1,5 +1,5 @@
--- The one rule of a table: there is one legal history, whose state the word tells, of which each number's events are one
--- seat's own list, and of which every list shown is a beginning.
+-- The one rule of a table: there is one legal history, whose state the word encodes; each number's events in it are one seat's
+-- own list, and every list shown is a prefix of it.
 use Rattle.std.specs.Prelude.{◌≡◌, ◌⊎◌, ℕ, zero, suc, ◌+◌, ◌-◌, ◌<◌, ◌≤◌, true, false, List, [], ◌∷◌, ◌++◌, Some, None}
 use Rattle.{atomic_table.specs.Table.State, rx_ring.specs.{declared.ends.RxCtx.RxCtx, Ends.{ring_name, is_beside, received_list}}}
 use Rattle.napi_model.specs.{declared.event.Event.Event, Step.{opening, seen_of}, History.{LegalHistory, state_after, own}, Word.word_of}
@@ -9,22 +9,22 @@ use mathlib.Core.List.{IsPrefix}
 use lib.ListN.{get_elem?}
 use mathlib.Core.Option as maybe
 
--- what is in the slot while no seat holds it
+-- the content of the slot while no seat owns it
 abbrev pub Homes : Type 0
 Homes = List (maybe.Option Content)
 
--- the slot is at home, and has the context of that ring as it was given back last, which has received what was delivered, without the mark
--- of `beside`: its next owner's poll looks
+-- the slot contains the context of that ring as it was given back last, which has received all packets delivered, without the
+-- mark of `beside`: its next owner's poll reads the ring
 abbrev pub Home : RxCtx → List Delivery → Homes → Type 0
 Home ring ds homes = (x : RxCtx) × (homes ≡ maybe.some (Some x) ∷ []) × (ring_name x ≡ ring_name ring) × (is_beside x ≡ false)
     × (received_list x ≡ received_by ring ds) × (x ≡ last_of ring ds)
 
--- a strand of number c, at its place among the seats' strands: there alone, and its own list is c's events in the history,
--- all of which it has seen
+-- a strand of number c, at its position among the seats' strands: the only one of c, whose own list is c's events in the
+-- history, and which has seen all of them
 pub record Owned (key : Key) (h : List Event) (ds : List Delivery) (seat : ℕ → ℕ × ℕ) (at : ℕ × ℕ) (x : Strand) (c : ℕ) : Type 0 where
   pub whole : own c h ≡ x.mine
   pub shown : own c x.seen ≡ x.mine
-  -- its deliveries are those that it has seen, and while it has the slot it has seen all
+  -- its own deliveries are those that it has seen; while it has the slot it has seen all deliveries
   pub delivers : own_deliveries c ds ≡ own_deliveries c x.delivered
   pub has : has_at c (state_after (opening key.controller) h).place ≡ true → x.delivered ≡ ds
   pub here : seat c ≡ at
@@ -38,38 +38,38 @@ pub record Fits (key : Key) (h : List Event) (ds : List Delivery) (seat : ℕ �
   pub ring : x.ring ≡ key.ring.value
   pub begun : x.begun ≡ true
 
--- the rule, of the words, of what is in the slot and of all views
+-- the rule, for the words, the content of the slot and all views
 pub record Kept (key : Key) (s : State Content View) : Type 0 where
   pub history : List Event
-  -- what each owner of the slot received, in the order in which it was given back
+  -- what each owner of the slot received, in the order in which it gave the slot back
   pub deliveries : List Delivery
-  -- which seat has a number, and which of its strands it is
+  -- the seat of each number, and which of its strands is the number's
   pub seat : ℕ → ℕ × ℕ
   pub legal : LegalHistory key.controller (opening key.controller) history
   pub word : s.words ≡ word_of (seen_of (state_after (opening key.controller) history)) ∷ []
-  -- while somebody polls or controls, that one knows what the slot has
+  -- while a caller polls or controls, that caller knows the content of the slot
   pub slot : is_out (state_after (opening key.controller) history).place ≡ false → Home key.ring.value deliveries s.homes
   pub strands : (id : ℕ) (v : View) → get_elem? s.views id ≡ maybe.some v → (k : ℕ) (x : Strand) → get_elem? v k ≡ maybe.some x
       → Fits key history deliveries seat (id, k) x
-  -- behind the controller's number nobody has one
+  -- only numbers up to the controller's have events
   pub few : (c : ℕ) → key.controller < c → own c history ≡ []
-  -- they are one for each event that gave it away
+  -- there is one for each event that gave the slot back
   pub order : deliverers deliveries ≡ givers (opening key.controller) history
   pub few_deliver : (c : ℕ) → key.controller < c → own_deliveries c deliveries ≡ []
 
--- ---- how a table is made: the first seat takes the slot for the controller, and gives the other numbers away
+-- ---- how a table is made: the first seat takes the slot for the controller, and gives each other number to a seat of its own
 
--- number c, which has seen nothing and done nothing
+-- number c, which has seen and done nothing
 abbrev pub strand : ℕ → RxCtx → ℕ → Strand
 strand controller ring c =
     record { begun = true; number = Some c; seen = []; mine = []; delivered = []; controller = controller; ring = ring }
 
--- so many of them from n on
+-- this many of them, from n on
 abbrev pub strands_from : ℕ → RxCtx → ℕ → ℕ → View
 strands_from controller ring n zero = []
 strands_from controller ring n (suc k) = strand controller ring n ∷ strands_from controller ring (n + 1) k
 
--- the controller's, and those from n on, which are still to be given away
+-- the controller's, and those from n on, which are still to be given to seats of their own
 abbrev pub maker_at : ℕ → RxCtx → ℕ → View
 maker_at controller ring n = strand controller ring controller ∷ strands_from controller ring n (controller - n)
 
@@ -85,7 +85,7 @@ abbrev pub begun_view : View → View
 begun_view [] = []
 begun_view (x ∷ xs) = maker_at x.controller x.ring 0
 
--- before the first seat has the slot: what was handed in is in it
+-- before the first seat has the slot: it contains the context with which the table is made
 pub record Starts (key : Key) (s : State Content View) : Type 0 where
   pub word : s.words ≡ 9 ∷ []
   pub home : s.homes ≡ maybe.some (Some key.ring.value) ∷ []
@@ -96,7 +96,7 @@ Holding key s = Starts key s ⊎ Kept key s
 
 -- ---- how seats are split and joined
 
--- the second strand is given away
+-- the view after its second strand was split off
 abbrev pub left_of : View → View
 left_of [] = []
 left_of (x ∷ []) = x ∷ []
@@ -107,7 +107,7 @@ right_of [] = []
 right_of (x ∷ []) = []
 right_of (x ∷ y ∷ ys) = y ∷ []
 
--- a note: the list that a pass shows, with no number
+-- a note: the list that a pass shows, without a number
 abbrev pub note : Strand → Strand
 note x = record x { number = None; mine = [] }
 

@@ -1,4 +1,4 @@
--- What the tests' runs show at their end.
+-- What the runs of the tests show at their end.
 use Rattle.std.specs.Prelude.{◌≡◌, List}
 use Rattle.napi_model.specs.{declared.event.Event.Event, Step.opening, History.{LegalHistory, own}}
 

@@ -1,4 +1,4 @@
--- The slot of the poll context: who has it, and what a seat holds of it.
+-- The slot of the poll context: who owns it, and what a seat holds of it.
 use Rattle.std.specs.Prelude.{◌≡◌, ℕ, zero, Bool, true, false, not, ◌&&◌, nat_eq, List, [], ◌∷◌, ◌++◌, Option, Some, None}
 use Rattle.{atomic_table.specs.Table.Me, rx_ring.specs.{declared.{packet.Packet.Packet, ends.RxCtx.RxCtx}, Ends.{RingName, ring_name}}}
 use Rattle.{rx_ring.specs.Ends.{is_beside, received_list}, napi_model.specs.declared.state.Place.{Place, TheVariants.{Nobody, Granted}}}
@@ -10,7 +10,7 @@ use mathlib.Core.List.{IsPrefix}
 use lib.ListN.{get_elem?}
 use mathlib.Core.Option as maybe
 
--- whoever polls or controls has the slot
+-- the caller that polls or controls owns the slot
 abbrev pub has_at : ℕ → Place → Bool
 has_at c Nobody = false
 has_at c (Granted owner) = false
@@ -19,7 +19,7 @@ has_at c ToThread = false
 has_at c (Polling owner) = nat_eq owner c
 has_at c (Control owner) = nat_eq owner c
 
--- somebody has it
+-- some caller owns it
 abbrev pub is_out : Place → Bool
 is_out Nobody = false
 is_out (Granted owner) = false
@@ -28,7 +28,7 @@ is_out ToThread = false
 is_out (Polling owner) = true
 is_out (Control owner) = true
 
--- an event gives the slot away: its caller had it, and then nobody has it
+-- an event gives the slot back: its caller owned it, and then no caller does
 abbrev pub is_given : State → Event → Bool
 is_given s e = has_at e.caller s.place && not (is_out (after s e).place)
 
@@ -36,16 +36,16 @@ abbrev pub one_if : Bool → ℕ → List ℕ
 one_if true c = c ∷ []
 one_if false c = []
 
--- who gave it away, in the order of a history
+-- the callers that gave it back, in the order of a history
 unfoldable pub givers : State → List Event → List ℕ
 givers s [] = []
 givers s (e ∷ es) = one_if (is_given s e) e.caller ++ givers (after s e) es
 
--- by the list that it shows, a pass has the slot
+-- by the list that it shows, a pass owns the slot
 abbrev pub owns_slot : View → Bool
 owns_slot v = has_at (number_of v) (place_in v)
 
--- ---- what a seat holds, and the mark of it
+-- ---- what a seat holds, and the mark that says so
 
 abbrev pub Content : Type 0
 Content = Option RxCtx
@@ -64,7 +64,7 @@ has_slot Nothing = false
 has_slot Within = true
 has_slot Out = true
 
--- the ring of the context in the slot that is held, else the view's
+-- the ring of the context in the slot that is held, otherwise the view's
 abbrev pub ring_in : Carried → View → Option RingName
 ring_in ((k, Some x) ∷ l) v = Some (ring_name x)
 ring_in ((k, None) ∷ l) v = ring_of v
@@ -75,28 +75,28 @@ abbrev pub ctx_in : Carried → Option RxCtx
 ctx_in ((k, x) ∷ l) = x
 ctx_in [] = None
 
--- whether the context in the slot that is held bears the mark of `beside`
+-- whether the mark of `beside` is set on the context in the slot that is held
 abbrev pub beside_in : Carried → Bool
 beside_in ((k, Some x) ∷ l) = is_beside x
 beside_in ((k, None) ∷ l) = false
 beside_in [] = false
 
--- what the context in the slot that is held has received, else what the view tells
+-- what the context in the slot that is held has received, otherwise what the view shows
 abbrev pub carried_received : Carried → View → List Packet
 carried_received ((k, Some x) ∷ l) v = received_list x
 carried_received ((k, None) ∷ l) v = received_in v
 carried_received [] v = received_in v
 
--- the mark says what the seat holds: the slot exactly where the view says so, with that ring's context in it or with none
+-- the mark says what the seat holds: the slot exactly if the view says so, with the context of that ring in it or with none
 pub record Tied (h : Holds) (me : View × Carried) : Type 0 where
   pub marked : hold_of me.1 ≡ Some h
   pub right : owns_slot me.0 ≡ has_slot h
   pub ring : ring_in me.1 me.0 ≡ ring_of me.0
   pub unmarked : beside_in me.1 ≡ false
-  -- the context in it has received what was delivered, and maybe more since
+  -- the context in it has received all packets delivered, and maybe more since
   pub received : Continues (received_in me.0) (carried_received me.1 me.0)
 
--- ---- what a step does with it
+-- ---- how a step changes it
 
 pub data Moves : Type 0 where
   stays : Moves
@@ -108,9 +108,9 @@ moved stays h = h
 moved taken h = Within
 moved given h = Nothing
 
--- ---- what a step tells of the deliveries; they all are those before, of which the caller then knows
+-- ---- what a step shows of the deliveries: all until then, which the caller knows from then on
 
--- a slot with its context in it is given away: one delivery more, of what was received since it was taken
+-- a slot with its context in it is given back: one more delivery, of what was received since it was taken
 abbrev pub Gives : Bool → List Delivery → Me Content View → Me Content View → Type 0
 Gives true before me me' =
     (x : RxCtx) × (packets : List Packet) × (me.1 ≡ (0, Some x) ∷ []) × (received_list x ≡ received_in me.0 ++ packets)
@@ -119,7 +119,7 @@ Gives false before me me' = (delivered me'.0 ≡ before) × (me'.1 ≡ me.1)
 
 abbrev pub Shifts : Moves → List Delivery → Me Content View → Me Content View → Type 0
 Shifts stays before me me' = (delivered me'.0 ≡ before) × (me'.1 ≡ me.1)
--- the context that is taken is the one that was given back last, and has received what was delivered
+-- the context that is taken is the one that was given back last, and has received all packets delivered
 Shifts taken before me me' = (delivered me'.0 ≡ before)
     × ((x : RxCtx) × (me'.1 ≡ (0, Some x) ∷ []) × (received_list x ≡ received_in me'.0) × (last_in me'.0 ≡ Some x))
 Shifts given before me me' = Gives (owns_slot me.0) before me me'
@@ -127,12 +127,12 @@ Shifts given before me me' = Gives (owns_slot me.0) before me me'
 pub record Delivers (m : Moves) (me : Me Content View) (me' : Me Content View) : Type 0 where
   -- all deliveries, just before
   pub before : List Delivery
-  -- they begin with all that the pass had seen, by itself or from those that it met
+  -- they begin with all that the pass had seen, by itself or from passes that it met
   pub begins : (k : ℕ) (x : Strand) → get_elem? me.0 k ≡ maybe.some x → IsPrefix x.delivered before
-  -- of the caller's own there are no others than those that it knew
+  -- the caller's own ones are those that it knew
   pub exact : own_deliveries (number_of me.0) before ≡ own_deliveries (number_of me.0) (delivered me.0)
-  -- while the caller has the slot nobody else delivers
+  -- while the caller has the slot, no other caller delivers
   pub held : owns_slot me.0 ≡ true → before ≡ delivered me.0
-  -- the context that was handed in is known as ever
+  -- the first context is known as before
   pub first : first_in me'.0 ≡ first_in me.0
   pub shifts : Shifts m before me me'

@@ -12,17 +12,17 @@ use lib.ListN.{get_elem?}
 use mathlib.Core.Option as maybe
 use Rattle.napi_word.specs.View as view
 
--- the whole history, and all deliveries, where the controller has this number
+-- the whole history and all deliveries, for a controller with this number
 pub record IsWhole (k : ℕ) (h : List Event) (ds : List Delivery) : Type 0 where
   pub legal : LegalHistory k (opening k) h
-  -- behind the controller's number nobody has an event, or a delivery
+  -- numbers after the controller's have no events and no deliveries
   pub others : (c : ℕ) → k < c → own c h ≡ []
   pub few : (c : ℕ) → k < c → own_deliveries c ds ≡ []
-  -- there is one delivery for each event that gave the context away
+  -- there is one delivery for each event that gave the context back
   pub order : deliverers ds ≡ givers (opening k) h
 
--- a view before and after it: it has caught up with the whole, which is what the look e found and then the look; in what it found
--- there was no more of the pass's own
+-- a view before and after a survey: it then shows the whole, which is the history that the look e found and the look itself;
+-- that history had no own events beyond those that the pass knew
 pub record CatchesUp (found : List Event) (e : Event) (ds : List Delivery) (v w : View) : Type 0 where
   pub shown : view.shown w ≡ found ++ e ∷ []
   pub begins : IsPrefix (view.shown v) found
@@ -31,27 +31,27 @@ pub record CatchesUp (found : List Event) (e : Event) (ds : List Delivery) (v w 
   pub delivered : view.delivered w ≡ ds
   pub delivered_begins : IsPrefix (view.delivered v) ds
   pub delivered_exact : own_deliveries (number_of v) ds ≡ own_deliveries (number_of v) (view.delivered v)
-  -- who has the slot had seen all deliveries
+  -- the owner of the slot had seen all deliveries
   pub held : owns_slot v ≡ true → view.delivered v ≡ ds
-  -- number, controller and ring stay
+  -- number, controller and ring don't change
   pub pass : is_pass w ≡ true
   pub number : number_of w ≡ number_of v
   pub controller : controller_of w ≡ controller_of v
   pub ring : first_in w ≡ first_in v
-  -- and so does what others can't change
+  -- nor does what others can't change
   pub owner : is_owner (number_of v) (state_at v found).place ≡ is_owner (number_of v) (place_in v)
   pub place : is_owner (number_of v) (place_in v) ≡ true → (state_at v found).place ≡ place_in v
   pub busy : is_owner (number_of v) (place_in v) ≡ true → (state_at v found).flags.in_busy_poll ≡ busy_in v
   pub disable : number_of v ≡ controller_of v → (state_at v found).flags.disable ≡ disable_in v
 
--- a pass before and after it: it is the same one, and holds what it held
+-- a pass before and after a survey: it is the same pass, and its hold is the same
 pub record IsSurveyed (found : List Event) (e : Event) (ds : List Delivery) (p q : Pass) : Type 0 where
   pub table : SameTable p q
   pub holds : q.holds ≡ p.holds
   pub slot : q.seat.me.1 ≡ p.seat.me.1
   pub view : CatchesUp found e ds (view_of p) (view_of q)
 
--- these passes of the table whose controller has number k were surveyed, by a look of number c that answered x
+-- these passes of the table whose controller has number k were surveyed, by a look of number c that returned x
 pub record Surveys (k c : ℕ) (x : Seen) (before after : List Pass) : Type 0 where
   -- the whole history, as the look found it
   pub found : List Event
@@ -59,15 +59,15 @@ pub record Surveys (k c : ℕ) (x : Seen) (before after : List Pass) : Type 0 wh
   -- the look is the next event
   pub whole : IsWhole k (found ++ event c (Look x) ∷ []) deliveries
   pub controllers : (i : ℕ) (p : Pass) → slice_get before i ≡ Some p → controller_of (view_of p) ≡ k
-  -- all name the same context as the one that was handed in
+  -- all name the first context of the table
   pub first : RxCtx
   pub firsts : (i : ℕ) (p : Pass) → slice_get before i ≡ Some p → first_in (view_of p) ≡ Some first
   pub each : (i : ℕ) (p q : Pass) → slice_get before i ≡ Some p → slice_get after i ≡ Some q
       → IsSurveyed found (event c (Look x)) deliveries p q
 
--- ---- how it is made: the strands come together, catch up by one look, and part again
+-- ---- how it is made: the strands are joined, learn the whole by one look, and are split again
 
--- a pass's own strand alone
+-- only a pass's own strand
 abbrev pub front : View → View
 front [] = []
 front (x ∷ xs) = x ∷ []
@@ -92,7 +92,7 @@ abbrev pub all_caught_up : List Event → List Delivery → View → View
 all_caught_up h ds [] = []
 all_caught_up h ds (x ∷ xs) = caught_up h ds x ∷ all_caught_up h ds xs
 
--- what the whole is to a strand with this number
+-- how the whole relates to a strand with this number
 pub record Knew (k : ℕ) (h : List Event) (ds : List Delivery) (x : Strand) (c : ℕ) : Type 0 where
   pub controller : x.controller ≡ k
   pub begins : IsPrefix x.seen h
@@ -107,16 +107,16 @@ pub record Knew (k : ℕ) (h : List Event) (ds : List Delivery) (x : Strand) (c 
       → (state_after (opening k) h).flags.in_busy_poll ≡ (state_after (opening k) x.seen).flags.in_busy_poll
   pub disable : c ≡ k → (state_after (opening k) h).flags.disable ≡ (state_after (opening k) x.seen).flags.disable
 
--- a seat's own strand made the look e
+-- a seat's own strand after the look e
 abbrev pub looked : List Event → Event → List Delivery → Strand → Strand
 looked found e ds x = record x { seen = found ++ e ∷ []; mine = x.mine ++ e ∷ []; delivered = ds }
 
--- and its others have caught up with it
+-- and its other strands, which have learned the whole
 abbrev pub all_looked : List Event → Event → List Delivery → View → View
 all_looked found e ds [] = []
 all_looked found e ds (x ∷ xs) = looked found e ds x ∷ all_caught_up (found ++ e ∷ []) ds xs
 
--- a look of a seat's own number, with which all strands of the seat catch up
+-- a look under the seat's own number, by which all strands of the seat learn the whole
 pub record Surveyed (me : Me Content View) (n : ℕ) (me' : Me Content View) : Type 0 where
   pub seen : Seen
   pub word : n ≡ word_of seen
@@ -129,9 +129,9 @@ pub record Surveyed (me : Me Content View) (n : ℕ) (me' : Me Content View) : T
   pub slot : me'.1 ≡ me.1
   pub knew : (k : ℕ) (x : Strand) (c : ℕ) → get_elem? me.0 k ≡ maybe.some x → x.number ≡ Some c
       → Knew (controller_of me.0) found deliveries x c
-  -- whoever looks is there once
+  -- the number that looks occurs once
   pub once : (k : ℕ) (x : Strand) → get_elem? me.0 k ≡ maybe.some x → x.number ≡ Some (number_of me.0) → k ≡ 0
-  -- all strands, with a number or not, had seen a beginning, and name the same context
+  -- all strands, with a number or not, had seen a prefix, and name the same context
   pub seen_begins : (k : ℕ) (x : Strand) → get_elem? me.0 k ≡ maybe.some x → IsPrefix x.seen found
   pub delivered_begins : (k : ℕ) (x : Strand) → get_elem? me.0 k ≡ maybe.some x → IsPrefix x.delivered deliveries
   pub first : RxCtx

@@ -1,4 +1,4 @@
--- What each step's operation and its move of the slot are, told by the word that it finds.
+-- The operation of each step and its move of the slot, by the word that it finds.
 use Rattle.std.specs.Prelude.{◌≡◌, ℕ, ◌==◌, Bool, true, false, ◌||◌, [], Option, Some, None}
 use Rattle.atomic_table.specs.Table.{Me}
 use Rattle.napi_model.specs.declared.{state.{Kind.Kind, Seen.Seen}, event.{Prep.Prep, Done.{Done, TheVariants.{Released, Again}}}}
@@ -8,11 +8,11 @@ use Rattle.napi_word.specs.{Rule.begun_slot, Events.Steps}
 use Rattle.napi_model.specs.declared.state.Kind.TheVariants as kind
 use Rattle.napi_model.specs.declared.event.Prep.TheVariants as prep
 
--- the seat did this operation, and what it holds moved so
+-- the seat made this operation, and its hold on the slot changed accordingly
 abbrev pub Did : Operation → Moves → Me Content View → Me Content View → Type 0
 Did o m me me' = Steps me.0 o me'.0 × ((h : Holds) → Tied h me → Tied (moved m h) me') × Delivers m me me'
 
--- the word said x, and so the operation and the move are these
+-- the word showed x, so the operation and the move are these
 abbrev pub told : (Seen → Operation) → (Seen → Moves) → Me Content View → ℕ → Me Content View → Type 0
 told f m me n me' = (x : Seen) × (n ≡ word_of x) × Did (f x) (m x) me me'
 
@@ -20,7 +20,7 @@ abbrev pub when : Bool → Moves → Moves
 when true m = m
 when false m = stays
 
--- an exchange that expected a word: it did the operation where it found that word, and else it is a look
+-- an exchange that expected a word: its operation if it found that word, otherwise a look
 abbrev pub either_op : Bool → Operation → Seen → Operation
 either_op true o x = o
 either_op false o x = Look x
@@ -31,7 +31,7 @@ exchanged f m expected = told (λ x. either_op (word_of x == expected) (f x) x) 
 abbrev pub no_move : Seen → Moves
 no_move x = stays
 
--- ---- what a word says of a reply
+-- ---- the reply, by the word
 
 abbrev pub load_op : Bool → Seen → Operation
 load_op true x = Schedule prep.Disabled
@@ -54,7 +54,7 @@ is_marked kind.Thread (Some kind.List) = false
 is_marked kind.List None = false
 is_marked kind.Thread None = false
 
--- an instance can't be taken by its controller while one of these is set
+-- the controller can't take an instance while one of these is set
 abbrev pub is_busy : Seen → Bool
 is_busy x = x.flags.sched || x.flags.npsvc
 
@@ -64,10 +64,10 @@ busy_op false x = Look x
 
 -- ---- loads that are no events
 
--- the first seat takes the slot, with what was handed in, and has the strands of all numbers
+-- the first seat takes the slot with the first context, and has the strands of all numbers
 abbrev pub begun : Me Content View → ℕ → Me Content View → Type 0
 begun me n me' = (me'.0 ≡ begun_view me.0) × (me'.1 ≡ begun_slot me.0)
 
--- a slot in hand goes back; the view stays
+-- a slot that the seat owns goes back; the view doesn't change
 abbrev pub laid_down : Me Content View → ℕ → Me Content View → Type 0
 laid_down me n me' = (me'.0 ≡ me.0) × (me'.1 ≡ [])

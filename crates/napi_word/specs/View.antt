@@ -1,10 +1,10 @@
--- What a thread knows of an instance, and what a contract sees of it.
+-- What a thread knows of an instance, as contracts see it.
 use Rattle.std.specs.Prelude.{ℕ, nat_eq, Bool, false, is_some, unwrap_or, List, [], ◌∷◌, ◌++◌, filter, length, drop, ◌≡◌, Option, Some}
 use Rattle.{std.specs.Prelude.None, rx_ring.specs.{declared.{packet.Packet.Packet, ends.RxCtx.RxCtx}, Ends.{RingName, ring_name}}}
 use Rattle.{rx_ring.specs.Ends.received_list, napi_model.specs.declared.{state.{Place.Place, State.State}, event.Event.Event}}
 use Rattle.{napi_model.specs.{Step.opening, History.state_after}, napi_word.specs.declared.view.{Strand.Strand, Delivery.Delivery}}
 
--- a pass's own strand comes first; the others are of the seats that it took in
+-- the first strand is the pass's own; the others are from the seats that it joined
 abbrev pub View : Type 0
 View = List Strand
 
@@ -13,7 +13,7 @@ abbrev pub is_pass : View → Bool
 is_pass [] = false
 is_pass (x ∷ xs) = is_some x.number
 
--- the list that a pass shows: a beginning of the one history
+-- the list that a pass shows: a prefix of the one history
 abbrev pub shown : View → List Event
 shown [] = []
 shown (x ∷ xs) = x.seen
@@ -32,7 +32,7 @@ abbrev pub controller_of : View → ℕ
 controller_of [] = 0
 controller_of (x ∷ xs) = x.controller
 
--- the ring whose context was handed in
+-- the ring of the table's first context
 abbrev pub ring_of : View → Option RingName
 ring_of [] = None
 ring_of (x ∷ xs) = Some (ring_name x.ring)
@@ -47,39 +47,39 @@ abbrev pub deliverers : List Delivery → List ℕ
 deliverers [] = []
 deliverers (d ∷ ds) = d.by ∷ deliverers ds
 
--- the packets of deliveries, in their order
+-- the packets of deliveries, in order
 abbrev pub packets_of : List Delivery → List Packet
 packets_of [] = []
 packets_of (d ∷ ds) = d.packets ++ packets_of ds
 
--- the context as it was given back last; at first it is the one that was handed in
+-- the context as it was given back last, or the first one if it never was
 abbrev pub last_of : RxCtx → List Delivery → RxCtx
 last_of ring [] = ring
 last_of ring (d ∷ ds) = last_of d.ctx ds
 
--- a caller's own deliveries, in their order
+-- a caller's own deliveries, in order
 unfoldable pub own_deliveries : ℕ → List Delivery → List Delivery
 own_deliveries c ds = filter (λ (d : Delivery). nat_eq d.by c) ds
 
--- what a context has received that was this one at first, once these were delivered
+-- the packets that a context has received that was this one at first, after these deliveries
 abbrev pub received_by : RxCtx → List Delivery → List Packet
 received_by ring ds = received_list ring ++ packets_of ds
 
--- the second list is the first one and then more
+-- the second list continues the first
 abbrev pub Continues : List Packet → List Packet → Type 0
 Continues before after = after ≡ before ++ drop (length before) after
 
--- the deliveries that a pass shows: a beginning of all
+-- the deliveries that a pass shows: a prefix of all
 abbrev pub delivered : View → List Delivery
 delivered [] = []
 delivered (x ∷ xs) = x.delivered
 
--- what the context has received by these
+-- the packets that the context has received by these
 abbrev pub received_in : View → List Packet
 received_in [] = []
 received_in (x ∷ xs) = received_by x.ring x.delivered
 
--- the context that was handed in
+-- the first context of the table
 abbrev pub first_in : View → Option RxCtx
 first_in [] = None
 first_in (x ∷ xs) = Some x.ring
@@ -89,7 +89,7 @@ abbrev pub last_in : View → Option RxCtx
 last_in [] = None
 last_in (x ∷ xs) = Some (last_of x.ring x.delivered)
 
--- the state after a list of events, from the state in which every table opens
+-- the state after a list of events, from the state of a new table
 abbrev pub state_at : View → List Event → State
 state_at v h = state_after (opening (controller_of v)) h
 

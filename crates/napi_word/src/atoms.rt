@@ -1,4 +1,4 @@
-//! The atomic steps of the word, each once for every kind of step.
+//! The atomic steps on the word, each written once for every kind of step.
 ghost use Rattle.std.specs.Prelude.{◌≡◌, ◌≢◌, ◌+◌, ◌-◌, ◌%◌, ◌^◌, OnOk, IfErr, bit_and, bit_or};
 ghost use Rattle.napi_model.specs.declared.event.Operation.TheVariants.{Look};
 ghost use Rattle.napi_model.specs.Step.{seen_after};
@@ -15,8 +15,8 @@ use napi_model::bits::{MISSED, SCHED, SCHED_THREADED};
 use napi_model::{Done, Operation, Prep, Seen, decode_known, encode};
 use rx_ring::RxCtx;
 
-// The word after an operation, by the word before it. Where few bits change, they alone are set or cleared: the flags needn't be
-// put together again.
+// Returns the word after an operation, from the word before it. If few bits change, only those are set or cleared, and the
+// flags needn't be encoded again.
 #[inline(always)]
 #[tactic(auto, using(crate::proofs::Bits::granted_word, crate::proofs::Bits::missed_word, crate::proofs::Bits::again_word, crate::proofs::Bits::released_word))]
 fn word_after(seen: Seen, word: u64, operation: Operation) -> u64
@@ -33,7 +33,7 @@ fn word_after(seen: Seen, word: u64, operation: Operation) -> u64
 }
 
 impl StateTable {
-    // Reads the word, and answers what it said.
+    // Reads the word, and returns what it showed.
     #[inline]
     pub(crate) fn load<K: Step>(&self, seat: &mut Seat<Option<RxCtx>, View>) -> Seen
         requires table { seat.old.table_id ≡ self.now.table.shared.table_id }
@@ -45,7 +45,7 @@ impl StateTable {
         decode_known(word)
     }
 
-    // Sets these bits, and answers what the word said before.
+    // Sets these bits, and returns what the word showed before.
     #[inline]
     pub(crate) fn set<K: Step>(&self, seat: &mut Seat<Option<RxCtx>, View>, bits: u64) -> Seen
         requires table { seat.old.table_id ≡ self.now.table.shared.table_id }
@@ -57,8 +57,7 @@ impl StateTable {
         decode_known(word)
     }
 
-    // Sets these bits, which are clear, and answers what the word said before: a sum, which the processor makes by one
-    // instruction.
+    // Sets these bits, which are clear, and returns what the word showed before: an addition, which is one instruction.
     #[inline]
     pub(crate) fn add<K: Step>(&self, seat: &mut Seat<Option<RxCtx>, View>, bits: u64) -> Seen
         requires table { seat.old.table_id ≡ self.now.table.shared.table_id }
@@ -70,7 +69,7 @@ impl StateTable {
         decode_known(word)
     }
 
-    // Clears these bits, which are set, and answers what the word said before.
+    // Clears these bits, which are set, and returns what the word showed before.
     #[inline]
     pub(crate) fn subtract<K: Step>(&self, seat: &mut Seat<Option<RxCtx>, View>, bits: u64) -> Seen
         requires table { seat.old.table_id ≡ self.now.table.shared.table_id }
@@ -83,7 +82,7 @@ impl StateTable {
         decode_known(word)
     }
 
-    // Leaves these bits alone as they are, and answers what the word said before.
+    // Clears all other bits, and returns what the word showed before.
     #[inline]
     pub(crate) fn keep<K: Step>(&self, seat: &mut Seat<Option<RxCtx>, View>, bits: u64) -> Seen
         requires table { seat.old.table_id ≡ self.now.table.shared.table_id }
@@ -95,8 +94,8 @@ impl StateTable {
         decode_known(word)
     }
 
-    // Makes the operation where the word still says what was seen, and answers so. Else nothing is written, and what it says is handed back.
-    // Mostly nothing is handed over, and the word is then made of the flags alone: so the two cases are apart.
+    // Makes the operation if the word still shows what was seen, and succeeds. Otherwise it writes nothing, and returns what
+    // the word shows. Mostly the instance isn't queued, and the word has only flags; so the two cases are separate.
     #[inline(always)]
     pub(crate) fn exchange<K: Step>(
         &self,
@@ -131,7 +130,7 @@ impl StateTable {
         }
     }
 
-    // The same, for what was seen with or without a hand-over.
+    // The same, for an instance that is queued or not.
     #[inline(always)]
     fn exchange_seen<K: Step>(
         &self,

@@ -1,4 +1,4 @@
-//! The steps of busy polling: taking an idle instance for it, completions that are held, and the stop.
+//! The steps of busy polling: taking an idle instance, completions that are held, and the stop.
 ghost use Rattle.std.specs.Prelude.{◌≡◌, ◌≢◌, true, IfErr, is_ok};
 ghost use Rattle.napi_model.specs.declared.event.Done.TheVariants.{Held};
 ghost use Rattle.napi_model.specs.declared.event.Operation.TheVariants.{Complete, BusyTake, BusyStop};
@@ -14,9 +14,9 @@ use crate::view::Holds;
 use napi_model::{Operation, Seen};
 
 impl StateTable {
-    /// Takes an idle instance to busy poll it, if the word still says what was seen (`napi_busy_loop`, its `cmpxchg` on
-    /// `napi->state`): sets SCHED and IN_BUSY_POLL. Then the pass polls it, and has the slot with the context. `Err`:
-    /// another step came between. Nothing was written, and this was a look.
+    /// Takes an idle instance to busy poll it, if the word still shows what was seen (`napi_busy_loop`, its `cmpxchg` on
+    /// `napi->state`): sets SCHED and IN_BUSY_POLL. The pass then polls it, and has the slot with the context. Returns `Err` if
+    /// another step changed the word: nothing was written, and this was a look.
     #[inline]
     pub fn busy_swap(&self, pass: &mut Pass, seen: Seen) -> Result<(), Seen>
         requires table { IsPassOf self.now pass.old }
@@ -30,9 +30,9 @@ impl StateTable {
         Ok(())
     }
 
-    /// Stops busy polling if the word still says what was seen (`busy_poll_stop`, which clears the bits one by one): clears
-    /// IN_BUSY_POLL and MISSED. The pass polls on. `Err`: another step came between. Nothing was written, and this was a
-    /// look.
+    /// Stops busy polling if the word still shows what was seen (`busy_poll_stop`, which clears the bits one by one): clears
+    /// IN_BUSY_POLL and MISSED. The pass keeps polling. Returns `Err` if another step changed the word: nothing was written,
+    /// and this was a look.
     #[inline]
     pub fn stop_swap(&self, pass: &mut Pass, seen: Seen) -> Result<(), Seen>
         requires table { IsPassOf self.now pass.old }

@@ -20,7 +20,7 @@ fn is_busy(seen: Seen) -> bool
 }
 
 impl StateTable {
-    /// Marks a disable as pending: from now on schedules are refused (`napi_disable`, its `set_bit` of DISABLE).
+    /// Marks a disable as pending (`napi_disable`, its `set_bit` of DISABLE): from now on requests for a poll fail.
     pub fn mark(&self, pass: &mut Pass)
         requires table { IsPassOf self.now pass.old }
         requires controller { IsController pass.old }
@@ -31,8 +31,9 @@ impl StateTable {
         self.add::<Marks>(&mut pass.seat, DISABLE);
     }
 
-    /// Whether a marked instance can be taken (`napi_disable`, its wait while SCHED or NPSVC is set). `None`: it is busy,
-    /// and this was a refused try. `Some`: it may be taken by [`take_swap`](StateTable::take_swap), and this was a look.
+    /// Reads whether a marked instance can be taken (`napi_disable`, its wait while SCHED or NPSVC is set). Returns `None` if
+    /// it is busy, which counts as a failed attempt to take it; otherwise [`take_swap`](StateTable::take_swap) may take it, and
+    /// this was a look.
     pub fn take_load(&self, pass: &mut Pass) -> Option<Seen>
         requires table { IsPassOf self.now pass.old }
         requires controller { IsController pass.old }
@@ -46,9 +47,9 @@ impl StateTable {
         if is_busy(seen) { None } else { Some(seen) }
     }
 
-    /// Takes a marked, idle instance if the word still says what was seen (`napi_disable`, its `try_cmpxchg`): sets SCHED
-    /// and NPSVC, clears THREADED. Then the controller has the slot with the context. `Err`: another step came between.
-    /// Nothing was written, and this was a look.
+    /// Takes a marked, idle instance if the word still shows what was seen (`napi_disable`, its `try_cmpxchg`): sets SCHED and
+    /// NPSVC, clears THREADED. The controller then has the slot with the context. Returns `Err` if another step changed the
+    /// word: nothing was written, and this was a look.
     pub fn take_swap(&self, pass: &mut Pass, seen: Seen) -> Result<(), Seen>
         requires table { IsPassOf self.now pass.old }
         requires controller { IsController pass.old }
@@ -63,7 +64,8 @@ impl StateTable {
         Ok(())
     }
 
-    /// Clears the mark of a pending disable, in the controller's hands (`napi_disable`, its `clear_bit` of DISABLE).
+    /// Clears the mark of a pending disable, of an instance that the controller owns (`napi_disable`, its `clear_bit` of
+    /// DISABLE).
     pub fn unmark(&self, pass: &mut Pass)
         requires table { IsPassOf self.now pass.old }
         requires controller { IsController pass.old }
@@ -74,9 +76,9 @@ impl StateTable {
         self.subtract::<Unmarks>(&mut pass.seat, DISABLE);
     }
 
-    /// Gives a disabled instance free if the word still says what was seen (`napi_enable`, its `try_cmpxchg`): clears SCHED
-    /// and NPSVC, sets THREADED where `threaded` is true, and keeps MISSED. The context must be in the slot. `Err`: another
-    /// step came between. Nothing was written, and this was a look.
+    /// Enables a disabled instance if the word still shows what was seen (`napi_enable`, its `try_cmpxchg`): clears SCHED and
+    /// NPSVC, sets THREADED if `threaded` is true, and keeps MISSED. The context must be in the slot. Returns `Err` if another
+    /// step changed the word: nothing was written, and this was a look.
     pub fn enable_swap(&self, pass: &mut Pass, seen: Seen, threaded: bool) -> Result<(), Seen>
         requires table { IsPassOf self.now pass.old }
         requires controller { IsController pass.old }

@@ -1,4 +1,4 @@
-//! All seats are joined, and the table is closed.
+//! Closing a table, after all its passes are joined.
 ghost use Rattle.std.specs.Prelude.{◌≡◌, ℕ, ◌+◌, ◌≤◌, List, [], ◌∷◌, length, Some, slice_get};
 ghost use Rattle.napi_word.specs.declared.view.Holds.TheVariants as holds;
 ghost use Rattle.napi_word.specs.View.{ring_of};
@@ -12,14 +12,14 @@ use crate::view::{Holds, View};
 use atomic_table::Seat;
 use rx_ring::RxCtx;
 
-/// What is left of a table that was closed.
+/// What is left of a closed table.
 #[derive(Drop)]
 pub struct Ended {
-    /// The context; `None` exactly where a pass has it out of the slot.
+    /// The context; `None` exactly if a pass has it out of the slot.
     pub ctx: Option<RxCtx>,
 }
 
-// A context that a pass had in the slot comes before what the slot itself has. Where one is out, there is none.
+// Returns a context that a pass had in the slot, otherwise the one in the slot itself. If a pass has it out, there is none.
 fn pick(found: Found, slot: Option<RxCtx>) -> Option<RxCtx>
     ensures { result ≡ picked found.out found.ctx slot }
 {
@@ -34,7 +34,7 @@ fn pick(found: Found, slot: Option<RxCtx>) -> Option<RxCtx>
 }
 
 impl StateTable {
-    // The seat of a pass that has the slot and the context out of it: the slot goes back, with nothing in it.
+    // Returns the seat of a pass that owns the slot and has the context out of it: the slot goes back empty.
     fn lay_down(&self, pass: Pass) -> Seat<Option<RxCtx>, View>
         requires table { IsPassOf self.now pass }
         requires out { pass.holds ≡ holds.Out }
@@ -46,7 +46,7 @@ impl StateTable {
         seat
     }
 
-    // The seat of a pass, which holds nothing any more. What it held is noted.
+    // Returns the seat of a pass, which holds nothing any more. What it held is added to `found`.
     fn give_up(&self, pass: Pass, found: &mut Found) -> Seat<Option<RxCtx>, View>
         requires table { IsPassOf self.now pass }
         ensures table { result.table_id ≡ self.now.table.shared.table_id }
@@ -71,7 +71,7 @@ impl StateTable {
         }
     }
 
-    /// Gathers the first pass: who takes no memory joins the others to it one by one, and finishes.
+    /// Starts a gathering with the first pass. A caller that doesn't allocate joins the others to it one by one, and finishes.
     pub fn gather(&self, first: Pass) -> Gathering
         requires table { IsPassOf self.now first }
         ensures table { IsGatheredOf self.now result }
@@ -85,7 +85,7 @@ impl StateTable {
         Gathering { seat, found }
     }
 
-    /// Gathers one more pass.
+    /// Adds one more pass.
     pub fn join(&self, gathering: &mut Gathering, pass: Pass)
         requires table { IsGatheredOf self.now gathering.old }
         requires pass { IsPassOf self.now pass }
@@ -100,7 +100,7 @@ impl StateTable {
             .join_seat::<TakesIn>(&mut gathering.seat, seat);
     }
 
-    /// Closes the table. Where as many passes were gathered as it has, this reads off its one history; there can't be more.
+    /// Closes the table. If all its passes were gathered, this yields its one history.
     pub fn finish(self, gathering: Gathering) -> Ended
         requires table { IsGatheredOf self gathering }
         ensures { (taken : List Pass) → Gathered taken gathering.seat.me.0 gathering.found
@@ -117,9 +117,8 @@ impl StateTable {
     }
 }
 
-/// Closes the table by all its passes, and reads off its one history: it is legal, each pass's own list is exactly its
-/// number's events in it, and the longest list shown is the whole of it. A pass keeps what it holds: one that has the
-/// context out may be given too.
+/// Closes the table with all its passes. This yields its one history: it is legal, each pass's own list is exactly its number's
+/// events in it, and the longest list shown is all of it. A pass that has the context out of the slot may be given too.
 pub fn end(table: StateTable, mut passes: Vec<Pass>) -> Ended
     requires passes { (k : ℕ) (p : Pass) → slice_get passes.items k ≡ Some p → IsPassOf table p }
     requires count { length passes.items ≡ controller_of_table table + 1 }

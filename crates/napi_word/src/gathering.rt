@@ -1,4 +1,4 @@
-//! Passes that are gathered for the end of their table.
+//! The passes of a table, gathered to close it.
 ghost use Rattle.std.specs.Prelude.{◌≡◌, [], true};
 ghost use Rattle.napi_word.specs.View.{is_pass};
 
@@ -6,7 +6,7 @@ use crate::view::View;
 use atomic_table::Seat;
 use rx_ring::RxCtx;
 
-/// What was found in the hands of the passes.
+/// What the gathered passes held.
 #[derive(Drop)]
 pub struct Found {
     /// A context that a pass had in the slot.
@@ -15,7 +15,7 @@ pub struct Found {
     pub(crate) out: bool,
 }
 
-/// One seat, which has taken in those of other passes, for the end of their table.
+/// One seat that has joined those of other passes, to close their table.
 pub struct Gathering {
     pub(crate) seat: Seat<Option<RxCtx>, View>,
     pub(crate) found: Found,

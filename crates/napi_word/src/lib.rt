@@ -1,11 +1,11 @@
-//! The state word of an instance that threads share, with the slot of its poll context: every step on it is one event of
-//! one legal history of the one-thread NAPI object, whatever the threads' schedule.
+//! The state word of an instance that threads share, with the slot of its poll context. Every step on it is one event of a
+//! legal history of the one-thread NAPI object, however the threads are scheduled.
 //!
-//! A [`StateTable`] has the word and the slot. A thread steps with a [`Pass`], which has a caller's number and, in
-//! contracts alone, the list of events that it has seen. Each step is one atomic load, or, and, sum or compare-exchange of the
-//! word (`napi_schedule_prep`, `napi_complete_done` and the like of `net/core/dev.c` of Linux 6.6, `napi->state`); none
-//! locks, loops or takes memory. `specs/Rule.antt` has the one rule that every step keeps, and `specs/Events.antt` the
-//! contract of every step.
+//! A [`StateTable`] has the word and the slot. A thread makes its steps with a [`Pass`], which has a caller's number and, only
+//! in contracts, the list of events that it has seen. Each step is one atomic load, or, and, addition or compare-exchange of
+//! the word (`napi_schedule_prep`, `napi_complete_done` and others in `net/core/dev.c` of Linux 6.6, `napi->state`); no step
+//! locks, loops or allocates. `specs/Rule.antt` has the rule that every step preserves, and `specs/Events.antt` the contract of
+//! every step.
 #![tactic(auto)]
 
 mod atoms;

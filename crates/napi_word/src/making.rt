@@ -1,4 +1,4 @@
-//! A table is made, with its passes.
+//! Making a table with its passes.
 ghost use Rattle.std.specs.Prelude.{◌≡◌, ℕ, ◌+◌, ◌-◌, ◌<◌, ◌≤◌, [], ◌∷◌, length, vec_len, IfOk, IfErr, Some, slice_get};
 ghost use Rattle.napi_word.specs.declared.view.Holds.TheVariants as holds;
 ghost use Rattle.rx_ring.specs.Ends.{ring_name};
@@ -13,10 +13,10 @@ use rx_ring::RxCtx;
 use std::alloc::{AllocFailed, Global};
 use std::snapshot::Snapshot;
 
-/// A table that wasn't made, for want of memory.
+/// A failed attempt to make a table: out of memory.
 #[derive(Drop)]
 pub struct TableBack {
-    /// The context that was handed in.
+    /// The context that was passed in.
     pub ctx: RxCtx,
 }
 
@@ -47,8 +47,8 @@ fn back(mut slots: Vec<Option<RxCtx>>) -> TableBack
     TableBack { ctx }
 }
 
-// The first seat takes the slot for the controller, and ends a mark of `beside` on the context. It has the strands of all
-// numbers, the controller's first.
+// Takes the slot for the controller, by the first seat, and clears a mark of `beside` on the context. The seat has the strands
+// of all numbers, the controller's first.
 fn begin(table: &StateTable, mut seat: Seat<Option<RxCtx>, View>) -> Pass
     requires table { seat.table_id ≡ table.now.table.shared.table_id }
     requires first { seat.me ≡ (first_view table.now.table.shared.key, []) }
@@ -72,7 +72,7 @@ fn begin(table: &StateTable, mut seat: Seat<Option<RxCtx>, View>) -> Pass
     }
 }
 
-// The next number's strand goes to a seat of its own.
+// Splits off the strand of the next number, as a pass of its own.
 fn next_pass(table: &StateTable, maker: &mut Pass, number: u32) -> Pass
     requires table { IsPassOf table.now maker.old }
     requires number { number < table.now.table.shared.key.controller }
@@ -98,10 +98,10 @@ fn next_pass(table: &StateTable, maker: &mut Pass, number: u32) -> Pass
 }
 
 impl StateTable {
-    /// A table in the opening state, disabled (`netif_napi_add`: SCHED and NPSVC), with so many passes, 1 to 9. They have
-    /// the numbers from 0 on, in order; the last is the controller's, which has the slot with the context in it.
+    /// Returns a table in the opening state, disabled (`netif_napi_add`: SCHED and NPSVC), with this many passes, 1 to 9. They
+    /// have the numbers from 0 on, in order; the last is the controller's, which has the slot with the context in it.
     ///
-    /// `Err` only where memory was refused; the context comes back. No other call of a table takes memory.
+    /// Fails only if an allocation fails, and then returns the context. No other call of a table allocates.
     pub fn new(alloc: Global, ctx: RxCtx, seats: u32) -> Result<(StateTable, Vec<Pass>), TableBack>
         requires { (1 ≤ seats) × (seats ≤ 9) }
         ensures count { IfOk result (λ r. (vec_len r.1 ≡ seats) × (length r.1.items ≡ seats)) }

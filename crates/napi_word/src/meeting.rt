@@ -1,4 +1,4 @@
-//! One pass learns what another has seen.
+//! One pass learns what another one has seen.
 ghost use Rattle.std.specs.Prelude.{◌≡◌};
 ghost use mathlib.Core.List.{IsPrefix};
 ghost use Rattle.napi_model.specs.declared.event.Operation.TheVariants.{Look};
@@ -11,8 +11,8 @@ use crate::table::{Pass, StateTable};
 use napi_model::Seen;
 
 impl StateTable {
-    /// A look of each, of which this answers both. The list that the first then shows is a beginning of the second's: the
-    /// second's later calls stand behind all that the first had done.
+    /// Makes a look with each pass, and returns both. The list that the first shows is then a prefix of the second's: later
+    /// calls of the second come after all that the first had done.
     pub fn meet(&self, first: &mut Pass, second: &mut Pass) -> (Seen, Seen)
         requires first { IsPassOf self.now first.old }
         requires second { IsPassOf self.now second.old }

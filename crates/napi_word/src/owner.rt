@@ -1,4 +1,4 @@
-//! The steps by which an instance goes from hand to hand: hand over, take, complete.
+//! The steps by which an instance changes its owner: queue, take, complete.
 ghost use Rattle.std.specs.Prelude.{◌≡◌, ◌≢◌, false, IfOk, IfErr, is_ok};
 ghost use Rattle.napi_model.specs.declared.event.Operation.TheVariants.{Hand, Take};
 ghost use Rattle.napi_word.specs.Slot.{taken, given};
@@ -12,7 +12,7 @@ use crate::view::Holds;
 use napi_model::bits::{QUEUED, SCHED_THREADED, TO_THREAD};
 use napi_model::{Done, Kind, Operation, Seen};
 
-// What a completion answers.
+// Returns the reply to a completion.
 #[inline]
 fn completed(missed: bool) -> Done
     ensures { result ≡ done_of missed }
@@ -31,8 +31,8 @@ fn is_handed(handed: Option<Kind>, kind: Kind) -> bool
 }
 
 impl StateTable {
-    /// Hands the instance over: to the list what the pass was granted or polls, to the thread what it was granted
-    /// (`____napi_schedule`). The context must be in the slot. Then the pass has neither.
+    /// Queues the instance (`____napi_schedule`): on the list, if the pass was granted it or polls it; for the thread, if it
+    /// was granted it. The context must be in the slot. The pass then owns neither.
     #[inline]
     pub fn hand(&self, pass: &mut Pass, kind: Kind)
         requires table { IsPassOf self.now pass.old }
@@ -47,8 +47,9 @@ impl StateTable {
         pass.holds = Holds::Nothing;
     }
 
-    /// Takes an instance that was handed over (`net_rx_action` from the list, `napi_thread_wait` from the thread). True:
-    /// the pass polls it, and has the slot with the context. False: it wasn't there, and nothing changed.
+    /// Takes a queued instance (`net_rx_action` from the list, `napi_thread_wait` from the thread's queue). If it returns true,
+    /// the pass polls the instance, and has the slot with the context. If the instance isn't in that queue, it returns false
+    /// and changes nothing.
     #[inline]
     pub fn take(&self, pass: &mut Pass, kind: Kind) -> bool
         requires table { IsPassOf self.now pass.old }
@@ -65,9 +66,9 @@ impl StateTable {
         there
     }
 
-    /// Ends a poll if the word still says what was seen (`napi_complete_done`, its `try_cmpxchg` on `napi->state`):
-    /// `Released` clears SCHED, `Again` clears MISSED and keeps SCHED, and the instance is the pass's to be handed over.
-    /// The context must be in the slot. `Err`: another step came between. Nothing was written, and this was a look.
+    /// Ends a poll if the word still shows what was seen (`napi_complete_done`, its `try_cmpxchg` on `napi->state`): `Released`
+    /// clears SCHED; `Again` clears MISSED and keeps SCHED, and the pass has to queue the instance. The context must be in the
+    /// slot. Returns `Err` if another step changed the word: nothing was written, and this was a look.
     #[inline(always)]
     pub fn complete_swap(&self, pass: &mut Pass, seen: Seen) -> Result<Done, Seen>
         requires table { IsPassOf self.now pass.old }

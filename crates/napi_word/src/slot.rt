@@ -1,4 +1,4 @@
-//! The context, out of the slot and back into it. These steps are no events.
+//! Moving the context out of the slot and back into it. These steps are no events.
 ghost use Rattle.std.specs.Prelude.{◌≡◌, false, Some};
 ghost use mathlib.Core.List.{IsPrefix};
 ghost use Rattle.rx_ring.specs.Ends.{is_beside, received_list};
@@ -11,7 +11,7 @@ use crate::view::Holds;
 use rx_ring::RxCtx;
 
 impl StateTable {
-    /// The context, out of the slot, which the pass has by polling or controlling the instance.
+    /// Takes the context out of the slot, which the pass owns because it polls or controls the instance.
     #[inline]
     pub fn slot_out(&self, pass: &mut Pass) -> RxCtx
         requires table { IsPassOf self.now pass.old }
@@ -31,8 +31,8 @@ impl StateTable {
         ctx
     }
 
-    /// The context, back into the slot from which the pass has it; it must be the one of that ring. The mark that `beside`
-    /// may have left on it ends here, so that its next owner polls what is put meanwhile.
+    /// Puts the context back into the slot, which the pass owns; it must belong to the same ring. This clears the mark of
+    /// `beside`, so that the next owner's poll reads the ring for packets put meanwhile.
     #[inline]
     pub fn slot_in(&self, pass: &mut Pass, ctx: RxCtx)
         requires table { IsPassOf self.now pass.old }

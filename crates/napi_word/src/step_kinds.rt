@@ -1,4 +1,4 @@
-//! What each step tells: its operation and its move of the slot, by the word that it finds.
+//! The kinds of steps: for each, its operation and its move of the slot, by the word that it finds.
 ghost use Rattle.napi_word.specs.Rule.{left_of, right_of, note_of, joined, spent};
 ghost use Rattle.napi_word.specs.Told.{told, exchanged, begun, laid_down};
 ghost use Rattle.napi_word.specs.Surveys.{Surveyed, with_front, but_last, last_alone};
@@ -19,7 +19,7 @@ pub(crate) trait Step {
     ghost moves: { Seen → Moves };
 }
 
-/// A load, or, or and that makes a step.
+/// A load, an or, or an and that makes a step.
 pub(crate) struct Told<K: Step> {
     marker: PhantomData<K>,
 }
@@ -28,7 +28,7 @@ impl<K: Step> Play<Option<RxCtx>, View> for Told<K> {
     ghost then = { λ s. told K.operation K.moves };
 }
 
-/// A compare-exchange that makes a step where it wins, and else a look.
+/// A compare-exchange that makes a step if it succeeds, otherwise a look.
 pub(crate) struct Exchanged<K: Step> {
     marker: PhantomData<K>,
 }
@@ -257,21 +257,21 @@ impl Step for EnablesThreaded {
     ghost moves = { λ x. given };
 }
 
-/// The first seat takes the slot for the controller, and has the strands of all numbers. No event.
+/// The first seat takes the slot for the controller, and has the strands of all numbers. It is no event.
 pub(crate) struct Begins;
 
 impl Play<Option<RxCtx>, View> for Begins {
     ghost then = { λ s. begun };
 }
 
-/// A pass whose context is out lays the empty slot down, at the end. No event.
+/// A pass whose context is out of the slot returns the empty slot, when its table is closed. It is no event.
 pub(crate) struct LaysDown;
 
 impl Play<Option<RxCtx>, View> for LaysDown {
     ghost then = { λ s. laid_down };
 }
 
-/// The first seat gives a number away, to a new seat.
+/// The first seat gives a number to a new seat.
 pub(crate) struct GivesNumber;
 
 impl Split<View> for GivesNumber {
@@ -280,7 +280,7 @@ impl Split<View> for GivesNumber {
     ghost right = { right_of };
 }
 
-/// The list that a pass has seen, for another pass.
+/// A pass makes a note, for another pass, of the list that it has seen.
 pub(crate) struct Notes;
 
 impl Split<View> for Notes {
@@ -289,7 +289,7 @@ impl Split<View> for Notes {
     ghost right = { note_of };
 }
 
-/// One pass takes in another.
+/// One pass joins another.
 pub(crate) struct TakesIn;
 
 impl Join<View> for TakesIn {
@@ -298,7 +298,7 @@ impl Join<View> for TakesIn {
     ghost spent = { spent };
 }
 
-/// One pass takes in the own strand of another.
+/// One pass joins the own strand of another.
 pub(crate) struct TakesFront;
 
 impl Join<View> for TakesFront {
@@ -307,7 +307,7 @@ impl Join<View> for TakesFront {
     ghost spent = { spent };
 }
 
-/// The strand that was taken in last becomes a seat of its own again.
+/// The strand that was joined last becomes a seat of its own again.
 pub(crate) struct PartsLast;
 
 impl Split<View> for PartsLast {
@@ -316,7 +316,7 @@ impl Split<View> for PartsLast {
     ghost right = { last_alone };
 }
 
-/// A look of the seat's own strand, with which its other strands catch up.
+/// A look of the seat's own strand, by which its other strands learn the whole history.
 pub(crate) struct Surveying;
 
 impl Play<Option<RxCtx>, View> for Surveying {

@@ -1,4 +1,4 @@
-//! The steps of any pass: looks, schedules, and the threaded flag.
+//! The steps of any pass: looks, requests for a poll, and the threaded flag.
 ghost use Rattle.std.specs.Prelude.{◌≡◌, ◌≢◌, IfSome, IfOk, IfErr, true, false};
 ghost use Rattle.napi_model.specs.declared.event.Operation.TheVariants.{Look, SetThreaded};
 ghost use Rattle.napi_model.specs.declared.event.Prep.TheVariants as prep;
@@ -12,7 +12,7 @@ use crate::table::{Pass, StateTable};
 use napi_model::bits::THREADED;
 use napi_model::{Operation, Prep, Seen};
 
-// What a schedule answers where no disable is pending.
+// Returns the reply to a request for a poll while no disable is pending.
 #[inline]
 fn scheduled(sched: bool) -> Prep
     ensures { result ≡ prep_of sched }
@@ -21,8 +21,7 @@ fn scheduled(sched: bool) -> Prep
 }
 
 impl StateTable {
-    /// What the word says: the flags, and to whom the instance was handed while nobody has taken it (a read of
-    /// `napi->state`).
+    /// Reads the word (`napi->state`): the flags, and in which queue the instance waits until it is taken.
     #[inline]
     pub fn look(&self, pass: &mut Pass) -> Seen
         requires table { IsPassOf self.now pass.old }
@@ -31,8 +30,8 @@ impl StateTable {
         self.load::<Looks>(&mut pass.seat)
     }
 
-    /// The first half of `napi_schedule_prep`. `None`: a disable is pending, and the schedule is refused by this. `Some`:
-    /// it may be tried by [`schedule_swap`](StateTable::schedule_swap), and this was a look.
+    /// The first half of `napi_schedule_prep`. Returns `None` if a disable is pending, which is the reply to the request;
+    /// otherwise [`schedule_swap`](StateTable::schedule_swap) may follow, and this was a look.
     #[inline]
     pub fn schedule_load(&self, pass: &mut Pass) -> Option<Seen>
         requires table { IsPassOf self.now pass.old }
@@ -43,9 +42,9 @@ impl StateTable {
         if seen.flags.disable { None } else { Some(seen) }
     }
 
-    /// The second half of `napi_schedule_prep` (`try_cmpxchg` on `napi->state`): sets SCHED, or MISSED where SCHED is set,
-    /// if the word still says what was seen; that must not have DISABLE. `Err`: another step came between. Nothing was
-    /// written, and this was a look at what the word says now.
+    /// The second half of `napi_schedule_prep` (`try_cmpxchg` on `napi->state`): sets SCHED, or MISSED if SCHED is set, if the
+    /// word still shows what was seen, which must not have DISABLE. Returns `Err` with what the word shows now if another step
+    /// changed it: nothing was written, and this was a look.
     #[inline(always)]
     pub fn schedule_swap(&self, pass: &mut Pass, seen: Seen) -> Result<Prep, Seen>
         requires table { IsPassOf self.now pass.old }

@@ -14,9 +14,9 @@ use crate::view::Holds;
 use napi_model::{Seen, decode_known};
 
 impl StateTable {
-    /// Four passes of a table meet at once, three callers at rest and `last`, and `last` makes a look, whose answer comes last.
-    /// Then each shows the whole history, which ends in that look and in which its own list is exact, and all deliveries.
-    /// Nothing is written.
+    /// Lets four passes of a table meet at once, three callers that own nothing and `last`, which makes a look; returns them in
+    /// order, and what was seen. Then each shows the whole history, which ends in that look and in which its own list is exact,
+    /// and all deliveries. Nothing is written.
     #[inline]
     pub fn survey(
         &self,

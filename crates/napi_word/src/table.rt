@@ -1,4 +1,4 @@
-//! The table of an instance, and the passes to it.
+//! The table of an instance, and its passes.
 ghost use Rattle.std.specs.Prelude.{◌≡◌, true, false, Some};
 ghost use Rattle.napi_word.specs.View.{is_pass, ring_of, received_in, Continues};
 ghost use Rattle.napi_word.specs.Slot.{hold_of, has_slot, owns_slot, ring_in, beside_in, carried_received};
@@ -17,8 +17,8 @@ pub struct StateTable {
     ghost one_slot: { table.shared.table_id.slots ≡ 1 },
 }
 
-/// One caller's way to a table: with its number, the list that it has seen, and, beside a mark of it, what it holds of the
-/// slot. It may go to another thread. One that is dropped never comes back, so its table can't be ended any more.
+/// One caller's access to a table: its number, the list of events that it has seen, and a mark that says what it holds of the
+/// slot. It can be sent to another thread. It is linear in effect: if one is dropped, its table can't be closed any more.
 #[derive(Drop)]
 pub struct Pass {
     pub(crate) seat: Seat<Option<RxCtx>, View>,

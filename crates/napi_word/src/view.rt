@@ -1,15 +1,15 @@
-//! What a thread knows of the instance. It is told by contracts alone: no value of `Strand` or `View` is made.
+//! What a thread knows of the instance. It exists only in contracts: no `Strand` or `View` is made at run time.
 use napi_model::Event;
 use rx_ring::{Packet, RxCtx};
 use std::collections::LinkedList;
 use std::snapshot::Snapshot;
 
-/// What the rule is told once, when a table is made.
+/// The arguments of the rule, fixed when a table is made.
 #[derive(Drop)]
 pub struct Key {
-    /// The controller's number, which is the last.
+    /// The controller's number, which is the greatest.
     pub controller: u32,
-    /// The context that was handed in; it names its ring.
+    /// The table's first context, which names its ring.
     pub ring: Snapshot<RxCtx>,
 }
 
@@ -23,31 +23,31 @@ pub struct Delivery {
     pub ctx: RxCtx,
 }
 
-/// What one seat knows.
+/// What one caller knows.
 pub struct Strand {
-    /// False in the first seat alone, until it has the slot.
+    /// False only in the first seat, until it has the slot.
     pub begun: bool,
     /// The caller's number; a note has none.
     pub number: Option<u32>,
-    /// The list of events that it has seen: a beginning of the one history.
+    /// The list of events that it has seen: a prefix of the one history.
     pub seen: LinkedList<Event>,
     /// Its own events.
     pub mine: LinkedList<Event>,
-    /// The deliveries that it has seen: a beginning of all, in the order in which the context was given back.
+    /// The deliveries that it has seen: a prefix of all, in the order in which the context was given back.
     pub delivered: LinkedList<Delivery>,
     /// The controller's number.
     pub controller: u32,
-    /// The context that was handed in.
+    /// The first context of the table.
     pub ring: RxCtx,
 }
 
-/// A pass has a strand of its own, and one more for each seat that it took in. A spent seat has none.
+/// A pass has its own strand, and those of each pass that it joined. A seat that was joined has none.
 pub type View = LinkedList<Strand>;
 
 /// What a pass holds of the slot.
 #[derive(Clone, Copy, PartialEq, Eq, Debug)]
 pub enum Holds {
-    /// The slot is another's, or nobody's.
+    /// Nothing: another caller owns the slot, or none does.
     Nothing,
     /// The slot, with the context in it.
     Within,

@@ -1,9 +1,9 @@
-//! Polling of network devices by NAPI's rules: poll lists of one thread and shared ones, polling runs under a budget, the polling
-//! of an instance by its thread and busy polling, and whole runs with threads of their own for devices and pollers.
+//! Polling of network devices by NAPI's rules: poll lists of one thread and shared ones, polling runs under a budget, the
+//! polling of an instance by its thread, busy polling, and whole runs with threads for devices and pollers.
 //!
-//! A door: it passes on what stands behind it, and adds nothing. `poll_runs` has lists, benches and runs, `poll_list` the shared
-//! poll list, `poll_shared` the polling of an instance that threads share, and `poll_workers` the runs with threads, over
-//! `poll_tasks`, `poll_interrupts` and `poll_seats`. What contracts cite is passed on by `specs/Lib.antt`.
+//! This is a facade: it re-exports its internal crates, and adds nothing. `poll_runs` has lists, benches and runs, `poll_list`
+//! the shared poll list, `poll_shared` the polling of an instance that threads share, and `poll_workers` the runs with threads,
+//! based on `poll_tasks`, `poll_interrupts` and `poll_seats`. `specs/Lib.antt` re-exports what contracts cite.
 #![tactic(auto)]
 
 pub use poll_interrupts::{Act, ActList, Closed, Device, Finished, Station};

@@ -1,4 +1,4 @@
--- Lists of what the ends know, by index, and the pushes of one end.
+-- The lists that the ends know, by index, and the pushes of one end.
 use Rattle.std.proofs.{lemmas.{Grind.common_steps, List.Sums.sum_by-cons}, Common.{◌≡◌, ◌≢◌, ℕ, zero, suc, ◌+◌, ◌<◌, ◌≤◌, ◌⊎◌, Bool, List}}
 use Rattle.std.proofs.Common.{[], ◌∷◌, ◌++◌, length, set, cond, sym, refl, ap, subst, inl, inr, ⊎_elim, eq-eqb, ne_eqb, arith}
 use Rattle.{std.specs.List.sum_by, crossbeam_queue.proofs.Lists.at_set, poll_list.specs.PushOrder.{Push, push_of, ids_of, pushes_by}}

@@ -1,4 +1,4 @@
--- Each step on the queue keeps the one order: a push, a pop, an end made, an end taken back, and a look.
+-- Each step on the queue preserves the one order: a push, a pop, making an end, taking an end back, and a look.
 use Rattle.std.proofs.Common.{◌≡◌, ◌≢◌, ℕ, ◌+◌, ◌<◌, Bool, true, false, true≢false, List, [], ◌∷◌, ◌++◌, length, set, cond, sym, refl, ap}
 use Rattle.std.proofs.{Common.{◌∙◌, subst, inl, inr, ⊎_elim, append_assoc, length-append, lt_of_not-le, arith}, lemmas.List.length-set}
 use Rattle.{std.proofs.lemmas.List.Sums.sum_by_push, crossbeam_queue.specs.Fifo.{Pushes, Pops, Forks, Merges, Learns}}

@@ -2,7 +2,7 @@
 use Rattle.std.specs.Prelude.{◌≡◌, ℕ, ◌+◌, ◌-◌, ◌^◌, ◌≤◌, min}
 use Rattle.poll_list.specs.declared.pops.Pops.{Pops}
 
--- how many pops found the queue empty; it stays at its greatest value
+-- how many pops found the queue empty, a count that saturates
 abbrev pub found_empty : Pops → ℕ
 found_empty pops = pops.empty
 
@@ -10,6 +10,6 @@ found_empty pops = pops.empty
 abbrev pub CountsOne : Pops → Pops → Type 0
 CountsOne before after = found_empty after ≡ min (found_empty before + 1) (2 ^ 64 - 1)
 
--- so many more did at least
+-- at least this many more did
 abbrev pub CountsMore : ℕ → Pops → Pops → Type 0
 CountsMore found before after = min (found_empty before + found) (2 ^ 64 - 1) ≤ found_empty after

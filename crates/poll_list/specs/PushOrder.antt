@@ -1,12 +1,12 @@
--- The one order of all pushes to a shared poll list, and what each of its ends knows of it.
--- The kernel has one such order by itself: `____napi_schedule` adds to the poll_list of its own processor alone, with
--- interrupts off (`net/core/dev.c`). Here several threads push, and the queue's steps make the order.
+-- The one order of all pushes to a shared poll list, and what each of its ends knows of it. In the kernel this order is
+-- trivial: `____napi_schedule` adds only to the poll_list of its own processor, with interrupts disabled (`net/core/dev.c`).
+-- Here several threads push, and the steps of the queue determine the order.
 use Rattle.std.specs.Prelude.{◌≡◌, ℕ, ◌+◌, ◌<◌, ◌≤◌, true, false, List, [], ◌∷◌, ◌++◌, map, length, nat_eq, if◌then◌else◌, ◌⊎◌}
 use Rattle.{std.specs.List.sum_by, poll_list.specs.declared.list_rule.{Returned.Returned, EndView.EndView}}
 use mathlib.Core.Option.{some}
 use lib.ListN.{get_elem?}
 
--- a push: by the end with this number, of this instance
+-- a push of this instance, by the end with this number
 pub record Push : Type 0 where
   pub by : ℕ
   pub id : ℕ
@@ -23,7 +23,7 @@ abbrev pub pushes_by : ℕ → List Push → List ℕ
 pushes_by number [] = []
 pushes_by number (p ∷ ps) = if nat_eq p.by number then p.id ∷ pushes_by number ps else pushes_by number ps
 
--- some of these ends, which came back, has the number
+-- one of these returned ends has the number
 abbrev pub IsReturned : ℕ → List Returned → Type 0
 IsReturned number returned = (k : ℕ) × (d : Returned) × (get_elem? returned k ≡ some d) × (d.number ≡ number)
 
@@ -31,28 +31,28 @@ IsReturned number returned = (k : ℕ) × (d : Returned) × (get_elem? returned 
 abbrev pub returned_pushes : List Returned → ℕ
 returned_pushes returned = sum_by (λ (d : Returned). length d.pushed) returned
 
--- what the poller knows of an order, where these instances stand in the queue
+-- what the poller knows of an order, while these instances are in the queue
 pub record KnowsOrder (v : EndView) (queued : List ℕ) : Type 0 where
   pub order : List Push
-  -- what it popped is the order's first part, and the queue holds the rest
+  -- the instances that it popped are the first part of the order, and the queue holds the rest
   pub all : ids_of order ≡ v.popped ++ queued
-  -- its own pushes, and those of each end that came back, are all that these ends pushed
+  -- its own pushes, and those of each returned end, are all that these ends pushed
   pub by_poller : v.pushed ≡ pushes_by v.number order
   pub by_others : (k : ℕ) (d : Returned) → get_elem? v.returned k ≡ some d → d.pushed ≡ pushes_by d.number order
-  -- once all ends came back, nobody else pushed
+  -- after all ends were returned, there are no other pushes
   pub enough : length v.returned + 1 ≤ v.made
   pub nobody_else : length v.returned + 1 ≡ v.made → (number : ℕ)
       → (number ≡ v.number) ⊎ (IsReturned number v.returned ⊎ (pushes_by number order ≡ []))
 
--- the poller popped these, and knows else what it knew
+-- the poller popped these, and otherwise knows the same
 abbrev pub PopsMore : EndView → List ℕ → EndView → Type 0
 PopsMore v fresh w = w ≡ record v { popped = v.popped ++ fresh }
 
--- at one moment of the call, all that had been pushed was popped
+-- at some time during the call, everything pushed until then had been popped
 abbrev pub WasEmpty : EndView → Type 0
 WasEmpty v = (queued : List ℕ) × (length queued ≡ 0) × KnowsOrder v queued
 
--- What the ends begin with, and what is left of one that came back.
+-- The initial knowledge of the ends, and what is kept of a returned one.
 
 abbrev pub poller : ℕ → List ℕ → List ℕ → List Returned → EndView
 poller made pushed popped returned =
@@ -72,16 +72,16 @@ returned_end number pushed = record { number = number; pushed = pushed }
 abbrev pub live_count : EndView → ℕ
 live_count v = if v.live then 1 else 0
 
--- What an end knows is so: each knows its own pushes, and the poller what was popped, how many ends there are, and who
--- came back.
+-- What an end knows is true: each knows its own pushes, and the poller what was popped, how many ends there are, and which were
+-- returned.
 abbrev pub FitsEnd : List Push → List ℕ → List Returned → ℕ → ℕ → EndView → Type 0
 FitsEnd order popped returned made number v =
     (v.live ≡ true → (v.number ≡ number) × (v.pushed ≡ pushes_by number order))
     × (v.live ≡ false → IsReturned number returned)
     × (v.polls ≡ true → (v.live ≡ true) × (number ≡ 0) × (v.popped ≡ popped) × (v.returned ≡ returned) × (v.made ≡ made))
 
--- There is one order of all pushes: first what was popped, then what the queue holds. What each end knows fits it, those
--- that came back keep their pushes, and there are no pushes but of ends that were made.
+-- There is one order of all pushes: first what was popped, then what the queue holds. What each end knows agrees with it,
+-- returned ends keep their pushes, and only ends that were made have pushes.
 pub record InOneOrder (queued : List ℕ) (views : List EndView) : Type 0 where
   pub order : List Push
   pub popped : List ℕ

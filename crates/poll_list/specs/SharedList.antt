@@ -1,4 +1,4 @@
--- What a contract sees of a shared poll list and of the ends that push to it.
+-- A shared poll list and the ends that push to it, as contracts see them.
 use Rattle.std.specs.Prelude.{◌≡◌, ℕ, ◌+◌, ◌<◌, ◌≤◌, List, [], ◌++◌, map, length, slice_index_or, ◌⊎◌}
 use Rattle.crossbeam_queue.specs.Passes.{view}
 use Rattle.{std.specs.List.All, poll_list.specs.declared.{list_in.ListIn.ListIn, shared.SharedList.SharedList, list_rule.Returned.Returned}}
@@ -21,37 +21,38 @@ module _ {R : Type 0} where
   abbrev pub popped_by : SharedList R → List ℕ
   popped_by list = (view list.pass).popped
 
-  -- what a put back left in the poller's hands
+  -- the numbers that a put-back left with the poller
   abbrev pub in_hand : SharedList R → List ℕ
   in_hand list = list.hand
 
-  -- how many ends were made to push
+  -- how many ends for pushing were made
   abbrev pub pushers_of : SharedList R → ℕ
   pushers_of list = list.pushers
 
-  -- the end pushes to the list
+  -- the end belongs to the list
   abbrev pub IsInOf : SharedList R → ListIn R → Type 0
   IsInOf list end = end.pass.table_id ≡ list.pass.table_id
 
-  -- a list to which so many push, as it was made
+  -- a new list, with this many ends for pushing
   abbrev pub IsNewList : ℕ → SharedList R → Type 0
   IsNewList pushers list = (pushers_of list ≡ pushers) × (own_pushes list ≡ []) × (popped_by list ≡ []) × (in_hand list ≡ [])
 
-  -- its ends as they were made: so many, numbered 1, 2 .. in order
+  -- its new ends: this many, numbered 1, 2 .. in order
   abbrev pub AreNewEnds : SharedList R → ℕ → List (ListIn R) → Type 0
   AreNewEnds list pushers ins =
       (length ins ≡ pushers)
       × All (λ (end : ListIn R). IsInOf list end × (pushed_by end ≡ [])) ins
       × ((k : ℕ) (d : ListIn R) → k < pushers → number_of (slice_index_or ins k d) ≡ k + 1)
 
-  -- the same end of the same list, and the same list, at another moment
+  -- the same end of the same list, and the same list, at another time
   abbrev pub SameIn : ListIn R → ListIn R → Type 0
   SameIn before after = (after.pass.table_id ≡ before.pass.table_id) × (number_of after ≡ number_of before)
 
   abbrev pub SameList : SharedList R → SharedList R → Type 0
   SameList before after = (after.pass.table_id ≡ before.pass.table_id) × (pushers_of after ≡ pushers_of before)
 
-  -- between these moments the poller pushed the first instances, popped the second ones, and found the queue empty at least so often
+  -- between these times the poller pushed the first instances, popped the second ones, and found the queue empty at least this
+  -- often
   abbrev pub PopsCame : SharedList R → List ℕ → List ℕ → ℕ → SharedList R → Type 0
   PopsCame before pushed came found after =
       SameList before after
@@ -59,27 +60,27 @@ module _ {R : Type 0} where
       × (popped_by after ≡ popped_by before ++ came)
       × CountsMore found before.pops after.pops
 
-  -- short of 64 entries, the poller had found the queue empty
+  -- if there are fewer than 64 entries, the poller had found the queue empty
   abbrev pub IsAllPopped : List ℕ → SharedList R → Type 0
   IsAllPopped taken list = length taken < 64 → WasEmpty (view list.pass)
 
-  -- between these moments one pop found the queue empty: at one of them, all that had been pushed was popped
+  -- between these times one pop found the queue empty: then, everything pushed had been popped
   abbrev pub FindsEmpty : SharedList R → SharedList R → Type 0
   FindsEmpty before after = CountsOne before.pops after.pops
 
-  -- so many fit into the poller's hands, beside what they hold
+  -- the poller has room for this many entries besides those that it holds
   abbrev pub HandsHaveRoom : SharedList R → ℕ → Type 0
   HandsHaveRoom list n = length (in_hand list) + n ≤ 64
 
-  -- one more fits into them: a push into a full queue takes its first entry there
+  -- it has room for one more: a push into a full queue moves the queue's first entry there
   abbrev pub HandsHavePlace : SharedList R → Type 0
   HandsHavePlace list = length (in_hand list) < 64
 
-  -- what is known of an end once it comes back
+  -- what is known of an end after it is returned
   abbrev pub as_returned : ListIn R → Returned
   as_returned end = returned_end (number_of end) (pushed_by end)
 
-  -- some of these ends has the number
+  -- one of these ends has the number
   abbrev pub IsNumbered : ℕ → List (ListIn R) → Type 0
   IsNumbered number ins = IsReturned number (map as_returned ins)
 
@@ -87,15 +88,15 @@ module _ {R : Type 0} where
   abbrev pub pushes_of : SharedList R → List (ListIn R) → ℕ
   pushes_of list ins = length (own_pushes list) + returned_pushes (map as_returned ins)
 
-  -- at most 64 entries stand in the poller's hands and in the queue
+  -- at most 64 entries are with the poller and in the queue together
   abbrev pub AreFew : SharedList R → List (ListIn R) → Type 0
   AreFew list ins = length (in_hand list) + pushes_of list ins ≤ 64 + length (popped_by list)
 
-  -- The one order of all pushes to this list, once all its ends are there and these entries are left in the queue.
+  -- The one order of all pushes to this list, when all its ends are given and these entries are left in the queue.
   pub record IsOneOrder (list : SharedList R) (ins : List (ListIn R)) (left : List ℕ) (order : List Push) : Type 0 where
     -- what was popped is its first part, and what is left the rest: each push once
     pub all : ids_of order ≡ popped_by list ++ left
-    -- it has the pushes of the poller and of each end, in that one's order, and no others
+    -- it has exactly the pushes of the poller and of each end, each in its own order
     pub by_poller : own_pushes list ≡ pushes_by 0 order
     pub by_others : All (λ (end : ListIn R). pushed_by end ≡ pushes_by (number_of end) order) ins
     pub nobody_else : (number : ℕ) → (number ≡ 0) ⊎ (IsNumbered number ins ⊎ (pushes_by number order ≡ []))

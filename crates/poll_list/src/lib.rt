@@ -1,4 +1,4 @@
-//! Behind the door `poll_engine`: a poll list that threads share, and its ends.
+//! Internal crate of the facade `poll_engine`: a poll list that threads share, and its ends.
 #![tactic(auto)]
 
 mod list_ends;

@@ -1,4 +1,4 @@
-//! How a shared poll list is made with its ends, and how it is ended.
+//! Making a shared poll list with its ends, and closing it.
 
 ghost use Rattle.std.specs.Prelude.{◌≡◌, ℕ, ◌+◌, ◌≤◌, ◌<◌, List, [], ◌∷◌, ◌++◌, ◌↔◌, ◌⊎◌, ◌≢◌, true, false, length, slice_index_or, map, IfOk, IfErr, IsErr, All};
 ghost use Rattle.crossbeam_queue.specs.Passes.{view, IsPassOf};
@@ -15,10 +15,10 @@ use poll_runs::SoftList;
 use std::alloc::{AllocError, Global};
 use std::sync::{Arc, Wait};
 
-// The queue's places.
+// The capacity of the queue.
 const ROOM: usize = 64;
 
-// A list with so many ends.
+// Makes a list with this many ends.
 fn with_ends<R: Wait + Copy>(
     rt: R,
     alloc: Global,
@@ -50,7 +50,7 @@ fn with_ends<R: Wait + Copy>(
     Ok((list, ins))
 }
 
-// Whether a list can have so many pushers.
+// Returns whether a list can have this many pushers.
 fn is_in_range(pushers: u32) -> bool
     ensures good { result ≡ true → (1 ≤ pushers) × (pushers ≤ 64) }
     ensures bad { result ≡ false → (pushers ≡ 0) ⊎ (64 < pushers) }
@@ -58,9 +58,11 @@ fn is_in_range(pushers: u32) -> bool
     (1..=64).contains(&pushers)
 }
 
-/// An empty list, and the ends at which others push, as many as asked for: 1 to 64. They are numbered 1, 2 .. in order.
+/// Returns an empty list and the requested number of ends, 1 to 64, at which other threads push. They are numbered 1, 2 .. in
+/// order.
 ///
-/// Another count is `BadSize` (1); no memory is `OutOfMemory` (2). No later call on the list or its ends takes memory.
+/// Fails with `BadSize` (1) for another number, and with `OutOfMemory` (2) if an allocation fails. No later call on the list or
+/// its ends allocates.
 pub fn shared_list<R: Wait + Copy>(
     rt: R,
     alloc: Global,
@@ -78,18 +80,18 @@ pub fn shared_list<R: Wait + Copy>(
     with_ends(rt, alloc, pushers).map_err(|_| ListFault::OutOfMemory)
 }
 
-/// What [`end_list`] hands back where ends are missing: list and ends as they were.
+/// What [`end_list`] returns if ends are missing: the list and the ends, unchanged.
 #[derive(Drop)]
 pub struct ListBack<R> {
     /// `NotAll` (3).
     pub fault: ListFault,
     /// The list.
     pub list: SharedList<R>,
-    /// The ends that were handed in.
+    /// The ends that were given.
     pub ins: Vec<ListIn<R>>,
 }
 
-// Takes the ends back, one after the other.
+// Takes the ends back, one by one.
 fn take_back<R: Drop>(queue: &PushQueue, pass: &mut EndPass, ins: Vec<ListIn<R>>)
     requires pass { IsPassOf queue.now pass.old × ((view pass.old).polls ≡ true)
         × (view pass.old
@@ -111,7 +113,7 @@ fn take_back<R: Drop>(queue: &PushQueue, pass: &mut EndPass, ins: Vec<ListIn<R>>
     }
 }
 
-// Pops all that is left, where all ends came back and there is room for it.
+// Pops all that is left, if all ends were returned and there is room.
 fn drain<R: Wait>(
     rt: &R,
     queue: &PushQueue,
@@ -133,12 +135,12 @@ fn drain<R: Wait>(
     queue.learn_as::<PoppedLast>(pass);
 }
 
-/// Ends a list whose ends all came back, and answers the entries that are left: those in the poller's hands first, then
-/// the queue's. Here the one order of all pushes is read off: what was popped and then what is left, the poller's and each
-/// end's pushes in their order, each once, and no others.
+/// Closes a list of which all ends are given, and returns the remaining entries: those with the poller first, then the queue's.
+/// Its contract states the one order of all pushes: what was popped and then what is left, with the pushes of the poller and of
+/// each end in their own order, each once, and no others.
 ///
-/// At most 64 entries stand in the list then. Where fewer ends are handed in than were made it is `NotAll` (3), and list
-/// and ends are handed back as they are.
+/// The list may hold at most 64 entries. Fails with `NotAll` (3) if fewer ends are given than were made, and returns list and
+/// ends unchanged.
 pub fn end_list<R: Wait + Drop>(
     list: SharedList<R>,
     ins: Vec<ListIn<R>>,

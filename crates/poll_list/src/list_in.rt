@@ -1,4 +1,4 @@
-//! The ends of a shared poll list at which others push.
+//! The ends of a shared poll list at which other threads push.
 
 ghost use Rattle.std.specs.Prelude.{◌≡◌, true, [], ◌∷◌, ◌++◌};
 ghost use Rattle.std.specs.Arc.{arc_value};
@@ -8,10 +8,10 @@ use crate::list_rule::{EndPass, PushQueue, PushedLast};
 use std::sync::{Arc, Wait};
 use std::thread;
 
-/// An end of a [`SharedList`](crate::SharedList) at which one thread pushes: an interrupt that hands its instance to
-/// another thread's poller (`____napi_schedule`, where the kernel has a list per processor and no other pushers).
+/// An end of a [`SharedList`](crate::SharedList) at which one thread pushes: an interrupt handler that queues its instance for
+/// another thread's poller (`____napi_schedule`; the kernel has a list per processor, without other pushers).
 ///
-/// Each knows what was pushed at it, and it may go to a thread of its own.
+/// Each end knows its own pushes, and can be sent to another thread.
 #[derive(Drop)]
 pub struct ListIn<R> {
     pub(crate) rt: R,
@@ -26,8 +26,8 @@ impl<R: Wait> ListIn<R> {
     ghost use Rattle.std.specs.Prelude.{◌≡◌, [], ◌∷◌, ◌++◌};
     ghost use Rattle.poll_list.specs.SharedList.{pushed_by, SameIn};
 
-    /// Puts an instance's number at the list's tail (`list_add_tail` in `____napi_schedule`). Where 64 stand in the
-    /// queue it waits for the poller to take one.
+    /// Appends an instance's number to the list (`list_add_tail` in `____napi_schedule`). If the queue holds 64 numbers, it
+    /// waits for the poller to take one.
     pub fn push(&mut self, id: u32)
         ensures list { SameIn self.old self.new }
         ensures pushed { pushed_by self.new ≡ pushed_by self.old ++ id ∷ [] }
@@ -36,7 +36,7 @@ impl<R: Wait> ListIn<R> {
     }
 }
 
-// Pushes a number at this end, and tries again while the queue is full.
+// Pushes a number at this end, and retries while the queue is full.
 pub(crate) fn push_waiting<R: Wait>(rt: &R, queue: &PushQueue, pass: &mut EndPass, id: u32)
     requires pass { IsPassOf queue.now pass.old × ((view pass.old).live ≡ true) }
     ensures pass { IsPassOf queue.now pass.new × (pass.new.table_id ≡ pass.old.table_id) }

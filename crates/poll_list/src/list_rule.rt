@@ -1,36 +1,36 @@
-//! The rule of a shared list's queue, and what its ends know. All of it exists in proofs alone.
+//! The rule of a shared list's queue, and what its ends know. It exists only in proofs.
 
 use crossbeam_queue::protocol::{Join, Lesson, Outcome, Protocol, Split};
 use crossbeam_queue::{Pass, RuledArrayQueue};
 use std::collections::LinkedList;
 
-/// An end that came back: its number, and what was pushed at it. No value of it is made.
+/// A returned end: its number, and its pushes. It is never made at run time.
 pub struct Returned {
     /// Its number.
     pub number: u64,
-    /// What was pushed at it, in order.
+    /// Its pushes, in order.
     pub pushed: LinkedList<u32>,
 }
 
-/// What an end of the list knows. No value of it is made.
+/// What an end of the list knows. It is never made at run time.
 pub struct EndView {
-    /// False once it came back.
+    /// False after it was returned.
     pub live: bool,
     /// Whether it is the poller's.
     pub polls: bool,
-    /// The poller is 0, and the ends that push are 1, 2 ..
+    /// The poller is 0; the ends for pushing are 1, 2 ..
     pub number: u64,
-    /// Of the poller: how many ends were made, its own among them.
+    /// For the poller: how many ends were made, including its own.
     pub made: u64,
-    /// What was pushed at it, in order.
+    /// Its pushes, in order.
     pub pushed: LinkedList<u32>,
-    /// Of the poller: what it popped, in order.
+    /// For the poller: its pops, in order.
     pub popped: LinkedList<u32>,
-    /// Of the poller: the ends that came back.
+    /// For the poller: the ends that were returned.
     pub returned: LinkedList<Returned>,
 }
 
-/// All pushes stand in one order, of which what was popped is the first part, and what the queue holds the rest.
+/// All pushes have one order, in which what was popped is the first part, and what the queue holds the rest.
 pub struct OneOrder;
 
 impl Protocol<u32, EndView> for OneOrder {
@@ -42,7 +42,7 @@ impl Protocol<u32, EndView> for OneOrder {
     ghost first = { poller 1 [] [] [] };
 }
 
-/// The poller makes one more end that pushes, and takes one back.
+/// The poller makes one more end for pushing, or takes one back.
 pub struct PusherEnd;
 
 impl Split<EndView> for PusherEnd {
@@ -76,7 +76,7 @@ impl Lesson<u32, EndView> for PushedLast {
     ghost fact = { λ _ _. Unit {0} };
 }
 
-/// A pop is the last of the poller's pops; where the queue is empty, all that was pushed was popped.
+/// A pop is the last of the poller's pops; if the queue is empty, all that was pushed was popped.
 pub struct PoppedLast;
 
 impl Outcome<u32, EndView> for PoppedLast {

@@ -8,22 +8,22 @@ ghost use Rattle.poll_list.specs.EmptyPops.{CountsOne, found_empty};
 use crate::list_rule::{EndPass, PoppedLast, PushQueue};
 use std::sync::Wait;
 
-/// Counts the pops that found the queue empty. Nothing but a pop counts one.
+/// Counts the pops that found the queue empty. Only a pop increases it.
 #[derive(Drop)]
 pub struct Pops {
-    // It stays at its greatest value.
+    // It saturates.
     empty: u64,
 }
 
 impl Pops {
-    /// Those of a poller that hasn't popped.
+    /// The count of a poller that hasn't popped.
     pub(crate) fn none() -> Pops
         ensures { found_empty result ≡ 0 }
     {
         Pops { empty: 0 }
     }
 
-    /// Pops the queue's first number. Where there is none, one more pop found the queue empty.
+    /// Pops the queue's first number. If the queue is empty, it counts that.
     pub(crate) fn pop<R: Wait>(
         &mut self,
         rt: &R,

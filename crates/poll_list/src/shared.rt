@@ -1,4 +1,4 @@
-//! A poll list to which other threads push.
+//! A poll list to which several threads push.
 
 ghost use Rattle.std.specs.Prelude.{◌≡◌, ℕ, ◌+◌, ◌≤◌, ◌<◌, true, List, [], ◌∷◌, ◌++◌, length};
 ghost use Rattle.std.specs.Arc.{arc_value};
@@ -11,11 +11,11 @@ use crate::pops::Pops;
 use poll_runs::{PollList, SoftList};
 use std::sync::{Arc, Wait};
 
-/// A poll list without a lock: its poller's end, at which alone numbers are taken. Others push at its
-/// [`ListIn`](crate::ListIn)s, from threads of their own.
+/// A poll list without a lock: the poller's end, the only one at which numbers are taken. Other threads push at its
+/// [`ListIn`](crate::ListIn)s.
 ///
-/// At most 64 entries stand in its queue, and beside it those that stand in the poller's hands. The pushes stand
-/// in one order, each end's own in its order, and what was popped is the first part of it, each push once.
+/// Its queue holds at most 64 entries, and the poller some more. All pushes have one order, in which each end's own are in
+/// order, and what was popped is the first part of it, each push once.
 #[derive(Drop)]
 pub struct SharedList<R> {
     pub(crate) rt: R,
@@ -57,7 +57,7 @@ pub(crate) fn fill<R: Wait>(
     }
 }
 
-// Pushes a number of the poller's own. Where the queue is full its first number goes into the poller's hands: nobody else
+// Pushes a number of the poller's own. If the queue is full, the poller keeps the queue's first number itself: only the poller
 // makes room, so a push that waited would wait for itself.
 fn push_own<R: Wait>(rt: &R, queue: &PushQueue, pass: &mut EndPass, hand: &mut SoftList, id: u32)
     requires pass { IsPassOf queue.now pass.old × ((view pass.old).live ≡ true)
@@ -93,13 +93,13 @@ impl<R: Wait> PollList for SharedList<R> {
 
     ghost has_room = { HandsHaveRoom };
 
-    /// Puts a number at the queue's tail, behind what others pushed. Where 64 stand there, the first of them goes into the
-    /// poller's hands: the push doesn't wait, since nobody but its own poller makes room.
+    /// Appends a number to the queue, after what others pushed. If the queue holds 64 numbers, the poller keeps the first of
+    /// them itself: the push doesn't wait, because only the poller makes room.
     fn push(&mut self, id: u32) {
         push_own(&self.rt, &self.queue, &mut self.pass, &mut self.hand, id);
     }
 
-    /// Takes what is in the poller's hands, and then pops until the queue is empty or 64 are taken.
+    /// Takes what the poller kept, and then pops until the queue is empty or 64 are taken.
     fn splice(&mut self, to: &mut SoftList) -> usize
         requires { to.old ≡ [] }
         ensures given { (came : List ℕ) × PopsCame self.old [] came (empties to.new) self.new
@@ -123,8 +123,8 @@ impl<R: Wait> PollList for SharedList<R> {
         to.ids().len()
     }
 
-    /// Keeps in the poller's hands the rest, then what it pops until the queue is empty or 64 are in hand with those to
-    /// be repolled, and these last.
+    /// Keeps the rest, then pops until the queue is empty or the poller has 64 numbers including the repolls, and appends the
+    /// repolls.
     fn put_back(&mut self, rest: &SoftList, repoll: &SoftList)
         requires { HandsHaveRoom self.old (length rest.now + length repoll.now) }
         ensures back { (came : List ℕ)

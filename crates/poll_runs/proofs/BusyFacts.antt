@@ -1,4 +1,4 @@
--- Busy polling on its way, and where it ends.
+-- The progress of busy polling, round by round, and its end.
 use Rattle.std.proofs.Common.{ℕ, zero, suc, Bool, true, List, [], ◌++◌, length}
 use Rattle.{std.specs.Prelude.nat_lt, napi_model.specs.declared.event.{Call.Call, Operation.{Operation, TheVariants.BusyStop}}}
 use Rattle.poll_runs.specs.{Plan.{Deed, Does, Plan, ends, ◌>>=◌}, declared.bench.{BusyReport.BusyReport, Next.Next}}
@@ -27,7 +27,7 @@ module _ {I P : Type 0} (tries : Call → Operation → List Operation → Type 
       leads-on tries did nothing joins whole start (round bytes thread weight report) (rounds_on bytes thread weight left) now after
       report' l d
 
-  -- all rounds are made: the stop, and the last poll
+  -- all rounds are done: the stop and the last poll follow
   pub stops : (now at given after : I) (report : BusyReport) (last : List P) (next : Next)
       → Leads tries did whole start (rounds_on bytes thread weight zero report) now → Does tries did (makes BusyStop) now tt at
       → Does tries did (gives weight) at last given → Does tries did (left_by thread (nat_lt (length last) weight)) given next after

@@ -1,4 +1,4 @@
--- The run as a function is a run, and every run over a list of one thread is that one.
+-- The run computed by the function is a run, and every run over a list of one thread equals it.
 use Rattle.std.proofs.Common.{◌≡◌, ◌≢◌, ◌∙◌, ◌⊎◌, inl, inr, ℕ, zero, suc, ◌+◌, ◌<◌, ◌≤◌, Bool, true, false, cond, List, [], ◌∷◌, ◌++◌}
 use Rattle.std.proofs.{Common.{length, length-append, drop, refl, sym, ap, subst, arith, append_assoc}, Math.Seq.drop-append_seam}
 use Rattle.std.{proofs.lemmas.{Bool.Decides.{eqb_tells, leb_tells}, List.append-nil}, specs.Prelude.{◌&&◌, ◌==◌, not, if◌then◌else◌}}
@@ -21,18 +21,18 @@ unspent budget window polls h =
       ]
     ]
 
--- a list of one thread keeps these words
+-- the pushes onto a list of one thread compose
 own-joins : (a b c pushed more came later : List ℕ) (n m : ℕ) → OwnPushes a pushed came n b → OwnPushes b more later m c
     → OwnPushes a (pushed ++ more) (came ++ later) (n + m) c
 own-joins a b c pushed more came later n m h k =
     let one : came ≡ pushed = h in let two : later ≡ more = k in
     ap (λ (xs : List ℕ). xs ++ later) one ∙ ap (λ (xs : List ℕ). pushed ++ xs) two
 
--- no need to count room here
+-- these lemmas don't count the room in the list
 abbrev Roomy : List ℕ → ℕ → Type 0
 Roomy list n = Unit
 
--- where a run over a list of one thread stands, with the polls of a progress
+-- the state of a run over a list of one thread that has made the polls of a progress
 record Stands {B : Type 0} (relation : B → ℕ → ℕ → Once → B → Type 0) (budget weight window : ℕ) (start : List ℕ) (bench : B)
     (p : Progress B) (own held back : List ℕ) : Type 0 where
   going : Going all_held OwnPushes NothingBehind budget window start p.polls held own back (length p.polls) (work_of p.polls)
@@ -51,13 +51,13 @@ stands-start relation budget weight window start bench money room = record {
   chain = refl;
 }
 
--- counts that are equal serve as well
+-- the state doesn't change if its counts are replaced by equal ones
 recount : (budget window : ℕ) (start held : List ℕ) (polls : List Poll) (own back : List ℕ) (count sum more total : ℕ)
     → (g : Going all_held OwnPushes NothingBehind budget window start polls held own back count sum) → more ≡ count → total ≡ sum
     → Going all_held OwnPushes NothingBehind budget window start polls held own back more total
 recount budget window start held polls own back count sum more total g c s = rw (c, s) g
 
--- one more poll of the progress
+-- the state after one more poll
 stands-poll : {B : Type 0} (relation : B → ℕ → ℕ → Once → B → Type 0) (poll : B → ℕ → ℕ → Once × B) → IsGivenBy relation poll
     → (budget weight window : ℕ) (start : List ℕ) (bench : B) (p : Progress B) (id : ℕ) (own held back : List ℕ)
     → is_spent budget window p.polls ≡ false
@@ -81,7 +81,7 @@ stands-poll relation poll given budget weight window start bench p id own held b
           ((given p.bench (poll p.bench id weight).1 id weight (poll p.bench id weight).0).1 (refl, refl));
     }
 
--- a batch, as far as it was polled
+-- a batch, of which some entries were polled
 record Batched {B : Type 0} (relation : B → ℕ → ℕ → Once → B → Type 0) (poll : B → ℕ → ℕ → Once × B) (budget weight window : ℕ)
     (start : List ℕ) (bench : B)
     (batch : List ℕ) (p : Progress B) (held back : List ℕ) : Type 0 where
@@ -140,12 +140,12 @@ batched {B} relation poll given budget weight window start bench (id ∷ batch) 
           whole = λ h. rest.whole (rw same at h);
         }
 
--- what a run gives: the chain of its polls, and that they are a run
+-- the result of a run: the chain of its polls, and the proof that they are a run
 abbrev pub Outcome : {B : Type 0} → (B → ℕ → ℕ → Once → B → Type 0) → ℕ → ℕ → ℕ → List ℕ → B → Progress B × List ℕ → Type 0
 Outcome relation budget weight window start bench r =
     Chain (At relation weight) bench r.0.polls r.0.bench × IsPlainRun budget window start r.0.polls r.1 (run_report budget window r.0.polls)
 
--- the run ends here
+-- the run ends in this state
 ended : {B : Type 0} (relation : B → ℕ → ℕ → Once → B → Type 0) (budget weight window : ℕ) (start : List ℕ) (bench : B) (p : Progress B)
     (own held back : List ℕ)
     → (s : Stands relation budget weight window start bench p own held back)
@@ -159,7 +159,8 @@ ended relation budget weight window start bench p own held back s ends = (
       (λ e. rw (← s.going.again) (ends e)),
 )
 
--- where nothing is to be repolled and the own list is empty, what the list holds is the next batch, or shows that there is none
+-- if nothing is to be repolled and the own list is empty, the content of the list is the next batch, or is empty and there is
+-- none
 next-batch : {B : Type 0} (relation : B → ℕ → ℕ → Once → B → Type 0) (budget weight window : ℕ) (start : List ℕ) (bench : B)
     (p : Progress B) (held : List ℕ)
     → is_spent budget window p.polls ≡ false
@@ -196,7 +197,7 @@ longer-than-none : (xs : List ℕ) → xs ≢ [] → 1 ≤ length xs
 longer-than-none [] h = absurd (h refl)
 longer-than-none (x ∷ xs) h = omega arith
 
--- what the test for another batch tells
+-- the condition for another batch implies each of its parts
 takes-tells : (spent none empty : Bool) → (not spent && (none && not empty)) ≡ true → (spent ≡ false) × (none ≡ true) × (empty ≡ false)
 takes-tells false true false h = (refl, refl, refl)
 takes-tells spent none empty h = let bad : false ≡ true = h in cc bad
@@ -219,7 +220,7 @@ from-batch poll budget weight window batches batch p last h =
     let same : drop (length p.polls) (after_batch poll budget weight window batch p).polls ≡ last = rw h (drop-append_seam p.polls last) in
     rw same refl
 
--- Where a run stands before a batch, with batches enough for the window, the rest of it is a run's.
+-- From the state of a run before a batch, with enough batches for the window, the rest of the function makes a run.
 runs-on : {B : Type 0} (relation : B → ℕ → ℕ → Once → B → Type 0) (poll : B → ℕ → ℕ → Once × B) → IsGivenBy relation poll
     → (budget weight window : ℕ) (start : List ℕ) (bench : B) (batches : ℕ) (batch : List ℕ) (p : Progress B)
     → window ≤ batches + length p.polls
@@ -290,7 +291,7 @@ run-is-function {B} relation poll given budget weight window money room bench li
     made = runs-on relation poll given budget weight window list bench window list (record { bench = bench; polls = [] }) (omega arith)
         (stands-start relation budget weight window list bench money room)
 
--- ---- a bench that shows something of itself
+-- ---- a bench whose polls are a function of a view of it
 
 abbrev GraphOf : {V : Type 0} → (V → ℕ → ℕ → Once × V) → V → ℕ → ℕ → Once → V → Type 0
 GraphOf poll before id weight once after = (once ≡ (poll before id weight).0) × (after ≡ (poll before id weight).1)

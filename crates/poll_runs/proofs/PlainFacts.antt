@@ -1,4 +1,4 @@
--- Runs over a list of one thread: by their polls alone, and that two of them agree.
+-- Runs over a list of one thread are determined by their polls, and two of them from the same start agree.
 use Rattle.std.proofs.Common.{◌≡◌, ◌≢◌, ◌∙◌, ◌⊎◌, inl, inr, ℕ, ◌+◌, ◌<◌, ◌≤◌, Bool, false, cond, List, [], ◌∷◌, ◌++◌, length, length-append}
 use Rattle.std.proofs.{Common.{take, drop, refl, sym, ap, arith, append_assoc}, Math.Seq.{drop-append_seam, take-add, take-append_seam}}
 use Rattle.std.proofs.lemmas.{List.{append-nil, append_cancel_left, drop-drop, take-append-drop, take-append-le, take_all}, Bool.cases_lt}
@@ -13,12 +13,12 @@ use Rattle.napi_model.specs.declared.state.Kind.{Kind}
 abbrev pub IsPlainBatch : ℕ → ℕ → List ℕ → List Poll → List ℕ → Type 0
 IsPlainBatch = IsBatch all_held OwnPushes NothingBehind
 
--- what was taken before and a batch are what the list held at the start and what the polls handed to it
+-- the entries taken before and a batch together are the initial list and then what the polls queued on it
 batch-whole : (budget window : ℕ) (start : List ℕ) (earlier : List Poll) (batch : List ℕ) → IsPlainBatch budget window start earlier batch
     → ids earlier ++ batch ≡ start ++ arrivals earlier
 batch-whole budget window start earlier batch b = let own : b.came ≡ arrivals earlier = b.moved in rw (← own) b.whole
 
--- where one element is within a front, the front goes on with it
+-- an element at the end of a prefix is part of a longer prefix
 front-at : (xs : List ℕ) (x : ℕ) (ys front rest : List ℕ) → xs ++ x ∷ ys ≡ front ++ rest → length xs < length front
     → (more : List ℕ) × (front ≡ xs ++ x ∷ more)
 front-at xs x ys [] rest h less = absurd (omega (arith, less))
@@ -29,8 +29,8 @@ front-at (z ∷ xs) x ys (f ∷ front) rest h less =
     let further = front-at xs x ys front rest tails (omega (arith, less)) in
     (further.0, ap (λ (l : List ℕ). f ∷ l) further.1 ∙ ap (λ (y : ℕ). y ∷ (xs ++ x ∷ further.0)) (sym same))
 
--- The number of the next poll is told by the polls before it: it comes next on the list that held what it held at the
--- start and what these handed to it.
+-- The polls so far determine the number of the next one: it is the next entry of the initial list followed by what these polls
+-- queued.
 next-id : (budget window : ℕ) (start : List ℕ) (earlier later : List Poll) (poll : Poll) (rest taken : List ℕ) (batches : List (List ℕ))
     → length taken ≤ length earlier
     → AreBatches (IsPlainBatch budget window start) (earlier ++ poll ∷ later) taken batches
@@ -81,7 +81,7 @@ next-id budget window start earlier later poll rest taken (batch ∷ batches) sh
               ∙ (rw (← part.1, whole, all) (append_assoc start (arrivals first) (arrivals (drop (length taken) earlier)))),
         )
 
--- Where one run stopped without a squeeze, another one with the same polls so far makes no more: both took the same
+-- If one run stopped without a squeeze, another one with the same polls so far makes no further poll: both took the same
 -- batches.
 stops : (budget window : ℕ) (start : List ℕ) (polls later : List Poll) (poll : Poll) (taken rest : List ℕ) (batches others : List (List ℕ))
     → AreBatches (IsPlainBatch budget window start) polls taken batches
@@ -141,7 +141,7 @@ stops budget window start polls later poll taken rest [] (other ∷ others) b o 
     whole : ids polls ++ other ≡ start ++ arrivals polls
     whole = batch-whole budget window start polls other next
 
--- a run is not the front of a longer one
+-- no run is a proper prefix of another one
 longer : (budget window : ℕ) (start left kept : List ℕ) (polls later : List Poll) (poll : Poll) (report other : RunReport)
     → IsPlainRun budget window start polls left report → IsPlainRun budget window start (polls ++ poll ∷ later) kept other → ⊥
 longer budget window start left kept polls later poll report other run long =
@@ -162,7 +162,7 @@ longer budget window start left kept polls later poll report other run long =
     equal : long.first ≡ run.first
     equal = batch-whole budget window start [] long.first long.batches.1 ∙ sym (batch-whole budget window start [] run.first run.batches.1)
 
--- what is polled, and what is left on the list
+-- the numbers that were polled, and those left on the list
 pub plain-whole : (budget window : ℕ) (start after : List ℕ) (polls : List Poll) (report : RunReport)
     → (run : IsPlainRun budget window start polls after report)
     → ids polls ++ (run.rest ++ run.late) ≡ start ++ arrivals polls
@@ -170,7 +170,7 @@ plain-whole budget window start after polls report run =
     let own : run.came ≡ arrivals polls = run.moved in
     rw (← append_assoc (ids polls) run.rest run.late, run.front, ← own) run.joined
 
--- the polls that are left to two runs, after the same ones from the same bench, agree
+-- after the same polls from the same bench, the remaining polls of two runs agree
 agree : {B : Type 0} (relation : B → ℕ → ℕ → Once → B → Type 0) (budget weight window : ℕ) (start left kept : List ℕ)
     (report other : RunReport)
     → HasOneOutcome relation → (earlier polls others : List Poll) (bench after last : B)
@@ -235,7 +235,7 @@ runs-agree relation one budget weight window bench list polls others after last 
         rw (r.count, r.sum, r.squeezed, run.count, run.sum, run.squeezed) refl in
         step
 
--- no poll hands its number over twice
+-- each poll queues its number at most once
 pub handed-most : (polls : List Poll) → length (arrivals polls) + length (repolled polls) ≤ length polls
 handed-most [] = omega arith
 handed-most (poll ∷ polls) =

@@ -1,4 +1,4 @@
--- Plans that are carried out one after the other.
+-- Plans that are executed one after the other.
 use Rattle.std.proofs.Common.{◌≡◌, ◌≢◌, ◌∙◌, Bool, List, [], ◌++◌, map, ap, refl, subst, append_assoc}
 use Rattle.{napi_model.specs.declared.event.{Call.Call, Operation.Operation}, poll_runs.specs.Plan.{Deed, Does, Follows, Plan, made, ◌>>=◌}}
 use Rattle.poll_runs.specs.{Plan.{ends, asks, acts, polls}, Polling.HasLast, declared.bench.Next.{Next, TheVariants.Absent}}
@@ -17,7 +17,7 @@ follows-then tries (polls weight go) next first second a b f g =
     (f.0, f.1 ++ second, f.2, follows-then tries (go f.0) next f.1 second a b f.3 g, ap (λ (l : List (Deed _)). l ++ second) f.4)
 
 module _ {I P : Type 0} (tries : Call → Operation → List Operation → Type 0) (did : I → List (Deed P) → I → Type 0) where
-  -- who does what is left carries out the whole
+  -- executing the rest of the plan from here executes the whole plan
   abbrev pub Leads : {A : Type 0} → Plan P A → I → Plan P A → I → Type 0
   Leads {A} whole start rest now = (answer : A) (after : I) → Does tries did rest now answer after → Does tries did whole start answer after
 
@@ -43,13 +43,13 @@ module _ {I P : Type 0} (tries : Call → Operation → List Operation → Type 
   pub does-ends : {A : Type 0} (s : I) (a : A) → Does tries did (ends a) s a s
   does-ends s a = ([], nothing s, (refl, refl))
 
--- something was polled
+-- if a poll was made, its packets are the last ones
 pub last-has : {B P : Type 0} (has : B → List P → Type 0) (next : Next) (before : B) (given : List P) (after : B) → next ≢ Absent
     → has after given → HasLast has next before given after
 last-has has Absent before given after there h = absurd (there refl)
 last-has has next before given after there h = h
 
--- a plan goes by whether the instance has a thread, which is so
+-- a plan for an instance whose thread flag is known
 pub does-thread : {I P A : Type 0} (tries : Call → Operation → List Operation → Type 0) (did : I → List (Deed P) → I → Type 0)
     (plan : Bool → Plan P A) (s t : I) (a : A) (has is : Bool) → has ≡ is → Does tries did (plan has) s a t → Does tries did (plan is) s a t
 does-thread tries did plan s t a has is e d = subst (λ (b : Bool). Does tries did (plan b) s a t) e d

@@ -1,4 +1,4 @@
--- What one more poll adds to a list of polls.
+-- The effect of one more poll on a list of polls.
 use Rattle.std.proofs.Common.{◌≡◌, ◌∙◌, ℕ, ◌+◌, ◌≤◌, Bool, true, false, cond, List, [], ◌∷◌, ◌++◌, length, take, map, refl, sym, ap, arith}
 use Rattle.std.proofs.lemmas.List.{length-take, map-append, Elements.filter-append, Sums.sum_by-append}
 use Rattle.poll_runs.specs.Polls.{Chain, Poll, arrivals, ids, is_arrival, is_repoll, repolled, work_of}
@@ -42,7 +42,7 @@ pub length-ids : (polls : List Poll) → length (ids polls) ≡ length polls
 length-ids [] = refl
 length-ids (p ∷ polls) = omega (arith, length-ids polls)
 
--- where the first polls are those of all that was taken, there are as many
+-- if the first polls are those of all entries taken, there are as many of them
 pub taken-le : (polls : List Poll) (taken : List ℕ) → ids (take (length taken) polls) ≡ taken → length taken ≤ length polls
 taken-le polls taken h =
     let size : length (ids (take (length taken) polls)) ≡ length taken = ap length h in

@@ -1,4 +1,4 @@
--- A thread's polling of one instance on its way.
+-- The progress of a thread's polling of one instance.
 use Rattle.std.proofs.Common.{◌≡◌, ◌≢◌, ◌∙◌, ℕ, zero, suc, ◌+◌, ◌<◌, ◌≤◌, Bool, true, false, List, [], ◌∷◌, ◌++◌, length}
 use Rattle.std.proofs.{Common.{length-append, ap, refl, sym, arith}, lemmas.{Bool.{eq-eqb, ne_eqb}, List.Sums.sum_by-append}}
 use Rattle.{std.specs.{Prelude.{◌==◌, sum_by}, List.AllByRecursion}, napi_model.specs.declared.event.{Call.Call, Operation.Operation}}
@@ -13,11 +13,11 @@ pub last-snoc : (polls : List Once) (once : Once) → last_next (polls ++ once �
 last-snoc (first ∷ second ∷ more) once = last-snoc (second ∷ more) once
 last-snoc polls once = refl
 
--- a report, and one poll more
+-- the report after one more poll
 abbrev pub told : ThreadReport → Once → ThreadReport
 told report once = record { polls = report.polls + 1; work = report.work + once.work; next = once.next }
 
--- the thread may go on behind these
+-- the thread may continue after these polls
 abbrev GoesOn : List Once → Type 0
 GoesOn [] = Unit {0}
 GoesOn (once ∷ more) = is_for_thread (last_next (once ∷ more)) ≡ true
@@ -39,7 +39,7 @@ lawful-more : (weight : ℕ) (polls : List Once) (once : Once) → AllByRecursio
 lawful-more weight [] once all is = (is, tt)
 lawful-more weight (first ∷ polls) once all is = (all.0, lawful-more weight polls once all.1 is)
 
--- the polls made, of which so many may be, and whether the thread has the instance still
+-- the polls made so far, how many are left, and whether the thread still owns the instance
 pub record Polls (weight most : ℕ) (held : Bool) (polls : List Once) (left : ℕ) (report : ThreadReport) : Type 0 where
   pub room : left + length polls ≡ most
   pub each : AllByRecursion (Lawful weight) polls
@@ -76,7 +76,7 @@ polls-more weight most left held polls report once p is kept gone = record {
   last = sym (last-snoc polls once);
 }
 
--- whether a poll is the last one, by how many are left behind it
+-- a poll is the last one exactly if none is left after it
 is-last : (n most left : ℕ) → suc left + n ≡ most → ((n + 1) == most) ≡ (left == 0)
 is-last n most zero e = eq-eqb (n + 1) most (omega (arith, e))
 is-last n most (suc left) e =
@@ -84,7 +84,8 @@ is-last n most (suc left) e =
     ∙ sym (ne_eqb (suc left) 0 (λ (z : suc left ≡ 0). cc z))
 
 module _ {I P : Type 0} (tries : Call → Operation → List Operation → Type 0) (did : I → List (Deed P) → I → Type 0) where
-  -- where a thread's polling stands: the polls made, of which the last one gave these packets, and that what is left makes the whole
+  -- the progress of a thread's polling: the polls made, the packets of the last one, and that the rest of the plan completes
+  -- the whole
   pub record Going (thread : Bool) (weight most : ℕ) (start : I) (held : Bool) (now : I) (given : List P) (report : ThreadReport)
       : Type 0 where
     pub polls : List Once
@@ -109,7 +110,7 @@ module _ {I P : Type 0} (tries : Call → Operation → List Operation → Type 
         (leads-from tries did (polled_by_thread thread weight most) start) d;
   }
 
-  -- one poll more, and what follows it
+  -- the progress after one more poll and what follows it
   pub going-poll : (thread : Bool) (weight most : ℕ) (start now polled' after : I) (given given' : List P) (report : ThreadReport)
       (once : Once) (held : Bool) → Going tries did thread weight most start true now given report → report.polls < most
       → Does tries did (polled thread weight) now (record { once = once; packets = given' }) polled'
@@ -144,7 +145,7 @@ module _ {I P : Type 0} (tries : Call → Operation → List Operation → Type 
                 (on (record { once = once; packets = given' })) polled' after held behind (rw last at f);
           }
 
-  -- the thread's polling is done
+  -- the thread's polling ends
   pub going-ends : (thread : Bool) (weight most : ℕ) (start now : I) (given : List P) (report : ThreadReport)
       → Going tries did thread weight most start false now given report
       → (polls : List Once) × (given' : List P)

@@ -1,4 +1,4 @@
--- A run on its way, and how each turn of the loop carries it on.
+-- The progress of a run, and its invariant over each iteration of the loop.
 use Rattle.std.proofs.Common.{◌≡◌, ◌≢◌, ◌∙◌, ◌⊎◌, inl, inr, ℕ, ◌+◌, ◌<◌, ◌≤◌, Bool, true, false, cond, List, [], ◌∷◌, ◌++◌, length}
 use Rattle.std.proofs.{Common.{length-append, take, refl, sym, ap, subst, arith, append_assoc}, lemmas.{Bool.lt-leb, List.append-nil}}
 use Rattle.std.{proofs.{lemmas.List.{take-append-le, take_all, Folds.concat-append}, Math.Nat.eq-or-lt_of_le}, specs.Prelude.{nat_le, ◌||◌}}
@@ -11,7 +11,7 @@ use Rattle.poll_runs.proofs.PollFacts.{ids-append, length-ids, repolled-append, 
 use Rattle.napi_model.specs.declared.state.Kind.{Kind}
 use Rattle.poll_runs.specs.Batches.{empties, empties_of}
 
--- batches stay batches as polls are added
+-- batches remain batches after more polls
 pub batches-push : (takes : List Poll → List ℕ → Type 0) (polls : List Poll) (poll : Poll) (taken : List ℕ) (batches : List (List ℕ))
     → AreBatches takes polls taken batches → AreBatches takes (polls ++ poll ∷ []) taken batches
 batches-push takes polls poll taken [] h = tt
@@ -19,7 +19,7 @@ batches-push takes polls poll taken (batch ∷ more) h =
     let same = take-append-le (length taken) polls (poll ∷ []) (taken-le polls taken h.0) in
     (rw same h.0, rw same h.1, batches-push takes polls poll (taken ++ batch) more h.2)
 
--- one more batch, after all that was taken was polled
+-- one more batch, after all entries taken before were polled
 pub batches-more : (takes : List Poll → List ℕ → Type 0) (polls : List Poll) (taken : List ℕ) (batches : List (List ℕ)) (batch : List ℕ)
     → AreBatches takes polls taken batches → ids polls ≡ taken ++ concat batches → takes polls batch
     → AreBatches takes polls taken (batches ++ batch ∷ [])
@@ -36,7 +36,7 @@ pub not-empty-push : (batches : List (List ℕ)) (batch : List ℕ) → AllByRec
 not-empty-push [] batch h n = (n, tt)
 not-empty-push (first ∷ batches) batch h n = (h.0, not-empty-push batches batch h.1 n)
 
--- budget and window are left
+-- budget and window aren't used up
 pub not-spent : (budget window : ℕ) (polls : List Poll) → work_of polls < budget → length polls < window
     → is_spent budget window polls ≡ false
 not-spent budget window polls money room = rw (lt-leb budget (work_of polls) money, lt-leb window (length polls) room) refl
@@ -90,7 +90,7 @@ pub run-begins : {L : Type 0} (entries : L → List ℕ) (moves : L → List ℕ
 run-begins entries moves is_all start list run money room rests b =
     rw (rests, b.repoll, b.polls, b.work) (going-start entries moves is_all run.budget run.window start list run.own money room b.takes)
 
--- a run whose own list was filled, as far as there was something
+-- a run whose own list was refilled, if there was anything on the list
 pub record Filled {L : Type 0} (entries : L → List ℕ) (moves : L → List ℕ → List ℕ → ℕ → L → Type 0) (is_all : List ℕ → L → Type 0)
     (budget window : ℕ) (start : L) (polls : List Poll) (list : L) (own repoll : List ℕ) (count sum : ℕ) : Type 0 where
   pub going : Going entries moves is_all budget window start polls list own repoll count sum
@@ -192,7 +192,7 @@ going-filled entries moves is_all has_room budget window start polls list after 
 going-filled entries moves is_all has_room budget window start polls list after [] [] filled count sum joins money room r g =
     going-spliced entries moves is_all budget window start polls list after filled count sum joins money room r.takes g
 
--- the room that is left where the own list was filled, and how much the run holds
+-- the room in the list after the own list was refilled, and how many numbers the run holds
 pub filled-room : {L : Type 0} (entries : L → List ℕ) (moves : L → List ℕ → List ℕ → ℕ → L → Type 0) (is_all : List ℕ → L → Type 0)
     (has_room : L → ℕ → Type 0)
     (list after : L) (own repoll filled : List ℕ) → Refills entries moves is_all has_room own list repoll filled after
@@ -204,7 +204,7 @@ filled-room entries moves is_all has_room list after [] [] filled r room few =
     let same : length filled ≡ length filled + 0 = omega arith in
     (subst (λ (n : ℕ). has_room after n) same r.room, omega (arith, r.most))
 
--- the same where a number was handed on that was the run's
+-- the same after a number of the run was queued
 pub handed-room : {L : Type 0} (entries : L → List ℕ) (moves : L → List ℕ → List ℕ → ℕ → L → Type 0) (has_room : L → ℕ → Type 0)
     (list after : L) (next : Next) (id n : ℕ) (repoll : List ℕ)
     → ((at : L) (n : ℕ) → has_room at (n + 1) → has_room at n) → HandsOn entries moves has_room list (is_arrival next) id after
@@ -223,7 +223,7 @@ handed-room entries moves has_room list after Repoll id n repoll less h room few
     let same : (n + length repoll) + 1 ≡ n + length (repoll ++ id ∷ []) = omega (arith, length-append repoll (id ∷ [])) in
     (rw h (subst (λ (m : ℕ). has_room list m) same room), omega (arith, few, same))
 
--- what one poll pushed, and what came by it
+-- what one poll pushed, and what arrived during it
 pub pushed-by : {L : Type 0} (entries : L → List ℕ) (moves : L → List ℕ → List ℕ → ℕ → L → Type 0) (has_room : L → ℕ → Type 0)
     (list after : L) (arrival : Bool) (id : ℕ)
     → ((at : L) → moves at [] [] 0 at) → HandsOn entries moves has_room list arrival id after
@@ -282,7 +282,7 @@ going-poll entries moves is_all has_room budget window start polls list after ow
       | inr less ↦ early n less
     ]
 
--- what the run leaves
+-- the result of the run
 pub going-ends : {L : Type 0} (entries : L → List ℕ) (moves : L → List ℕ → List ℕ → ℕ → L → Type 0) (is_all : List ℕ → L → Type 0)
     (budget window : ℕ) (start : L) (polls : List Poll) (list after : L) (own repoll : List ℕ) (count sum : ℕ) (report : RunReport)
     → ((a b c : L) (pushed more came later : List ℕ) (n m : ℕ) → moves a pushed came n b → moves b more later m c
@@ -320,7 +320,7 @@ going-ends entries moves is_all budget window start polls list after own repoll 
       sum = work ∙ g.summed;
     }
 
--- it ends by what it gives back and tells
+-- the run ends with this list and this report
 pub run-ends : {L : Type 0} (entries : L → List ℕ) (moves : L → List ℕ → List ℕ → ℕ → L → Type 0) (is_all : List ℕ → L → Type 0) (start : L)
     (polls : List Poll)
     (list after : L) (run : PollingRun) (report : RunReport)
@@ -338,7 +338,7 @@ run-ends entries moves is_all start polls list after run report joins rests back
     (ap (λ (r : RunReport). r.polls) told) (ap (λ (r : RunReport). r.work) told) (ap (λ (r : RunReport). r.squeezed) told)
     (rw rests at going) (rw rests at over)
 
--- the first number is taken out, to be polled
+-- the first number is removed, to be polled
 pub ahead-popped : (popped : Option ℕ) (before after : List ℕ)
     → MatchOption popped ((before ≡ []) × (after ≡ [])) (λ id. before ≡ id ∷ after)
     → asked_for popped ++ after ≡ before

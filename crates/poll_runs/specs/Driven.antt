@@ -1,29 +1,29 @@
--- A polling run whose polls its caller makes, and where it stands between them.
+-- The state of a polling run between its polls, for a caller that makes the polls.
 use Rattle.std.specs.Prelude.{◌≡◌, ◌≢◌, ◌⊎◌, ℕ, ◌+◌, ◌<◌, ◌≤◌, ◌==◌, ◌||◌, Bool, false, List, [], ◌∷◌, ◌++◌, length, take}
 use Rattle.std.specs.List.{AllByRecursion}
 use Rattle.{std.specs.List.{concat, list_any}, poll_runs.specs.{Polls.{Poll, arrivals, ids, repolled, work_of}, Run.{AreBatches, IsBatch}}}
 use Rattle.poll_runs.specs.{Batches.empties_of, Run.is_spent, Turn.asked_for, declared.{bench.Once.Once, polling_run.PollingRun.PollingRun}}
 
--- what was taken from the list and isn't polled: the number that is being polled, and then the rest
+-- the numbers that were taken from the list and not polled yet: the one whose poll is in progress, then the rest
 abbrev pub ahead : PollingRun → List ℕ
 ahead run = asked_for run.asked ++ run.own
 
--- how many numbers the run holds, which come back to the list
+-- how many numbers the run holds, which will return to the list
 abbrev pub held : PollingRun → ℕ
 held run = length (asked_for run.asked ++ run.own) + length run.repoll
 
--- the number waits in the run, to be polled or to be put back
+-- the number is in the run, to be polled or to be put back
 abbrev pub waits : PollingRun → ℕ → Bool
 waits run id = list_any (λ other. other == id) run.own || list_any (λ other. other == id) run.repoll
 
--- budget, weight and window stay what they are
+-- budget, weight and window don't change
 pub record SameSettings (before after : PollingRun) : Type 0 where
   pub budget : after.budget ≡ before.budget
   pub weight : after.weight ≡ before.weight
   pub window : after.window ≡ before.window
 
--- Where a run over a list stands that made these polls: the batches that it took, and all that came until now. It took no
--- poll and no batch that a polling run doesn't take.
+-- The state of a run over a list, after these polls: the batches that it took, and all arrivals so far. It made only polls and
+-- took only batches that a polling run makes and takes.
 pub record Going {L : Type 0} (entries : L → List ℕ) (moves : L → List ℕ → List ℕ → ℕ → L → Type 0) (is_all : List ℕ → L → Type 0)
     (budget window : ℕ) (start : L) (polls : List Poll) (list : L) (ahead repoll : List ℕ) (count sum : ℕ) : Type 0 where
   pub first : List ℕ
@@ -41,20 +41,20 @@ pub record Going {L : Type 0} (entries : L → List ℕ) (moves : L → List ℕ
   pub counted : count ≡ length polls
   pub summed : sum ≡ work_of polls
 
--- it is this run's
+-- the same, with the fields of this run
 abbrev pub IsGoing : {L : Type 0} → (L → List ℕ) → (L → List ℕ → List ℕ → ℕ → L → Type 0) → (List ℕ → L → Type 0) → L → List Poll → L
     → PollingRun → Type 0
 IsGoing entries moves is_all start polls list run =
     Going entries moves is_all run.budget run.window start polls list (ahead run) run.repoll run.polls run.work
 
--- no poll follows these: budget or window is spent, or all is polled, and something is to be repolled or one more batch would
--- be empty
+-- the run makes no further poll: the budget or the window is used up, or all entries are polled and a repoll is pending or one
+-- more batch would be empty
 abbrev pub IsOver : {L : Type 0} → (L → List ℕ) → (L → List ℕ → List ℕ → ℕ → L → Type 0) → (List ℕ → L → Type 0) → L → List Poll
     → PollingRun → Type 0
 IsOver entries moves is_all start polls run =
     is_spent run.budget run.window polls ≡ false
     → (ahead run ≡ []) × ((repolled polls ≢ []) ⊎ IsBatch entries moves is_all run.budget run.window start polls [])
 
--- one poll more, of this number
+-- these polls and one more, of this number
 abbrev pub and_poll : List Poll → ℕ → Once → List Poll
 and_poll polls id once = polls ++ record { id = id; once = once } ∷ []

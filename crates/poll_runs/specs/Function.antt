@@ -1,10 +1,10 @@
--- The polling run over a list of one thread, as a function: for a bench whose polls are a function of bench, number and
--- weight, to the answer and the bench afterwards.
+-- The polling run over a list of one thread as a function, for a bench whose polls are a function of the bench, the number and
+-- the weight.
 use Rattle.std.specs.Prelude.{◌≡◌, ◌↔◌, ℕ, zero, suc, ◌≤◌, Bool, ◌&&◌, ◌==◌, not, if◌then◌else◌, List, [], ◌∷◌, ◌++◌, length, drop}
 use Rattle.poll_runs.specs.{Laws.IsPlainRun, Polls.{At, Chain, Poll, arrivals, repolled, work_of}, Run.is_spent, declared.bench.Once.Once}
 use Rattle.poll_runs.specs.declared.run.RunReport.{RunReport}
 
--- a run so far: the bench, and the polls made
+-- the progress of a run: the bench, and the polls made
 pub record Progress (B : Type 0) : Type 0 where
   pub bench : B
   pub polls : List Poll
@@ -15,19 +15,19 @@ after_poll poll weight id p = record {
   polls = p.polls ++ record { id = id; once = (poll p.bench id weight).0 } ∷ [];
 }
 
--- the entries of a batch are polled in order, each unless budget or window is spent by then
+-- polls the entries of a batch in order, until budget or window is used up
 abbrev pub after_batch : {B : Type 0} → (B → ℕ → ℕ → Once × B) → ℕ → ℕ → ℕ → List ℕ → Progress B → Progress B
 after_batch poll budget weight window [] p = p
 after_batch poll budget weight window (id ∷ batch) p =
     if is_spent budget window p.polls then p else after_batch poll budget weight window batch (after_poll poll weight id p)
 
--- Another batch is polled where budget and window are left, none of the last batch's polls asked for a repoll, and some of
--- them handed their number to the list.
+-- The run takes another batch if budget and window are left, no poll of the last batch asked for a repoll, and some poll of it
+-- queued its number on the list.
 abbrev pub takes_more : ℕ → ℕ → List Poll → List Poll → Bool
 takes_more budget window all last = not (is_spent budget window all) && (length (repolled last) == 0 && not (length (arrivals last) == 0))
 
--- The run from a batch on, with the list afterwards, by as many batches at most: the rest of the last batch, what its
--- polls handed to the list, and what is to be repolled.
+-- The run from a batch on, with at most this many batches, and the list afterwards: the unpolled rest of the last batch, what
+-- its polls queued, and the repolls.
 unfoldable pub from_batch : {B : Type 0} → (B → ℕ → ℕ → Once × B) → ℕ → ℕ → ℕ → ℕ → List ℕ → Progress B → Progress B × List ℕ
 from_batch poll budget weight window zero batch p = (p, batch)
 from_batch poll budget weight window (suc batches) batch p =
@@ -36,22 +36,22 @@ from_batch poll budget weight window (suc batches) batch p =
     if takes_more budget window after.polls last then from_batch poll budget weight window batches (arrivals last) after
     else (after, (drop (length last) batch ++ arrivals last) ++ repolled last)
 
--- a run over all that the list holds, which polls at most `window` batches, since each further one follows a poll
+-- a run over all entries of the list; it polls at most `window` batches, because each further one follows a poll
 abbrev pub run_of : {B : Type 0} → (B → ℕ → ℕ → Once × B) → ℕ → ℕ → ℕ → B → List ℕ → Progress B × List ℕ
 run_of poll budget weight window bench list = from_batch poll budget weight window window list (record { bench = bench; polls = [] })
 
--- what a run with these polls reports
+-- the report of a run with these polls
 abbrev pub run_report : ℕ → ℕ → List Poll → RunReport
 run_report budget window polls = record { polls = length polls; work = work_of polls; squeezed = is_spent budget window polls }
 
--- a bench's relation is that of a function
+-- the relation of a bench is the graph of a function
 abbrev pub IsGivenBy : {B : Type 0} → (B → ℕ → ℕ → Once → B → Type 0) → (B → ℕ → ℕ → Once × B) → Type 0
 IsGivenBy {B} polls poll =
     (before after : B) (id weight : ℕ) (once : Once)
     → polls before id weight once after ↔ ((once ≡ (poll before id weight).0) × (after ≡ (poll before id weight).1))
 
--- law: where polls are a function, so is a run over a list of one thread, and its outcome is this one: it is a run, and
--- each run is it
+-- law: if polls are a function, a run over a list of one thread is the function above: its result is a run, and every run has
+-- its result
 abbrev pub RunIsFunction : {B : Type 0} → (B → ℕ → ℕ → Once → B → Type 0) → Type 0
 RunIsFunction {B} relation =
     (poll : B → ℕ → ℕ → Once × B) → IsGivenBy relation poll
@@ -67,13 +67,13 @@ RunIsFunction {B} relation =
     × (left ≡ (run_of poll budget weight window bench list).1)
     × (report ≡ run_report budget window (run_of poll budget weight window bench list).0.polls))
 
--- the polls of a bench are those of a function of what it shows, as far as it shows them
+-- on the view of a bench, its polls are the graph of a function
 abbrev pub IsShownBy : {B V : Type 0} → (B → ℕ → ℕ → Once → B → Type 0) → (B → V) → (V → ℕ → ℕ → Once × V) → Type 0
 IsShownBy {B} polls shown poll =
     (before after : B) (id weight : ℕ) (once : Once) → polls before id weight once after
     → (once ≡ (poll (shown before) id weight).0) × (shown after ≡ (poll (shown before) id weight).1)
 
--- law: where they are, each run over a list of one thread is, as far as the bench shows it, the run of that function
+-- law: if they are, every run over a list of one thread is, on the view of the bench, the run of that function
 abbrev pub RunIsShown : {B V : Type 0} → (B → ℕ → ℕ → Once → B → Type 0) → (B → V) → (V → ℕ → ℕ → Once × V) → Type 0
 RunIsShown {B} relation shown poll =
     IsShownBy relation shown poll

@@ -1,17 +1,17 @@
--- What a poller does at an instance and its ring, by what it is answered.
+-- What a poller does with an instance and its ring, depending on the replies.
 use Rattle.std.specs.Prelude.{◌≡◌, ℕ, ◌≤◌, List, [], ◌∷◌, ◌++◌, length, map}
 use Rattle.napi_model.specs.{declared.event.{Call.Call, Operation.{Operation, TheVariants.{Look, Complete}}}, Step.{MayBusyTake, call_of}}
 use Rattle.napi_model.specs.declared.event.Done.TheVariants.{Held}
 use Rattle.napi_model.specs.declared.event.Call.TheVariants as call
 
--- calls and polls, one after the other, until the answer is there
+-- calls and polls in sequence, until a result
 pub data Plan (P A : Type 0) : Type 0 where
   ends : A → Plan P A
-  -- a call, and what is done by the operation that it comes to
+  -- a call, and the plan that follows, by the operation that the call results in
   asks : Call → (Operation → Plan P A) → Plan P A
-  -- an operation that has one answer
+  -- an operation whose call has only one reply
   acts : Operation → Plan P A → Plan P A
-  -- a poll of this weight, and what is done by its packets
+  -- a poll of this weight, and the plan that follows, by its packets
   polls : ℕ → (List P → Plan P A) → Plan P A
 
 infixl 10 ◌>>=◌
@@ -21,33 +21,33 @@ asks c go >>= next = asks c (λ o. go o >>= next)
 acts o plan >>= next = acts o (plan >>= next)
 polls weight go >>= next = polls weight (λ packets. go packets >>= next)
 
--- what was done: an operation, or a poll of this weight that gave these packets
+-- an action: an operation, or a poll of this weight that returned these packets
 pub data Deed (P : Type 0) : Type 0 where
   made : Operation → Deed P
   gave : ℕ → List P → Deed P
 
--- the operations among these
+-- the operations among these actions
 abbrev pub operations : {P : Type 0} → List (Deed P) → List Operation
 operations [] = []
 operations (made o ∷ deeds) = o ∷ operations deeds
 operations (gave weight packets ∷ deeds) = operations deeds
 
--- the packets that these gave, joined
+-- the packets that these actions returned, concatenated
 abbrev pub given : {P : Type 0} → List (Deed P) → List P
 given [] = []
 given (made o ∷ deeds) = given deeds
 given (gave weight packets ∷ deeds) = packets ++ given deeds
 
--- What a call may come to. To take an instance for busy polling is refused where a look shows that it isn't idle; a completion that
--- is held is no answer, for who busy polls knows that it is.
+-- The operations that a call can result in. A take for busy polling that fails is a read that shows that the instance isn't
+-- idle. A completion never results in `Held`, because a poller knows whether it busy polls.
 abbrev pub Answers : Call → Operation → Type 0
 Answers call.BusyTake (Look x) = ¬ MayBusyTake x.flags
 Answers call.Complete (Complete Held) = ⊥
 Answers c o = call_of o ≡ c
 
--- `tries c o os`: by the operations os, of which o decides, the call c comes to o
+-- `tries c o os`: the call c results in o, by the operations os, the last attempt being o
 module _ {P : Type 0} (tries : Call → Operation → List Operation → Type 0) where
-  -- by these deeds the plan comes to this answer
+  -- with these actions, the plan has this result
   abbrev pub Follows : {A : Type 0} → Plan P A → List (Deed P) → A → Type 0
   Follows (ends a) deeds answer = (deeds ≡ []) × (answer ≡ a)
   Follows (asks c go) deeds answer =
@@ -60,6 +60,6 @@ module _ {P : Type 0} (tries : Call → Operation → List Operation → Type 0)
       (packets : List P) × (rest : List (Deed P))
       × (length packets ≤ weight) × Follows (go packets) rest answer × (deeds ≡ gave weight packets ∷ rest)
 
-  -- who did this followed the plan
+  -- some actions lead from the one state to the other, and with them the plan has this result
   abbrev pub Does : {I A : Type 0} → (I → List (Deed P) → I → Type 0) → Plan P A → I → A → I → Type 0
   Does did plan before answer after = (deeds : List (Deed P)) × did before deeds after × Follows plan deeds answer

@@ -1,9 +1,9 @@
--- What the calls of a driven run make of the run and of its list, one by one.
+-- The effect of each call on a run and on its list, for a caller that makes the polls.
 use Rattle.std.specs.Prelude.{◌≡◌, ℕ, nat_le, ◌||◌, Bool, List, [], ◌∷◌, Option, None, MatchOption}
 use Rattle.poll_runs.specs.Turn.{Refills, Takes}
 use Rattle.poll_runs.specs.declared.polling_run.PollingRun.{PollingRun}
 
--- the work so far meets the budget, or the polls so far meet the window
+-- the work so far reaches the budget, or the number of polls the window
 abbrev pub has_spent : PollingRun → Bool
 has_spent run = nat_le run.budget run.work || nat_le run.window run.polls
 
@@ -15,7 +15,7 @@ pub record HoldsNothing (run : PollingRun) : Type 0 where
   pub polls : run.polls ≡ 0
   pub work : run.work ≡ 0
 
--- a run begins with what one splice gives, and nothing is polled
+-- a run begins with the entries of one splice, and no polls
 pub record Begins {L : Type 0} (entries : L → List ℕ) (moves : L → List ℕ → List ℕ → ℕ → L → Type 0) (is_all : List ℕ → L → Type 0)
     (before : L) (run : PollingRun) (after : L) : Type 0 where
   pub takes : Takes entries moves is_all before run.own after
@@ -23,7 +23,7 @@ pub record Begins {L : Type 0} (entries : L → List ℕ) (moves : L → List �
   pub polls : run.polls ≡ 0
   pub work : run.work ≡ 0
 
--- its own list is filled where it may be, and its first number, if there is one, is the answer
+-- the own list is refilled if the rules allow it, and the result is its first number, if there is one
 pub record Asks {L : Type 0} (entries : L → List ℕ) (moves : L → List ℕ → List ℕ → ℕ → L → Type 0) (is_all : List ℕ → L → Type 0)
     (has_room : L → ℕ → Type 0) (run : PollingRun) (list : L) (answer : Option ℕ) (own : List ℕ) (after : L) : Type 0 where
   pub filled : List ℕ

@@ -1,4 +1,4 @@
-//! Busy polling, written once.
+//! Busy polling, for every kind of instance.
 
 ghost use Rattle.std.specs.Prelude.{◌≡◌, ◌≢◌, ◌≤◌, ◌<◌, ◌+◌, ◌^◌, List, MatchBool, nat_lt};
 ghost use Rattle.poll_runs.specs.Plan.{Does};
@@ -9,7 +9,7 @@ use crate::bench::{BusyReport, Next};
 use crate::instance::BusyInstance;
 
 impl BusyReport {
-    // One poll more, which gave these packets.
+    // Returns the report after one more poll.
     fn with(self, work: u32, bytes: u64) -> BusyReport
         requires polls { self.polls + 1 < 2 ^ 32 }
         requires work { self.work + work < 2 ^ 32 }
@@ -29,7 +29,7 @@ impl BusyReport {
     }
 }
 
-// One round: a poll, which completes where its work is below the weight, and is held.
+// Makes one round: a poll, and a completion, which is held, if its work is below the weight.
 fn round<I: BusyInstance>(
     instance: &mut I,
     weight: u32,
@@ -59,7 +59,7 @@ fn round<I: BusyInstance>(
     }
 }
 
-// Ends the poll behind the stop, with work below the weight or equal to it.
+// Ends the poll after the stop, by whether its work is below the weight.
 fn leave<I: BusyInstance>(instance: &mut I, below: bool) -> Next
     requires { I.in_hand instance.old }
     ensures does { Does I.tries I.did (left_by (I.thread instance.old) below) instance.old
@@ -77,11 +77,11 @@ fn leave<I: BusyInstance>(instance: &mut I, below: bool) -> Next
     }
 }
 
-/// Busy polls an instance that is idle (`napi_busy_loop`): takes it, makes so many rounds, in 1..=65535, stops
-/// (`busy_poll_stop`) and polls once more. Each poll has this weight, in 1..=64. A round with work below the weight completes,
-/// which holds the instance; the last poll then releases it or hands it over, and one with its whole weight hands it to the
-/// list. After [`Next::Repoll`] and [`Next::Again`] of the list its number is still to be pushed. An instance that isn't idle
-/// is [`Next::Absent`].
+/// Busy polls an idle instance (`napi_busy_loop`): takes it, makes this many rounds, in 1..=65535, stops (`busy_poll_stop`) and
+/// polls once more, each time with this weight, in 1..=64. A round with work below the weight completes, and the completion is
+/// held. The last poll releases the instance or queues it; if it uses its whole weight, it queues it on the list. After
+/// [`Next::Repoll`], and [`Next::Again`] with the list, the caller still has to push its number. Returns [`Next::Absent`] for
+/// an instance that isn't idle.
 pub fn poll_busy_of<I: BusyInstance>(
     instance: &mut I,
     rounds: u32,

@@ -1,4 +1,4 @@
-//! A polling run, poll by poll.
+//! A polling run, one poll at a time.
 
 ghost use Rattle.std.specs.Prelude.{◌≡◌, ◌+◌, ◌<◌, ◌≤◌, ◌||◌, true, false, is_some, nat_le, List, [], ◌∷◌, ◌++◌, length, if◌then◌else◌, None, Some};
 ghost use Rattle.poll_runs.specs.Polls.{Poll, is_arrival, is_repoll, work_of};
@@ -15,7 +15,7 @@ use crate::run::RunReport;
 use crate::soft::SoftList;
 use napi_model::Kind;
 
-// Whether the work meets the budget or the polls meet the window.
+// Returns whether the work reaches the budget or the number of polls the window.
 pub(crate) fn is_spent(budget: u32, window: u32, polls: u32, work: u32) -> bool
     ensures spent { result ≡ (nat_le budget work || nat_le window polls) }
     ensures left { result ≡ false → (work < budget) × (polls < window) }
@@ -23,7 +23,7 @@ pub(crate) fn is_spent(budget: u32, window: u32, polls: u32, work: u32) -> bool
     budget <= work || window <= polls
 }
 
-// Where all that was taken is polled, and nothing is to be repolled, takes what the list holds.
+// Takes all entries of the list, if all that were taken before are polled and no repoll is pending.
 pub(crate) fn refill<L: PollList>(own: &mut SoftList, list: &mut L, repoll: &SoftList)
     ensures { Refills L.entries L.moves L.is_all L.has_room own.old list.old repoll.now own.new
         list.new }
@@ -33,7 +33,7 @@ pub(crate) fn refill<L: PollList>(own: &mut SoftList, list: &mut L, repoll: &Sof
     }
 }
 
-// Puts a number that was polled where its answer says.
+// Queues a number that was polled, by how its poll ended.
 pub(crate) fn hand_on<L: PollList>(next: Next, id: u32, list: &mut L, repoll: &mut SoftList)
     requires list { L.can_push list.old }
     requires repoll { length repoll.old < 64 }
@@ -47,7 +47,7 @@ pub(crate) fn hand_on<L: PollList>(next: Next, id: u32, list: &mut L, repoll: &m
     }
 }
 
-// Gives the list back what the run holds, and tells what it did.
+// Puts the numbers that the run holds back on the list, and returns its report.
 fn give_back<L: PollList>(run: &PollingRun, list: &mut L) -> RunReport
     requires room { L.has_room list.old (length run.now.own + length run.now.repoll) }
     ensures back { (came : List _)
@@ -68,7 +68,7 @@ fn give_back<L: PollList>(run: &PollingRun, list: &mut L) -> RunReport
     }
 }
 
-// It takes all that the list holds.
+// Takes all entries of the list.
 fn start<L: PollList>(run: &mut PollingRun, list: &mut L)
     requires { HoldsNothing run.old }
     ensures begins { Begins L.entries L.moves L.is_all list.old run.new list.new }
@@ -80,7 +80,7 @@ fn start<L: PollList>(run: &mut PollingRun, list: &mut L)
 }
 
 impl PollingRun {
-    /// One that holds nothing, and is over.
+    /// Returns a run that holds nothing and is over.
     pub fn idle() -> PollingRun
         ensures { HoldsNothing result }
     {
@@ -96,7 +96,7 @@ impl PollingRun {
         }
     }
 
-    /// Takes all that the list holds. The weight is in 1..=64, budget and window in 1..=65535.
+    /// Starts a run: takes all entries of the list. The weight is in 1..=64, budget and window in 1..=65535.
     pub fn begin<L: PollList>(list: &mut L, budget: u32, weight: u32, window: u32) -> PollingRun
         requires weight { (1 ≤ weight) × (weight ≤ 64) }
         requires budget { (1 ≤ budget) × (budget ≤ 65535) }
@@ -113,7 +113,7 @@ impl PollingRun {
         run
     }
 
-    /// The same, in the place of one that holds nothing.
+    /// Like [`begin`](PollingRun::begin), in place of a run that holds nothing.
     pub fn restart<L: PollList>(&mut self, list: &mut L, budget: u32, weight: u32, window: u32)
         requires nothing { HoldsNothing self.old }
         requires weight { (1 ≤ weight) × (weight ≤ 64) }
@@ -132,8 +132,8 @@ impl PollingRun {
         start(self, list);
     }
 
-    /// The number that is to be polled next, None where the run is over: the work meets the budget or the polls meet the
-    /// window, or all that was taken is polled, and a poll asked for a repoll or the list holds nothing.
+    /// Returns the number to poll next, or `None` if the run is over: the work reaches the budget, or the number of polls the
+    /// window, or all entries are polled and a repoll is pending or the list is empty.
     pub fn next<L: PollList>(&mut self, list: &mut L) -> Option<u32>
         requires rests { self.old.asked ≡ None }
         requires room { L.has_room list.old (held self.old) }
@@ -161,21 +161,21 @@ impl PollingRun {
         self.asked
     }
 
-    /// The number that is being polled: [`next`](PollingRun::next) named it, and what its poll did isn't told yet.
+    /// The number that [`next`](PollingRun::next) returned and whose poll wasn't reported yet.
     pub fn asked(&self) -> Option<u32>
         ensures { result ≡ self.now.asked }
     {
         self.asked
     }
 
-    /// The packets that one poll may give at most.
+    /// The weight: the most packets that one poll may process.
     pub fn weight(&self) -> u32
         ensures { result ≡ self.now.weight }
     {
         self.weight
     }
 
-    /// How many of the list's numbers the run holds.
+    /// How many numbers of the list the run holds.
     pub fn held(&self) -> usize
         ensures held { result ≡ held self.now }
         ensures few { result ≤ 64 }
@@ -184,14 +184,15 @@ impl PollingRun {
         self.own.ids().len() + asked + self.repoll.ids().len()
     }
 
-    /// Whether the number waits in the run: to be polled, or to be put back.
+    /// Returns whether the run holds this number: to be polled, or to be put back.
     pub fn is_waiting(&self, id: u32) -> bool
         ensures { result ≡ waits self.now id }
     {
         self.own.ids().contains(&id) || self.repoll.ids().contains(&id)
     }
 
-    /// What the poll of the number gave that was named last, at most the weight, and how it ended.
+    /// Reports the outcome of the poll of the number that [`next`](PollingRun::next) returned last; its work is at most the
+    /// weight.
     pub fn polled<L: PollList>(&mut self, list: &mut L, once: Once)
         requires asked { is_some self.old.asked ≡ true }
         requires work { once.work ≤ self.old.weight }
@@ -219,8 +220,8 @@ impl PollingRun {
         hand_on(once.next, id, list, &mut self.repoll);
     }
 
-    /// Ends the run: the list gets back what wasn't polled, before what came meanwhile, and what is to be repolled behind it. It
-    /// may be ended early, before [`next`](PollingRun::next) answers None.
+    /// Ends the run: puts on the list what wasn't polled, before what arrived meanwhile, and the repolls after it. It may be
+    /// called early, before [`next`](PollingRun::next) returns `None`.
     pub fn end<L: PollList>(self, list: &mut L) -> RunReport
         requires rests { self.asked ≡ None }
         requires room { L.has_room list.old (held self) }
@@ -242,7 +243,7 @@ impl PollingRun {
         give_back(&self, list)
     }
 
-    /// The same in its place, where it holds nothing then.
+    /// Like [`end`](PollingRun::end), for a run behind a reference, which holds nothing afterwards.
     pub fn finish<L: PollList>(&mut self, list: &mut L) -> RunReport
         requires rests { self.old.asked ≡ None }
         requires room { L.has_room list.old (held self.old) }

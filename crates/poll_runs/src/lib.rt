@@ -1,12 +1,12 @@
-//! Behind the door `poll_engine`: poll lists of one thread, polling runs and the polling of an instance by its thread, over
-//! whatever is polled.
+//! Internal crate of the facade `poll_engine`: poll lists of one thread, polling runs, and the polling of an instance by its
+//! thread, for any kind of instance.
 //!
-//! The rules are those of `net_rx_action` and `napi_threaded_poll` of Linux 6.6 (`net/core/dev.c`). A [`Bench`] polls
-//! instances by their numbers, and states by relations of its own what a poll does; a [`PollList`] holds numbers.
-//! A [`PollingRun`] goes poll by poll, by whoever drives it; [`run_softirq`] makes the same steps over a bench. Both are proved
-//! once, for every list and every bench. The definitions that the contracts cite are in `specs/`: `Polls` has lists of polls,
-//! `Thread` the polling of an instance by its thread, `Run` the polling run, `Driven` where a run stands between its polls,
-//! `Laws` what follows over a list of one thread.
+//! The rules are those of `net_rx_action` and `napi_threaded_poll` of Linux 6.6 (`net/core/dev.c`). A [`Bench`] polls instances
+//! by number, and states by its own relations what a poll does; a [`PollList`] holds numbers. With a [`PollingRun`] the caller
+//! makes the polls one by one; [`run_softirq`] takes the same steps over a bench. Both are proved once, for every list and
+//! every bench. The definitions that the contracts cite are in `specs/`: `Polls` has lists of polls, `Thread` the polling of an
+//! instance by its thread, `Run` the polling run, `Driven` the state of a run between its polls, `Laws` what follows for a list
+//! of one thread.
 #![tactic(auto)]
 
 mod bench;

@@ -21,7 +21,7 @@ impl Model for PlainList {
 }
 
 impl PlainList {
-    /// An empty list.
+    /// Returns an empty list.
     pub fn new() -> PlainList
         ensures { result ≡ [] }
     {

@@ -1,4 +1,4 @@
-//! The polling of one instance, written once: from the list, and by its thread.
+//! The polling of one instance, from the list and by its thread, for every kind of instance.
 
 ghost use Rattle.std.specs.Prelude.{◌≡◌, ◌≢◌, ◌==◌, ◌≤◌, false, true, List, MatchBool};
 ghost use Rattle.poll_runs.specs.Plan.{Does};
@@ -12,7 +12,7 @@ use crate::bench::{Next, Once, ThreadReport};
 use crate::instance::Instance;
 use napi_model::Kind;
 
-// How a poll ended that completed its instance.
+// Returns how a poll ended that completed its instance.
 fn next_of(again: Option<Kind>) -> Next
     ensures { result ≡ next_of again }
 {
@@ -22,7 +22,7 @@ fn next_of(again: Option<Kind>) -> Next
     }
 }
 
-// Ends a poll that gave its whole weight, or less.
+// Ends a poll that used its whole weight, or less.
 fn end<I: Instance>(instance: &mut I, full: bool) -> Next
     requires { I.in_hand instance.old }
     ensures does { Does I.tries I.did (ended (I.thread instance.old) full) instance.old result
@@ -36,7 +36,7 @@ fn end<I: Instance>(instance: &mut I, full: bool) -> Next
     next_of(instance.complete())
 }
 
-// One poll of an instance that is in its poller's hands (`__napi_poll`).
+// Polls an instance that its poller owns (`__napi_poll`).
 fn poll_held<I: Instance>(instance: &mut I, weight: u32, packets: &mut I::Packets) -> Once
     requires hand { I.in_hand instance.old }
     requires weight { (1 ≤ weight) × (weight ≤ 64) }
@@ -54,7 +54,7 @@ fn poll_held<I: Instance>(instance: &mut I, weight: u32, packets: &mut I::Packet
     Once { work, next }
 }
 
-// One that is to be polled again, and isn't by whom it was taken, goes to the list.
+// Requeues an instance that asked for a repoll and whose poller stops.
 fn let_go<I: Instance>(instance: &mut I, next: Next)
     requires { MatchBool (is_repoll next) (I.in_hand instance.old) (I.rests instance.old) }
     ensures does { Does I.tries I.did (let_go next) instance.old tt instance.new }
@@ -65,9 +65,9 @@ fn let_go<I: Instance>(instance: &mut I, next: Next)
     }
 }
 
-/// Takes an instance from the list and polls it once, with this weight, in 1..=64 (`napi_poll`). One that isn't there is
-/// [`Next::Absent`]. One that is to be polled again is handed to the list: after [`Next::Repoll`] and [`Next::Again`] of the
-/// list its number is still to be pushed.
+/// Takes an instance from the list and polls it once, with this weight, in 1..=64 (`napi_poll`). Returns [`Next::Absent`] for
+/// an instance that isn't on the list. An instance that gets a repoll is queued on the list: after [`Next::Repoll`], and
+/// [`Next::Again`] with the list, the caller still has to push its number.
 pub fn poll_once_of<I: Instance>(instance: &mut I, weight: u32, packets: &mut I::Packets) -> Once
     requires rests { I.rests instance.old }
     requires weight { (1 ≤ weight) × (weight ≤ 64) }
@@ -89,8 +89,8 @@ pub fn poll_once_of<I: Instance>(instance: &mut I, weight: u32, packets: &mut I:
     once
 }
 
-// What follows a poll by the thread: it keeps the instance, or takes it again that was handed to it, unless this was the last
-// poll that it may make. One that it may not poll again goes to the list.
+// Decides what follows a poll by the thread: it keeps the instance, or takes it again if it was queued for the thread, unless
+// this was the last poll that it may make. An instance that it may not poll again goes to the list.
 fn follow<I: Instance>(instance: &mut I, next: Next, is_last: bool) -> bool
     requires { MatchBool (is_repoll next) (I.in_hand instance.old) (I.rests instance.old) }
     ensures does { Does I.tries I.did (followed is_last next) instance.old result instance.new }
@@ -109,10 +109,10 @@ fn follow<I: Instance>(instance: &mut I, next: Next, is_last: bool) -> bool
     }
 }
 
-/// The polling of an instance by its thread (`napi_threaded_poll`): takes it, where it was handed to the thread, and polls it
-/// until no repoll is asked; where it was handed to the thread again it is taken again. At most `most` polls are made, in
-/// 1..=131072, each with this weight, in 1..=64. One that the last of them leaves to be polled again is handed to the list:
-/// after [`Next::Repoll`] and [`Next::Again`] of the list its number is still to be pushed.
+/// Polls an instance by its thread (`napi_threaded_poll`): takes it, if it was queued for the thread, and polls it until no
+/// repoll is asked for; if it was queued for the thread again, it takes it again. It makes at most `most` polls, in 1..=131072,
+/// each with this weight, in 1..=64. An instance that the last one leaves to be polled again is queued on the list: after
+/// [`Next::Repoll`], and [`Next::Again`] with the list, the caller still has to push its number.
 pub fn poll_thread_of<I: Instance>(
     instance: &mut I,
     weight: u32,

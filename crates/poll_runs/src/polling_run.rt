@@ -1,12 +1,13 @@
-//! A polling run, as it stands between its polls.
+//! The state of a polling run between its polls.
 
 ghost use Rattle.std.specs.Prelude.{◌≡◌, ◌+◌, ◌<◌, ◌≤◌, ◌++◌, true, is_some, length};
 ghost use Rattle.poll_runs.specs.Turn.{asked_for};
 
 use crate::soft::SoftList;
 
-/// A polling run that its caller drives (`net_rx_action`): [`begin`](PollingRun::begin); while [`next`](PollingRun::next) names
-/// a number, polls that and tells by [`polled`](PollingRun::polled); [`end`](PollingRun::end).
+/// A polling run (`net_rx_action`) whose polls the caller makes: call [`begin`](PollingRun::begin); while
+/// [`next`](PollingRun::next) returns a number, poll it and report the outcome by [`polled`](PollingRun::polled); then call
+/// [`end`](PollingRun::end).
 #[derive(Drop)]
 pub struct PollingRun {
     pub(crate) own: SoftList,

@@ -9,21 +9,21 @@ use crate::driven::{hand_on, is_spent, refill};
 use crate::list::PollList;
 use crate::soft::SoftList;
 
-/// What a polling run did (`net_rx_action`).
+/// The outcome of a polling run (`net_rx_action`).
 #[derive(Clone, Copy, Debug, PartialEq, Eq)]
 pub struct RunReport {
-    /// The polls that were made, those that found their instance absent among them, at most the window.
+    /// The number of polls, including those that found their instance absent; at most the window.
     pub polls: u32,
-    /// The packets that these gave together, less than budget and weight.
+    /// The packets of all polls together, less than budget plus weight.
     pub work: u32,
-    /// Whether the budget or the window was spent, which stopped the run (`time_squeeze`).
+    /// Whether the budget or the window was used up, which stopped the run (`time_squeeze`).
     pub squeezed: bool,
 }
 
-/// A polling run: takes all that the list holds and polls one entry after the other, with this weight. It stops once the
-/// work meets the budget or the polls meet the window. Where all that was taken is polled before, it looks at the list
-/// again and goes on with what it holds, unless a poll asked for a repoll. At the end the list gets back what wasn't
-/// polled, before what came meanwhile, and what is to be repolled behind it (`net_rx_action`).
+/// Makes a polling run (`net_rx_action`): takes all entries of the list and polls them in order, with this weight. It stops
+/// when the work reaches the budget or the number of polls the window. If all entries are polled before that, it takes the
+/// list's new entries and continues with them, unless a poll asked for a repoll. At the end it puts on the list what wasn't
+/// polled, before what arrived meanwhile, and the repolls after it.
 ///
 /// The weight is in 1..=64, budget and window in 1..=65535.
 pub fn run_softirq<L: PollList, B: Bench>(

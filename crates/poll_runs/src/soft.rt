@@ -1,15 +1,15 @@
-//! A short list of numbers of instances.
+//! A short list of instance numbers.
 
 ghost use Rattle.std.specs.Prelude.{◌≡◌, ◌↔◌, ◌+◌, ◌<◌, ◌≤◌, ℕ, List, [], ◌∷◌, ◌++◌, length, drop, MatchOption, IsOk, OnOk, OnErr, IfErr, ◌==◌};
 
 use arrayvec::ArrayVec;
 use std::marker::Model;
 
-/// At most 64 numbers of instances, in order, as the lists `list` and `repoll` that `net_rx_action` keeps on its stack.
+/// At most 64 instance numbers, in order, like the lists `list` and `repoll` that `net_rx_action` keeps on its stack.
 #[derive(Drop)]
 pub struct SoftList {
     ids: ArrayVec<u32, 64>,
-    // Those before it were taken: so the first one is taken while the others stay.
+    // The index of the first entry: those before it were removed. So a removal doesn't move the others.
     first: usize,
 }
 
@@ -21,7 +21,7 @@ impl Model for SoftList {
     ghost invariant = { λ s. s.first ≤ length s.ids.items };
 }
 
-// Drops the first ones, which were taken.
+// Drops the first entries, which were removed.
 #[inline(never)]
 fn drop_taken(ids: &mut ArrayVec<u32, 64>, first: usize)
     requires { first ≤ length ids.old.items }
@@ -30,7 +30,7 @@ fn drop_taken(ids: &mut ArrayVec<u32, 64>, first: usize)
     ids.drain(..first);
 }
 
-// Drops what was taken where so many more find no room behind the others, and answers where the first one stands then.
+// Drops the removed entries if `count` more don't fit after the others, and returns the index of the first entry.
 #[inline]
 fn make_room(ids: &mut ArrayVec<u32, 64>, first: usize, count: usize) -> usize
     requires first { first ≤ length ids.old.items }
@@ -47,7 +47,7 @@ fn make_room(ids: &mut ArrayVec<u32, 64>, first: usize, count: usize) -> usize
 }
 
 impl SoftList {
-    /// An empty list.
+    /// Returns an empty list.
     pub fn new() -> SoftList
         ensures { result ≡ [] }
     {
@@ -57,7 +57,7 @@ impl SoftList {
         }
     }
 
-    /// Appends a number. A 65th one is handed back, and the list stays as it was.
+    /// Appends a number. If the list holds 64 already, it returns the number, and the list is unchanged.
     pub fn push(&mut self, id: u32) -> Result<(), u32>
         ensures room { IsOk result ↔ (length self.old < 64) }
         ensures ok { OnOk result (self.new ≡ self.old ++ id ∷ []) }
@@ -71,7 +71,7 @@ impl SoftList {
         Ok(())
     }
 
-    /// Takes the first number, None where there is none.
+    /// Removes and returns the first number, or `None` if the list is empty.
     pub fn pop_front(&mut self) -> Option<u32>
         ensures { MatchOption result ((self.old ≡ []) × (self.new ≡ []))
             (λ id. self.old ≡ id ∷ self.new) }
@@ -92,14 +92,14 @@ impl SoftList {
         &self.ids.as_slice()[self.first..]
     }
 
-    /// Whether the list holds nothing.
+    /// Returns whether the list is empty.
     pub fn is_empty(&self) -> bool
         ensures { result ≡ (length self.now == 0) }
     {
         self.ids().is_empty()
     }
 
-    /// Appends a number, where there is room.
+    /// Appends a number; there is room for it.
     pub fn append(&mut self, id: u32)
         requires { length self.old < 64 }
         ensures { self.new ≡ self.old ++ id ∷ [] }
@@ -108,14 +108,14 @@ impl SoftList {
         self.ids.push(id);
     }
 
-    // Drops all.
+    // Clears the list.
     pub(crate) fn clear(&mut self)
         ensures { self.new ≡ [] }
     {
         self.first = self.ids.len();
     }
 
-    /// Appends the numbers of another list, where there is room.
+    /// Appends the numbers of another list; there is room for them.
     pub fn append_all(&mut self, more: &SoftList)
         requires { length self.old + length more.now ≤ 64 }
         ensures { self.new ≡ self.old ++ more.now }
@@ -125,7 +125,7 @@ impl SoftList {
         let _ = self.ids.try_extend_from_slice(ids);
     }
 
-    /// Takes all numbers of another list into this one, which is empty.
+    /// Moves all numbers of another list into this one, which is empty.
     pub fn take_all(&mut self, from: &mut SoftList)
         requires { self.old ≡ [] }
         ensures taken { self.new ≡ from.old }
@@ -137,7 +137,7 @@ impl SoftList {
         from.clear();
     }
 
-    /// Puts the numbers of another list before those of this one, where there is room.
+    /// Puts the numbers of another list before those of this one; there is room for them.
     pub fn put_before(&mut self, first: &SoftList)
         requires { length first.now + length self.old ≤ 64 }
         ensures { self.new ≡ first.now ++ self.old }

@@ -12,7 +12,7 @@ use Rattle.poll_shared.specs.declared.seat.{Hold.{Hold, TheVariants.{Gone, Rests
 use Rattle.poll_shared.specs.{Seat.{GivesEach, MadeBy, SeatDid, ctx_of, packets_by, pass_of}, Tries.{Makes, Tries}}
 use Rattle.poll_shared.proofs.TriesFacts.{IsMade, begun, given-none, operations-made}
 
--- ---- the packets of one who has the context: those delivered, and those polled since
+-- ---- the packets of the owner of the context: those delivered, and those polled since
 
 abbrev Polled : Pass → RxCtx → List Packet
 Polled p x = packets_of (own_delivered p) ++ polled p x
@@ -33,7 +33,7 @@ held_packets p q x y h num same =
 pub back_packets : (p q : Pass) (x : RxCtx) → GivesBack p x q → number_of q ≡ number_of p → packets_of (own_delivered q) ≡ Polled p x ++ []
 back_packets p q x g num = delivers_back p q x g num ∙ sym (append-nil (Polled p x))
 
--- an emptied batch has just what was given
+-- a cleared batch has exactly what was added
 pub batch-has : {B : Type 0} (items : B → List Packet) (next : Next) (before : B) (packets : List Packet) (after : B)
     → items before ≡ [] → HasLast (λ b ps. items b ≡ ps) next before packets after → items after ≡ packets
 batch-has items Absent before packets after none h = ap items h.1 ∙ none ∙ sym h.0
@@ -47,7 +47,7 @@ made-of : (os : List Operation) (p q : Pass) → os ≢ [] → MadeBy os (Some p
 made-of [] p q some m = absurd (some refl)
 made-of (o ∷ os) p q some m = m
 
--- operations are no polls
+-- operations aren't polls
 gives-any : (o : Operation) (os : List Operation) (x y : Option RxCtx) → GivesEach x (made o ∷ map made os) y
 gives-any o [] x y = (y, refl)
 gives-any o (u ∷ os) x y = (x, gives-any u os x y)
@@ -57,7 +57,7 @@ gives-none [] x y some = absurd (some refl)
 gives-none (o ∷ os) x y some = gives-any o os x y
 
 module _ {R : Type 0} where
-  -- the seat after its caller went into a call and came out of it
+  -- the seat whose caller went into a call and came out of it
   abbrev pub Back : Seat R → Hold → Seat R → Hold → Seat R → Type 0
   Back s before gone after t = (s.hold ≡ before) × (gone ≡ record s { hold = Gone }) × (t ≡ record gone { hold = after })
 
@@ -90,7 +90,7 @@ module _ {R : Type 0} where
     (packets, [], next.poll.0, (refl, refl), refl),
   )
 
-  -- what was done from caller to caller: the operations made, and the packets that are delivered
+  -- what was done from one caller to the next: the operations made, and the packets delivered
   pub rises : {A : Type 0} (plan : Plan Packet A) (s t : Seat R) (b c : Caller) (a : A) → IsMade plan
       → (d : Does Tries SeatDid plan s a t) → s.hold ≡ Rests b → t.hold ≡ Rests c
       → Made b.pass (operations d.0) c.pass × Delivers b.pass (given d.0) c.pass

@@ -1,4 +1,4 @@
--- Plans that are followed at a shared instance: that something is made, and what they tell of the packets.
+-- Plans executed at a shared instance: each makes an operation, and what they imply about the packets.
 use Rattle.std.proofs.Common.{◌≡◌, ◌≢◌, ◌∙◌, ◌==◌, ℕ, Bool, true, false, List, [], ◌∷◌, ◌++◌, length, map, if◌then◌else◌}
 use Rattle.std.proofs.{Common.{ap, append-nil, refl, sym}, lemmas.List.map-append}
 use Rattle.{rx_ring.specs.declared.packet.Packet.Packet, napi_word.specs.declared.table.Pass.Pass}
@@ -13,7 +13,7 @@ use Rattle.poll_shared.specs.Tries.{Makes, Tries, TriesFor}
 use Rattle.napi_model.specs.declared.event.Done.TheVariants as done
 use Rattle.napi_model.specs.declared.event.Call.TheVariants as call
 
--- ---- a plan that begins with a call or an operation makes one at least
+-- ---- a plan that begins with a call or an operation makes at least one
 
 filled : (os : List Operation) (o : Operation) (ps : List Operation) → os ++ o ∷ ps ≢ []
 filled [] o ps = λ e. cc
@@ -57,7 +57,7 @@ given-none (o ∷ os) = given-none os
 
 -- ---- single calls
 
--- a call, and nothing behind it
+-- a single call
 pub asked : {A : Type 0} (c : Call) (read : Operation → A) (o : Operation) (os : List Operation) → Answers c o → Tries c o os
     → Makes (asks c (λ o. ends (read o))) os (read o)
 asked c read o os a t = (o, os, [], a, t, (refl, refl), sym (append-nil (map made os)))
@@ -78,7 +78,7 @@ pub completed-released : (thread : Bool) (os : List Operation) → TriesFor call
     → Makes (completed thread) os Gone
 completed-released thread os t = (Complete done.Released, os, [], refl, t, (refl, refl), sym (append-nil (map made os)))
 
--- granted again, it is handed over
+-- a completion after a missed request is followed by queueing the instance
 pub completed-again : (thread : Bool) (os ps : List Operation) (k : Kind) → TriesFor call.Complete (Complete done.Again ∷ []) os
     → Makes (handed thread) ps k → Makes (completed thread) (os ++ ps) (Again k)
 completed-again thread os ps k t m = (
@@ -91,14 +91,14 @@ completed-again thread os ps k t m = (
   map-append made os ps,
 )
 
--- one call after another, which made one at least
+-- two calls in sequence, the second of which made an operation
 pub made-behind : {p q r : Pass} (os ps : List Operation) → Made p os q → Made q ps r → ps ≢ [] → Made p (os ++ ps) r
 made-behind os [] m n some = absurd (some refl)
 made-behind os (o ∷ ps) m n some = more o ps m n
 
 -- ---- a poll from the list
 
--- by the plan no packets are given, and each of its answers is so
+-- the plan polls nothing, and each of its results has this property
 abbrev Keeps : {A : Type 0} → (A → Type 0) → Plan Packet A → Type 0
 Keeps is (ends a) = is a
 Keeps is (asks c go) = (o : Operation) → Keeps is (go o)
@@ -140,7 +140,7 @@ ended-keeps thread true = λ o. by (flags_in o).disable
     by true = completed-keeps thread
     by false = λ e. cc e
 
--- what is told of a poll that gave these packets
+-- what the outcome of a poll with these packets says
 abbrev Tells : List Packet → Given Packet → Type 0
 Tells packets g = (g.packets ≡ packets) × (g.once.work ≡ length packets) × (g.once.next ≢ Absent)
 
@@ -149,7 +149,7 @@ let-go-keeps : (packets : List Packet) (next : Next) (g : Given Packet) → Tell
 let-go-keeps packets Repoll g t = t
 let-go-keeps packets next g t = t
 
--- the packets of a poll from the list are all that are given
+-- all packets of the plan are those of its poll
 pub once-tells : (thread : Bool) (weight : ℕ) (deeds : List (Deed Packet)) (g : Given Packet)
     → Follows Tries (polled_once thread weight) deeds g
     → (given deeds ≡ g.packets) × (g.once.work ≡ length g.packets) × (g.once.next ≡ Absent → g.packets ≡ [])

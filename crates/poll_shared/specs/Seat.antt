@@ -1,4 +1,4 @@
--- What the calls of a caller's seat at a shared instance do.
+-- The effect of the calls of a caller's seat at a shared instance.
 use Rattle.std.specs.Prelude.{◌≡◌, List, [], ◌∷◌, ◌++◌, Option, Some, None}
 use Rattle.rx_ring.specs.{Ends.GivesNext, declared.{ends.RxCtx.RxCtx, packet.Packet.Packet}}
 use Rattle.{napi_model.specs.declared.event.Operation.Operation, napi_word.specs.{declared.table.Pass.Pass, View.packets_of}}
@@ -17,22 +17,21 @@ ctx_of (Polls w) = Some w.ctx
 ctx_of (PollsBusily b) = Some b.ctx
 ctx_of _ = None
 
--- the packets that its caller polled so far: those that it delivered, and behind them those that it polled since it took the
--- context
+-- the packets that its caller polled so far: those that it delivered, and then those that it polled since it took the context
 abbrev pub packets_by : Hold → List Packet
 packets_by (Rests c) = packets_of (own_delivered c.pass)
 packets_by (Polls w) = packets_of (own_delivered w.pass) ++ polled w.pass w.ctx
 packets_by (PollsBusily b) = packets_of (own_delivered b.pass) ++ polled b.pass b.ctx
 packets_by Gone = []
 
--- the pass of who made these
+-- the passes before and after these operations
 abbrev pub MadeBy : List Operation → Option Pass → Option Pass → Type 0
 MadeBy [] p q = q ≡ p
 MadeBy (o ∷ os) (Some p) (Some q) = Made p (o ∷ os) q
 MadeBy (o ∷ os) _ _ = ⊥
 
--- each poll gave the context's next packets, and no fewer than were known and its weight allows; what an operation does to the
--- context is said by its call
+-- each poll returned the context's next packets, at least those known and at most its weight; the effect of an operation on the
+-- context is stated by its call
 abbrev pub GivesEach : Option RxCtx → List (Deed Packet) → Option RxCtx → Type 0
 GivesEach x [] y = y ≡ x
 GivesEach x (made o ∷ deeds) y = (next : Option RxCtx) × GivesEach next deeds y
@@ -62,7 +61,7 @@ module _ {R : Type 0} where
   abbrev pub seat_in_busy : Seat R → Type 0
   seat_in_busy s = IsInBusyHand s.napi.now s.hold
 
-  -- this seat did these: it made the operations, and polled the packets
+  -- this seat took these actions: it made the operations, and polled the packets
   pub record SeatDid (s : Seat R) (deeds : List (Deed Packet)) (t : Seat R) : Type 0 where
     pub thread : t.thread ≡ s.thread
     pub made : MadeBy (operations deeds) (pass_of s.hold) (pass_of t.hold)

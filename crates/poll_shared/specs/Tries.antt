@@ -1,4 +1,4 @@
--- How a call comes to its answer at an instance that threads share: try after try, until one decides.
+-- How a call on an instance that threads share gets its result: it retries until an attempt decides.
 use Rattle.std.specs.Prelude.{◌≡◌, List, [], ◌∷◌, ◌++◌, flat_map, map}
 use Rattle.napi_model.specs.{Step.MayBusyTake, declared.{state.Seen.Seen, event.{Call.Call, Done.TheVariants.{Released, Again}}}}
 use Rattle.napi_model.specs.declared.event.Operation.{Operation, TheVariants.{Look, Complete, BusyTake, BusyStop}}
@@ -6,11 +6,11 @@ use Rattle.{napi_calls.specs.Made.{Lost, looks}, poll_runs.specs.Plan.{Follows, 
 use Rattle.rx_ring.specs.declared.packet.Packet.{Packet}
 use Rattle.napi_model.specs.declared.event.Call.TheVariants as call
 
--- lost tries, and a look that shows how the call may go on
+-- failed attempts, and a look after which the call may continue
 abbrev pub TriesFor : Call → List Operation → List Operation → Type 0
 TriesFor c decisive os = (ts : List (Lost c)) × (x : Seen) × (os ≡ flat_map looks ts ++ Look x ∷ decisive)
 
--- by these operations the call comes to this one, which decides
+-- by these operations the call results in this one, which decides
 abbrev pub Tries : Call → Operation → List Operation → Type 0
 Tries c (Complete Released) os = TriesFor c (Complete Released ∷ []) os
 Tries c (Complete Again) os = TriesFor c (Complete Again ∷ []) os
@@ -19,6 +19,6 @@ Tries c BusyTake os = (ts : List (Lost c)) × (x : Seen) × MayBusyTake x.flags 
 Tries call.BusyTake (Look x) os = (ts : List (Lost call.BusyTake)) × (os ≡ flat_map looks ts ++ Look x ∷ [])
 Tries c o os = os ≡ o ∷ []
 
--- by these operations, and no polls, the plan comes to this answer
+-- by these operations, and no polls, the plan has this result
 abbrev pub Makes : {A : Type 0} → Plan Packet A → List Operation → A → Type 0
 Makes plan os answer = Follows Tries plan (map made os) answer

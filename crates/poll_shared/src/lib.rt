@@ -1,4 +1,4 @@
-//! Behind the door `poll_engine`: the polling of a shared instance.
+//! Internal crate of the facade `poll_engine`: the polling of a shared instance.
 #![tactic(auto)]
 
 mod seat;

@@ -1,4 +1,4 @@
-//! A caller's seat at an instance that threads share, in the sight of one that polls it.
+//! A caller's handle on an instance that threads share, as its poller uses it.
 
 ghost use Rattle.std.specs.Prelude.{◌≡◌, List};
 ghost use Rattle.napi_model.specs.declared.event.Operation.{Operation};
@@ -16,7 +16,7 @@ use rx_ring::{Batch, Packet, batch_bytes};
 use std::mem;
 use std::sync::Wait;
 
-/// What the caller is. It has gone only within a call.
+/// The caller's state. It is `Gone` only within a call.
 pub(crate) enum Hold {
     Rests(Caller),
     Polls(Polling),
@@ -24,7 +24,7 @@ pub(crate) enum Hold {
     Gone,
 }
 
-/// The seat, by which the caller polls as an [`Instance`] does. It must be spent by [`rise`](Seat::rise).
+/// A handle by which a caller polls as an [`Instance`] does. It is linear: [`rise`](Seat::rise) returns the caller.
 pub(crate) struct Seat<'a, R> {
     pub(crate) rt: &'a R,
     pub(crate) napi: &'a Napi,
@@ -32,7 +32,7 @@ pub(crate) struct Seat<'a, R> {
     pub(crate) hold: Hold,
 }
 
-// To the instance's own thread where THREADED is set, else to the list.
+// Returns the instance's own thread if THREADED is set, otherwise the list.
 fn kind_for(flags: Flags) -> Kind
     ensures { result ≡ kind_for flags }
 {
@@ -43,8 +43,8 @@ fn kind_for(flags: Flags) -> Kind
     }
 }
 
-/// Hands over an instance that was granted (`____napi_schedule`): where `thread` says that it has a thread of its own, to that
-/// if THREADED is seen, and else to the list. Answers to whom; handed to the list, its number is still to be pushed.
+/// Queues an instance that was granted (`____napi_schedule`): for its own thread, if `thread` says that it has one and THREADED
+/// is set, otherwise on the list. Returns which; if it is the list, the caller still has to push the number.
 pub fn hand_over(napi: &Napi, mut granted: Granted, thread: bool) -> (Caller, Kind)
     requires { IsSeatOf napi.now granted.pass }
     ensures made { (os : List Operation) × Made granted.pass os result.0.pass
@@ -59,8 +59,8 @@ pub fn hand_over(napi: &Napi, mut granted: Granted, thread: bool) -> (Caller, Ki
     (granted.hand(napi, kind), kind)
 }
 
-/// Completes an instance (`napi_complete_done`), and hands it over, as [`hand_over`] does, where it is granted again. Answers to
-/// whom: `None` where it was released.
+/// Completes an instance (`napi_complete_done`). After a missed request it queues the instance again, like [`hand_over`], and
+/// returns which queue; `None` means that the instance was released.
 pub fn complete<R: Wait>(
     rt: &R,
     napi: &Napi,
@@ -86,7 +86,7 @@ impl<'a, R: Wait> Seat<'a, R> {
     ghost use Rattle.poll_shared.specs.Seat.{seat_in_busy, seat_in_hand, seat_rests};
     ghost use Rattle.poll_shared.specs.declared.seat.Hold.TheVariants.{Rests, Polls, PollsBusily, Gone};
 
-    /// The caller, who polls no more.
+    /// Returns the caller, which doesn't poll any more.
     pub(crate) fn rise(self) -> Caller
         requires { seat_rests self }
         ensures { self.entry.hold ≡ Rests result }
@@ -103,7 +103,7 @@ impl<'a, R: Wait> Seat<'a, R> {
         }
     }
 
-    // Lets the caller go into a call.
+    // Takes the caller out for a call.
     fn caller(&mut self) -> Caller
         requires { seat_rests self.old }
         ensures was { self.old.hold ≡ Rests result }
@@ -115,7 +115,7 @@ impl<'a, R: Wait> Seat<'a, R> {
         }
     }
 
-    // Lets the poller go into a call.
+    // Takes the poller out for a call.
     fn polling(&mut self) -> Polling
         requires { seat_in_hand self.old }
         ensures was { self.old.hold ≡ Polls result }
@@ -127,7 +127,7 @@ impl<'a, R: Wait> Seat<'a, R> {
         }
     }
 
-    // Lets who busy polls go into a call.
+    // Takes the busy poller out for a call.
     fn busy(&mut self) -> Busy
         requires { seat_in_busy self.old }
         ensures was { self.old.hold ≡ PollsBusily result }
@@ -139,7 +139,7 @@ impl<'a, R: Wait> Seat<'a, R> {
         }
     }
 
-    // What comes out of the call.
+    // Puts the result of the call back.
     fn put(&mut self, hold: Hold)
         requires { self.old.hold ≡ Gone }
         ensures { self.new ≡ record self.old { hold = hold } }

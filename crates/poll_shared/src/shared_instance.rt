@@ -20,12 +20,13 @@ use poll_runs::{BusyReport, Next, Once, ThreadReport, poll_busy_of, poll_once_of
 use rx_ring::Batch;
 use std::sync::Wait;
 
-/// Takes an instance that threads share from the list and polls it once (`napi_poll`), with this weight, in 1..=64. Where
-/// `thread` is true the instance has a thread of its own, to which it is handed after `Again` where THREADED is seen; else
-/// every handing is to the list. After [`Next::Again`] of the list and [`Next::Repoll`] its number is still to be pushed.
+/// Takes an instance that threads share from the list and polls it once (`napi_poll`), with this weight, in 1..=64. If `thread`
+/// is true the instance has its own thread, and after a missed request it is queued for that thread if THREADED is set;
+/// otherwise it is always queued on the list. After [`Next::Repoll`], and [`Next::Again`] with the list, the caller still has
+/// to push its number.
 ///
-/// The batch then has the packets that the poll gave, which are all that the caller delivers by it, and none where the instance
-/// wasn't there.
+/// The batch then has the packets of the poll, which are all that the caller delivers by it, and none if the instance wasn't on
+/// the list.
 pub fn poll_instance<R: Wait>(
     rt: &R,
     napi: &Napi,
@@ -57,12 +58,12 @@ pub fn poll_instance<R: Wait>(
     (seat.rise(), once)
 }
 
-/// The polling of an instance that threads share by its own thread (`napi_threaded_poll`), with this weight, in 1..=64, at
-/// most `most` polls, in 1..=131072. It takes the instance, where it was handed to the thread, and polls it until no repoll is
-/// asked; after `Again` it is handed to the thread, and taken again, where THREADED is seen, else to the list. After
-/// [`Next::Repoll`] and [`Next::Again`] of the list its number is still to be pushed.
+/// Polls an instance that threads share by its own thread (`napi_threaded_poll`), with this weight, in 1..=64, at most `most`
+/// times, in 1..=131072. It takes the instance, if it was queued for the thread, and polls it until no repoll is asked for.
+/// After a missed request the instance is queued for the thread and taken again if THREADED is set, otherwise queued on the
+/// list. After [`Next::Repoll`], and [`Next::Again`] with the list, the caller still has to push its number.
 ///
-/// The batch is emptied before each poll: it then has the packets of the last one, and none where no poll was made.
+/// The batch is cleared before each poll: afterwards it has the packets of the last one, and none if there was no poll.
 pub fn poll_instance_by_thread<R: Wait>(
     rt: &R,
     napi: &Napi,
@@ -93,13 +94,14 @@ pub fn poll_instance_by_thread<R: Wait>(
     (seat.rise(), report)
 }
 
-/// Busy polls an instance that threads share (`napi_busy_loop`): where it is idle the caller takes it, makes so many rounds, in
-/// 1..=65535, stops (`busy_poll_stop`) and polls once more. Each poll has this weight, in 1..=64. A round with work below the
-/// weight completes, which holds the instance. The last poll then releases it or, after `Again`, hands it to the thread where
-/// THREADED is seen and else to the list; with its whole weight it hands it to the list. After [`Next::Repoll`] and
-/// [`Next::Again`] of the list its number is still to be pushed. An instance that isn't idle is [`Next::Absent`].
+/// Busy polls an instance that threads share (`napi_busy_loop`): if it is idle, the caller takes it, makes this many rounds, in
+/// 1..=65535, stops (`busy_poll_stop`) and polls once more, each time with this weight, in 1..=64. A round with work below the
+/// weight completes, and the completion is held. The last poll releases the instance or, after a missed request, queues it: for
+/// the thread if THREADED is set, otherwise on the list; if it uses its whole weight, it queues it on the list. After
+/// [`Next::Repoll`], and [`Next::Again`] with the list, the caller still has to push its number. Returns [`Next::Absent`] for
+/// an instance that isn't idle.
 ///
-/// The batch is emptied before each poll: it then has the packets of the last one, and none where no poll was made.
+/// The batch is cleared before each poll: afterwards it has the packets of the last one, and none if there was no poll.
 pub fn busy_instance<R: Wait>(
     rt: &R,
     napi: &Napi,

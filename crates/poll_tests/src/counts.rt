@@ -1,4 +1,4 @@
-//! What is made for a count is made for each count that it takes, where memory is there: no clause can say that.
+//! What can be made for a range of counts can be made for each of them, if allocations succeed: no contract can say that.
 
 ghost use Rattle.std.specs.Prelude.{◌≤◌, IfOk, IsTrue, vec_items};
 ghost use Rattle.std.specs.List.{All};
@@ -38,7 +38,7 @@ fn instances_of_each_count(rt: HostRuntime) -> Result<(), Fail> {
     Ok(())
 }
 
-// A list of 1 to 64 ends, each of which pushes once.
+// A list with 1 to 64 ends, each of which pushes once.
 #[test]
 fn lists_of_each_count(rt: HostRuntime) -> Result<(), Fail> {
     for pushers in 1..65u32 {
@@ -54,7 +54,7 @@ fn lists_of_each_count(rt: HostRuntime) -> Result<(), Fail> {
     Ok(())
 }
 
-// A ring of few, of odd and of the most places takes as many packets as it has places, and no more.
+// A ring of a small, an odd and the greatest capacity takes exactly that many packets.
 #[test]
 fn rings_of_odd_capacities(rt: HostRuntime) -> Result<(), Fail> {
     for capacity in [
@@ -69,7 +69,7 @@ fn rings_of_odd_capacities(rt: HostRuntime) -> Result<(), Fail> {
     Ok(())
 }
 
-// So many stations without an act, each with a thread of its own.
+// Returns this many stations without acts, each with its own thread.
 fn stations_of(alloc: Global, count: u32) -> Result<Vec<Station<ActList>>, AllocError>
     requires { count ≤ 16 }
     ensures { IfOk result (λ v. All IsStation (vec_items v)) }
@@ -86,7 +86,7 @@ fn stations_of(alloc: Global, count: u32) -> Result<Vec<Station<ActList>>, Alloc
     Ok(stations)
 }
 
-// How many of so many stations are run by so many pollers.
+// Returns how many of this many stations are run by this many pollers.
 fn run_idle<R: Threads + Wait + Sync>(
     rt: &R,
     alloc: Global,

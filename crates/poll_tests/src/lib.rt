@@ -1,26 +1,14 @@
-//! Tests of poll lists, of the polling of a shared instance, of each count that something is made for, and of runs with threads,
-//! looked at by gates. Nothing but tests stands here.
+//! Tests of poll lists, of runs, of the polling of a shared instance, and of each count for which something is made. There are only
+//! tests here.
 #![tactic(auto)]
 
 #[cfg(test)]
-mod at_each_act;
-#[cfg(test)]
 mod counts;
 #[cfg(test)]
-mod gates;
-#[cfg(test)]
 mod listing;
-#[cfg(test)]
-mod pacing;
 #[cfg(test)]
 mod places;
 #[cfg(test)]
 mod polling;
 #[cfg(test)]
 mod runs;
-#[cfg(test)]
-mod shut;
-#[cfg(test)]
-mod side_by_side;
-#[cfg(test)]
-mod threads;

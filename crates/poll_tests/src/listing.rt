@@ -1,4 +1,4 @@
-//! The poll list to which other threads push.
+//! The poll list to which several threads push.
 
 ghost use Rattle.std.specs.Prelude.{◌≡◌, [], ◌∷◌, IfOk};
 ghost use Rattle.poll_engine.specs.SharedLists.{IsInOf, IsNewList, in_hand, pushed_by};
@@ -9,7 +9,7 @@ use std::sync::Wait;
 use std::test::Fail;
 use std::thread;
 
-/// A list with two ends that push.
+/// Returns a list with two ends for pushing.
 fn two_ended<R: Wait + Copy>(
     rt: R,
     alloc: Global,
@@ -28,7 +28,7 @@ fn two_ended<R: Wait + Copy>(
     Ok((list, first, second))
 }
 
-/// The numbers that a splice gives.
+/// Returns the numbers of a splice.
 fn spliced<R: Wait>(list: &mut SharedList<R>) -> SoftList
     ensures { in_hand list.new ≡ [] }
 {
@@ -37,7 +37,7 @@ fn spliced<R: Wait>(list: &mut SharedList<R>) -> SoftList
     soft
 }
 
-/// A list of one number.
+/// Returns a list of one number.
 fn only(id: u32) -> SoftList
     ensures { result ≡ id ∷ [] }
 {
@@ -46,7 +46,8 @@ fn only(id: u32) -> SoftList
     soft
 }
 
-// An end fills the queue of 64 places. A push of the poller's own goes on: it takes the first entry into the poller's hands.
+// An end fills the queue of 64 entries. A push of the poller's own doesn't wait: the poller keeps the queue's first entry
+// itself.
 #[test]
 fn a_poller_never_waits_for_itself(rt: HostRuntime) -> Result<(), Fail> {
     let (mut list, mut first, _second) = two_ended(&rt, rt.alloc())?;
@@ -60,7 +61,7 @@ fn a_poller_never_waits_for_itself(rt: HostRuntime) -> Result<(), Fail> {
     Ok(())
 }
 
-// Out of memory isn't taken here: the program `memory_tests` tries each call with its allocations refused.
+// The program `memory_tests` tests failing allocations.
 #[test]
 fn each_end_pushes(rt: HostRuntime) -> Result<(), Fail> {
     let (mut list, mut ins) = shared_list(&rt, rt.alloc(), 3)?;
@@ -123,7 +124,7 @@ fn ends_with_what_is_left(rt: HostRuntime) -> Result<(), Fail> {
     Ok(())
 }
 
-/// A thread's pushes: so many numbers, from this one on.
+/// A thread's pushes: this many numbers, from this one on.
 fn push_many<R: Wait>(mut end: ListIn<R>, from: u32, count: u32) -> ListIn<R> {
     for k in 0..count {
         end.push(from.saturating_add(k));
@@ -131,7 +132,7 @@ fn push_many<R: Wait>(mut end: ListIn<R>, from: u32, count: u32) -> ListIn<R> {
     end
 }
 
-// The queue has 64 places, so each pusher waits for the poller time and again.
+// The queue has room for 64, so each pusher waits for the poller time and again.
 #[test]
 fn two_threads_push_each_number_once(rt: HostRuntime) -> Result<(), Fail> {
     let (mut list, first, second) = two_ended(rt, rt.alloc())?;
@@ -167,7 +168,7 @@ fn two_threads_push_each_number_once(rt: HostRuntime) -> Result<(), Fail> {
     Ok(())
 }
 
-/// A poller's thread: takes so many numbers, and counts those that came in turn from 0 on.
+/// A poller's thread: takes this many numbers, and counts those that arrive in order from 0 on.
 fn take_many<R: Wait + Drop>(rt: R, mut list: SharedList<R>, count: u32) -> u32 {
     let mut taken = 0u32;
     let mut in_turn = 0u32;
@@ -186,7 +187,7 @@ fn take_many<R: Wait + Drop>(rt: R, mut list: SharedList<R>, count: u32) -> u32 
     in_turn
 }
 
-// The poller's end may go to a thread of its own too.
+// The poller's end can be sent to another thread too.
 #[test]
 fn a_poller_in_its_own_thread(rt: HostRuntime) -> Result<(), Fail> {
     let (list, mut first, _second) = two_ended(rt, rt.alloc())?;

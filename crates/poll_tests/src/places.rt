@@ -1,4 +1,4 @@
-//! What is refused for want of places: a ring that has none, and one push more than a list has places.
+//! Errors of capacity: a ring of capacity 0, and one push more than a list can hold.
 
 use poll_engine::SoftList;
 use rx_ring::{RingFault, ring};
@@ -9,7 +9,7 @@ fn a_ring_has_a_place(rt: HostRuntime) {
     assert_eq!(rt; ring(rt.alloc(), 0).err(), Some(RingFault::BadCapacity));
 }
 
-// The 65th push is handed back, and the list is as it was.
+// The 65th push returns the number, and the list is unchanged.
 #[test]
 fn a_list_has_64_places(rt: HostRuntime) {
     let mut list = SoftList::new();

@@ -1,4 +1,4 @@
-//! Worked runs of the polling of a shared instance; the words are those of docs/FORMATS.md.
+//! Worked runs of the polling of a shared instance; the state words are those of docs/FORMATS.md.
 
 ghost use Rattle.std.specs.Prelude.{◌≡◌, ◌≤◌, ℕ, slice_get, Some};
 ghost use Rattle.rx_ring.specs.declared.ends.RxCtx.{RxCtx};
@@ -25,7 +25,7 @@ const fn once(work: u32, next: Next) -> Once {
     Once { work, next }
 }
 
-/// A disabled instance, with its two callers and packets of so many bytes in its ring.
+/// A disabled instance, with its two callers and packets of these sizes in its ring.
 struct Bed {
     input: RxIn,
     napi: Napi,
@@ -93,7 +93,7 @@ fn word(napi: &Napi, caller: &mut Caller) -> u64
     encode(caller.look(napi))
 }
 
-/// Asks for a poll that is granted, and hands the instance over.
+/// Requests a poll, which is granted, and queues the instance.
 fn handed<R: Abort + Wait>(rt: &R, napi: &Napi, caller: Caller, kind: Kind) -> Caller
     requires { IsSeatOf napi.now caller.pass }
     ensures { IsSeatOf napi.now result.pass }
@@ -161,7 +161,7 @@ fn an_instance_on_the_list_that_is_being_disabled(rt: HostRuntime) -> Result<(),
     Ok(())
 }
 
-/// The thread makes at most so many polls of weight 2, of three packets: what it makes, and what it leaves to the list.
+/// The thread makes at most this many polls of weight 2, of three packets: its report, and what it leaves to the list.
 fn play_by_thread<R: Abort + Wait>(rt: &R, alloc: Global, most: u32, want: ThreadReport, left: Once)
     requires { (1 ≤ most) × (most ≤ 131072) }
 {

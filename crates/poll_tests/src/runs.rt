@@ -1,4 +1,4 @@
-//! Runs over a bench, by each kind of list; and the acts of a list of them.
+//! Runs over a bench, by each kind of list; and the acts of a list of acts.
 
 use poll_engine::{
     Act, ActList, Bench, BusyReport, Device, Next, Once, PlainList, PollList, RunReport, SoftList,
@@ -7,10 +7,10 @@ use poll_engine::{
 use rx_ring::Packet;
 use std::test::Fail;
 
-/// Cards that have so many packets together.
+/// Cards with this many packets in all.
 #[derive(Drop)]
 struct Cards {
-    /// The packets that no poll gave.
+    /// The packets that no poll returned.
     packets: u32,
 }
 
@@ -111,7 +111,7 @@ fn a_device_tells_its_acts(rt: HostRuntime) -> Result<(), Fail> {
     Ok(())
 }
 
-// Polls in each way what is polled by numbers: one bound is enough.
+// Polls by number in each way: one trait bound is enough.
 fn poll_in_each_way<B: Bench>(bench: &mut B) -> (Once, ThreadReport, BusyReport) {
     let once = bench.poll_once(1, 2);
     let by_thread = bench.poll_thread(1, 3, 1024);

@@ -1,10 +1,10 @@
-//! Whole replays of a trace of network events, from the bytes of the trace to the bytes of the report, or the line and the exit
-//! status of a fault: on one thread, by one thread over instances that threads could share, and with threads. And the words by
-//! which a program is told which of these to make.
+//! Whole replays of a trace of network events, from the bytes of the trace to the bytes of the report, or the message and the
+//! exit status of an error: on one thread, by one thread on instances that threads could share, and with threads. Also the
+//! command line that selects one of these.
 //!
-//! A door: it passes on what stands behind it, and adds nothing. `replay_words` has the words and the settings, `replay_text` the
-//! faults, `replay_rows` the replay on one thread, and `replay_threads` the other two. What contracts cite is passed on by
-//! `specs/Lib.antt`. The program `napi_replay` is made of these calls.
+//! This is a facade: it re-exports its internal crates, and adds nothing. `replay_words` has the command line and the settings,
+//! `replay_text` the errors, `replay_rows` the replay on one thread, and `replay_threads` the other two. `specs/Lib.antt`
+//! re-exports what contracts cite. The program `napi_replay` makes these calls.
 #![tactic(auto)]
 
 pub use replay_rows::replay_serial;

@@ -1,10 +1,10 @@
--- The faults of a replay as numbers.
+-- The errors of a replay as numbers.
 use Rattle.{std.specs.Prelude.ℕ, replay_text.specs.declared.fault.ReplayFault.{ReplayFault, TheVariants.{Trace, Pending, OutputFailed}}}
 use Rattle.device_rows.specs.declared.fault.TraceFault.{TraceFault, TheVariants.{BadHeader, BadFields, BadNumber, BadEvent, OutOfRange}}
 use Rattle.device_rows.specs.declared.fault.TraceFault.TheVariants.{UnknownDevice, OpenTwice, WrongState, TooManyRows, ReadFailed}
 use Rattle.{device_rows.specs.declared.fault.TraceFault.TheVariants.OutOfMemory, replay_c.specs.Status.{BAD_TRACE, OUT_OF_MEMORY}}
 
--- a fault that no trace has is for want of memory
+-- an error that doesn't come from the trace is that of an allocation
 abbrev pub trace_status : TraceFault → ℕ
 trace_status ReadFailed = OUT_OF_MEMORY
 trace_status OutOfMemory = OUT_OF_MEMORY
@@ -15,7 +15,7 @@ fault_status (Trace fault) = trace_status fault
 fault_status OutputFailed = OUT_OF_MEMORY
 fault_status _ = BAD_TRACE
 
--- the row that a fault names, or 0
+-- the row that an error names, or 0
 abbrev pub trace_row : TraceFault → ℕ
 trace_row (BadFields row) = row
 trace_row (BadNumber row) = row

@@ -1,4 +1,4 @@
--- The numbers that a replay answers, of the one number space of all calls for C.
+-- The statuses that a replay returns, which are among those of all calls for C.
 use Rattle.std.specs.Prelude.{ℕ}
 
 abbrev pub OK : ℕ

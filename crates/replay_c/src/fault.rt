@@ -1,4 +1,4 @@
-//! Faults of a trace, as numbers.
+//! Errors of a trace, as numbers.
 
 ghost use Rattle.std.specs.Prelude.{◌≡◌};
 ghost use Rattle.replay_c.specs.Status.{BAD_TRACE};
@@ -8,7 +8,8 @@ use crate::status;
 use device_rows::TraceFault;
 use replay_text::ReplayFault;
 
-// The status of a fault. A trace in memory is read without fail, so where a reader or a writer fails it is for want of memory.
+// Returns the status of an error. Reading a trace from memory never fails, so a reader or a writer fails only if an allocation
+// does.
 pub(crate) fn fault_status(fault: &ReplayFault) -> u32
     ensures { result ≡ fault_status fault.now }
 {
@@ -36,7 +37,7 @@ fn trace_row(fault: &TraceFault) -> u32
     }
 }
 
-// The row that a fault names, or 0.
+// Returns the row that an error names, or 0.
 pub(crate) fn row_of(fault: &ReplayFault) -> u32
     ensures { result ≡ row_of fault.now }
 {

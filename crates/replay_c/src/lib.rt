@@ -1,4 +1,4 @@
-//! The whole replay for C, in serial mode: from the bytes of a trace to the bytes of its report, or the numbers of a fault.
+//! The whole replay for C, in serial mode: from the bytes of a trace to the bytes of its report, or the numbers of an error.
 #![tactic(auto)]
 
 mod fault;

@@ -14,31 +14,31 @@ use replay_text::ReplayFault;
 use replay_words::Settings;
 use std::alloc::Global;
 
-/// How a replay polls: `struct fq_settings`.
+/// The settings of a replay: `struct fq_settings`.
 #[repr(C)]
 #[derive(Clone, Copy)]
 pub struct FqSettings {
     /// Packets that a run polls before it is squeezed, 1 to 65535 (`netdev_budget`).
     pub budget: u32,
-    /// Packets that one poll gives at most, 1 to 64 (`NAPI_POLL_WEIGHT`).
+    /// Packets that one poll may process, 1 to 64 (`NAPI_POLL_WEIGHT`).
     pub weight: u32,
-    /// Polls that a run makes before it is squeezed, 1 to 65535; it stands in for the kernel's `netdev_budget_usecs`.
+    /// Polls that a run makes before it is squeezed, 1 to 65535; it takes the place of the kernel's `netdev_budget_usecs`.
     pub window: u32,
 }
 
-/// What a replay tells beside its status: `struct fq_replayed`.
+/// The result of a replay besides its status: `struct fq_replayed`.
 #[repr(C)]
 #[derive(Clone, Copy)]
 pub struct FqReplayed {
-    /// The bytes of the report, also where there is no room for it; 0 where there is none.
+    /// The length of the report in bytes, even if there is no room for it; 0 if there is none.
     pub length: usize,
-    /// The number of the trace's fault, 1 to 12; 0 where it has none.
+    /// The number of the trace's error, 1 to 12; 0 if it has none.
     pub fault: u32,
-    /// The row that the fault names; 0 where it names none.
+    /// The row that the error names; 0 if it names none.
     pub row: u32,
 }
 
-// The settings of these numbers, or the status of the first that is out of its range.
+// Returns the settings with these numbers, or the status of the first that is out of its range.
 fn asked_by(settings: &FqSettings) -> Result<Settings, u32>
     ensures asked { IfOk result
         (λ s. Asks settings.now s × HasWeight settings.now × HasBudget settings.now) }
@@ -53,7 +53,7 @@ fn asked_by(settings: &FqSettings) -> Result<Settings, u32>
     }
 }
 
-// The report of a trace.
+// Returns the report of a trace.
 fn report_of(alloc: Global, settings: &Settings, trace: &[u8]) -> Result<Vec<u8>, ReplayFault>
     ensures report { IfOk result (λ text. replay_of settings.now trace.now ≡ Ok text.items) }
     ensures fault { IfErr result
@@ -66,7 +66,7 @@ fn report_of(alloc: Global, settings: &Settings, trace: &[u8]) -> Result<Vec<u8>
     }
 }
 
-// Puts a report into the caller's array, where that has room for all of it.
+// Puts a report into the caller's array, if that has room for all of it.
 fn put_report(text: &[u8], report: &mut [u8], replayed: &mut FqReplayed) -> u32
     ensures ok { result ≡ OK → take replayed.new.length report.new ≡ text.now }
     ensures no_room { result ≢ OK → (result ≡ NO_ROOM) × (length report.old < length text.now) }
@@ -83,7 +83,7 @@ fn put_report(text: &[u8], report: &mut [u8], replayed: &mut FqReplayed) -> u32
     status::OK
 }
 
-// Tells a fault of the trace by its numbers.
+// Reports an error of the trace by its numbers.
 fn tell(fault: &ReplayFault, replayed: &mut FqReplayed) -> u32
     ensures status { result ≡ fault_status fault.now }
     ensures told { result ≡ BAD_TRACE → Tells fault.now replayed.new }
@@ -100,8 +100,9 @@ fn tell(fault: &ReplayFault, replayed: &mut FqReplayed) -> u32
     status
 }
 
-/// As `replay_serial`, from the bytes of a trace into an array, of which the report is the first `length` bytes: ok; no room, and
-/// nothing is written; bad weight, bad budget (or window); bad trace, with the numbers of its fault; out of memory.
+/// Like `replay_serial`, from the bytes of a trace into an array: the report is the first `length` bytes of it. Returns ok; no
+/// room, and then nothing is written; bad weight or bad budget (or window); bad trace, with the numbers of its error; or out of
+/// memory.
 #[unsafe(no_mangle)]
 pub extern "C" fn fq_replay(
     alloc: Global,
@@ -110,7 +111,7 @@ pub extern "C" fn fq_replay(
     report: &mut [u8],
     replayed: &mut FqReplayed,
 ) -> u32
-    // What is written is the report of the bytes of the trace by these settings, and a fault is theirs.
+    // What is written is the report of the bytes of the trace with these settings, and an error is theirs.
     ensures written { result ≡ OK
         → IsReport settings.now trace.now (take replayed.new.length report.new) }
     ensures no_room { result ≡ NO_ROOM → (text : List ℕ) × IsReport settings.now trace.now text
@@ -120,11 +121,11 @@ pub extern "C" fn fq_replay(
     ensures memory { result ≢ OK → result ≢ NO_ROOM → result ≢ BAD_TRACE → result ≢ BAD_WEIGHT
         → result ≢ BAD_BUDGET → (result ≡ OUT_OF_MEMORY) × LacksMemory settings.now trace.now }
 
-    // Settings are refused exactly where they are out of their ranges, and then and by every fault nothing is written.
+    // Settings are rejected exactly if they are out of their ranges; then, and after every error, nothing is written.
     ensures weight { (result ≡ BAD_WEIGHT) ↔ ¬ HasWeight settings.now }
     ensures budget { (result ≡ BAD_BUDGET) ↔ (HasWeight settings.now × ¬ HasBudget settings.now) }
     ensures kept { result ≢ OK → report.new ≡ report.old }
-    // What is told beside the status is of the report or of the fault, and else 0.
+    // What is returned besides the status is of the report or of the error, and otherwise 0.
     ensures faultless { result ≢ BAD_TRACE → (replayed.new.fault ≡ 0) × (replayed.new.row ≡ 0) }
     ensures no_report { result ≢ OK → result ≢ NO_ROOM → replayed.new.length ≡ 0 }
 {

@@ -1,10 +1,10 @@
-//! The numbers that a replay answers: some of those of `enum fq_status`. The crate stands on nothing that threads share, so not on
-//! `c_handles`, which has the others.
+//! The statuses that a replay returns: some of those of `enum fq_status`. This crate depends on nothing that threads share, so
+//! not on `c_handles`, which has the others.
 
 /// The report is written.
 pub(crate) const OK: u32 = 0;
 
-/// There is no memory.
+/// Out of memory.
 pub(crate) const OUT_OF_MEMORY: u32 = 112;
 
 /// A weight is 1 to 64.
@@ -16,5 +16,5 @@ pub(crate) const NO_ROOM: u32 = 115;
 /// Budget and window are 1 to 65535.
 pub(crate) const BAD_BUDGET: u32 = 116;
 
-/// The bytes are no trace, or a row of it can't be played.
+/// The bytes aren't a trace, or a row of it can't be processed.
 pub(crate) const BAD_TRACE: u32 = 120;

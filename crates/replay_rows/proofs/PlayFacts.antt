@@ -1,4 +1,4 @@
--- How one more row carries a replay on.
+-- How one more row advances a replay.
 use Rattle.std.proofs.Common.{◌≡◌, ◌∙◌, ℕ, zero, suc, ◌+◌, ◌<◌, Bool, true, false, Ok, Err, inl, inr, List, [], ◌∷◌, ◌++◌, length}
 use Rattle.std.proofs.{Common.{append_assoc, take, drop, get_or, ap, refl, sym, arith}, lemmas.List.{length-take, take_more}}
 use Rattle.std.specs.Prelude.{◌⊎◌, IfErr, Result, if◌then◌else◌}
@@ -9,7 +9,7 @@ use Rattle.{replay_rows.specs.ReplayState.ReplayState, replay_text.specs.declare
 use Rattle.replay_text.specs.{declared.fault.ReplayFault.TheVariants.Pending, Outside.IsWantOfMemory}
 use Rattle.replay_words.specs.declared.settings.Settings.{Settings}
 
--- the rest of the rows, where those before it were played
+-- the remaining rows, after those before them were processed
 then_rows : Settings → ℕ → List Row → Result ReplayState ReplayFault → Result ReplayState ReplayFault
 then_rows s n rows (Ok w) = after_rows s n rows w
 then_rows s n rows (Err fault) = Err fault
@@ -45,7 +45,7 @@ played-more s rows i d old new below before on_time step =
     let appended = after_rows-append s 1 (i + 1) (take i rows) (row ∷ []) start (omega (arith, length-take i rows)) in
     ap (λ (l : List Row). after_rows s 1 l start) (take_more rows i d below) ∙ appended ∙ rw (before, on_time, step) refl
 
--- a row that is early ends all
+-- an early row ends the replay
 pub played-early : (s : Settings) (rows : List Row) (i : ℕ) (d : Row) (old : ReplayState) → i < length rows
     → after_rows s 1 (take i rows) start ≡ Ok old
     → is_early (get_or rows i d).event (get_or rows i d).device old ≡ true → after_all s rows ≡ Err (Pending (i + 1))
@@ -61,17 +61,17 @@ after_transmits-push : (rows : List Row) (row : Row) (all : Transmits)
 after_transmits-push [] row all = refl
 after_transmits-push (r ∷ rows) row all = after_transmits-push rows row (after_transmit r all)
 
--- the transmit sides, over the front of a list of rows
+-- the transmit sides after the first rows of a list, and one more
 pub after_transmits-more : (rows : List Row) (all : Transmits) (i : ℕ) (d : Row) → i < length rows
     → after_transmits (take (i + 1) rows) all ≡ after_transmit (get_or rows i d) (after_transmits (take i rows) all)
 after_transmits-more rows all i d below = rw (take_more rows i d below) (after_transmits-push (take i rows) (get_or rows i d) all)
 
--- where the rows have a fault, so has their report
+-- if the rows have an error, so has their report
 pub report-early : (s : Settings) (rows : List Row) (fault : ReplayFault) → after_all s rows ≡ Err fault → (version : ℕ)
     → serial_report s version rows ≡ Err fault
 report-early s rows fault early version = ap (report_of version (transmits_of rows)) early
 
--- rows are refused for an early enable alone
+-- the only error of rows is an early enable
 rows-fault : (s : Settings) (n : ℕ) (rows : List Row) (w : ReplayState) (fault : ReplayFault) → after_rows s n rows w ≡ Err fault
     → (m : ℕ) × (fault ≡ Pending m)
 rows-fault s n [] w fault e = absurd (cc e)
@@ -82,7 +82,7 @@ rows-fault s n (row ∷ rows) w fault e = by (is_early row.event row.device w) (
     by true rest e = let is : fault ≡ Pending n = cc e in (n, is)
     by false rest e = rest e
 
--- and so is their report
+-- and so is that of their report
 report_written : (s : Settings) (version : ℕ) (rows : List Row) → serial_report s version rows ≡ Err OutputFailed → ⊥
 report_written s version rows e = by (after_all s rows) refl e
   where
@@ -102,6 +102,6 @@ unwritten s version rows (Err fault) h = λ failed. elim h [
   | inr early ↦ report_written s version rows (early ∙ ap Err failed)
 ]
 
--- four parts of a text, in whatever order they were joined
+-- four parts of a text, however they were concatenated
 pub four-parts : (a b c d : List ℕ) → ((a ++ b) ++ c) ++ d ≡ a ++ (b ++ (c ++ d))
 four-parts a b c d = append_assoc (a ++ b) c d ∙ append_assoc a b (c ++ d)

@@ -1,4 +1,5 @@
--- A run over the poll list is the one that its definition gives, and keeps the list within the devices that wait on it.
+-- A run over the poll list is the one that its definition computes, and the list never has more entries than devices that wait
+-- on it.
 use Rattle.std.proofs.Common.{◌≡◌, ℕ, ◌+◌, ◌≤◌, cond, List, [], ◌∷◌, ◌++◌, length, length-append, take, drop, ap, refl, arith}
 use Rattle.{std.{proofs.lemmas.List.{length-drop, length-take, Sums.sum_by-cons}, specs.Prelude.sum_by}, device_bench.specs.Bench.ArePolls}
 use Rattle.{device_bench.specs.{Bench.{Devices, polled_at}, Waiting.leaves}, device_transmit.specs.Transmits.{Keeps, Transmits}}
@@ -21,13 +22,13 @@ transmits-stay devices shows waiting relation are s before after (poll ∷ polls
     let is = are before leads.0 poll.id s.weight poll.once leads.1 in
     transmits-stay devices shows waiting relation are s leads.0 after polls leads.2 all (is.transmits all shown)
 
--- what a run over the devices and a list of one thread is
+-- a run over the devices and a list of one thread
 pub record IsRunOf (s : Settings) (devices : Devices) (list : List ℕ) (after : Devices) (left : List ℕ) (report : RunReport) : Type 0 where
   pub devices_after : after ≡ (run_of s devices list).0.bench
   pub list_after : left ≡ (run_of s devices list).1
   pub reported : report ≡ run_report s.budget s.window (run_of s devices list).0.polls
 
--- by the law of runs over what a bench shows, its devices
+-- by the law of runs on a view of the bench, its devices
 pub only-run : {B : Type 0} (devices : B → Devices) (shows : B → Transmits → Type 0) (waiting : B → ℕ)
     (relation : B → ℕ → ℕ → Once → B → Type 0)
     → ArePolls devices shows waiting relation
@@ -69,7 +70,7 @@ one-goes id Repoll = refl
 one-goes id (Again kind.List) = refl
 one-goes id (Again kind.Thread) = refl
 
--- each poll's number arrives again, is repolled, or leaves
+-- each poll's number is queued again, gets a repoll, or leaves
 each-goes : (polls : List Poll) → length (arrivals polls) + length (repolled polls) + leavers polls ≡ length polls
 unfolding leavers
 each-goes [] = refl

@@ -1,4 +1,4 @@
--- A replay whose first n rows were played, none of them refused, and what it tells.
+-- A replay after its first n rows, none of which had an error, and what it shows.
 use Rattle.std.specs.Prelude.{◌≡◌, ℕ, Bool, List, [], Option, None, Result, Ok, Err, take}
 use Rattle.device_transmit.specs.Transmits.{Transmits, is_used}
 use Rattle.{device_places.specs.Places.at, device_bench.specs.DeviceBench.{ShowsTransmits, devices_of}}
@@ -11,7 +11,7 @@ pub record IsAfter (s : Settings) (rows : List Row) (n : ℕ) (r : SerialReplay)
   pub state : after_all s (take n rows) ≡ Ok (state_in devices_of r.replay)
   pub transmits : ShowsTransmits r.replay.bench (transmits_of (take n rows))
 
--- what the report of the first n rows tells of a device
+-- what the report of the first n rows shows of a device
 abbrev pub counts_in : Result ReplayState ReplayFault → Transmits → ℕ → Option DeviceCounts
 counts_in (Ok w) transmits device = counts_of w transmits device
 counts_in (Err fault) transmits device = None
@@ -19,16 +19,16 @@ counts_in (Err fault) transmits device = None
 abbrev pub counts_after : Settings → List Row → ℕ → ℕ → Option DeviceCounts
 counts_after s rows n device = counts_in (after_all s (take n rows)) (transmits_of (take n rows)) device
 
--- whether it tells of the device's transmit side
+-- whether it shows the device's transmit side
 abbrev pub is_used_after : List Row → ℕ → ℕ → Bool
 is_used_after rows n device = is_used (at device (transmits_of (take n rows)))
 
--- what row n did by the report of the first n rows, where it polled
+-- what row n did by the report of the first n rows, if it polled
 abbrev pub polled_in : Result ReplayState ReplayFault → ℕ → Option Line
 polled_in (Ok w) n = polled_by n w
 polled_in (Err fault) n = None
 
--- the poll list behind the first n rows
+-- the poll list after the first n rows
 abbrev pub list_in : Result ReplayState ReplayFault → List ℕ
 list_in (Ok w) = w.list
 list_in (Err fault) = []

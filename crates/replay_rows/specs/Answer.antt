@@ -1,4 +1,4 @@
--- What a replay of a text answers: the serial report of its rows, or its first fault.
+-- The result of a replay of a text: the serial report of its rows, or its first error.
 use Rattle.std.specs.Prelude.{◌≡◌, ℕ, List, Option, Some, Result, Ok, Err}
 use Rattle.device_rows.specs.Trace.{records_of, trace_of, version_in}
 use Rattle.{device_rows.specs.declared.{fault.TraceFault.TraceFault, row.Row.Row}, replay_rows.specs.Report.serial_report}
@@ -13,13 +13,13 @@ answer_of s version (Err fault) = Err (Trace fault)
 abbrev pub replay_of : Settings → List ℕ → Result (List ℕ) ReplayFault
 replay_of s bytes = answer_of s (version_in (records_of bytes)) (trace_of (records_of bytes))
 
--- ---- the devices that a replay leaves
+-- ---- the devices after a replay
 
--- those that these rows leave, all of which were played
+-- those after these rows, all of which were processed
 abbrev pub LeavesDevices : Settings → List Row → Devices → Type 0
 LeavesDevices s rows devices = (w : ReplayState) × (after_all s rows ≡ Ok w) × (w.devices ≡ devices)
 
--- those that the rows of the bytes read leave
+-- those after the rows of the bytes read
 abbrev pub Plays : Settings → Option (List ℕ) → Devices → Type 0
 Plays s input devices =
     (bytes : List ℕ) → input ≡ Some bytes → (rows : List Row) × (trace_of (records_of bytes) ≡ Ok rows) × LeavesDevices s rows devices

@@ -1,4 +1,4 @@
--- What a replay keeps, as plain data.
+-- The state of a replay, as plain data.
 use Rattle.{device_bench.specs.Bench.Devices, replay_rows.specs.{ReplayState.ReplayState, declared.replay.Replay.Replay}}
 
 -- the devices are those that its bench shows

@@ -1,4 +1,4 @@
--- What the rows of a trace do, one after the other.
+-- The effect of the rows of a trace, one by one.
 use Rattle.std.specs.Prelude.{ℕ, ◌+◌, ◌==◌, Bool, false, if◌then◌else◌, List, [], ◌∷◌, ◌++◌, length, Result, Ok, Err, sum_by}
 use Rattle.device_bench.specs.Bench.{all_settled, arrived, busily_polled_at, busy_report_of, handed_by, thread_polls_of}
 use Rattle.device_bench.specs.{Device.{after_disable, after_enable, after_threaded, opened, polled_by_thread}, Kept.is_pending_at}
@@ -18,7 +18,7 @@ start = record { devices = empty; list = []; lines = [] }
 abbrev pub entry : Bool → ℕ → List ℕ
 entry listed number = if listed then number ∷ [] else []
 
--- a packet whose request was granted and handed to the list
+-- a packet whose request was granted and queued on the list
 abbrev pub with_packet : ℕ → ℕ → ReplayState → ReplayState
 with_packet number bytes w = record w {
   devices = arrived number bytes w.devices;
@@ -35,7 +35,7 @@ with_run s row w =
     let run = run_of s w.devices w.list in
     with_line (line.Softirq row (run_report s.budget s.window run.0.polls)) (record w { devices = run.0.bench; list = run.1 })
 
--- the most polls that a thread makes at a time; the kernel has no such bound, and a trace has too few packets to meet it
+-- the most polls that a thread makes in a row; the kernel has no such bound, and a trace has too few packets to reach it
 abbrev pub most_thread_polls : ℕ
 most_thread_polls = 131072
 
@@ -50,7 +50,7 @@ with_thread s row number w =
       list = w.list ++ entry (is_left_to_list (last_next polls)) number;
     })
 
--- busy polling for so many rounds, with its line
+-- busy polling for this many rounds, with its line
 abbrev pub with_busy : Settings → ℕ → ℕ → ℕ → ReplayState → ReplayState
 with_busy s row number rounds w =
     let report = busy_report_of s.weight rounds (at number w.devices) in
@@ -61,7 +61,7 @@ with_busy s row number rounds w =
 
 -- ---- rows
 
--- the effect of row n, by its event; tx and done rows have theirs on the transmit side alone
+-- the effect of row n, by its event; tx and done rows affect only the transmit side
 abbrev pub after_event : Settings → ℕ → Event → Row → ReplayState → ReplayState
 after_event s n Opened row w = record w { devices = added row.device (opened row.value) w.devices }
 after_event s n Rx row w = with_packet row.device row.value w
@@ -81,7 +81,7 @@ settled w = record w { devices = all_settled w.devices }
 abbrev pub after_row : Settings → ℕ → Row → ReplayState → ReplayState
 after_row s n row w = settled (after_event s n row.event row w)
 
--- an enable row that meets a disable which is pending still
+-- an enable row that meets a disable that is still pending
 abbrev pub is_early : Event → ℕ → ReplayState → Bool
 is_early Enable number w = is_pending_at (at number w.devices)
 is_early _ number w = false
@@ -91,6 +91,6 @@ abbrev pub after_rows : Settings → ℕ → List Row → ReplayState → Result
 after_rows s n [] w = Ok w
 after_rows s n (row ∷ rows) w = if is_early row.event row.device w then Err (Pending n) else after_rows s (n + 1) rows (after_row s n row w)
 
--- what all rows of a trace make
+-- the state after all rows of a trace
 abbrev pub after_all : Settings → List Row → Result ReplayState ReplayFault
 after_all s rows = after_rows s 1 rows start

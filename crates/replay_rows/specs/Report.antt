@@ -5,7 +5,8 @@ use Rattle.device_transmit.specs.Transmits.{Transmits, is_used}
 use Rattle.{device_places.specs.Places.at, device_transmit.specs.Transmits.tx_counts_of, device_bench.specs.Bench.{attached, counts_at}}
 use Rattle.device_bench.specs.declared.counts.{DeviceCounts.DeviceCounts, DeviceState.{DeviceState, TheVariants.{On, Off, Pending}}}
 use Rattle.{device_rows.specs.declared.row.Row.Row, replay_rows.specs.{Replay.after_all, Transmits.transmits_of}}
-use Rattle.replay_rows.specs.{ReplayState.ReplayState, declared.{report.Totals.Totals, line.Line.{Line, TheVariants.{Softirq, Kthread}}}}
+use Rattle.replay_rows.specs.ReplayState.{ReplayState}
+use Rattle.replay_rows.specs.declared.{report.RunTotals.RunTotals, line.Line.{Line, TheVariants.{Softirq, Kthread}}}
 use Rattle.{replay_rows.specs.declared.line.Line.TheVariants.Busy, replay_text.specs.{declared.fault.ReplayFault.ReplayFault, Lines.ended}}
 use Rattle.{replay_text.specs.Lines.{flag, tx_lines, words}, poll_runs.specs.declared.run.RunReport.RunReport}
 use Rattle.replay_words.specs.declared.settings.Settings.{Settings}
@@ -34,7 +35,7 @@ device_line number counts =
     ∷ codes "polled" ∷ decimal counts.polled ∷ codes "bytes" ∷ decimal counts.bytes ∷ codes "left" ∷ decimal counts.left
     ∷ codes "polls" ∷ decimal counts.polls ∷ [])
 
--- in version 2 the completions that were held, too
+-- in version 2 also the completions that were held
 abbrev pub held_part : ℕ → ℕ → List ℕ
 held_part version held = if version == 2 then codes " held " ++ decimal held else []
 
@@ -44,27 +45,27 @@ napi_line version number counts =
     ∷ codes "disabled" ∷ decimal counts.disabled ∷ codes "again" ∷ decimal counts.again ∷ codes "released" ∷ decimal counts.released
     ∷ codes "word" ∷ decimal counts.word ∷ []) ++ held_part version counts.held
 
--- the lines of a device, where there is one: the third one only where its transmit side had a row
+-- the lines of a device, if there is one: the third one only if its transmit side had a row
 abbrev pub device_lines : ℕ → ℕ → Bool → Option DeviceCounts → List ℕ
 device_lines version number used None = []
 device_lines version number used (Some counts) =
     ended (device_line number counts) ++ (ended (napi_line version number counts) ++ tx_lines number used counts.tx)
 
--- the numbers, each after a space
+-- the numbers, each preceded by a space
 abbrev pub spaced : List ℕ → List ℕ
 spaced numbers = flat_map (λ number. codes " " ++ decimal number) numbers
 
 abbrev pub list_line : List ℕ → List ℕ
 list_line numbers = codes "list" ++ spaced numbers
 
--- a number of a run; a thread's polling is no run, nor is busy polling
+-- a number of a run; a thread's polling isn't a run, nor is busy polling
 abbrev pub of_run : (RunReport → ℕ) → Line → ℕ
 of_run number (Softirq row run) = number run
 of_run number (Kthread row device report) = 0
 of_run number (Busy row device report) = 0
 
 -- opened devices, runs, and sums over the runs
-abbrev pub totals_of : ℕ → List Line → Totals
+abbrev pub totals_of : ℕ → List Line → RunTotals
 totals_of devices lines = record {
   devices = devices;
   runs = sum_by (of_run (λ run. 1)) lines;
@@ -73,15 +74,15 @@ totals_of devices lines = record {
   squeezed = sum_by (of_run (λ run. flag run.squeezed)) lines;
 }
 
-abbrev pub total_line : Totals → List ℕ
+abbrev pub total_line : RunTotals → List ℕ
 total_line totals = words (codes "total" ∷ codes "devices" ∷ decimal totals.devices ∷ codes "runs" ∷ decimal totals.runs
     ∷ codes "polls" ∷ decimal totals.polls ∷ codes "work" ∷ decimal totals.work ∷ codes "squeezed" ∷ decimal totals.squeezed ∷ [])
 
--- what the report tells of device n
+-- what the report shows of device n
 abbrev pub counts_of : ReplayState → Transmits → ℕ → Option DeviceCounts
 counts_of w transmits n = counts_at (at n w.devices) (tx_counts_of (at n transmits))
 
--- what row n did, where it is the last one that polled
+-- what row n did, if it is the last one that polled
 abbrev pub row_of : Line → ℕ
 row_of (Softirq row run) = row
 row_of (Kthread row device report) = row
@@ -98,13 +99,12 @@ polled_by n w = if_of_row n (slice_get w.lines (length w.lines - 1))
 abbrev pub lines_of : ℕ → ReplayState → Transmits → ℕ → List ℕ
 lines_of version w transmits n = device_lines version n (is_used (at n transmits)) (counts_of w transmits n)
 
--- those of the devices whose numbers are below n, in rising order, by the lines of each
+-- those of the devices whose numbers are below n, by increasing number
 unfoldable pub lines_below : (ℕ → List ℕ) → ℕ → List ℕ
 lines_below device zero = []
 lines_below device (suc n) = lines_below device n ++ device n
 
--- The line of each row that polls in order, the lines of each device in rising order of their numbers, the poll list, the
--- totals.
+-- The line of each row that polled, in order; the lines of each device, by increasing number; the poll list; the totals.
 unfoldable pub text_by : List Line → (ℕ → List ℕ) → List ℕ → ℕ → List ℕ
 text_by lines device list devices = flat_map (λ line. ended (poll_line line)) lines
     ++ (lines_below device 17
@@ -115,7 +115,8 @@ text_by lines device list devices = flat_map (λ line. ended (poll_line line)) l
 abbrev pub text_of : ℕ → ReplayState → Transmits → List ℕ
 text_of version w transmits = text_by w.lines (lines_of version w transmits) w.list (attached w.devices)
 
--- the serial report: the text of what the rows of a trace of this version make, or the fault of the first enable row that is early
+-- the serial report: the text for the state after the rows of a trace of this version, or the error of the first enable row
+-- that is early
 abbrev pub report_of : ℕ → Transmits → Result ReplayState ReplayFault → Result (List ℕ) ReplayFault
 report_of version transmits (Ok w) = Ok (text_of version w transmits)
 report_of version transmits (Err fault) = Err fault

@@ -1,4 +1,4 @@
--- One run over the poll list (`net_rx_action`): the function by batches that `poll_runs` defines, over the devices.
+-- One run over the poll list (`net_rx_action`): the function that `poll_runs` defines, on the devices.
 use Rattle.{std.specs.Prelude.{ℕ, List}, device_bench.specs.Bench.{Devices, polled_at}, poll_runs.specs.Function.Progress}
 use Rattle.{poll_runs.specs.Function.run_of as run_by, replay_words.specs.declared.settings.Settings.Settings}
 

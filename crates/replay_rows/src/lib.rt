@@ -1,8 +1,8 @@
-//! Behind the door `replay`: a whole replay of a trace of network events through the packet polling core, from the bytes of the trace
-//! to the bytes of the report, or the line and the exit status of a fault.
+//! Internal crate of the facade `replay`: a whole replay of a trace of network events through the packet polling core, from the
+//! bytes of the trace to the bytes of the report, or the message and the exit status of an error.
 //!
-//! [`replay_serial`] replays on one thread, and [`replay_on`] on any bench. [`SerialReplay`] plays row by row, for programs
-//! that look at what stands behind each.
+//! [`replay_serial`] replays on one thread, and [`replay_on`] on any bench. [`SerialReplay`] processes the rows one by one, for
+//! programs that read the state after each.
 #![tactic(auto)]
 
 mod line;

@@ -1,8 +1,8 @@
-//! What the rows that poll leave for the report.
+//! What the rows that poll contribute to the report.
 
 use poll_runs::{BusyReport, RunReport, ThreadReport};
 
-/// What one row that polls did.
+/// The effect of one row that polls.
 #[derive(Clone, Copy)]
 pub enum Line {
     /// A softirq row: its number, and its run over the poll list.

@@ -1,4 +1,4 @@
-//! Playing the rows of a trace, over whatever bench: every mode that plays rows plays them here.
+//! Processing the rows of a trace on any bench, for every mode that does so.
 
 ghost use Rattle.std.specs.Prelude.{◌≡◌, ◌≤◌, [], IfOk, length};
 
@@ -11,20 +11,20 @@ use replay_text::ReplayFault;
 use replay_words::Settings;
 use std::alloc::{AllocError, Global};
 
-/// The most polls that a kthread row makes. A trace has too few packets to meet it.
+/// The most polls that a kthread row makes. A trace has too few packets to reach it.
 pub(crate) const MOST_THREAD_POLLS: u32 = 131072;
 
-/// What the rows so far have made, over whatever bench.
+/// The state after the rows so far, with any bench.
 #[derive(Drop)]
 pub(crate) struct Replay<B: ReplayBench> {
     pub(crate) bench: B,
     pub(crate) list: PlainList,
     pub(crate) lines: Vec<Line>,
-    // Each entry of the list is that of a device that waits on it, so the list has room for each.
+    // Each entry of the list is a device that waits on it, so the list has room for all.
     ghost room: { length list ≤ B.waiting bench },
 }
 
-/// No lines yet, and room for that of each row that polls.
+/// Returns an empty list of lines, with room for that of each row that polls.
 pub(crate) fn room_for_lines(alloc: Global, rows: &[Row]) -> Result<Vec<Line>, AllocError>
     ensures { IfOk result (λ lines. lines.items ≡ []) }
 {
@@ -48,7 +48,7 @@ impl<B: ReplayBench> Replay<B> {
     ghost use Rattle.replay_rows.specs.Replay.{after_event, after_row, entry, is_early, start, with_busy, with_line, with_packet, with_run, with_thread, after_all};
     ghost use Rattle.replay_rows.specs.Transmits.{after_transmit, after_transmits};
 
-    /// A replay over a bench without devices, which keeps its lines in these.
+    /// Returns a replay on a bench without devices, which keeps its lines in `lines`.
     pub(crate) fn new(bench: B, lines: Vec<Line>) -> Replay<B>
         requires { lines.items ≡ [] }
         ensures bench { result.bench ≡ bench }
@@ -62,7 +62,7 @@ impl<B: ReplayBench> Replay<B> {
         }
     }
 
-    // A packet. Where that hands the device to the list, its number is put there.
+    // Processes a packet. If that queues the device on the list, it pushes the number.
     fn rx(&mut self, device: u32, bytes: u32)
         ensures state { state_in B.devices self.new
             ≡ with_packet device bytes (state_in B.devices self.old) }
@@ -74,7 +74,7 @@ impl<B: ReplayBench> Replay<B> {
         }
     }
 
-    // Where a poll that ended so left the device to the list, its number is put there.
+    // Pushes the device's number if a poll that ended like this queued the device on the list.
     fn list_left(&mut self, device: u32, next: Next)
         requires { length self.old.list + count (is_left_to_list next) ≤ B.waiting self.old.bench }
         ensures list { self.new.list ≡ self.old.list ++ entry (is_left_to_list next) device }
@@ -86,7 +86,7 @@ impl<B: ReplayBench> Replay<B> {
         }
     }
 
-    // One run over the poll list.
+    // Makes one run over the poll list.
     fn run(&mut self, settings: &Settings, row: u32) -> Line
         ensures state { with_line result (state_in B.devices self.new)
             ≡ with_run settings.now row (state_in B.devices self.old) }
@@ -103,7 +103,7 @@ impl<B: ReplayBench> Replay<B> {
         Line::Softirq { row, run }
     }
 
-    // The device's thread polls it.
+    // Polls the device by its thread.
     fn poll_thread(&mut self, settings: &Settings, row: u32, device: u32) -> Line
         ensures state { with_line result (state_in B.devices self.new)
             ≡ with_thread settings.now row device (state_in B.devices self.old) }
@@ -121,7 +121,7 @@ impl<B: ReplayBench> Replay<B> {
         }
     }
 
-    // The device is busy polled.
+    // Busy polls the device.
     fn busy_poll(&mut self, settings: &Settings, row: u32, device: u32, rounds: u32) -> Line
         requires { IsWithin 1 65535 rounds }
         ensures state { with_line result (state_in B.devices self.new)
@@ -138,7 +138,7 @@ impl<B: ReplayBench> Replay<B> {
         }
     }
 
-    // What a row that polled did, for the report.
+    // Keeps the line of a row that polled, for the report.
     fn keep(&mut self, line: Line) -> Result<(), AllocError>
         ensures state { OnOk result
             (state_in B.devices self.new ≡ with_line line (state_in B.devices self.old)) }
@@ -150,7 +150,7 @@ impl<B: ReplayBench> Replay<B> {
         Ok(())
     }
 
-    // What the row's event does.
+    // Processes the row's event.
     fn play_event(
         &mut self,
         alloc: Global,
@@ -200,7 +200,7 @@ impl<B: ReplayBench> Replay<B> {
         Ok(())
     }
 
-    /// Plays one row, and then tries each disable that is pending once.
+    /// Processes one row, and then tries each pending disable once.
     pub(crate) fn play(
         &mut self,
         alloc: Global,
@@ -226,7 +226,7 @@ impl<B: ReplayBench> Replay<B> {
         Ok(())
     }
 
-    /// Plays the rows of a trace in order, up to the first that is refused, on a bench that has no devices yet.
+    /// Processes the rows of a trace in order, up to the first error, on a bench that has no devices yet.
     pub(crate) fn play_rows(
         &mut self,
         alloc: Global,

@@ -1,4 +1,4 @@
-//! The report: the rows are played, and what they did becomes its text, in every mode that plays rows.
+//! The report: the rows are processed, and their effects become its text, in every mode that processes rows.
 
 ghost use Rattle.std.specs.Prelude.{◌≡◌, ◌≢◌, ◌⊎◌, ◌+◌, ◌^◌, ◌<◌, ◌≤◌, ◌++◌, [], Ok, Err, Some, IfErr, IfOk, OnOk, flat_map, length, string_bytes};
 ghost use Rattle.device_places.specs.Places.{empty};
@@ -20,7 +20,7 @@ use replay_words::Settings;
 use std::alloc::{AllocError, Global};
 use std::fmt;
 
-// Adds the line of each row that polled.
+// Appends the line of each row that polled.
 fn add_lines(text: &mut String, lines: &[Line]) -> Result<(), AllocError>
     ensures { OnOk result
         (string_bytes text.new ≡ string_bytes text.old
@@ -67,7 +67,7 @@ fn add_line(text: &mut String, line: &Line) -> Result<(), AllocError>
     Ok(())
 }
 
-// Adds the lines of a device: two, and a third one where its transmit side had a row.
+// Appends the lines of a device: two, and a third one if its transmit side had a row.
 fn add_device(
     text: &mut String,
     version: u32,
@@ -86,7 +86,7 @@ fn add_device(
     Ok(())
 }
 
-/// The word of a device's state.
+/// Returns the name of a device's state.
 pub fn state_word(state: DeviceState) -> &'static str
     ensures { result.now ≡ state_word state }
 {
@@ -116,7 +116,7 @@ fn add_device_line(text: &mut String, number: u32, counts: &DeviceCounts) -> Res
     Ok(())
 }
 
-// In version 2 it ends with the completions that were held.
+// In version 2 the line ends with the completions that were held.
 fn add_held(text: &mut String, version: u32, held: u64) -> Result<(), AllocError>
     ensures { OnOk result
         (string_bytes text.new ≡ string_bytes text.old ++ held_part version held) }
@@ -153,7 +153,7 @@ fn add_napi_line(
     Ok(())
 }
 
-// Adds the line of the poll list.
+// Appends the line of the poll list.
 fn add_list(text: &mut String, list: &[u32]) -> Result<(), AllocError>
     ensures { OnOk result
         (string_bytes text.new ≡ string_bytes text.old ++ ended (list_line list.now)) }
@@ -164,7 +164,7 @@ fn add_list(text: &mut String, list: &[u32]) -> Result<(), AllocError>
     Ok(())
 }
 
-/// Adds the numbers, a space before each.
+/// Appends the numbers, each preceded by a space.
 pub fn add_numbers(text: &mut String, numbers: &[u32]) -> Result<(), AllocError>
     ensures { OnOk result (string_bytes text.new ≡ string_bytes text.old ++ spaced numbers.now) }
 {
@@ -174,22 +174,22 @@ pub fn add_numbers(text: &mut String, numbers: &[u32]) -> Result<(), AllocError>
     Ok(())
 }
 
-/// The sums of the last line: opened devices, and over the runs of all softirq rows.
+/// The sums in the last line: opened devices, and sums over the runs of all softirq rows.
 #[derive(Clone, Copy)]
-pub(crate) struct Totals {
+pub(crate) struct RunTotals {
     /// Opened devices.
     pub devices: usize,
     /// Runs of the softirq.
     pub runs: u64,
     /// Polls of these runs.
     pub polls: u64,
-    /// Packets that these polls gave.
+    /// Packets that these polls processed.
     pub work: u64,
     /// Runs that were squeezed.
     pub squeezed: u64,
 }
 
-impl fmt::Display for Totals {
+impl fmt::Display for RunTotals {
     ghost use Rattle.std.specs.Prelude.{Some};
     ghost use Rattle.replay_rows.specs.Report.{total_line};
 
@@ -204,8 +204,8 @@ impl fmt::Display for Totals {
     }
 }
 
-impl Totals {
-    // Adds the run of a softirq row; a thread's polling is no run, and busy polling is none.
+impl RunTotals {
+    // Adds the run of a softirq row; a thread's polling isn't a run, nor is busy polling.
     fn add(&mut self, line: &Line)
         requires { (self.old.runs < 2 ^ 63) × (self.old.polls < 2 ^ 63) × (self.old.work < 2 ^ 63)
             × (self.old.squeezed < 2 ^ 63) }
@@ -228,12 +228,12 @@ impl Totals {
         }
     }
 
-    /// The sums over these rows.
-    pub(crate) fn of(devices: usize, lines: &[Line]) -> Totals
+    /// Returns the sums over these rows.
+    pub(crate) fn of(devices: usize, lines: &[Line]) -> RunTotals
         requires { length lines.now ≤ 100000 }
         ensures { result ≡ totals_of devices lines.now }
     {
-        let mut totals = Totals {
+        let mut totals = RunTotals {
             devices,
             runs: 0,
             polls: 0,
@@ -247,8 +247,8 @@ impl Totals {
     }
 }
 
-// Adds the last line.
-fn add_totals(text: &mut String, totals: &Totals) -> Result<(), AllocError>
+// Appends the last line.
+fn add_totals(text: &mut String, totals: &RunTotals) -> Result<(), AllocError>
     ensures { OnOk result
         (string_bytes text.new ≡ string_bytes text.old ++ ended (total_line totals.now)) }
 {
@@ -263,7 +263,7 @@ impl<B: ReplayBench> Replay<B> {
     ghost use Rattle.replay_rows.specs.Replay.{start};
     ghost use Rattle.replay_rows.specs.Report.{lines_below, lines_of, text_of};
 
-    // Adds the lines of each device, in rising order of their numbers.
+    // Appends the lines of each device, by increasing number.
     fn add_devices(&self, version: u32, text: &mut String) -> Result<(), AllocError>
         ensures { (all : Transmits) → B.shows self.now.bench all
             → OnOk result (string_bytes text.new ≡ string_bytes text.old
@@ -278,7 +278,7 @@ impl<B: ReplayBench> Replay<B> {
         Ok(())
     }
 
-    // The text of the report, as a trace of this version has it.
+    // Returns the text of the report, for a trace of this version.
     #[tactic(auto, unfolding(crate::specs::Report::text_by))]
     fn report(&self, alloc: Global, version: u32) -> Result<String, AllocError>
         requires { length self.now.lines.items ≤ 100000 }
@@ -289,15 +289,15 @@ impl<B: ReplayBench> Replay<B> {
         add_lines(&mut text, self.lines.as_slice())?;
         self.add_devices(version, &mut text)?;
         add_list(&mut text, self.list.ids())?;
-        let totals = Totals::of(self.bench.attached(), self.lines.as_slice());
+        let totals = RunTotals::of(self.bench.attached(), self.lines.as_slice());
         add_totals(&mut text, &totals)?;
         Ok(text)
     }
 
-    /// Plays the rows of a trace on a bench that has no devices yet, and gives the text of their report, as a trace of
-    /// this version has it.
+    /// Processes the rows of a trace on a bench that has no devices yet, and returns the text of their report, for a trace of
+    /// this version.
     ///
-    /// The faults are want of memory, and an enable row whose disable is pending still.
+    /// Fails if an allocation fails, or if an enable row meets a disable that is still pending.
     fn report_rows(
         &mut self,
         alloc: Global,
@@ -322,10 +322,10 @@ impl<B: ReplayBench> Replay<B> {
     }
 }
 
-/// Plays the rows of a trace on a bench that has no devices yet. Gives the bench back, and the text of the rows'
-/// report, as a trace of this version has it.
+/// Processes the rows of a trace on a bench that has no devices yet. Returns the bench, and the text of the rows' report, for a
+/// trace of this version.
 ///
-/// The faults are want of memory, and an enable row whose disable is pending still.
+/// Fails if an allocation fails, or if an enable row meets a disable that is still pending.
 pub(crate) fn report_on<B: ReplayBench>(
     alloc: Global,
     bench: B,

@@ -12,10 +12,10 @@ use replay_words::Settings;
 use std::alloc::Global;
 use std::io::{Read, Write};
 
-/// Plays a trace on one thread, and writes the report of it.
+/// Replays a trace on one thread, and writes its report.
 ///
-/// Nothing is written before the whole trace is read and played, so on every fault but `OutputFailed` nothing was. On
-/// that one a front of the report was, and not all of it. Want of memory may come before any other fault.
+/// It writes nothing before the whole trace is read and processed. So after every error but `OutputFailed` nothing was written;
+/// after that one, a proper prefix of the report. `OutOfMemory` may take precedence over any other error.
 pub fn replay_serial<R: Read + Drop, W: Write>(
     alloc: Global,
     reader: R,
@@ -26,11 +26,11 @@ pub fn replay_serial<R: Read + Drop, W: Write>(
     ensures written { OnOk result (Writes (λ bytes text. replay_of settings.now bytes ≡ Ok text)
         (R.remaining reader) (W.contents writer.old) (W.contents writer.new)) }
 
-    // A fault is that of the bytes read, unless the reader, the memory or the writer failed.
+    // An error is that of the bytes read, unless the reader, an allocation or the writer failed.
     ensures fault { IfErr result (IsFaultBy IsOutside
         (λ bytes fault. replay_of settings.now bytes ≡ Err fault) (R.remaining reader)) }
 
-    // Where the output failed less than the whole report was written, and on each other fault nothing.
+    // If the output failed, less than the whole report was written, and after each other error nothing.
     ensures output { IfErr result (Leaves (λ bytes text. replay_of settings.now bytes ≡ Ok text)
         (R.remaining reader) (W.contents writer.old) (W.contents writer.new)) }
 {

@@ -8,7 +8,7 @@ use replay_text::ReplayFault;
 use replay_words::Settings;
 use std::alloc::{AllocError, Global};
 
-/// A replay on one thread that is played row by row, and tells what stands behind each.
+/// A replay on one thread that processes the rows one by one, and shows the state after each.
 #[derive(Drop)]
 pub struct SerialReplay {
     replay: Replay<SerialBench>,
@@ -23,7 +23,7 @@ impl SerialReplay {
     ghost use Rattle.replay_rows.specs.Replay.{after_all};
     ghost use Rattle.replay_text.specs.Outside.{IsWantOfMemory};
 
-    /// A replay of which no row was played, with room for what these rows will have polled.
+    /// Returns a replay before its first row, with room for the lines of these rows.
     pub fn new(alloc: Global, rows: &[Row]) -> Result<SerialReplay, AllocError>
         ensures { IfOk result
             (λ replay. (s : Settings) (rows : List Row) → IsAfter s rows 0 replay) }
@@ -33,7 +33,7 @@ impl SerialReplay {
         })
     }
 
-    /// Plays the row of that index of a trace, where those before it were played. After a fault what is kept is of no use.
+    /// Processes the row with this index of a trace, after those before it. After an error the replay can't be used any more.
     pub fn play_row(
         &mut self,
         alloc: Global,
@@ -54,7 +54,7 @@ impl SerialReplay {
         Ok(())
     }
 
-    /// What the report of the rows so far tells of a device, or `None` where there is no such device.
+    /// Returns what the report of the rows so far shows of a device, or `None` if there is no such device.
     pub fn counts(&self, device: u32) -> Option<DeviceCounts>
         ensures { (s : Settings) (rows : List Row) (n : ℕ) → IsAfter s rows n self.now
             → result ≡ counts_after s rows n device }
@@ -65,7 +65,8 @@ impl SerialReplay {
         Some(self.replay.bench.counts(device))
     }
 
-    /// Whether the report of the rows so far tells of the device's transmit side, which had one of them then.
+    /// Returns whether the report of the rows so far shows the device's transmit side, which is so after its first tx or done
+    /// row.
     pub fn uses_transmit(&self, device: u32) -> bool
         ensures { (s : Settings) (rows : List Row) (n : ℕ) → IsAfter s rows n self.now
             → result ≡ is_used_after rows n device }
@@ -81,7 +82,7 @@ impl SerialReplay {
         self.replay.list.ids()
     }
 
-    /// What the row of that number did, where it is the last one that was played, and polled.
+    /// Returns what the row with this number did, if it is the last one processed, and polled.
     pub fn polled(&self, number: u32) -> Option<Line>
         ensures { (s : Settings) (rows : List Row) → IsAfter s rows number self.now
             → result ≡ polled_after s rows number }

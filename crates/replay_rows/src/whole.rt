@@ -14,10 +14,10 @@ use replay_words::Settings;
 use std::alloc::Global;
 use std::io::{Read, Write};
 
-/// Plays a trace on a bench that has no devices yet, and writes the report of it. The bench comes back.
+/// Replays a trace on a bench that has no devices yet, and writes its report. It returns the bench.
 ///
-/// Nothing is written before the whole trace is read and played, so on every fault but `OutputFailed` nothing was. On
-/// that one a front of the report was, and not all of it. Want of memory may come before any other fault.
+/// It writes nothing before the whole trace is read and processed. So after every error but `OutputFailed` nothing was written;
+/// after that one, a proper prefix of the report. `OutOfMemory` may take precedence over any other error.
 pub fn replay_on<B: ReplayBench, R: Read + Drop, W: Write>(
     alloc: Global,
     bench: B,
@@ -32,15 +32,15 @@ pub fn replay_on<B: ReplayBench, R: Read + Drop, W: Write>(
     ensures written { OnOk result.1 (Writes (λ bytes text. replay_of settings.now bytes ≡ Ok text)
         (R.remaining reader) (W.contents writer.old) (W.contents writer.new)) }
 
-    // A fault is that of the bytes read, unless the reader, the memory or the writer failed.
+    // An error is that of the bytes read, unless the reader, an allocation or the writer failed.
     ensures fault { IfErr result.1 (IsFaultBy IsOutside
         (λ bytes fault. replay_of settings.now bytes ≡ Err fault) (R.remaining reader)) }
 
-    // Where the output failed less than the whole report was written, and on each other fault nothing.
+    // If the output failed, less than the whole report was written, and after each other error nothing.
     ensures output { IfErr result.1 (Leaves (λ bytes text. replay_of settings.now bytes ≡ Ok text)
         (R.remaining reader) (W.contents writer.old) (W.contents writer.new)) }
 
-    // The bench has the devices that the rows of the bytes read leave.
+    // The bench has the devices in the state after the rows of the bytes read.
     ensures played { OnOk result.1 (Plays settings.now (R.remaining reader) (B.devices result.0)) }
 {
     let trace = match read_trace(alloc, reader) {

@@ -1,8 +1,5 @@
-//! What each mode gives where its reader or its writer fails, and the lines of what no run of the program shows.
+//! The result of each mode if its reader or its writer fails, and the messages of errors that no run of the program shows.
 
-use crate::ends::{
-    FailingReader, FailingWriter, ONE_PACKET, ONE_PACKET_REPORT, ONE_PACKET_THREADS,
-};
 use device_model::TraceFault;
 use poll_engine::OpenGate;
 use replay::{
@@ -15,6 +12,7 @@ use std::process::ExitCode;
 use std::sync::Wait;
 use std::test::Fail;
 use std::thread::Threads;
+use test_ends::{FailingReader, FailingWriter, ONE_PACKET, ONE_PACKET_REPORT, ONE_PACKET_THREADS};
 
 pub(crate) const MODES: [(Mode, &str); 3] = [
     (Mode::Serial, ONE_PACKET_REPORT),
@@ -43,7 +41,7 @@ pub(crate) fn replay_in<P: Threads + Wait + Sync, R: Read + Drop, W: Write>(
 
 #[test]
 fn failing_reads(rt: HostRuntime) {
-    // The end is read twice: behind the plain rows, and by `csv`, which has the rest.
+    // The end is read twice: after the plain rows, and by `csv`, which parses the rest.
     let reads = ONE_PACKET.len() as u32 + 2;
     for (mode, wanted) in MODES {
         for before in 0..reads + 2 {
@@ -100,7 +98,7 @@ fn failing_writes(rt: HostRuntime) {
     }
 }
 
-// On a fault of the trace nothing is written: the writer would fail.
+// After an error of the trace nothing is written: the writer would fail.
 #[test]
 fn faulty_traces(rt: HostRuntime) {
     for (mode, _) in MODES {
@@ -121,7 +119,7 @@ fn faulty_traces(rt: HostRuntime) {
     }
 }
 
-// The status is that of the fault also where its line can't be told.
+// The status is that of the error even if its message can't be written.
 #[test]
 fn failing_errors(rt: HostRuntime) {
     let fault = ProgramFault::Run(ReplayFault::Trace(TraceFault::BadHeader));

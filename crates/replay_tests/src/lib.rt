@@ -1,29 +1,14 @@
-//! Tests that cross crates: what no contract says of whole replays, of the machine, of readers and writers that fail, and of
-//! benches. Nothing but tests stands here, so that the crates below are proved once.
+//! Tests of whole replays, from another crate like those of its users: what no contract says, with readers and writers that fail.
 #![tactic(auto)]
 
-#[cfg(test)]
-mod attaching;
-#[cfg(test)]
-mod benches;
-#[cfg(test)]
-mod ends;
 #[cfg(test)]
 mod failing;
 #[cfg(test)]
 mod long;
 #[cfg(test)]
-mod machine_calls;
-#[cfg(test)]
-mod machine_runs;
-#[cfg(test)]
 mod prefixes;
 #[cfg(test)]
-mod reading;
-#[cfg(test)]
 mod shared;
-#[cfg(test)]
-mod sides;
 #[cfg(test)]
 mod words;
 #[cfg(test)]

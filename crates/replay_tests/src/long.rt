@@ -1,15 +1,15 @@
-//! Inputs of any length: what is read of them, and that no length is a fault.
+//! Inputs of any length: what is read of them, and that no length is an error.
 
-use crate::ends::LongReader;
 use crate::failing::{MODES, replay_in};
 use device_model::{TraceFault, read_trace};
 use replay::{ReplayFault, Settings};
 use std::test::Fail;
+use test_ends::LongReader;
 
-// More than a reader's buffer holds, many times. The built program is given 70 MB by `tests/inputs.sh`.
+// More than a reader's buffer holds, many times. `tests/inputs.sh` tries the built program with 70 MB.
 const LONG: u64 = 1_000_000;
 
-// The reader is asked for the header, 100001 rows and what one look ahead takes, and for no more.
+// The reader is asked for the header, 100001 rows and what one read ahead takes, and for no more.
 #[test]
 fn endless_input(rt: HostRuntime) {
     let mut given = 0;
@@ -68,7 +68,7 @@ const FRONTS: [(&[u8], TraceFault); 4] = [
     (b"moment,device,event,value,", TraceFault::BadHeader),
 ];
 
-// A field of any length has the fault of its row.
+// A field of any length is the error of its row.
 #[test]
 fn long_fields(rt: HostRuntime) {
     for (front, fault) in FRONTS {

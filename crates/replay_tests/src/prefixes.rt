@@ -1,6 +1,5 @@
-//! Every prefix of a trace's bytes in each mode: the fault of the row that it cuts, or the report of the rows that it has.
+//! Every prefix of a trace's bytes in each mode: the error of the row that it cuts off, or the report of the rows that it has.
 
-use crate::ends::HEADER;
 use crate::failing::{MODES, replay_in};
 use crate::worked::{ONE, joined};
 use device_model::TraceFault;
@@ -10,6 +9,7 @@ use std::process::Abort;
 use std::sync::Wait;
 use std::test::Fail;
 use std::thread::Threads;
+use test_ends::HEADER;
 
 // 129 packets, a run, a disable, and a run: rows 2 to 130, 131, 132 and 133.
 const ROWS: [(u32, &str); 4] = [
@@ -19,7 +19,7 @@ const ROWS: [(u32, &str); 4] = [
     (1, "2,0,softirq,0\n3,1,disable,0\n4,0,softirq,0\n"),
 ];
 
-// Behind the first run.
+// After the first run.
 const ONE_RUN: &str = "softirq 131 polls 1 work 64 squeezed 0
 device 1 on arrived 129 dropped 0 polled 64 bytes 6400 left 65 polls 1
 napi 1 granted 1 missed 128 disabled 0 again 0 released 0 word 4294967299
@@ -27,7 +27,7 @@ list 1
 total devices 1 runs 1 polls 1 work 64 squeezed 0
 ";
 
-// Behind the disable, which is pending.
+// After the disable, which is pending.
 const TO_BE_DISABLED: &str = "softirq 131 polls 1 work 64 squeezed 0
 device 1 pending arrived 129 dropped 0 polled 64 bytes 6400 left 65 polls 1
 napi 1 granted 1 missed 128 disabled 0 again 0 released 0 word 4294967303
@@ -43,7 +43,7 @@ list
 total devices 1 runs 2 polls 3 work 129 squeezed 0
 ";
 
-// The last line of a prefix: its row (0 is the header), and how much of it is there: bytes, commas, bytes behind the last comma.
+// The last line of a prefix: its row (0 is the header), and how much of it there is: bytes, commas, bytes after the last comma.
 #[derive(Clone, Copy)]
 struct Last {
     row: u32,
@@ -89,7 +89,7 @@ impl Last {
         }
     }
 
-    // A header that is cut is none, a row wants four fields, and its value a digit.
+    // A header that is cut off isn't one; a row needs four fields, and its value a digit.
     fn fault(self) -> Option<TraceFault> {
         let Last { row, bytes, .. } = self;
         if row == 0 {
@@ -105,7 +105,7 @@ impl Last {
         (self.behind == 0).then_some(TraceFault::BadNumber { row })
     }
 
-    // How many rows there are. An empty line is none.
+    // How many rows there are. An empty line isn't one.
     fn rows(self) -> u32 {
         self.row.saturating_sub(u32::from(self.bytes == 0))
     }
@@ -115,7 +115,7 @@ impl Last {
         self.rows().saturating_sub(1).min(129)
     }
 
-    // The bytes of the packets: a value that is cut is 1 or 10.
+    // The bytes of the packets: a value that is cut off is 1 or 10.
     fn packet_bytes(self) -> u32 {
         let packets = self.packets();
         let missing = match self.behind {
@@ -127,7 +127,7 @@ impl Last {
     }
 }
 
-// The first packet is granted, and those behind it are missed: the instance is on the list.
+// The first packet's request is granted, and those after it are missed: the instance is on the list.
 fn waiting(alloc: Global, packets: u32) -> Result<String, AllocError> {
     let (granted, word, list) = match packets {
         0 => (0, 0u64, ""),
@@ -144,7 +144,7 @@ total devices 1 runs 0 polls 0 work 0 squeezed 0
     )
 }
 
-// The report of a prefix without a fault.
+// Returns the report of a prefix without an error.
 fn report_of(alloc: Global, mode: Mode, last: Last) -> Result<String, AllocError> {
     let rows = last.rows();
     match mode {
@@ -204,7 +204,7 @@ fn threads(rt: HostRuntime) -> Result<(), Fail> {
     every_prefix(&rt, rt.alloc(), Mode::Threads)
 }
 
-// A byte that begins no character is no event.
+// A byte that begins no character isn't an event.
 #[test]
 fn byte_255(rt: HostRuntime) {
     let text = b"moment,device,event,value\n0,1,open,4\n0,1,\xff,4\n";

@@ -1,16 +1,12 @@
-//! Whole replays over instances that threads could share, beside those on one thread; and the end of a bench.
+//! Whole replays on instances that threads could share, compared with those on one thread.
 
-use crate::ends::HEADER;
-use crate::sides::told_of;
 use crate::worked::joined;
-use device_model::{ReplayBench, SharedBench, TraceFault};
-use napi_model::Kind;
-use poll_engine::{Bench, Next};
 use replay::{ReplayFault, Settings, replay_serial, replay_shared};
 use std::alloc::{AllocError, Global};
 use std::test::Fail;
+use test_ends::HEADER;
 
-// Rows, each text as many times as told, with their budget, weight and window.
+// Rows, each text repeated as often as given, with their budget, weight and window.
 struct Rows {
     name: &'static str,
     rows: &'static [(u32, &'static str)],
@@ -103,7 +99,7 @@ const TRACES: [Rows; 9] = [
     },
 ];
 
-// The text of the first of these rows.
+// Returns the text of the first of these rows.
 fn front_of(alloc: Global, rows: &str, count: usize) -> Result<String, AllocError> {
     let mut text = String::from_str(alloc, HEADER)?;
     for row in rows.lines().take(count) {
@@ -113,7 +109,7 @@ fn front_of(alloc: Global, rows: &str, count: usize) -> Result<String, AllocErro
     Ok(text)
 }
 
-// Both modes give the same bytes or the same fault behind each row of each trace.
+// Both modes have the same bytes or the same error after each row of each trace.
 #[test]
 fn shared_as_serial_behind_each_row(rt: HostRuntime) -> Result<(), Fail> {
     for trace in &TRACES {
@@ -138,103 +134,13 @@ fn shared_as_serial_behind_each_row(rt: HostRuntime) -> Result<(), Fail> {
     Ok(())
 }
 
-// What arrived is polled or left. Then the bench ends, whose instances are handed over, repolled, to be disabled or disabled.
-#[test]
-fn packets_at_the_end(rt: HostRuntime) -> Result<(), Fail> {
-    let mut bench = SharedBench::new(&rt, rt.alloc())?;
-    for device in [2, 3, 5, 7, 16] {
-        assert_eq!(rt; bench.attach(rt.alloc(), device, 4, 0), Ok(()));
-    }
-    assert_eq!(rt; bench.attached(), 5);
-    // Repolled, and so handed to the list again.
-    assert_eq!(rt; bench.arrive(2, 100), Some(Kind::List));
-    assert_eq!(rt; bench.arrive(2, 60), None);
-    let once = bench.poll_once(2, 1);
-    assert_eq!(rt; (once.work, once.next), (1, Next::Repoll));
-    // Handed to its thread.
-    bench.set_threaded(3, true);
-    assert_eq!(rt; bench.arrive(3, 7), Some(Kind::Thread));
-    // Handed to the list, with a disable that is pending.
-    assert_eq!(rt; bench.arrive(5, 8), Some(Kind::List));
-    bench.disable(5);
-    // Off.
-    bench.disable(16);
-    bench.disable(7);
-    bench.settle();
-    assert_eq!(rt; bench.arrive(16, 9), None);
-    // Enabled with packets, busy polled, and not polled to the end.
-    for bytes in [10, 20, 30] {
-        assert_eq!(rt; bench.arrive(7, bytes), None);
-    }
-    assert!(rt; bench.enable(7));
-    let report = bench.busy_poll(7, 1, 1);
-    assert_eq!(rt;
-        (report.polls, report.work, report.next),
-        (2, 2, Next::Repoll)
-    );
-    for number in 0..18 {
-        let wanted = match number {
-            2 => Some((2, 1, 100, 1)),
-            3 | 5 | 16 => Some((1, 0, 0, 1)),
-            7 => Some((3, 2, 30, 1)),
-            _ => None,
-        };
-        let packets = match told_of(&bench, number) {
-            Some(told) => Some((told.arrived, told.polled, told.bytes, told.left)),
-            None => None,
-        };
-        assert_eq!(rt; packets, wanted, "of device {number}");
-    }
-    // Its end polls what is left.
-    let ends = bench.end();
-    for (number, end) in ends.iter().enumerate() {
-        let wanted = match number {
-            2 => Some((2, 2, 0, 160)),
-            3 => Some((1, 1, 0, 7)),
-            5 => Some((1, 1, 0, 8)),
-            7 => Some((3, 3, 0, 60)),
-            16 => Some((1, 1, 0, 9)),
-            _ => None,
-        };
-        let counted = match end {
-            Some(totals) => Some((totals.put, totals.polled, totals.left, totals.bytes)),
-            None => None,
-        };
-        assert_eq!(rt; counted, wanted, "of device {number}");
-    }
-    Ok(())
-}
-
-// One more device, and one that is there already, leave a device as it was.
-#[test]
-fn another_device_stays(rt: HostRuntime) -> Result<(), Fail> {
-    let mut bench = SharedBench::new(&rt, rt.alloc())?;
-    assert_eq!(rt; bench.attach(rt.alloc(), 1, 4, 0), Ok(()));
-    bench.arrive(1, 100);
-    bench.send(1, 1500);
-    assert!(rt; bench.uses_transmit(1));
-    let before = told_of(&bench, 1);
-    // A device that is there stays as it is.
-    assert_eq!(rt; bench.attach(rt.alloc(), 1, 8, 5), Ok(()));
-    assert_eq!(rt; bench.attach(rt.alloc(), 3, 65536, 5), Ok(()));
-    assert_eq!(rt; told_of(&bench, 1), before);
-    assert_eq!(rt; bench.attached(), 2);
-    let ends = bench.end();
-    assert_eq!(rt; ends[2], None);
-    Ok(())
-}
-
-// A fault in mid-trace ends the bench, with a packet in a ring and a disable that is pending, and is answered; so is want of
-// memory, wherever it comes (`rt try --test --fail-alloc 1`, to 40), and the next replay goes through.
+// A fault in mid-trace ends the bench, with a packet in a ring and a disable that is pending, and is answered.
 #[test]
 fn fault_in_mid_trace(rt: HostRuntime) {
     let text = "moment,device,event,value\n0,1,open,4\n1,1,rx,100\n2,1,disable,0\n3,1,enable,0\n";
     let settings = Settings::default();
     let mut report = Vec::new(rt.alloc());
-    let mut answer = replay_shared(&rt, rt.alloc(), text.as_bytes(), &mut report, &settings);
-    if answer == Err(ReplayFault::Trace(TraceFault::OutOfMemory)) {
-        answer = replay_shared(&rt, rt.alloc(), text.as_bytes(), &mut report, &settings);
-    }
+    let answer = replay_shared(&rt, rt.alloc(), text.as_bytes(), &mut report, &settings);
     assert_eq!(rt; answer, Err(ReplayFault::Pending { row: 4 }));
     assert!(rt; report.is_empty());
 }

@@ -1,4 +1,4 @@
-//! Tests of the words after the program's name.
+//! Tests of the command line.
 
 use replay::{Mode, Settings, WordFault, parse_words, word_line, word_status};
 use std::alloc::Global;
@@ -20,7 +20,7 @@ fn parse(alloc: Global, words: &[&str]) -> Result<(Mode, Settings), WordFault> {
     parse_words(alloc, given.as_slice())
 }
 
-// The answer where the words ask for these numbers.
+// Returns the result if the arguments ask for these numbers.
 fn serial(
     pollers: u32,
     budget: u32,
@@ -86,12 +86,10 @@ fn refused_words(rt: HostRuntime) {
     }
 }
 
-// Run with each allocation refused in turn, the only other answer is OutOfMemory.
 #[test]
-fn refused_memory(rt: HostRuntime) {
+fn a_mode_and_a_budget(rt: HostRuntime) {
     let answer = parse(rt.alloc(), &["--mode=serial", "--budget", "5"]);
-    let refused = answer == Err(WordFault::OutOfMemory);
-    assert!(rt; refused || answer == serial(1, 5, 64, 1024));
+    assert_eq!(rt; answer, serial(1, 5, 64, 1024));
 }
 
 #[test]

@@ -1,7 +1,6 @@
-//! Traces with what each mode answers, worked by hand: the report, or the line of the fault. They are read from memory, and the
-//! reports are written to memory.
+//! Traces with the result of each mode, worked by hand: the report, or the message of the error. They are read from memory, and
+//! the reports are written to memory.
 
-use crate::ends::HEADER;
 use crate::failing::{MODES, replay_in};
 use replay::{Mode, ReplayFault, Settings, fault_line, status};
 use std::alloc::{AllocError, Global};
@@ -9,9 +8,10 @@ use std::process::Abort;
 use std::sync::Wait;
 use std::test::Fail;
 use std::thread::Threads;
+use test_ends::HEADER;
 
-// A trace, each text as many times as told, played by a budget of so many packets and a window of so many polls. With threads
-// the report tells arrivals and transmit state alone.
+// A trace, each text repeated as often as given, replayed with this budget and this window. With threads the report shows only
+// arrivals and the transmit side.
 #[derive(Drop)]
 struct Case {
     name: &'static str,
@@ -390,7 +390,7 @@ total devices 1 runs 1 polls 1 work 1 squeezed 0
     },
 ];
 
-// Faults of the trace, which are those of every mode.
+// Errors of the trace, which are the same in every mode.
 const FAULTS: [(&[(u32, &str)], &str); 15] = [
     (
         &[ONE, (1, "0,1,open,4\n1,1,enable,0\n")],
@@ -461,7 +461,7 @@ pub(crate) fn joined(alloc: Global, trace: &[(u32, &str)]) -> Result<String, All
     Ok(text)
 }
 
-// Whether this is answered: the report, or the line of the fault, with its status, where nothing was written.
+// Returns whether this is the result: the report, or the message of the error, with its status, and nothing written.
 fn answers(
     alloc: Global,
     answer: Result<(), ReplayFault>,
@@ -480,7 +480,7 @@ fn answers(
     Ok(report.is_empty() && line.as_str() == wanted && status(&fault) == number)
 }
 
-// Plays the trace in this mode by so many pollers.
+// Replays the trace in this mode by this many pollers.
 fn play<P: Abort + Threads + Wait + Sync>(
     rt: &P,
     alloc: Global,

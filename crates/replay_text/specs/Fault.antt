@@ -1,4 +1,4 @@
--- The line, the number and the exit status of each fault. See docs/FORMATS.md, "Faults".
+-- The message, the number and the exit status of each error. See docs/FORMATS.md, "Faults".
 use Rattle.std.specs.Prelude.{ℕ, List, ◌++◌, codes, decimal}
 use Rattle.device_rows.specs.Fault.{number_of as trace_number}
 use Rattle.device_rows.specs.declared.fault.TraceFault.{TraceFault, TheVariants.{BadHeader, BadFields, BadNumber, BadEvent, OutOfRange}}

@@ -1,8 +1,8 @@
--- Lines of the report that every replay has. See docs/FORMATS.md, "The report".
+-- Lines that every replay's report has. See docs/FORMATS.md, "The report".
 use Rattle.std.specs.{Prelude.{ℕ, Bool, List, [], ◌∷◌, ◌++◌, codes, decimal, if◌then◌else◌}, Fmt.signed_decimal}
 use Rattle.device_transmit.specs.declared.transmit.TxCounts.{TxCounts}
 
--- words with a space between two of them
+-- words separated by spaces
 abbrev pub words : List (List ℕ) → List ℕ
 words [] = []
 words (word ∷ []) = word
@@ -21,6 +21,6 @@ tx_line number counts = words (codes "tx" ∷ decimal number ∷ codes "sent" �
     ∷ codes "done" ∷ decimal counts.done ∷ codes "denied" ∷ decimal counts.denied ∷ codes "limit" ∷ decimal counts.state.limit
     ∷ codes "avail" ∷ signed_decimal counts.state.avail ∷ codes "stopped" ∷ decimal (flag counts.state.stopped) ∷ [])
 
--- only where that had a row
+-- only if it had a row
 abbrev pub tx_lines : ℕ → Bool → TxCounts → List ℕ
 tx_lines number used counts = if used then ended (tx_line number counts) else []

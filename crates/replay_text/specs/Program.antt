@@ -1,4 +1,5 @@
--- How a program ends. `F` is the type of a run's faults; `line`, without its line feed, and `status` are what such a fault has.
+-- How a program ends. `F` is the type of a run's errors; `line`, without its line feed, and `status` are the message and the
+-- exit status of such an error.
 use Rattle.std.specs.{Prelude.{◌≡◌, ◌⊎◌, ℕ, List, ◌++◌, Option, codes}, Io.KnownBytes.Appends}
 use Rattle.replay_text.specs.{Stops.HasStopped, Written.{AppendsPart, IsFaultBy, LeavesBy}}
 use Rattle.replay_text.specs.declared.{fault.ReplayFault.{ReplayFault, TheVariants.OutputFailed}}
@@ -6,7 +7,7 @@ use Rattle.replay_text.specs.declared.program.ProgramFault.{ProgramFault, TheVar
 use Rattle.{device_rows.specs.Failures.IsRefused, replay_words.specs.{Refusals.IsRefused as IsRefusedWords, Words.line_of as word_line}}
 use Rattle.replay_words.specs.{Words.status_of as word_status, declared.words.WordFault.TheVariants.{Usage, OutOfMemory}}
 
--- the line on standard error, and the exit status
+-- the message on standard error, and the exit status
 abbrev pub line_of : {F : Type 0} → (F → List ℕ) → ProgramFault F → List ℕ
 line_of line (Words fault) = word_line fault
 line_of line (Run fault) = line fault ++ codes "\n"
@@ -15,29 +16,29 @@ abbrev pub status_of : {F : Type 0} → (F → ℕ) → ProgramFault F → ℕ
 status_of status (Words fault) = word_status fault
 status_of status (Run fault) = status fault
 
--- the text is one of the bytes, by what the words ask for
+-- the text is one that the bytes have under the settings of the arguments
 abbrev pub IsTextBy : {A : Type 0} → (A → Type 0) → (A → List ℕ → List ℕ → Type 0) → List ℕ → List ℕ → Type 0
 IsTextBy {A} AskedFor IsText bytes text = (asked : A) × AskedFor asked × IsText asked bytes text
 
--- the fault is that of the words, or by what they ask for one that the run can have
+-- the error is that of the arguments or, under their settings, one that the run can have
 abbrev pub IsFaultOf : {A F : Type 0} → Type 0 → (A → Type 0) → (A → F → Type 0) → ProgramFault F → Type 0
 IsFaultOf {A} Refused AskedFor CanBe (Words Usage) = Refused
 IsFaultOf {A} Refused AskedFor CanBe (Words OutOfMemory) = IsRefusedWords
 IsFaultOf {A} Refused AskedFor CanBe (Run fault) = (asked : A) × AskedFor asked × CanBe asked fault
 
--- The exit status is the fault's. All of its line went to standard error and nothing else, or, because the writer stopped or memory was
--- refused, only a part of the line.
+-- The exit status is the error's. All of its message was written to standard error and nothing else, or only a part of it,
+-- because the writer stopped or an allocation failed.
 pub record EndsBy {F : Type 0} (line_in : F → List ℕ) (status_in : F → ℕ) (fault : ProgramFault F) (old new : Option (List ℕ)) (code : ℕ)
     : Type 0 where
   pub status : code ≡ status_of status_in fault
   pub line : Appends old new (line_of line_in fault) ⊎ (AppendsPart old new (line_of line_in fault) × (HasStopped ⊎ IsRefused))
 
--- if the output failed a part of a text of the bytes read was written, and on each other fault nothing
+-- if the output failed, a part of a text of the bytes read was written, and after each other error nothing
 abbrev pub LeavesOutput : (List ℕ → List ℕ → Type 0) → Option (List ℕ) → Option (List ℕ) → Option (List ℕ)
     → ProgramFault ReplayFault → Type 0
 LeavesOutput IsText = LeavesBy (Run OutputFailed) IsText
 
--- the program failed by some fault that it can have, and left its output by that
+-- the program failed by some error that it can have, and left its output accordingly
 pub record FailedBy {F : Type 0} (line_in : F → List ℕ) (status_in : F → ℕ) (can_be leaves : ProgramFault F → Type 0)
     (old new : Option (List ℕ)) (code : ℕ) : Type 0 where
   pub fault : ProgramFault F

@@ -1,4 +1,4 @@
--- That a writer stopped: who meets it knows it by what the writer answered, or by how often it was asked.
+-- That a writer stopped, which a function learns from what the writer returned, or from how often it was called.
 use Rattle.std.specs.{Prelude.{◌≡◌, ◌≤◌, ◌-◌, ◌^◌, ℕ}, IoError.error_kind, declared.io.{Error.Error, ErrorKind.TheVariants.Interrupted}}
 
 pub HasStopped : Type 0

@@ -1,4 +1,5 @@
--- What a call that makes a text of an input does to its output. Input and output are their bytes, where these are known.
+-- The effect on its output of a call that turns an input into a text. Input and output are represented by their bytes, if these
+-- are known.
 use Rattle.std.specs.{Prelude.{◌≡◌, ◌≢◌, ◌<◌, ◌⊎◌, ℕ, List, Option, Some, length, take}, Io.KnownBytes.{Appends, Keeps}}
 use Rattle.replay_text.specs.declared.fault.ReplayFault.{ReplayFault, TheVariants.OutputFailed}
 
@@ -6,19 +7,19 @@ use Rattle.replay_text.specs.declared.fault.ReplayFault.{ReplayFault, TheVariant
 abbrev pub Writes : (List ℕ → List ℕ → Type 0) → Option (List ℕ) → Option (List ℕ) → Option (List ℕ) → Type 0
 Writes IsText input old new = (bytes : List ℕ) → input ≡ Some bytes → (text : List ℕ) × IsText bytes text × Appends old new text
 
--- a fault is one of the bytes read, or none of theirs
+-- an error is one of the bytes read, or one that doesn't come from them
 abbrev pub IsFaultBy : (ReplayFault → Type 0) → (List ℕ → ReplayFault → Type 0) → Option (List ℕ) → ReplayFault → Type 0
 IsFaultBy IsOutside IsFault input fault = (bytes : List ℕ) → input ≡ Some bytes → IsOutside fault ⊎ IsFault bytes fault
 
--- a front of these bytes was appended, and not all of them
+-- a proper prefix of these bytes was appended
 abbrev pub AppendsPart : Option (List ℕ) → Option (List ℕ) → List ℕ → Type 0
 AppendsPart old new bytes = (n : ℕ) × (n < length bytes) × Appends old new (take n bytes)
 
--- the bytes read have a text, of which a front was written, and not all of it
+-- the bytes read have a text, of which a proper prefix was written
 abbrev pub WritesPart : (List ℕ → List ℕ → Type 0) → Option (List ℕ) → Option (List ℕ) → Option (List ℕ) → Type 0
 WritesPart IsText input old new = (bytes : List ℕ) → input ≡ Some bytes → (text : List ℕ) × IsText bytes text × AppendsPart old new text
 
--- where the output failed a part of a text of the bytes read was written, and on each other fault nothing
+-- if the output failed, a part of a text of the bytes read was written, and after each other error nothing
 abbrev pub LeavesBy : {F : Type 0} → F → (List ℕ → List ℕ → Type 0) → Option (List ℕ) → Option (List ℕ) → Option (List ℕ) → F → Type 0
 LeavesBy failed IsText input old new fault = (fault ≡ failed → WritesPart IsText input old new) × (fault ≢ failed → Keeps old new)
 

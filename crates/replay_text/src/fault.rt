@@ -1,4 +1,4 @@
-//! Why a replay gave no report.
+//! Why a replay has no report.
 
 ghost use Rattle.std.specs.Prelude.{◌≡◌, IfOk, string_bytes};
 ghost use Rattle.replay_text.specs.Fault.{line_of, number_of, status_of};
@@ -9,26 +9,26 @@ use std::alloc::{AllocError, Global};
 use std::fmt;
 use thiserror::Error;
 
-/// Why a replay gave no report. Nothing was written, except as `OutputFailed` says.
+/// Why a replay has no report. Nothing was written, except as `OutputFailed` says.
 #[derive(Clone, Copy, Debug, PartialEq, Eq, Error)]
 pub enum ReplayFault {
-    /// 1 to 11: the text is no trace, the reader failed, or memory was refused, be it while the trace was read or later.
+    /// 1 to 11: the text isn't a trace, the reader failed, or an allocation failed, whether while the trace was read or later.
     #[error(transparent)]
     Trace(TraceFault),
-    /// 12: this row enables a device whose disable is pending still. Rows count from 1.
+    /// 12: this row enables a device whose disable is still pending. Rows count from 1.
     #[error("row {row} enables a device whose disable is pending still")]
     Pending { row: u32 },
-    /// 13: more packets arrive at this device than its ring has places for. Only runs with threads are refused so, and the
-    /// lowest such device is named.
+    /// 13: more packets arrive at this device than its ring can hold. Only runs with threads have this error, and it names the
+    /// device with the lowest number.
     #[error("the ring of device {device} needs {needs} places")]
     RingTooSmall { device: u32, needs: u32 },
-    /// 14: a gate shut a run with threads.
+    /// 14: a gate stopped a run with threads.
     #[error("a gate was shut")]
     GateShut,
-    /// 15: the writer failed. Less than the whole report went out.
+    /// 15: the writer failed. Less than the whole report was written.
     #[error("the report could not be written")]
     OutputFailed,
-    /// 16: a thread of a run could not be started.
+    /// 16: a thread of a run couldn't be started.
     #[error("a thread could not be started")]
     SpawnFailed,
 }
@@ -55,7 +55,7 @@ impl From<AllocError> for ReplayFault {
 }
 
 impl ReplayFault {
-    /// The number of this fault.
+    /// The number of this error.
     pub fn number(self) -> u8
         ensures { result ≡ number_of self }
     {
@@ -70,7 +70,7 @@ impl ReplayFault {
     }
 }
 
-// A fault of the trace as its line on standard error tells it.
+// The message for an error of the trace.
 #[derive(Drop)]
 struct TraceLine<'a>(&'a TraceFault);
 
@@ -97,7 +97,7 @@ impl fmt::Display for TraceLine<'_> {
     }
 }
 
-// A fault as its line on standard error tells it.
+// The message for an error.
 #[derive(Drop)]
 struct FaultLine<'a>(&'a ReplayFault);
 
@@ -126,15 +126,15 @@ impl fmt::Display for FaultLine<'_> {
 
 ghost use Rattle.std.specs.Prelude.{◌++◌, codes};
 
-/// The line of a fault for standard error, line feed included. The only error is want of memory.
+/// Returns the message of an error for standard error, including the line feed. Fails only if an allocation fails.
 pub fn fault_line(alloc: Global, fault: &ReplayFault) -> Result<String, AllocError>
     ensures { IfOk result (λ line. string_bytes line ≡ line_of fault.now ++ codes "\n") }
 {
     format!(in alloc; "{}\n", FaultLine(fault))
 }
 
-/// The exit status of a fault: 2 for the trace's own faults, 3 for a ring that is too small, 4 where memory, the output or the
-/// workers failed.
+/// Returns the exit status of an error: 2 for the trace's own errors, 3 for a ring that is too small, 4 if an allocation, the
+/// output or the workers failed.
 pub fn status(fault: &ReplayFault) -> u8
     ensures { result ≡ status_of fault.now }
 {

@@ -1,5 +1,5 @@
-//! Behind the door `replay`: what every replay of a trace shares, why it failed, and the lines that each report has; and how each
-//! program ends.
+//! Internal crate of the facade `replay`: what all replays of a trace share: their errors, the common lines of their reports,
+//! and how each program ends.
 #![tactic(auto)]
 
 mod fault;

@@ -1,4 +1,4 @@
-//! Lines that the report of every replay has, and its way out.
+//! Lines that every replay's report has, and writing a report.
 
 ghost use Rattle.std.specs.Prelude.{◌≡◌, ◌++◌, IfErr, OnErr, OnOk, false, string_bytes, true};
 ghost use Rattle.std.specs.Io.KnownBytes.{Appends};
@@ -12,7 +12,7 @@ use device_transmit::TxCounts;
 use std::alloc::AllocError;
 use std::io::{ErrorKind, Write};
 
-/// Adds the line of a device's transmit side. The only error is want of memory.
+/// Appends the line of a device's transmit side. Fails only if an allocation fails.
 pub fn add_transmit(text: &mut String, number: u32, counts: &TxCounts) -> Result<(), AllocError>
     ensures { OnOk result
         (string_bytes text.new ≡ string_bytes text.old ++ ended (tx_line number counts.now)) }
@@ -32,7 +32,7 @@ pub fn add_transmit(text: &mut String, number: u32, counts: &TxCounts) -> Result
     Ok(())
 }
 
-/// Writes the bytes in order, and says whether all went out. The writer is asked until it takes none of them.
+/// Writes the bytes in order, and returns whether all were written. It calls the writer until that accepts none.
 pub(crate) fn write_out<W: Write>(writer: &mut W, bytes: &[u8]) -> bool
     ensures whole { result ≡ true
         → Appends (W.contents writer.old) (W.contents writer.new) bytes.now }
@@ -59,8 +59,8 @@ pub(crate) fn write_out<W: Write>(writer: &mut W, bytes: &[u8]) -> bool
     rest.is_empty()
 }
 
-/// Writes the text of a report, all of it. The only fault is [`OutputFailed`](ReplayFault::OutputFailed), after which a front
-/// of the text went out, and not all of it.
+/// Writes the whole text of a report. Fails only with [`OutputFailed`](ReplayFault::OutputFailed); a proper prefix of the text
+/// was written then.
 pub fn write_text<W: Write>(writer: &mut W, text: &String) -> Result<(), ReplayFault>
     ensures written { OnOk result
         (Appends (W.contents writer.old) (W.contents writer.new) (string_bytes text.now)) }

@@ -15,15 +15,15 @@ use std::env;
 use std::io::{ErrorKind, Write};
 use std::process::ExitCode;
 
-/// Why a program that accepted its arguments gave no report: the line on standard error, and the exit status.
+/// Why a program that accepted its arguments wrote no report: the message on standard error, and the exit status.
 pub trait Fault {
-    /// The line on standard error, without its line feed.
+    /// The message on standard error, without its line feed.
     ghost line: { Self → List ℕ };
 
     /// The exit status.
     ghost status: { Self → ℕ };
 
-    /// Returns the line on standard error, line feed included. The only error is out of memory.
+    /// Returns the message on standard error, including the line feed. Fails only if an allocation fails.
     fn line(&self, alloc: Global) -> Result<String, AllocError>
         ensures { IfOk result (λ text. string_bytes text ≡ line self.now ++ codes "\n") };
 
@@ -33,7 +33,7 @@ pub trait Fault {
         ensures fails { result ≢ 0 };
 }
 
-/// Why a program gave no report.
+/// Why a program wrote no report.
 #[derive(Clone, Copy, Debug)]
 pub enum ProgramFault<F> {
     /// The arguments were rejected, and nothing was read.
@@ -42,7 +42,7 @@ pub enum ProgramFault<F> {
     Run(F),
 }
 
-/// Returns the arguments after the program's name. The fault is `Usage` if one of them isn't UTF-8.
+/// Returns the arguments after the program's name. Fails with `Usage` if one of them isn't UTF-8.
 pub fn given_words(rt: &HostRuntime) -> Result<Vec<String>, WordFault> {
     match env::args(rt) {
         Ok(words) => words
@@ -54,7 +54,7 @@ pub fn given_words(rt: &HostRuntime) -> Result<Vec<String>, WordFault> {
     }
 }
 
-// Writes the line of a fault, and returns whether all of it was written.
+// Writes the message of an error, and returns whether all of it was written.
 #[tactic(auto, using(crate::proofs::OutFacts::none_out))]
 fn tell<F: Fault, E: Write>(alloc: Global, fault: &ProgramFault<F>, errors: &mut E) -> bool
     ensures told { result ≡ true
@@ -72,7 +72,8 @@ fn tell<F: Fault, E: Write>(alloc: Global, fault: &ProgramFault<F>, errors: &mut
     }
 }
 
-/// Ends the program after a fault: writes its line to `errors`, and returns its exit status, also if the line couldn't be written.
+/// Ends the program after an error: writes its message to `errors`, and returns its exit status, even if the message couldn't
+/// be written.
 pub fn end_by<F: Fault, E: Write>(
     alloc: Global,
     fault: &ProgramFault<F>,

@@ -1,10 +1,10 @@
--- Stations in rising order of their numbers.
+-- Stations by increasing number.
 use Rattle.std.{proofs.Common.{◌+◌, ◌<◌, Bool, true, false, List, [], ◌∷◌, ap, refl, arith}, specs.{Prelude.{◌==◌, filter}, List.AllZip}}
 use Rattle.std.proofs.{lemmas.Grind.common_steps, Common.{◌≡◌, ◌∙◌, ℕ, zero, suc}}
 use Rattle.poll_interrupts.specs.declared.station.Station.{Station}
 use Rattle.{std.specs.List.{list_any, range_with_len}, poll_workers.specs.Numbers.{are_distinct, have_distinct_numbers, numbers_of}}
 
--- none of the numbers from here on is a lower one
+-- none of the numbers from here on is lower
 none-below : (p : ℕ → Bool) (n a k : ℕ) → k < a → list_any (λ m. m == k) (filter p (range_with_len a n)) ≡ false
 none-below p zero a k below = refl
 none-below p (suc n) a k below = grind (arith, common_steps, none-below p n (a + 1) k (omega (arith, below)))

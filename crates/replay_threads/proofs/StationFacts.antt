@@ -1,4 +1,4 @@
--- From the rows of a trace to its stations, and from what a run made of these to the report.
+-- From the rows of a trace to its stations, and from the result of a run on these to the report.
 use Rattle.std.proofs.lemmas.{Grind.common_steps, List.{take_all, Elements.All-filter, Sums.sum_by-le}}
 use Rattle.std.proofs.Common.{◌≡◌, ◌∙◌, ℕ, ◌+◌, ◌-◌, ◌<◌, ◌≤◌, ap, sym, subst}
 use Rattle.std.proofs.Common.{Bool, true, false, Some, None, List, [], ◌∷◌, ◌++◌, length, slice_index_or, take, get_or, refl}
@@ -16,7 +16,7 @@ use Rattle.replay_threads.specs.{ThreadsReport.{arrived, bytes, device_lines, is
 use Rattle.replay_threads.specs.{Stations.{end_lines, is_small, polled_of, small_fault}, Answer.{IsOutside, IsPolled, IsToldAs, overflows}}
 use Rattle.poll_workers.specs.declared.fault.WorkFault.TheVariants as work
 
--- ---- what acceptance says of a row's numbers
+-- ---- what follows for a row's numbers if it is accepted
 
 value-small : (e : Event) (v : ℕ) → value_fits e v ≡ true → v ≤ 65536
 value-small e v h = grind (arith, common_steps)
@@ -28,7 +28,7 @@ values-small : (rows : List Row) → AcceptedAfter [] rows → All IsSmall rows
 values-small rows h k d below = let a = accepted-at [] rows k d below h in
     value-small (get_or rows k d).event (get_or rows k d).value a.1.value
 
--- the bytes of any of them need no more than 64 bits
+-- the bytes of any of them fit into 64 bits
 pub bytes-small : (rows : List Row) (device : ℕ) → AcceptedAfter [] rows → length rows ≤ 100000 → bytes device rows ≤ 6553600000
 bytes-small rows device h few =
     let acts = All-filter (is_act_of device) IsSmall rows (values-small rows h) in
@@ -40,12 +40,12 @@ bytes-small rows device h few =
 
 -- ---- the open row of a device
 
--- it is found among the open rows
+-- it is among the open rows
 pub opening-among : (rows openings : List Row) (device : ℕ) → openings ≡ openings_of rows
     → opening_of device openings ≡ opening_of device rows
 opening-among rows openings device e = rw e (find-among (λ (row : Row). is_open row.event) (λ (row : Row). row.device == device) rows)
 
--- the script of a device stands at its place
+-- the script of a device is at its index
 pub script-at : (rows : List Row) (scripts : List (List Row)) (device : ℕ) (script : List Row) → 1 ≤ device → device ≤ 16
     → script ≡ slice_index_or scripts (device - 1) []
     → ((place : ℕ) → device ≤ place + 1 → place < 16 → slice_index_or scripts place [] ≡ script_of (place + 1) rows)
@@ -58,7 +58,7 @@ overflow-same : (rows : List Row) (device : ℕ) (station : Station Script) → 
     → overflows rows device ≡ is_small station
 overflow-same rows device station h = rw (h.its_opening, h.its_rows, h.its_capacity) refl
 
--- the first ring that is too small is that of the first station whose is
+-- the first ring that is too small is that of the first such station
 pub ring-of : (rows : List Row) (devices : List ℕ) (stations : List (Station Script)) → AllZip (IsStationOf rows) devices stations
     → option_map (λ device. RingTooSmall device (arrived device rows)) (find (overflows rows) devices) ≡ small_fault stations
 ring-of rows [] [] h = refl
@@ -66,7 +66,7 @@ ring-of rows [] (s ∷ ss) h = absurd h
 ring-of rows (d ∷ ds) [] h = absurd h
 ring-of rows (d ∷ ds) (s ∷ ss) h = grind (arith, common_steps, overflow-same, ring-of rows ds ss h.1)
 
--- the first of them
+-- the first such station
 pub small-here : (stations : List (Station Script)) (i : ℕ) (station : Station Script) → i < length stations
     → find is_small (take i stations) ≡ None → get_or stations i station ≡ station
     → is_small station ≡ true → Some (RingTooSmall station.number (length (rx_of station.device.rows))) ≡ small_fault stations
@@ -77,7 +77,7 @@ pub small-later : (stations : List (Station Script)) (i : ℕ) (station : Statio
     → is_small station ≡ false → find is_small (take (i + 1) stations) ≡ None
 small-later stations i station below before here large = find-more is_small stations i station below before (rw here large)
 
--- one more device was looked at
+-- one more device was checked
 pub station-here : (rows : List Row) (number : ℕ) (devices : List ℕ) (stations : List (Station Script)) (station : Station Script)
     → is_opened rows number ≡ true
     → IsStationOf rows number station → AllZip (IsStationOf rows) devices stations
@@ -90,12 +90,12 @@ pub opened-more : (rows : List Row) (number : ℕ) → 1 ≤ number
     ≡ filter (is_opened rows) (range_with_len 1 (number - 1)) ++ filter (is_opened rows) (number ∷ [])
 opened-more rows number one = grind (arith, common_steps, range-more)
 
--- ---- what a run made of a station
+-- ---- the result of a run on a station
 
 capped-small : (n : ℕ) → n ≤ 6553600000 → capped n ≡ n
 capped-small n h = min-eq_left (omega (arith, h))
 
--- its run, told of the device as it is afterwards
+-- the result of its run, for the device afterwards
 run-of : {rows : List Row} {device : ℕ} (station : Station Script) (end : Finished Script) → IsStationOf rows device station
     → end.device ≡ record station.device { made = length station.device.rows }
     → HasRun answer after station.capacity station.thread station.device (acts station.device) end.closed end.totals
@@ -167,7 +167,7 @@ ends-of answers rows (d ∷ ds) (s ∷ ss) (e ∷ es) accepted few of enough fin
 pub none-small : (stations : List (Station Script)) → small_fault stations ≡ None → find is_small stations ≡ None
 none-small stations h = grind (arith, common_steps)
 
--- the same of what a run answered
+-- the same for the result of a run
 pub ends-if-ok : (answers : ℕ → ℕ → Bool → Type 0) (rows : List Row) (stations : List (Station Script))
     (answered : Result (Vec (Finished Script)) ReplayFault)
     → AcceptedAfter [] rows → length rows ≤ 100000
@@ -188,12 +188,12 @@ run-if-ok R asked settings rows stations answered of polled = grind (arith, comm
 pub rings-if-ok : {P A E : Type 0} → (answered : Result A E) → P → OnOk answered P
 rings-if-ok answered p = grind (arith, common_steps)
 
--- a fault that is told as it came is one from outside
+-- an error that is passed on unchanged doesn't come from the text
 pub told-outside : (may_shut : Type 0) (fault : WorkFault) (told : ReplayFault) → (fault ≡ work.GateShut → may_shut)
     → (fault ≡ work.SpawnFailed → IsRefused) → IsToldAs fault told → IsOutside may_shut told
 told-outside may_shut fault told gate spawn is = grind (arith, common_steps)
 
--- and is that of no output, as is that of a ring which is too small
+-- nor is it an error of the output, and neither is that of a ring which is too small
 pub told-unwritten : (fault : WorkFault) (told : ReplayFault) → IsToldAs fault told → told ≡ OutputFailed → ⊥
 told-unwritten fault told is failed = grind (arith, common_steps)
 

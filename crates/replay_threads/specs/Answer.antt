@@ -1,4 +1,4 @@
--- What a run of a text with threads answers: the threads report of its rows, or its first fault.
+-- The result of a run of a text with threads: the threads report of its rows, or its first error.
 use Rattle.std.specs.{Prelude.{◌≡◌, ℕ, ◌+◌, List, Bool, Option, Some, None, Result, Ok, Err, length, map, nat_lt, option_map}, List.find}
 use Rattle.poll_interrupts.specs.{declared.station.{Closed.Closed, Finished.Finished}, Runs.HasRun}
 use Rattle.replay_words.specs.declared.settings.Settings.{Settings}
@@ -10,12 +10,12 @@ use Rattle.{rx_ring.specs.declared.packet.Totals.Totals, replay_text.specs.Outsi
 use Rattle.replay_text.specs.declared.fault.ReplayFault.{ReplayFault, TheVariants.{GateShut, RingTooSmall, SpawnFailed, Trace}}
 use Rattle.poll_workers.specs.declared.fault.WorkFault.TheVariants as work
 
--- the places of a device's receive ring
+-- the capacity of a device's receive ring
 abbrev pub places_by : Option Row → ℕ
 places_by None = 0
 places_by (Some opening) = opening.value
 
--- more packets arrive at the device than its ring has places for
+-- more packets arrive at the device than its ring can hold
 abbrev pub overflows : List Row → ℕ → Bool
 overflows rows device = nat_lt (places_by (opening_of device rows)) (arrived device rows)
 
@@ -34,25 +34,25 @@ answer_of (Err fault) = Err (Trace fault)
 abbrev pub threads_of : List ℕ → Result (List ℕ) ReplayFault
 threads_of bytes = answer_of (trace_of (records_of bytes))
 
--- the reader, the memory, the writer or a thread failed; or the gate did, where it may be shut
+-- the reader, an allocation, the writer or a thread failed; or the gate stopped the run, if it may
 abbrev pub IsOutside : Type 0 → ReplayFault → Type 0
 IsOutside may_shut GateShut = may_shut
 IsOutside may_shut SpawnFailed = IsRefused
 IsOutside may_shut fault = IsSerialOutside fault
 
--- the fault of a run as the replay tells it
+-- the error of a run, as the replay reports it
 abbrev pub IsToldAs : WorkFault → ReplayFault → Type 0
 IsToldAs work.OutOfMemory told = IsWantOfMemory told
 IsToldAs work.GateShut told = told ≡ GateShut
 IsToldAs work.SpawnFailed told = told ≡ SpawnFailed
 
--- the device as the rows tell of it, before its acts
+-- the device as the rows describe it, before its acts
 pub record IsDeviceOf (rows : List Row) (device : ℕ) (script : Script) : Type 0 where
   pub opening : opening_of device rows ≡ Some script.opening
   pub acts : script.rows ≡ script_of device rows
   pub made : script.made ≡ 0
 
--- what was polled of a device, and what is left, are the packets that arrived there, as its own acts had them
+-- the packets of a device that were polled, and those left, are the packets that arrived there, with its own acts
 pub record IsPolled (rows : List Row) (device : ℕ) (polled : Polled) : Type 0 where
   pub same_device : polled.device ≡ device
   pub sum : polled.polled + polled.left ≡ arrived device rows
@@ -63,11 +63,11 @@ pub record IsPolled (rows : List Row) (device : ℕ) (polled : Polled) : Type 0 
   pub run : HasRun answer after script.opening.value (has_thread script.rows) script (length script.rows) closed totals
   pub counts : (polled.polled ≡ totals.polled) × (polled.left ≡ totals.left)
 
--- what is told of a run is what the pollers made of it, as many as the settings say and by their numbers
+-- what is reported of a run was done by as many pollers as the settings say, with their numbers
 abbrev pub IsRunBy : Type 0 → (ℕ → Type 0) → Settings → List Row → List Polled → Type 0
 IsRunBy R asked settings rows told = (ends : List (Finished Script)) × AreRunBy R asked settings rows ends × (told ≡ map polled_of ends)
 
--- the same of the rows of the bytes read
+-- the same for the rows of the bytes read
 abbrev pub RanBy : Type 0 → (ℕ → Type 0) → Settings → Option (List ℕ) → List Polled → Type 0
 RanBy R asked settings input told =
     (bytes : List ℕ) → input ≡ Some bytes → (rows : List Row) × (trace_of (records_of bytes) ≡ Ok rows) × IsRunBy R asked settings rows told

@@ -1,9 +1,9 @@
--- What a replay in shared mode did beside its report.
+-- What a replay in shared mode did, besides its report.
 use Rattle.{std.specs.Prelude.{ℕ, List, Option}, device_places.specs.Places.Places, rx_ring.specs.declared.packet.Totals.Totals}
 use Rattle.device_bench.specs.{Bench.Devices, Ending.AllEnded}
 use Rattle.{device_shared.specs.Ending.IsEnded, replay_rows.specs.Answer.Plays, replay_words.specs.declared.settings.Settings.Settings}
 
--- The rows of the bytes read were played over instances that threads could share. Each was closed in the state that its rows left,
--- with the one history of all calls on it, and all that its ring held was polled.
+-- The rows of the bytes read were processed on instances that threads could share. Each was closed in the state after its rows,
+-- with the one history of all calls on it, and all packets in its ring were polled.
 abbrev pub RanShared : Settings → Option (List ℕ) → Type 0
 RanShared s input = (devices : Devices) × (ends : Places Totals) × Plays s input devices × AllEnded IsEnded devices ends

@@ -1,4 +1,4 @@
--- The stations of the devices that rows open, and what a run made of them.
+-- The stations of the devices that the rows open, and the result of a run on them.
 use Rattle.{poll_interrupts.specs.{Runs.HasRun, declared.station.{Finished.Finished, Station.Station}}, replay_text.specs.Lines.ended}
 use Rattle.{replay_text.specs.declared.fault.ReplayFault.{ReplayFault, TheVariants.RingTooSmall}, device_rows.specs.declared.row.Row.Row}
 use Rattle.replay_threads.specs.{ThreadsReport.{arrived, arrived_line, bytes, opened, side_lines}, declared.polled.Polled.Polled}
@@ -15,7 +15,7 @@ pub record IsStationOf (rows : List Row) (device : ℕ) (station : Station Scrip
   pub its_capacity : station.capacity ≡ station.device.opening.value
   pub its_thread : station.thread ≡ has_thread (script_of device rows)
 
--- and after them, where its ring had a place for each packet
+-- and after them, if its ring had room for each packet
 pub record IsEndOf (rows : List Row) (device : ℕ) (end : Finished Script) : Type 0 where
   pub its_number : end.number ≡ device
   pub its_opening : opening_of device rows ≡ Some end.device.opening
@@ -27,7 +27,7 @@ pub record IsEndOf (rows : List Row) (device : ℕ) (end : Finished Script) : Ty
   pub its_run : HasRun answer after end.device.opening.value (has_thread end.device.rows) (record end.device { made = 0 })
       (length end.device.rows) end.closed end.totals
 
--- The devices that the rows open ran and were polled, by as many pollers as the settings say, and by their numbers.
+-- The devices that the rows open ran and were polled, by as many pollers as the settings say, with the settings' numbers.
 pub record AreRunBy (R : Type 0) (asked : ℕ → Type 0) (settings : Settings) (rows : List Row) (ends : List (Finished Script)) : Type 0 where
   pub stations : List (Station Script)
   pub are : AllZip (IsStationOf rows) (opened rows) stations
@@ -39,13 +39,13 @@ abbrev pub end_lines : Finished Script → List ℕ
 end_lines end = ended (arrived_line end.number end.totals.put end.totals.bytes)
     ++ side_lines end.number (side_of end.device)
 
--- the first of the stations whose ring has fewer places than packets that arrive there
+-- the first station whose ring has less room than packets that arrive there
 abbrev pub is_small : Station Script → Bool
 is_small station = nat_lt station.capacity (length (rx_of station.device.rows))
 
 abbrev pub small_fault : List (Station Script) → Option ReplayFault
 small_fault stations = option_map (λ station. RingTooSmall station.number (length (rx_of station.device.rows))) (find is_small stations)
 
--- what is told of its polls
+-- the counts of its polls
 abbrev pub polled_of : Finished Script → Polled
 polled_of end = record { device = end.number; polled = end.totals.polled; left = end.totals.left }

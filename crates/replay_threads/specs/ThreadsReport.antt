@@ -1,5 +1,5 @@
--- The report of a run with threads, as a function of the rows: what arrived at each device, and its transmit side. It knows
--- nothing of polls, and so of no thread. See docs/FORMATS.md, "The report".
+-- The report of a run with threads, as a function of the rows: what arrived at each device, and its transmit side. It doesn't
+-- depend on polls, and so on no thread. See docs/FORMATS.md, "The report".
 use Rattle.std.specs.Prelude.{ℕ, Bool, List, [], ◌∷◌, ◌++◌, Option, Some, None, codes, decimal, filter, flat_map, is_some, length, sum_by}
 use Rattle.{std.specs.List.range_with_len, device_rows.specs.declared.row.Row.Row, device_transmit.specs.Transmit.{TransmitView, tx_counts}}
 use Rattle.{replay_text.specs.Lines.{ended, tx_lines, words}, device_script.specs.Script.{opening_of, rx_of, script_of, side_after}}
@@ -7,7 +7,7 @@ use Rattle.{replay_text.specs.Lines.{ended, tx_lines, words}, device_script.spec
 abbrev pub is_opened : List Row → ℕ → Bool
 is_opened rows device = is_some (opening_of device rows)
 
--- the devices that the rows open, in rising order
+-- the devices that the rows open, by increasing number
 unfoldable pub opened : List Row → List ℕ
 opened rows = filter (is_opened rows) (range_with_len 1 16)
 

@@ -1,10 +1,11 @@
-//! Behind the door `replay`: a replay of a trace with threads, and one by one thread over instances that threads could share.
+//! Internal crate of the facade `replay`: a replay of a trace with threads, and one by one thread on instances that threads
+//! could share.
 //!
-//! With threads: an interrupt worker for each device, pollers, and a thread for each device that is ever
-//! threaded. What is written is one function of the bytes read, whatever the threads do.
+//! With threads, there is an interrupt worker for each device, pollers, and a thread for each device that is ever threaded.
+//! What is written is a function of the bytes read, whatever the threads do.
 //!
-//! `specs/ThreadsReport.antt` says what the report tells of the rows, and the contract of [`replay_threads`] says that it
-//! writes that. docs/FORMATS.md has the format.
+//! `specs/ThreadsReport.antt` defines the report by the rows, and the contract of [`replay_threads`] says that it writes that.
+//! docs/FORMATS.md has the format.
 #![tactic(auto)]
 
 mod polled;

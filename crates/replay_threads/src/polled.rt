@@ -1,4 +1,4 @@
-//! What polls made of the devices' packets.
+//! The counts of the polls of a run.
 
 /// What pollers did with the packets of one device.
 #[derive(Clone, Copy, Debug, PartialEq, Eq)]
@@ -7,6 +7,6 @@ pub struct Polled {
     pub device: u32,
     /// The packets that were polled.
     pub polled: u64,
-    /// The packets that its ring was left with.
+    /// The packets that were left in its ring.
     pub left: u64,
 }

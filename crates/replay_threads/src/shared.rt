@@ -14,11 +14,11 @@ use std::alloc::Global;
 use std::io::{Read, Write};
 use std::sync::Wait;
 
-/// Plays a trace by one thread over instances that threads could share, and writes the report of it: that of serial mode.
+/// Replays a trace by one thread on instances that threads could share, and writes its report, which is that of serial mode.
 ///
-/// Nothing is written before the whole trace is read and played, so on every fault but `OutputFailed` nothing was. On
-/// that one a front of the report was, and not all of it. Want of memory may come before any other fault. At the end, after a
-/// fault too, the bench is ended, which may wait: each instance is closed, and what its ring holds is polled.
+/// It writes nothing before the whole trace is read and processed. So after every error but `OutputFailed` nothing was written;
+/// after that one, a proper prefix of the report. `OutOfMemory` may take precedence over any other error. At the end, even
+/// after an error, it ends the bench, which may wait: each instance is closed, and all packets in its ring are polled.
 pub fn replay_shared<H: Wait + Copy + Drop, R: Read + Drop, W: Write>(
     rt: H,
     alloc: Global,
@@ -30,13 +30,13 @@ pub fn replay_shared<H: Wait + Copy + Drop, R: Read + Drop, W: Write>(
     ensures written { OnOk result (Writes (λ bytes text. replay_of settings.now bytes ≡ Ok text)
         (R.remaining reader) (W.contents writer.old) (W.contents writer.new)) }
 
-    // A fault is that of the bytes read, unless the reader, the memory or the writer failed.
+    // An error is that of the bytes read, unless the reader, an allocation or the writer failed.
     ensures fault { IfErr result (IsFaultBy IsOutside
         (λ bytes fault. replay_of settings.now bytes ≡ Err fault) (R.remaining reader)) }
-    // Where the output failed less than the whole report was written, and on each other fault nothing.
+    // If the output failed, less than the whole report was written, and after each other error nothing.
     ensures output { IfErr result (Leaves (λ bytes text. replay_of settings.now bytes ≡ Ok text)
         (R.remaining reader) (W.contents writer.old) (W.contents writer.new)) }
-    // The rows were played over shared instances, each of which was closed behind them.
+    // The rows were processed on shared instances, each of which was closed afterwards.
     ensures run { OnOk result (RanShared settings.now (R.remaining reader)) }
 {
     let bench = SharedBench::new(rt, alloc)?;

@@ -28,7 +28,7 @@ use std::alloc::{AllocError, Global};
 use std::sync::Wait;
 use std::thread::Threads;
 
-// The station of the device of this open row, with its rows behind that one.
+// Returns the station of the device of this open row, with its rows after that one.
 fn station_of(
     alloc: Global,
     number: u32,
@@ -52,7 +52,7 @@ fn station_of(
     })
 }
 
-// Adds the station of a device with its script, where one of the open rows opens it.
+// Adds the station of a device with its script, if one of the open rows opens it.
 fn add_station(
     alloc: Global,
     openings: &[Row],
@@ -79,7 +79,7 @@ fn add_station(
     Ok(())
 }
 
-// The stations of the devices that the rows open, in rising order of their numbers.
+// Returns the stations of the devices that the rows open, by increasing number.
 fn stations_of(alloc: Global, rows: &[Row]) -> Result<Vec<Station<ScriptDevice>>, AllocError>
     requires accepted { AcceptedAfter [] rows.now }
     requires count { length rows.now ≤ 100000 }
@@ -103,7 +103,7 @@ fn is_small(station: &Station<ScriptDevice>) -> bool
     station.capacity < station.device.packets() as usize
 }
 
-// The first of the stations whose ring has fewer places than packets that arrive there.
+// Returns an error for the first station whose ring has less room than packets that arrive there.
 fn ring_fault(stations: &[Station<ScriptDevice>]) -> Option<ReplayFault>
     ensures { result ≡ small_fault stations.now }
 {
@@ -118,7 +118,7 @@ fn ring_fault(stations: &[Station<ScriptDevice>]) -> Option<ReplayFault>
     None
 }
 
-// Why a run of workers was refused.
+// Returns the error of the replay for an error of a run.
 fn work_fault(fault: WorkFault) -> ReplayFault
     ensures { IsToldAs fault result }
 {
@@ -129,14 +129,14 @@ fn work_fault(fault: WorkFault) -> ReplayFault
     }
 }
 
-// The settings' budget, weight and window.
+// Returns the settings' budget, weight and window.
 fn pace_of(settings: &Settings) -> (u32, u32, u32)
     ensures { result ≡ (settings.now.budget, settings.now.weight, settings.now.window) }
 {
     (settings.budget, settings.weight, settings.window)
 }
 
-// Runs the stations, paced as the settings say.
+// Runs the stations with the numbers of the settings.
 fn run_stations<P, G>(
     rt: &P,
     alloc: Global,
@@ -167,7 +167,7 @@ where
     }
 }
 
-/// Runs the devices that the rows open, in rising order of their numbers.
+/// Runs the devices that the rows open, by increasing number.
 pub(crate) fn run_rows<P, G>(
     rt: &P,
     alloc: Global,

@@ -26,7 +26,7 @@ use std::io::{Read, Write};
 use std::sync::Wait;
 use std::thread::Threads;
 
-// What is told of the polls of each device.
+// Returns the counts of the polls of each device.
 fn all_polled(alloc: Global, ends: &[Finished<ScriptDevice>]) -> Result<Vec<Polled>, AllocError>
     ensures { IfOk result (λ all. vec_items all ≡ map polled_of ends.now) }
 {
@@ -41,7 +41,7 @@ fn all_polled(alloc: Global, ends: &[Finished<ScriptDevice>]) -> Result<Vec<Poll
     Ok(all)
 }
 
-// Runs the rows, and writes the report of them, all of it at once.
+// Runs the rows, and writes their whole report at the end.
 fn write_report<P, W, G>(
     rt: &P,
     alloc: Global,
@@ -79,17 +79,18 @@ where
     Ok(polled)
 }
 
-/// Runs a trace with threads, and writes the report of it: an interrupt worker for each device makes its acts in order, and
-/// so many pollers as the settings ask for poll, with a thread of its own for each device that is ever threaded. The gate is
-/// asked before each act. The answer has what was polled of each device, in rising order of their numbers.
+/// Runs a trace with threads, and writes its report: an interrupt worker for each device makes its acts in order, and as many
+/// pollers as the settings ask for poll, with an own thread for each device that is ever threaded. The gate is asked before
+/// each act. Returns the counts of the polls of each device, by increasing number.
 ///
-/// The report tells what arrived and the transmit sides, and rests on no setting. Softirq and kthread rows do nothing, a
-/// disable waits until its device is let go.
+/// The report shows what arrived and the transmit sides, and depends on no setting. Softirq and kthread rows do nothing, and a
+/// disable waits until its device is released.
 ///
-/// `RingTooSmall` comes before any worker starts, for the lowest device whose ring has fewer places than packets that arrive
-/// there; `GateShut` where the gate answers false, so never where that is always open; `SpawnFailed` where a thread can't be started. All threads have ended then.
-/// Nothing is written before the whole run is over, so on every fault but `OutputFailed` nothing was. On that one a front of
-/// the report was, and not all of it. Want of memory may come before any other fault.
+/// It fails with `RingTooSmall` before any worker starts, for the device with the lowest number whose ring can't hold all
+/// packets that arrive there; with `GateShut` if the gate returns false, so never with one that is always open; with
+/// `SpawnFailed` if a thread can't be started. All threads have ended then. It writes nothing before the whole run is over. So
+/// after every error but `OutputFailed` nothing was written; after that one, a proper prefix of the report. `OutOfMemory` may
+/// take precedence over any other error.
 pub fn replay_threads<P, R, W, G>(
     rt: &P,
     alloc: Global,
@@ -106,18 +107,18 @@ where
     // What is written is the threads report of the rows of the bytes read, and nothing else.
     ensures written { OnOk result (Writes (λ bytes text. threads_of bytes ≡ Ok text)
         (R.remaining reader) (W.contents writer.old) (W.contents writer.new)) }
-    // Of each device that they open, what was polled and what is left are the packets that arrived.
+    // For each device that they open, the packets polled and left are those that arrived.
     ensures polled { IfOk result (λ all. (bytes : List ℕ) → R.remaining reader ≡ Some bytes
         → (rows : List Row) × (trace_of (records_of bytes) ≡ Ok rows)
         × AllZip (IsPolled rows) (opened rows) (vec_items all)) }
-    // They were polled by as many pollers as the settings ask for, by the settings' budget, weight and window.
+    // They were polled by as many pollers as the settings ask for, with the settings' budget, weight and window.
     ensures run { IfOk result (λ all. RanBy (Bor P) (IsAsked G.answers gate.now) settings.now
         (R.remaining reader) (vec_items all)) }
-    // A fault is that of the bytes read, unless the reader, the memory, the writer or a thread failed, or the gate, where that
-    // may be shut.
+    // An error is that of the bytes read, unless the reader, an allocation, the writer or a thread failed, or the gate stopped
+    // the run, if it may.
     ensures fault { IfErr result (IsFaultBy (IsOutside G.may_shut)
         (λ bytes fault. threads_of bytes ≡ Err fault) (R.remaining reader)) }
-    // Where the output failed less than the whole report was written, and on each other fault nothing.
+    // If the output failed, less than the whole report was written, and after each other error nothing.
     ensures output { IfErr result (Leaves (λ bytes text. threads_of bytes ≡ Ok text)
         (R.remaining reader) (W.contents writer.old) (W.contents writer.new)) }
 {

@@ -1,4 +1,4 @@
--- What clap reads of the words, by its own account (`matches_of`, `fault_of`), is what they give.
+-- What clap reads from the arguments, by its own specification (`matches_of`, `fault_of`), is what the definitions here say.
 use Rattle.std.proofs.Common.{◌≡◌, ◌∙◌, subst, ◌+◌, ◌<◌, Bor, get_or, inl, inr, take, ◌&&◌, ◌||◌, Bool, ℕ, cond, true, false, not, refl}
 use Rattle.std.proofs.Common.{sym, ap, codes, List, [], ◌∷◌, ◌++◌, map, length, Option, Some, None, is_some, option_map, true≢false}
 use Rattle.std.proofs.{Math.{Bool.or-false, Dec.eqb-suc-zero}, lemmas.{Bool.or_parts, List.take_more, Slice.Eq.bytes_eq-Decides}}
@@ -22,9 +22,9 @@ use Rattle.replay_words.specs.Given.{with_option}
 use mathlib.Core.List.{append-nil, map-append}
 
 module _ (names : List Text) where
-  -- ---- the words, read from the front
+  -- ---- the arguments, read from the front
 
-  -- what the words after a reading come to
+  -- the result of the remaining arguments after a reading
   abbrev read_after : Option Reading → List Text → Option Given
   read_after reading words = option_and_then complete (fold (read_on names) reading words)
 
@@ -72,7 +72,7 @@ module _ (names : List Text) where
   id_as : (name : Text) → is_option names name ≡ true → arg_by_id rules name ≡ Some (named name)
   id_as name known = found (λ a. bytes_eq a.id name) name (λ o. refl) names ∙ ap (λ x. if x then Some (named name) else None) known
 
-  -- ---- the matches of what is given
+  -- ---- the matches for the given options
 
   abbrev has : Text → Given → Bool
   has name given = list_any (λ g. bytes_eq g.0 name) given
@@ -109,7 +109,7 @@ module _ (names : List Text) where
       go true = refl
       go false = refl
 
-  -- ---- a walk over the words
+  -- ---- a walk over the arguments
 
   abbrev held_at : List Row → Option (Text × List Text) → Held
   held_at rows pending = record { rows = rows; pending = pending; skip = 0 }
@@ -124,7 +124,7 @@ module _ (names : List Text) where
   abbrev faults : Walk → List Text → Kinds
   faults w words = or_else (walk_fault shape [] w words) (settle_fault rules false (end_of w words))
 
-  -- the matches that the words come to, where nothing is refused
+  -- the matches of the arguments, if none is rejected
   abbrev reads : Walk → List Text → Option (List Row)
   reads w words = if is_empty (faults w words) then Some (settled rules (end_of w words)).rows else None
 
@@ -151,7 +151,7 @@ module _ (names : List Text) where
       (first-faulty (turn_fault shape [] w word) (walk_fault shape [] (walked rules [] w word) words) faulty) in
       ap (λ b. if b then Some (settled rules (end_of w (word ∷ words))).rows else None) both
 
-  -- ---- one word
+  -- ---- one argument
 
   abbrev dashes : Text
   dashes = 45 ∷ 45 ∷ []
@@ -198,7 +198,7 @@ module _ (names : List Text) where
       λ i. after_step rules word (walk_at rows p idle) (met_at (not_dashes word (name, v) e i) (e i) idle word (held_at rows p)).0
       (met_at (not_dashes word (name, v) e i) (e i) idle word (held_at rows p)).1
 
-  -- an option while what is pending is refused
+  -- an option is rejected while another one waits for its value
   long-faulty : (name : Text) (v : Option Text) (waiting : Waiting) (word : Text) (h : Held) → is_empty (settle_fault rules false h) ≡ false
       → is_empty (long_at (arg_by_long rules name) v waiting word h) ≡ false
   long-faulty name v waiting word h faulty = go (is_option names name) refl v
@@ -210,7 +210,7 @@ module _ (names : List Text) where
           ap (λ a. is_empty (long_at a None waiting word h)) (long_as name true is) ∙ first-faulty (settle_fault rules false h) _ faulty
       go false is v = ap (λ a. is_empty (long_at a v waiting word h)) (long_as name false is)
 
-  -- ---- a word that is no option
+  -- ---- an argument that isn't an option
 
   unhyphened : (word : Text) → is_stray word ≡ false → long_of word ≡ None → is_hyphened word ≡ false
   unhyphened word plain e = go (is_hyphened word) (sym (ap (λ l. is_hyphened word && not (is_some l)) e) ∙ plain)
@@ -274,7 +274,7 @@ module _ (names : List Text) where
       ∙ ap (λ b. walk_at rows (Some (id, word ∷ [])) (if nat_lt (if b then length (word ∷ []) else 0) 1 then waits_for id else idle))
       ((bytes_eq-Decides id id).1 refl)
 
-  -- ---- what is pending
+  -- ---- the option that waits
 
   settle-none : (rows : List Row) (name : Text) → is_option names name ≡ true
       → is_empty (settle_fault rules false (held_at rows (Some (name, [])))) ≡ false
@@ -291,7 +291,7 @@ module _ (names : List Text) where
   settled-once name value given known once =
       ap (λ a. used_by_id a (value ∷ []) (rows_for given)) (id_as name known) ∙ used-once name value given once
 
-  -- a second use of an option is refused, whatever comes after it
+  -- a second use of an option is rejected, whatever follows it
   refused-later : (words : List Text) → list_any is_stray words ≡ false → (rows : List Row) (p : Option (Text × List Text))
       → is_empty (settle_fault rules false (held_at rows p)) ≡ false → reads (walk_at rows p idle) words ≡ None
   unfolding walk_fault
@@ -302,21 +302,21 @@ module _ (names : List Text) where
       go None e = ap is_empty (idle-plain rows p word e (unhyphened word (or_parts (is_stray word) (list_any is_stray words) plain).0 e))
       go (Some l) e = ap is_empty (idle_turn rows p word l.0 l.1 e) ∙ long-faulty l.0 l.1 idle word (held_at rows p) faulty
 
-  -- ---- the words, one by one
+  -- ---- the arguments, one by one
 
-  -- from a walk at which no option waits, clap reads what the words give
+  -- from a walk in which no option waits, clap reads what the arguments give
   abbrev IdleReads : List Text → Type 0
   IdleReads words = (given : Given) (rows : List Row) (p : Option (Text × List Text)) → settled_rows rules p rows ≡ rows_for given
       → settle_fault rules false (held_at rows p) ≡ []
       → reads (walk_at rows p idle) words ≡ option_map rows_for (read_after (Some (given, None)) words)
 
-  -- from one at which an option waits for its value, too
+  -- likewise from one in which an option waits for its value
   abbrev WaitingReads : List Text → Type 0
   WaitingReads words = (given : Given) (name : Text) → is_option names name ≡ true
       → reads (walk_at (rows_for given) (Some (name, [])) (waits_for name)) words
       ≡ option_map rows_for (read_after (Some (given, Some name)) words)
 
-  -- a word that clap refuses, where the reading ends too
+  -- an argument that clap rejects, at which the reading ends too
   ends : (w : Walk) (word : Text) (words : List Text) → is_empty (turn_fault shape [] w word) ≡ false
       → reads w (word ∷ words) ≡ option_map rows_for (read_after None words)
   ends w word words faulty = stops w word words faulty ∙ sym (ap (option_map rows_for) (none-stays words))
@@ -459,13 +459,13 @@ module _ (names : List Text) where
   rows-whole words =
       ap (λ rs. rows_after rs [] words) (filled-as 1 names) ∙ no-defaults names (settled rules (end_of first_walk words)).rows
 
-  -- clap reads what the words give
+  -- clap reads what the arguments give
   pub read_is_given : (words : List Text) → list_any is_stray words ≡ false
       → read_by_clap names words ≡ option_map rows_for (given_by names words)
   read_is_given words plain =
       (λ i. if is_empty (faults-whole words i) then Some (rows-whole words i) else None) ∙ (walks words plain).0 [] [] None refl refl
 
-  -- ---- stray words
+  -- ---- stray arguments
 
   stray_parts : (h : Bool) (l : Option (Text × Option Text)) → (h && not (is_some l)) ≡ true → (h ≡ true) × (l ≡ None)
   stray_parts true None e = (refl, refl)
@@ -490,11 +490,11 @@ module _ (names : List Text) where
       go true is e rest = ap (λ r. read_after r words) (stray-next reading word is) ∙ none-stays words
       go false is e rest = rest e (next_word names reading word)
 
-  -- words with a stray one give nothing
+  -- arguments with a stray one give nothing
   pub stray_is_refused : (words : List Text) → list_any is_stray words ≡ true → given_by names words ≡ None
   stray_is_refused words e = stray_gives_none words e (Some ([], None))
 
-  -- ---- what the calls of clap give
+  -- ---- the results of the calls of clap
 
   all-simple : (ns : List Text) → list_all (λ a. a.is_simple) (map option ns) ≡ true
   all-simple [] = refl
@@ -566,7 +566,7 @@ pub next-text : (words : List (Bor Text)) (i : ℕ) (word : Bor Text) → i < le
 next-text words i word below =
     ap (map (λ s. s.now)) (take_more words i word below) ∙ map-append (λ s. s.now) (take i words) (get_or words i word ∷ [])
 
--- ---- answers
+-- ---- results
 
 first-as : (name : Text) (given : Given) → first_of name (rows_for given) ≡ value_of name given
 first-as name [] = refl
@@ -578,7 +578,7 @@ first-as name (g ∷ gs) = go (bytes_eq g.0 name) (first-as name gs)
     go true e = refl
     go false e = e
 
--- what is asked of the options that are found is asked of those that are given
+-- what is asked of the options found is what is asked of the options given
 pub asked-as : {A : Type 0} (ask : (Text → Option Text) → Option A) (o : Option Given) (rows : List Row) → option_map rows_for o ≡ Some rows
     → option_and_then (λ given. ask (λ name. value_of name given)) o ≡ ask (λ name. first_of name rows)
 asked-as ask None rows e = cc

@@ -1,4 +1,4 @@
--- The settings where no word names another: one poller, and the kernel's budget and weight.
+-- The default settings: one poller, and the kernel's budget and weight.
 use Rattle.std.specs.Prelude.{ℕ, ◌≡◌}
 use Rattle.replay_words.specs.declared.settings.Settings.{Settings}
 

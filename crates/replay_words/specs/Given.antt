@@ -1,4 +1,4 @@
--- The options that words give, for a program whose options have these names: each at most once, and each with a value.
+-- The options on a command line, for a program whose options have these names: each at most once, and each with a value.
 use Rattle.std.specs.Prelude.{ℕ, [], ◌∷◌, ◌++◌, Bool, ◌&&◌, not, List, Option, Some, None, length, nat_le, if◌then◌else◌, option_and_then}
 use Rattle.std.specs.{Prelude.{option_map, is_some, find, fold}, List.list_any, Str.{all_ascii_digits, bytes_eq, Parse.digits_value}}
 use Rattle.clap.specs.Lexer.{strip_byte, long_of}
@@ -11,28 +11,28 @@ infixl 10 ◌>>=◌
 abbrev pub ◌>>=◌ : {A B : Type 0} → Option A → (A → Option B) → Option B
 o >>= f = option_and_then f o
 
--- the options that are given, in order: the name of each and its value
+-- the options given, in order: each name with its value
 abbrev pub Given : Type 0
 Given = List (Text × Text)
 
 abbrev pub is_option : List Text → Text → Bool
 is_option names name = list_any (λ option. bytes_eq option name) names
 
--- how far the words are read: the options that they gave, and the option that waits for its value, if one does
+-- the progress of reading: the options so far, and the option that waits for its value, if one does
 abbrev pub Reading : Type 0
 Reading = Given × Option Text
 
--- one more option with its value; each is given at most once
+-- one more option with its value; each may be given only once
 abbrev pub with_option : Given → Text → Text → Option Reading
 with_option given name value =
     if list_any (λ g. bytes_eq g.0 name) given then None else Some (given ++ (name, value) ∷ [], None)
 
--- an option's word: `--name=value` has its value, and the value of `--name` is the next word
+-- an option's argument: `--name=value` contains the value; the value of `--name` is the next argument
 abbrev pub option_word : Given → Text × Option Text → Option Reading
 option_word given (name, Some value) = with_option given name value
 option_word given (name, None) = Some (given, Some name)
 
--- the word begins with a hyphen
+-- the argument begins with a hyphen
 abbrev pub is_hyphened : Text → Bool
 is_hyphened word = is_some (strip_byte 45 word)
 
@@ -40,12 +40,12 @@ is_hyphened word = is_some (strip_byte 45 word)
 abbrev pub is_stray : Text → Bool
 is_stray word = is_hyphened word && not (is_some (long_of word))
 
--- one more word, or None where it is out of place; a word that begins with a hyphen is no value
+-- one more argument, or None if it is an error; an argument that begins with a hyphen isn't a value
 abbrev pub next_word : List Text → Reading → Text → Option Reading
 next_word names (given, None) word = long_of word >>= (λ option. if is_option names option.0 then option_word given option else None)
 next_word names (given, Some name) word = if is_hyphened word then None else with_option given name word
 
--- all the words were read where no option waits for its value
+-- all arguments were read, and no option waits for its value
 abbrev pub complete : Reading → Option Given
 complete (given, None) = Some given
 complete (given, Some name) = None
@@ -53,11 +53,11 @@ complete (given, Some name) = None
 abbrev pub read_on : List Text → Option Reading → Text → Option Reading
 read_on names reading word = reading >>= (λ r. next_word names r word)
 
--- the options that the words give, or None where they are refused
+-- the options that the arguments give, or None if they are an error
 abbrev pub given_by : List Text → List Text → Option Given
 given_by names words = fold (read_on names) (Some ([], None)) words >>= complete
 
--- what is read of the value that is given for a name, or the usual one
+-- the parsed value of an option, or the default
 abbrev pub or_usual : {A : Type 0} → A → (Text → Option A) → Option Text → Option A
 or_usual usual read None = Some usual
 or_usual usual read (Some text) = read text
@@ -65,7 +65,7 @@ or_usual usual read (Some text) = read text
 abbrev pub value_of : Text → Given → Option Text
 value_of name given = option_map (λ g. g.1) (find (λ g. bytes_eq g.0 name) given)
 
--- the number from `low` to `high` that one to so many digits write
+-- the number from `low` to `high` that a text of one to `digits` digits denotes
 abbrev pub number_within : ℕ → ℕ → ℕ → Text → Option ℕ
 number_within digits low high text =
     if nat_le 1 (length text)

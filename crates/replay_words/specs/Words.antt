@@ -1,4 +1,4 @@
--- The words after the program's name: what they ask for, and the number, the line and the exit status of each refusal.
+-- The command line: what it asks for, and the number, the message and the exit status of each error.
 use Rattle.std.specs.{Prelude.{ℕ, [], ◌∷◌, List, Option, Some, None, if◌then◌else◌, codes}, Str.bytes_eq}
 use Rattle.replay_words.specs.{Defaults.{usual_budget, usual_pollers, usual_weight, usual_window}, Given.{◌>>=◌, given_by, number_within}}
 use Rattle.replay_words.specs.Given.{or_usual, value_of}
@@ -9,7 +9,7 @@ use Rattle.replay_words.specs.declared.settings.Settings.{Settings}
 use Rattle.replay_words.specs.declared.words.WordFault.{WordFault}
 use Rattle.replay_words.specs.declared.words.WordFault.TheVariants.{Usage, OutOfMemory}
 
--- the number by which a refusal is known
+-- the number of an error
 abbrev pub fault_number : WordFault → ℕ
 fault_number Usage = 1
 fault_number OutOfMemory = 2
@@ -40,14 +40,14 @@ asked_of asked = record {
   window = asked.1.window;
 }
 
--- the mode that a word names
+-- the mode with this name
 abbrev pub mode_of : Text → Option Mode
 mode_of word =
     if bytes_eq word (codes "serial") then Some Serial
     else (if bytes_eq word (codes "shared") then Some Shared
     else (if bytes_eq word (codes "threads") then Some Threads else None))
 
--- the number from 1 to `high` that one to five digits write
+-- the number from 1 to `high` that one to five digits denote
 abbrev pub number_of : ℕ → Text → Option ℕ
 number_of high text = number_within 5 1 high text
 
@@ -64,17 +64,17 @@ asked_with value = do
   window ← or_usual usual_window (number_of 65535) (value (codes "window"))
   Some (record { mode = mode; pollers = pollers; budget = budget; weight = weight; window = window })
 
--- what the words ask for, or None where they are refused
+-- what the arguments ask for, or None if they are an error
 abbrev pub asked_for : List Text → Option Asked
 asked_for words = given_by option_names words >>= (λ given. asked_with (λ name. value_of name given))
 
--- ---- serial mode alone
+-- ---- serial mode only
 
 abbrev pub serial_only : Asked → Mode → Option Asked
 serial_only asked Serial = Some asked
 serial_only asked Shared = None
 serial_only asked Threads = None
 
--- what the words ask for of a program that has serial mode alone, or None where they are refused
+-- what the arguments ask for of a program that has only serial mode, or None if they are an error
 abbrev pub serial_asked_for : List Text → Option Asked
 serial_asked_for words = asked_for words >>= (λ asked. serial_only asked asked.mode)

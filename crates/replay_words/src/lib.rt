@@ -1,8 +1,8 @@
-//! Behind the door `replay`: the words after the program's name, which replay they ask for, and how it polls.
+//! Internal crate of the facade `replay`: the command line, which replay it asks for, and its settings.
 //!
-//! [`parse_words`] gives the mode and the [`Settings`] that the words name, by clap, and [`parse_serial_words`] the settings
-//! for a program that has serial mode alone; `specs/Words.antt` says what they ask for without clap. [`read_options`] reads the
-//! words of any program whose options each have a value, as `specs/Given.antt` says.
+//! [`parse_words`] returns the mode and the [`Settings`] that the arguments name, by clap, and [`parse_serial_words`] the
+//! settings for a program that has only serial mode; `specs/Words.antt` defines what the arguments mean without clap.
+//! [`read_options`] parses the arguments of any program whose options each have a value, as `specs/Given.antt` defines.
 #![tactic(auto)]
 
 mod mode;

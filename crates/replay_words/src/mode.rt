@@ -1,12 +1,12 @@
-//! Which replay the program makes.
+//! The kind of replay.
 
-/// Which replay the program makes of a trace.
+/// The kind of replay of a trace.
 #[derive(Clone, Copy, Debug, PartialEq, Eq)]
 pub enum Mode {
-    /// One thread plays the rows in order over instances of its own.
+    /// One thread processes the rows in order, on instances that aren't shared.
     Serial,
-    /// One thread plays the rows in order over instances that threads could share.
+    /// One thread processes the rows in order, on instances that threads could share.
     Shared,
-    /// Each device's rows are played by a thread of its own, beside threads that poll.
+    /// Each device's rows are processed by its own thread, while other threads poll.
     Threads,
 }

@@ -1,4 +1,4 @@
-//! The options that words give, for any program, by clap.
+//! The options on a command line, for any program, by clap.
 
 ghost use Rattle.std.specs.Prelude.{◌≡◌, ◌≤◌, ◌<◌, ◌∷◌, List, Some, None, Err, IfOk, IfSome, option_map, map, string_bytes, codes, false};
 ghost use Rattle.std.specs.List.{list_any};
@@ -13,7 +13,7 @@ use clap::error::ErrorKind;
 use clap::{Arg, ArgAction, ArgMatches, Command};
 use std::alloc::{AllocError, Global};
 
-/// The number from `low` to `high` that one to so many ASCII digits write, or `None`.
+/// Returns the number from `low` to `high` that a text of one to `digits` ASCII digits denotes, or `None`.
 pub fn number_within(text: &str, digits: usize, low: u32, high: u32) -> Option<u32>
     requires { digits ≤ 10 }
     ensures number { result ≡ number_within digits low high text.now }
@@ -37,7 +37,7 @@ pub fn number_within(text: &str, digits: usize, low: u32, high: u32) -> Option<u
     }
 }
 
-/// The number that is given for an option, or the usual one.
+/// Returns the number given for an option, or the default; `None` if it isn't a number in the range.
 pub fn option_number(
     matches: &ArgMatches<'_>,
     name: &str,
@@ -57,7 +57,7 @@ pub fn option_number(
     }
 }
 
-// An option with a value. It is given at most once, which clap sees to.
+// Returns an option with a value. Clap rejects a second use.
 fn option<'a>(alloc: Global, name: &'a str) -> Arg<'a>
     ensures rule { rule_of result ≡ option name.now }
     ensures global { result.global ≡ false }
@@ -65,7 +65,7 @@ fn option<'a>(alloc: Global, name: &'a str) -> Arg<'a>
     Arg::new(alloc, name).long(name).action(ArgAction::Set)
 }
 
-// A program with these options. There is no `--help`, since no program here answers a word but by what it does.
+// Returns a program with these options. It has no `--help`, because clap's output is never printed here.
 fn tool<'a>(alloc: Global, names: &[&'a str]) -> Result<Command<'a>, AllocError>
     ensures { IfOk result (λ c. app_of c ≡ tool (map (λ s. s.now) names.now)) }
 {
@@ -76,8 +76,8 @@ fn tool<'a>(alloc: Global, names: &[&'a str]) -> Result<Command<'a>, AllocError>
     Ok(command)
 }
 
-// Whether a word begins with a hyphen and is neither `--name` nor `--name=value`. clap would take `--` for the end of the
-// options.
+// Returns whether an argument begins with a hyphen and is neither `--name` nor `--name=value`. Clap would take `--` as the end
+// of the options.
 fn is_stray(word: &str) -> bool
     ensures { result ≡ is_stray word.now }
 {
@@ -88,14 +88,14 @@ fn is_stray(word: &str) -> bool
     }
 }
 
-// Whether there is such a word.
+// Returns whether there is such an argument.
 fn has_stray(words: &[&str]) -> bool
     ensures { result ≡ list_any is_stray (map (λ s. s.now) words.now) }
 {
     words.iter().any(|word| is_stray(*word))
 }
 
-/// A program's name, and then the words, as [`read_options`] reads them.
+/// Returns a program's name followed by the arguments, as [`read_options`] expects them.
 pub fn with_name<'a>(alloc: Global, words: &'a [String]) -> Result<Vec<&'a str>, AllocError>
     ensures { IfOk result
         (λ v. map (λ s. s.now) v.items ≡ with_name (map string_bytes words.now)) }
@@ -108,12 +108,12 @@ pub fn with_name<'a>(alloc: Global, words: &'a [String]) -> Result<Vec<&'a str>,
     Ok(all)
 }
 
-/// The options that the words behind the program's name give, where the program's options have these names.
+/// Parses the arguments after the program's name, for a program whose options have these names.
 ///
 /// # Errors
 ///
-/// [`WordFault::Usage`] where the words aren't so. [`WordFault::OutOfMemory`] where a push or clap was refused memory, whatever
-/// the words are.
+/// [`WordFault::Usage`] if the arguments are invalid. [`WordFault::OutOfMemory`] if an allocation fails, here or in clap,
+/// whatever the arguments are.
 pub fn read_options<'a>(
     alloc: Global,
     names: &[&'a str],

@@ -1,27 +1,27 @@
-//! How a replay polls.
+//! The settings of a replay.
 
-/// The most threads that poll.
+/// The greatest number of threads that poll.
 pub const MOST_POLLERS: u32 = 8;
 
-/// The largest budget of a run.
+/// The greatest budget of a run.
 pub const MOST_BUDGET: u32 = 65535;
 
-/// The largest weight of a poll.
+/// The greatest weight of a poll.
 pub const MOST_WEIGHT: u32 = 64;
 
-/// The largest window of a run.
+/// The greatest window of a run.
 pub const MOST_WINDOW: u32 = 65535;
 
-/// How a replay polls: the numbers of a run over the poll list.
+/// The settings of a replay: the parameters of a run over the poll list.
 #[derive(Clone, Copy, Debug, PartialEq, Eq)]
 pub struct Settings {
-    /// Threads that poll, 1 to 8. A replay on one thread makes no use of it.
+    /// Threads that poll, 1 to 8. A replay on one thread doesn't use it.
     pub pollers: u32,
     /// Packets that a run polls before it is squeezed, 1 to 65535 (`netdev_budget`).
     pub budget: u32,
-    /// Packets that one poll gives at most, 1 to 64 (`NAPI_POLL_WEIGHT`).
+    /// Packets that one poll may process, 1 to 64 (`NAPI_POLL_WEIGHT`).
     pub weight: u32,
-    /// Polls that a run makes before it is squeezed, 1 to 65535. It stands in for the kernel's `netdev_budget_usecs`.
+    /// Polls that a run makes before it is squeezed, 1 to 65535. It takes the place of the kernel's `netdev_budget_usecs`.
     pub window: u32,
     ghost pollers_in: { (1 ≤ pollers) × (pollers ≤ 8) },
     ghost budget_in: { (1 ≤ budget) × (budget ≤ 65535) },
@@ -34,7 +34,7 @@ ghost use Rattle.std.specs.Prelude.{◌≤◌};
 impl Settings {
     ghost use Rattle.std.specs.Prelude.{◌≡◌, ◌≤◌, ◌↔◌, IsSome, IfSome};
 
-    /// The settings of these numbers, or `None` exactly where one is out of its range.
+    /// Returns the settings with these numbers, or `None` exactly if one is out of its range.
     pub fn new(pollers: u32, budget: u32, weight: u32, window: u32) -> Option<Settings>
         ensures lawful { IsSome result
             ↔ (((1 ≤ pollers) × (pollers ≤ 8)) × ((1 ≤ budget) × (budget ≤ 65535))

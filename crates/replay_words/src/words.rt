@@ -1,4 +1,4 @@
-//! The words after the program's name.
+//! The command line.
 
 ghost use Rattle.std.specs.Prelude.{◌≡◌, ◌≤◌, Some, None, Err, IfOk, IfSome, option_map, map, string_bytes, codes};
 ghost use Rattle.replay_words.specs.Given.{or_usual};
@@ -18,14 +18,14 @@ use thiserror::Error;
 // The names of the options.
 const OPTIONS: [&str; 5] = ["mode", "pollers", "budget", "weight", "window"];
 
-/// Why the words were refused. They are read before the trace, which then isn't.
+/// Why the arguments were rejected. They are parsed before the trace is read; after an error it isn't read.
 #[derive(Clone, Copy, Debug, PartialEq, Eq, Error)]
 pub enum WordFault {
-    /// Number 1: the words ask for nothing that the program does: a word that is no option or no value, an option that is
-    /// there twice or has no value, a value out of its range.
+    /// Number 1: invalid arguments: one that is neither an option nor a value, an option that is repeated or has no value, a
+    /// value out of its range.
     #[error("the words ask for nothing that the program does")]
     Usage,
-    /// Number 2: memory was refused while they were read.
+    /// Number 2: out of memory while they were parsed.
     #[error("out of memory")]
     OutOfMemory,
 }
@@ -42,7 +42,7 @@ impl From<AllocError> for WordFault {
 }
 
 impl WordFault {
-    /// Its number: 1 `Usage`, 2 `OutOfMemory`.
+    /// The number of this error: 1 `Usage`, 2 `OutOfMemory`.
     pub fn number(&self) -> u32
         ensures { result ≡ fault_number self.now }
     {
@@ -53,7 +53,7 @@ impl WordFault {
     }
 }
 
-/// The line of a refusal for standard error, line feed included.
+/// Returns the message of an error for standard error, including the line feed.
 pub fn word_line(fault: &WordFault) -> &'static str
     ensures { result.now ≡ line_of fault.now }
 {
@@ -63,7 +63,7 @@ pub fn word_line(fault: &WordFault) -> &'static str
     }
 }
 
-/// The exit status of a refusal.
+/// Returns the exit status of an error.
 pub fn word_status(fault: &WordFault) -> u8
     ensures { result ≡ status_of fault.now }
 {
@@ -73,7 +73,7 @@ pub fn word_status(fault: &WordFault) -> u8
     }
 }
 
-// The mode that a word names.
+// Returns the mode with this name.
 fn mode_of(word: &str) -> Option<Mode>
     ensures { result ≡ mode_of word.now }
 {
@@ -88,7 +88,7 @@ fn mode_of(word: &str) -> Option<Mode>
     }
 }
 
-/// The number from 1 to `high` that one to five ASCII digits write, or `None`.
+/// Returns the number from 1 to `high` that one to five ASCII digits denote, or `None`.
 pub fn number_of(text: &str, high: u32) -> Option<u32>
     ensures number { result ≡ number_of high text.now }
     ensures range { IfSome result (λ n. (1 ≤ n) × (n ≤ high)) }
@@ -96,7 +96,7 @@ pub fn number_of(text: &str, high: u32) -> Option<u32>
     number_within(text, 5, 1, high)
 }
 
-// The mode that is given, or the usual one.
+// Returns the mode that is given, or the default; `None` for an unknown name.
 fn mode_in(matches: &ArgMatches<'_>) -> Option<Mode>
     ensures { result ≡ or_usual Serial mode_of (value_in matches.now (codes "mode")) }
 {
@@ -106,7 +106,7 @@ fn mode_in(matches: &ArgMatches<'_>) -> Option<Mode>
     }
 }
 
-// The number that is given for an option, or the usual one.
+// Returns the number given for an option, or the default; `None` if it isn't a number in the range.
 fn number_in(matches: &ArgMatches<'_>, name: &str, usual: u32, high: u32) -> Option<u32>
     ensures number { result
         ≡ or_usual usual (number_of high) (value_in matches.now name.now) }
@@ -115,7 +115,7 @@ fn number_in(matches: &ArgMatches<'_>, name: &str, usual: u32, high: u32) -> Opt
     option_number(matches, name, usual, 5, 1, high)
 }
 
-// What the matches ask for.
+// Returns what the matches ask for.
 fn asked_by(matches: &ArgMatches<'_>) -> Option<(Mode, Settings)>
     ensures { option_map asked_of result ≡ asked_with (value_in matches.now) }
 {
@@ -129,17 +129,17 @@ fn asked_by(matches: &ArgMatches<'_>) -> Option<(Mode, Settings)>
     Some((mode, settings))
 }
 
-/// The mode and the settings that the words name, with the usual ones for the rest: serial, one poller, a budget of 300, a
-/// weight of 64 and a window of 1024.
+/// Returns the mode and the settings that the arguments name, with defaults for the rest: serial mode, one poller, a budget of
+/// 300, a weight of 64 and a window of 1024.
 ///
-/// The words are those after the program's name. An option is `--mode`, `--pollers`, `--budget`, `--weight` or
-/// `--window`, each at most once; its value follows `=` in the same word, or is the next word. A number is one to five
-/// ASCII digits, and is in its range by [`Settings::new`].
+/// The arguments are those after the program's name. An option is `--mode`, `--pollers`, `--budget`, `--weight` or `--window`,
+/// each at most once; its value follows `=` in the same argument, or is the next argument. A number is one to five ASCII
+/// digits, in the range that [`Settings::new`] checks.
 ///
 /// # Errors
 ///
-/// [`WordFault::Usage`] where the words aren't so, `--help` among them. [`WordFault::OutOfMemory`] where memory was
-/// refused, whatever the words are.
+/// [`WordFault::Usage`] if the arguments are invalid, which includes `--help`. [`WordFault::OutOfMemory`] if an allocation
+/// fails, whatever the arguments are.
 pub fn parse_words(alloc: Global, words: &[String]) -> Result<(Mode, Settings), WordFault>
     ensures asked { IfOk result
         (λ asked. asked_for (map string_bytes words.now) ≡ Some (asked_of asked)) }
@@ -151,13 +151,13 @@ pub fn parse_words(alloc: Global, words: &[String]) -> Result<(Mode, Settings), 
     asked_by(&matches).ok_or(WordFault::Usage)
 }
 
-/// The settings that the words name, for a program that has serial mode alone: as [`parse_words`], with every other mode
-/// refused.
+/// Returns the settings that the arguments name, for a program that has only serial mode: like [`parse_words`], but every other
+/// mode is an error.
 ///
 /// # Errors
 ///
-/// [`WordFault::Usage`] where the words aren't so, or name another mode. [`WordFault::OutOfMemory`] where memory was refused,
-/// whatever the words are.
+/// [`WordFault::Usage`] if the arguments are invalid, or name another mode. [`WordFault::OutOfMemory`] if an allocation fails,
+/// whatever the arguments are.
 pub fn parse_serial_words(alloc: Global, words: &[String]) -> Result<Settings, WordFault>
     ensures asked { IfOk result
         (λ settings. serial_asked_for (map string_bytes words.now)

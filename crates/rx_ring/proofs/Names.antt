@@ -1,4 +1,4 @@
--- The name of a ring is all that tells it from others.
+-- Two contexts belong to the same ring if their rings have the same name.
 use Rattle.std.proofs.Common.{◌≡◌, ap}
 use Rattle.rx_ring.specs.{Ends.{RingName, ring_name, SameCtx, NamesTellRings}, declared.ends.RxCtx.RxCtx}
 

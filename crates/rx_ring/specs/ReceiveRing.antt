@@ -1,15 +1,15 @@
--- A receive ring: packets are put in at one end, and polls give them out at the other, at most their weight each
+-- A receive ring: packets are put in at one end, and polls take them out at the other, each at most its weight
 -- (`Documentation/networking/napi.rst`, the budget of a poll, and `__napi_poll` in `net/core/dev.c` of Linux 6.6).
 use Rattle.std.specs.Prelude.{ℕ, ◌≡◌, ◌≤◌, ◌^◌, ◌-◌, List, ◌++◌, length, drop, map, sum, min}
 use Rattle.rx_ring.specs.declared.packet.Packet.{Packet}
 use Rattle.rx_ring.specs.declared.packet.{RxCounts.RxCounts, Totals.Totals}
 use mathlib.Core.List.{IsPrefix}
 
--- the most packets that a ring can hold
+-- the greatest capacity of a ring, in packets
 abbrev pub most_places : ℕ
 most_places = 65536
 
--- the greatest weight of a poll: the kernel's usual one (`include/linux/netdevice.h`)
+-- the greatest weight of a poll, which is the kernel's default (`include/linux/netdevice.h`)
 abbrev pub NAPI_POLL_WEIGHT : ℕ
 NAPI_POLL_WEIGHT = 64
 
@@ -17,7 +17,7 @@ pub record ReceiveRing : Type 0 where
   pub put : List Packet  -- every packet put so far, oldest first
   pub received : List Packet  -- every packet that polls gave so far, in the order in which they gave them
 
--- what was received is what was put first: each packet once, and none out of turn
+-- the packets received are the first ones put: each once, and in order
 abbrev pub IsInOrder : ReceiveRing → Type 0
 IsInOrder r = IsPrefix r.received r.put
 
@@ -25,11 +25,11 @@ IsInOrder r = IsPrefix r.received r.put
 abbrev pub held_of : ReceiveRing → List Packet
 held_of r = drop (length r.received) r.put
 
--- a poll of this weight gives these packets: no more than the weight, and what was received grows by just them
+-- a poll of this weight returns these packets: at most the weight, and the packets received grow by exactly these
 abbrev pub IsPoll : ℕ → List Packet → List Packet → List Packet → Type 0
 IsPoll weight given before after = (length given ≤ weight) × (after ≡ before ++ given)
 
--- a count of 64 bits, which stays at its greatest value
+-- a 64-bit count, which saturates
 abbrev pub capped : ℕ → ℕ
 capped n = min n (2 ^ 64 - 1)
 
@@ -37,11 +37,11 @@ capped n = min n (2 ^ 64 - 1)
 abbrev pub bytes_of : List Packet → ℕ
 bytes_of packets = sum (map (λ (p : Packet). p.bytes) packets)
 
--- what is counted of so many polls that gave these packets
+-- the counts after this many polls that returned these packets
 abbrev pub counts_of : ℕ → List Packet → RxCounts
 counts_of polls received = record { polls = polls; packets = capped (length received); bytes = capped (bytes_of received) }
 
--- what is counted of a whole ring; the bytes are those of all packets put
+-- the counts of a whole ring; the bytes are those of all packets put
 abbrev pub totals_of : ReceiveRing → Totals
 totals_of r = record {
   put = capped (length r.put);

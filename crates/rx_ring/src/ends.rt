@@ -8,21 +8,21 @@ ghost use Rattle.rx_ring.specs.ReceiveRing.{NAPI_POLL_WEIGHT, capped, bytes_of};
 use crate::packet::{Batch, MAX_WEIGHT, Packet, RxCounts, batch_bytes};
 use rtrb::{Consumer, Producer, PushError};
 
-/// The end at which packets are put in: the interrupt's. It may go to a thread of its own.
+/// The producer's end, to which an interrupt handler puts packets. It can be sent to another thread.
 #[derive(Drop)]
 pub struct RxIn {
     pub(crate) producer: Producer<Packet>,
     ghost first_fit: { producer_capacity producer ≤ known_free producer + length (sent producer) },
 }
 
-/// The end that polls: the poll context of an instance. It may go to a thread of its own, and from one to another.
+/// The consumer's end, which polls: the poll context of an instance. It can be sent from thread to thread.
 #[derive(Drop)]
 pub struct RxCtx {
-    // On the heap, since a context goes from hand to hand at each poll: so one word is moved.
+    // On the heap, because a context is moved at each poll: so the move is one pointer.
     pub(crate) end: Box<PollEnd>,
 }
 
-/// What a context has.
+/// The contents of a context.
 #[derive(Drop)]
 pub(crate) struct PollEnd {
     pub(crate) consumer: Consumer<Packet>,
@@ -39,11 +39,11 @@ impl RxIn {
     ghost use Rattle.std.specs.Prelude.{◌≡◌, ◌<◌, ◌≤◌, ◌+◌, ◌-◌, [], ◌∷◌, ◌++◌, length, take, min, IsOk, OnOk, IfErr, OnErr};
     ghost use Rattle.rx_ring.specs.Ends.{put_list, capacity_of, free_of, SameIn};
 
-    /// Puts a packet in, behind all others, or hands it back where the ring is full; nothing changes then.
+    /// Puts a packet at the end of the ring, or returns it if the ring is full; nothing changes then.
     ///
-    /// The first packets that are put, as many as the ring can hold, are never handed back. Later ones fit where polls
-    /// have made room; this end sees the room that was made before the call. With both ends in one hand
-    /// [`beside`](crate::beside) tells it all free places, each put uses one, and while some are known none is handed back.
+    /// The first `capacity` packets always fit. Later ones fit if polls have freed slots; this end learns of slots that were
+    /// freed before the call. For a caller that owns both ends, [`beside`](crate::beside) makes all free slots known; each put
+    /// uses one, and while some are known no put fails.
     pub fn put(&mut self, packet: Packet) -> Result<(), Packet>
         ensures ring { SameIn self.old self.new }
         ensures ok { OnOk result (put_list self.new ≡ put_list self.old ++ packet ∷ []) }
@@ -59,10 +59,10 @@ impl RxIn {
         }
     }
 
-    /// Puts a burst in, behind all others and in its order: as many of its first packets as fit. Answers how many these
-    /// are; the others aren't put, and may be put later.
+    /// Puts a burst at the end of the ring, in order: as many of its first packets as fit. Returns how many these are; the
+    /// caller may put the others later.
     ///
-    /// What fits is as for [`put`](RxIn::put), packet by packet; the poll's end sees all of them at once.
+    /// Which packets fit is as for [`put`](RxIn::put); the poll's end sees all of them at once.
     pub fn put_all(&mut self, packets: &[Packet]) -> usize
         ensures ring { SameIn self.old self.new }
         ensures put { put_list self.new ≡ put_list self.old ++ take result packets.now }
@@ -82,7 +82,7 @@ impl RxCtx {
     ghost use Rattle.rx_ring.specs.ReceiveRing.{NAPI_POLL_WEIGHT, counts_of};
     ghost use Rattle.rx_ring.specs.Ends.{received_list, known_list, polls_of, is_beside, SameCtx, GivesNext};
 
-    /// What is counted of the polls so far.
+    /// The counts of the polls so far.
     pub fn counts(&self) -> RxCounts
         ensures { result ≡ counts_of (polls_of self.now) (received_list self.now) }
     {
@@ -93,12 +93,12 @@ impl RxCtx {
         }
     }
 
-    /// Polls once, as a driver's `poll` (`__napi_poll` calls it): empties the batch, and gives the ring's next packets
-    /// into it, at most `weight`, which is 1 to [`MAX_WEIGHT`](crate::MAX_WEIGHT). Answers how many these are.
+    /// Polls once, like a driver's `poll` that `__napi_poll` calls: clears the batch, and moves the ring's next packets into
+    /// it, at most `weight`, which is 1 to [`MAX_WEIGHT`](crate::MAX_WEIGHT). Returns how many these are.
     ///
-    /// Where fewer packets were seen than the weight allows, a poll looks at the ring, and so finds what was put before
-    /// it. A poll right after [`beside`](crate::beside) doesn't look again: it gives exactly the lesser of the weight and
-    /// what the ring held there, and leaves to the next polls what was put since.
+    /// If fewer packets are known than the weight allows, it reads the ring first, and so finds what was put before the call. A
+    /// poll right after [`beside`](crate::beside) doesn't read it again: it returns exactly the lesser of the weight and what
+    /// the ring held then, and leaves what was put since to later polls.
     pub fn poll(&mut self, weight: usize, batch: &mut Batch) -> usize
         requires { (1 ≤ weight) × (weight ≤ NAPI_POLL_WEIGHT) }
         ensures next { GivesNext weight self.old self.new batch.new.items }
@@ -107,8 +107,8 @@ impl RxCtx {
         self.end.poll(weight, batch)
     }
 
-    /// Ends the mark that [`beside`](crate::beside) leaves, so that the next poll looks at the ring again. Whoever gives
-    /// the context away calls this first: what is put meanwhile is then found by the next poll, and not overlooked.
+    /// Clears the mark that [`beside`](crate::beside) sets, so that the next poll reads the ring again. Call it before another
+    /// thread may put packets: otherwise the next poll would overlook them.
     #[tactic(auto, unfolding(crate::specs::Ends::is_beside))]
     pub fn apart(&mut self)
         ensures ring { SameCtx self.old self.new }
@@ -142,7 +142,7 @@ impl PollEnd {
     }
 }
 
-// Takes `count` packets that the consumer has seen, by one step, as all that is in the batch, and adds their bytes.
+// Moves `count` packets that the consumer knows of into the batch, in one step, and adds their bytes to `bytes`.
 fn take_known(consumer: &mut Consumer<Packet>, count: usize, bytes: u64, batch: &mut Batch) -> u64
     requires known { count ≤ length (known_items consumer.old) }
     requires room { count ≤ NAPI_POLL_WEIGHT }
@@ -155,7 +155,7 @@ fn take_known(consumer: &mut Consumer<Packet>, count: usize, bytes: u64, batch: 
     ensures bytes { result ≡ capped (bytes_of (received consumer.new)) }
 {
     resize(batch, count);
-    // One packet, as under light load, needs no slice.
+    // A single packet, as under light load, needs no slice.
     if count == 1 {
         let packet = consumer.pop_known();
         batch.as_mut_slice()[0] = packet;
@@ -172,7 +172,7 @@ const BLANKS: [Packet; MAX_WEIGHT] = [Packet {
     bytes: 0,
 }; MAX_WEIGHT];
 
-// Gives the batch `count` places. What lies in them is written over, so only places that are new are filled.
+// Resizes the batch to `count` packets. All of them are overwritten, so only new ones are filled.
 fn resize(batch: &mut Batch, count: usize)
     requires { count ≤ NAPI_POLL_WEIGHT }
     ensures { length batch.new.items ≡ count }

@@ -1,4 +1,4 @@
-//! Packets, the batches that polls give, and what is counted of them.
+//! Packets, the batches that polls return, and their counts.
 
 ghost use Rattle.std.specs.Prelude.{◌≡◌, ◌<◌, ◌^◌};
 ghost use Rattle.rx_ring.specs.ReceiveRing.{bytes_of};
@@ -9,19 +9,19 @@ use arrayvec::ArrayVec;
 #[repr(C)]
 #[derive(Clone, Copy, Debug, Default, PartialEq, Eq)]
 pub struct Packet {
-    /// Its number. The ring makes no use of it.
+    /// Its number, which the ring doesn't use.
     pub number: u64,
-    /// Its bytes, as polls count them.
+    /// Its size in bytes, as polls count it.
     pub bytes: u32,
 }
 
-/// The greatest weight of a poll, which is the kernel's usual one (`NAPI_POLL_WEIGHT`, `include/linux/netdevice.h`).
+/// The greatest weight of a poll, which is the kernel's default (`NAPI_POLL_WEIGHT`, `include/linux/netdevice.h`).
 pub const MAX_WEIGHT: usize = 64;
 
-/// What one poll gave. It has room for a poll of the greatest weight, and takes no memory.
+/// The packets that one poll returned. It has room for the greatest weight, and doesn't allocate.
 pub type Batch = ArrayVec<Packet, MAX_WEIGHT>;
 
-/// The bytes of a batch's packets together.
+/// Returns the sum of the bytes of a batch's packets.
 pub fn batch_bytes(batch: &Batch) -> u64
     ensures sum { result ≡ bytes_of batch.now.items }
     ensures bound { result < 2 ^ 38 }
@@ -33,23 +33,23 @@ pub fn batch_bytes(batch: &Batch) -> u64
     bytes
 }
 
-/// What is counted of a context's polls. Each count stays at its greatest value.
+/// The counts of a context's polls. Each count saturates.
 #[derive(Clone, Copy, Debug, PartialEq, Eq)]
 pub struct RxCounts {
     /// The polls.
     pub polls: u64,
-    /// The packets that they gave.
+    /// The packets that they returned.
     pub packets: u64,
     /// The bytes of these packets.
     pub bytes: u64,
 }
 
-/// What is counted of a whole ring. Each count stays at its greatest value.
+/// The counts of a whole ring. Each count saturates.
 #[derive(Clone, Copy, Debug, PartialEq, Eq)]
 pub struct Totals {
     /// The packets that were put.
     pub put: u64,
-    /// The packets that polls gave.
+    /// The packets that polls returned.
     pub polled: u64,
     /// The packets that were left in the ring.
     pub left: u64,

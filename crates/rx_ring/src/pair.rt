@@ -1,4 +1,4 @@
-//! What is done with both ends of a ring in one hand: it is made, the ends meet, and it is finished.
+//! Functions on both ends of a ring: it is made, its ends meet, and it is finished.
 
 ghost use Rattle.std.specs.Prelude.{◌≡◌, ◌≢◌, ◌+◌, ◌<◌, ◌^◌, ◌++◌, ◌⊎◌, ◌↔◌, [], false, length, IfOk, IfErr, IsErrOf};
 ghost use Rattle.rtrb.specs.Ring.{received, known_items, IsPair};
@@ -12,14 +12,14 @@ use crate::packet::{Packet, Totals};
 use rtrb::{Consumer, RingBuffer};
 use std::alloc::Global;
 
-/// The most packets that a ring can hold.
+/// The greatest capacity of a ring, in packets.
 pub const MAX_CAPACITY: usize = 65_536;
 
-/// A new ring of `capacity` packets: its two ends. It is the only call here that takes memory, for the packets and for what
-/// the context leads to.
+/// Returns the two ends of a new ring for `capacity` packets. It is the only call here that allocates: the packets, and the
+/// contents of the context.
 ///
-/// Refused by [`BadCapacity`](RingFault::BadCapacity) where `capacity` is 0 or over [`MAX_CAPACITY`], and else by
-/// [`OutOfMemory`](RingFault::OutOfMemory) where there is no memory for the ring.
+/// Fails with [`BadCapacity`](RingFault::BadCapacity) if `capacity` is 0 or over [`MAX_CAPACITY`], otherwise with
+/// [`OutOfMemory`](RingFault::OutOfMemory) if the allocation fails.
 #[tactic(auto, unfolding(crate::specs::Ends::is_beside))]
 pub fn ring(alloc: Global, capacity: usize) -> Result<(RxIn, RxCtx), RingFault>
     ensures one { IfOk result (λ r. IsOneRing r.0 r.1) }
@@ -51,11 +51,11 @@ pub fn ring(alloc: Global, capacity: usize) -> Result<(RxIn, RxCtx), RingFault>
     }
 }
 
-/// The two ends of one ring meet: the context sees all that the ring holds, and is marked; the other end sees all places
-/// that are free. Nothing is put or received.
+/// Lets the two ends of one ring meet: the context learns of all packets in the ring, and gets a mark; the other end learns of
+/// all free slots. Nothing is put or received.
 ///
-/// A poll right after it gives exactly the lesser of the weight and what the ring holds. The mark ends with that poll, or
-/// by [`RxCtx::apart`].
+/// A poll right after it returns exactly the lesser of the weight and what the ring holds. That poll clears the mark, and so
+/// does [`RxCtx::apart`].
 pub fn beside(input: &mut RxIn, ctx: &mut RxCtx)
     requires { IsOneRing input.old ctx.old }
     ensures { Meets input.old ctx.old input.new ctx.new }
@@ -72,7 +72,7 @@ fn meet(input: &mut RxIn, end: &mut PollEnd)
     end.mark = true;
 }
 
-/// The end of a ring, whose two ends these are: what was put, what was received, and what is left.
+/// Finishes a ring, from its two ends: returns how much was put, received, and left.
 pub fn finish(input: RxIn, ctx: RxCtx) -> Totals
     requires { IsOneRing input ctx }
     ensures totals { result ≡ totals_of (ring_of input ctx) }
@@ -98,7 +98,7 @@ pub fn finish(input: RxIn, ctx: RxCtx) -> Totals
     }
 }
 
-// The bytes counted so far and those of the packets that are left.
+// Adds the bytes of the packets that are left to those counted so far.
 fn count_left(consumer: &mut Consumer<Packet>, left: usize, bytes: u64) -> u64
     requires left { left ≡ length (known_items consumer.old) }
     requires bytes { bytes ≡ capped (bytes_of (received consumer.old)) }
@@ -111,8 +111,8 @@ fn count_left(consumer: &mut Consumer<Packet>, left: usize, bytes: u64) -> u64
     bytes
 }
 
-/// A law: a context is of the same ring as another exactly where their rings have one name. So a name can stand for the
-/// ring where the context itself is out of reach, as in a slot.
+/// Law: two contexts belong to the same ring exactly if their rings have the same name. So a name can stand for the ring where
+/// the context itself isn't accessible, as in a slot.
 pub fn names_tell_rings()
     ensures { NamesTellRings }
 {}

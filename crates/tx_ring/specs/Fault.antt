@@ -1,8 +1,8 @@
--- The numbers of the faults.
+-- The numbers of the errors.
 use Rattle.{std.specs.Prelude.ℕ, tx_ring.specs.declared.event.TxFault.{TxFault, TheVariants.{Stopped, Full, TooLarge, TooMuchInFlight}}}
 use Rattle.tx_ring.specs.declared.event.TxFault.TheVariants.{MoreThanSent, BadCapacity, OutOfMemory}
 
--- the number by which a fault is known
+-- the number of an error
 abbrev pub number_of : TxFault → ℕ
 number_of Stopped = 1
 number_of Full = 2

@@ -1,5 +1,5 @@
--- A transmit queue under a queue limit, after byte queue limits (`include/linux/netdevice.h`, Linux 6.6): packets are
--- sent, complete in their order, and the limit over their bytes stops the queue and starts it.
+-- A transmit queue under byte queue limits (`include/linux/netdevice.h`, Linux 6.6): packets are sent and complete in order,
+-- and the limit on their bytes stops and starts the queue.
 use Rattle.std.specs.Prelude.{ℕ, ◌+◌, ◌%◌, ◌^◌, Bool, false, ◌&&◌, List, [], ◌∷◌, ◌++◌, length, take, drop, sum, nat_eq, nat_lt, nat_le}
 use Rattle.std.specs.Prelude.{int_lt, pos, Option, Some, None, if◌then◌else◌}
 use Rattle.dql_core.specs.Bounds.{DQL_MAX_OBJECT, most_in_flight}
@@ -22,15 +22,15 @@ most_places = 65536
 abbrev pub opening_queue : ℕ → Limit → TransmitQueue
 opening_queue capacity limit = record { capacity = capacity; sizes = []; done = 0; limit = limit; stopped = false }
 
--- the packets in the ring: sent and not complete
+-- the packets in the ring: sent and not completed
 abbrev pub held_of : TransmitQueue → List ℕ
 held_of t = drop t.done t.sizes
 
--- less than nothing is available
+-- the bytes available are negative
 abbrev pub is_over : Limit → Bool
 is_over s = int_lt (avail_of s) (pos 0)
 
--- what a queue shows; its totals are those of 32 bits
+-- the public state of a queue; its totals have 32 bits
 abbrev pub state_of : TransmitQueue → TxState
 state_of t = record {
   queued = sum t.sizes % 2 ^ 32;
@@ -40,7 +40,7 @@ state_of t = record {
   stopped = t.stopped;
 }
 
--- a packet is sent: the queue is stopped where less than nothing is available then (`netdev_tx_sent_queue`)
+-- a packet is sent; the queue is stopped if the bytes available are negative then (`netdev_tx_sent_queue`)
 abbrev pub after_send : TransmitQueue → ℕ → TransmitQueue
 after_send t bytes =
     let limit = after_queued t.limit bytes in
@@ -50,13 +50,13 @@ after_send t bytes =
 abbrev pub bytes_of : TransmitQueue → ℕ → ℕ
 bytes_of t count = sum (take count (held_of t))
 
--- the limit learns of so many bytes, and a stopped queue stays so where less than nothing is available then
+-- these bytes are reported to the limit; a stopped queue stays stopped if the bytes available are still negative
 abbrev pub after_bytes : TransmitQueue → ℕ → ℕ → ℕ → TransmitQueue
 after_bytes t count bytes now =
     let limit = after_completed t.limit bytes now in
     record t { done = t.done + count; limit = limit; stopped = t.stopped && is_over limit }
 
--- the oldest packets are complete; where they have no bytes the limit isn't touched (`netdev_tx_completed_queue`)
+-- the oldest packets complete; if they have 0 bytes, the limit isn't changed (`netdev_tx_completed_queue`)
 unfoldable pub after_done : TransmitQueue → ℕ → ℕ → TransmitQueue
 after_done t count now =
     if nat_eq (bytes_of t count) 0 then record t { done = t.done + count }
@@ -64,7 +64,7 @@ after_done t count now =
 
 -- Whole runs.
 
--- why a packet isn't sent, the first reason that there is
+-- the first reason why a packet can't be sent, if there is one
 abbrev pub send_fault : TransmitQueue → ℕ → Option TxFault
 send_fault t bytes =
     if t.stopped then Some Stopped
@@ -72,16 +72,16 @@ send_fault t bytes =
     else (if nat_lt DQL_MAX_OBJECT bytes then Some TooLarge
     else (if nat_lt most_in_flight (in_flight_of t.limit + bytes) then Some TooMuchInFlight else None)))
 
--- why so many packets can't be complete
+-- the reason why these packets can't complete, if there is one
 abbrev pub done_fault : TransmitQueue → ℕ → Option TxFault
 done_fault t count = if nat_lt (length (held_of t)) count then Some MoreThanSent else None
 
--- why an event is refused
+-- the reason why an event fails, if it does
 abbrev pub fault_of : TransmitQueue → TxEvent → Option TxFault
 fault_of t (Send bytes) = send_fault t bytes
 fault_of t (Finish count now) = done_fault t count
 
--- the queue after an event that isn't refused
+-- the queue after an event that succeeds
 abbrev pub after : TransmitQueue → TxEvent → TransmitQueue
 after t (Send bytes) = after_send t bytes
 after t (Finish count now) = after_done t count now

@@ -1,9 +1,10 @@
--- What a `TxRing` shows of a transmit queue.
+-- How a `TxRing` represents a transmit queue.
 use Rattle.std.specs.Prelude.{◌≡◌, ◌≤◌, length, take, sum}
 use Rattle.{dql_core.specs.Dql.Shows, tx_ring.specs.Queue.{TransmitQueue, held_of}}
 use Rattle.tx_ring.specs.declared.ring.TxRing.{TxRing}
 
--- r shows the queue t: it holds its packets that aren't complete, and its limit shows the limit of t, which counts all of them
+-- r represents the queue t: it holds the packets that aren't complete, and its limit represents the limit of t, which counts
+-- all packets
 pub record ShowsQueue (r : TxRing) (t : TransmitQueue) : Type 0 where
   pub capacity : r.sizes.capacity ≡ t.capacity
   pub held : r.sizes.items ≡ held_of t

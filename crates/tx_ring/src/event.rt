@@ -1,4 +1,4 @@
-//! The calls on a transmit ring as values, why one is refused, and what the ring shows.
+//! The calls on a transmit ring as values, their errors, and the state of the ring.
 
 ghost use Rattle.std.specs.Prelude.{◌≡◌};
 ghost use Rattle.tx_ring.specs.Fault.{number_of};
@@ -8,19 +8,19 @@ use thiserror::Error;
 /// A call on a transmit ring, as a value for [`TxRing::run`](crate::TxRing::run).
 #[derive(Clone, Copy, Debug, PartialEq, Eq)]
 pub enum TxEvent {
-    /// A packet of so many bytes is sent: [`TxRing::send`](crate::TxRing::send).
+    /// A packet of this many bytes is sent: [`TxRing::send`](crate::TxRing::send).
     Send(u32),
-    /// So many packets are complete, at this moment in milliseconds: [`TxRing::done`](crate::TxRing::done).
+    /// This many packets complete, at this time in milliseconds: [`TxRing::done`](crate::TxRing::done).
     Finish(u32, u64),
 }
 
-/// Why a call on a transmit ring was refused. A refused call changes nothing.
+/// Why a call on a transmit ring failed. A call that fails changes nothing.
 #[derive(Clone, Copy, Debug, PartialEq, Eq, Error)]
 pub enum TxFault {
     /// Number 1: the limit has stopped the queue, and no completion has started it since.
     #[error("the queue is stopped")]
     Stopped = 1,
-    /// Number 2: the ring holds as many packets as it can.
+    /// Number 2: the ring is full.
     #[error("the ring is full")]
     Full = 2,
     /// Number 3: a packet of more than [`dql_core::MAX_OBJECT`] bytes.
@@ -29,19 +29,19 @@ pub enum TxFault {
     /// Number 4: more than [`dql_core::MAX_IN_FLIGHT`] bytes would be in flight.
     #[error("too many bytes would be in flight")]
     TooMuchInFlight = 4,
-    /// Number 5: more packets are complete than the ring holds.
+    /// Number 5: more packets complete than the ring holds.
     #[error("more packets are complete than were sent")]
     MoreThanSent = 5,
-    /// Number 6: a ring of no packets, or of more than [`MAX_CAPACITY`](crate::MAX_CAPACITY).
+    /// Number 6: a capacity of 0, or of more than [`MAX_CAPACITY`](crate::MAX_CAPACITY) packets.
     #[error("the capacity is out of range")]
     BadCapacity = 6,
-    /// Number 7: there is no memory for the ring.
+    /// Number 7: out of memory.
     #[error("out of memory")]
     OutOfMemory = 7,
 }
 
 impl TxFault {
-    /// The number of this fault, 1 to 7.
+    /// The number of this error, 1 to 7.
     pub fn number(self) -> u8
         ensures { result ≡ number_of self }
     {
@@ -49,7 +49,7 @@ impl TxFault {
     }
 }
 
-/// What a transmit ring shows.
+/// The state of a transmit ring.
 #[repr(C)]
 #[derive(Clone, Copy, Debug, PartialEq, Eq)]
 pub struct TxState {
@@ -59,7 +59,7 @@ pub struct TxState {
     pub completed: u32,
     /// The limit in bytes.
     pub limit: u32,
-    /// The bytes that may still be queued, negative where the queue is over its limit.
+    /// The bytes that may still be queued, negative if the queue is over its limit.
     pub avail: i64,
     /// Whether the queue is stopped.
     pub stopped: bool,

@@ -1,4 +1,4 @@
-//! The ring.
+//! The transmit ring.
 
 ghost use Rattle.std.specs.Prelude.{◌≡◌, ◌+◌, ◌<◌, ◌≤◌, ◌^◌, ◌&&◌, length, sum, take, drop};
 ghost use Rattle.dql_core.specs.Dql.{Shows, bytes_in_flight};
@@ -10,15 +10,15 @@ use circular_buffer::HeapCircularBuffer;
 use dql_core::{Dql, DqlFault};
 use std::alloc::Global;
 
-/// The most packets that a ring can hold.
+/// The greatest capacity of a ring, in packets.
 pub const MAX_CAPACITY: usize = 65_536;
 
-/// A transmit ring: the sizes of the packets that were sent and aren't complete, the limit over their bytes, and
-/// whether it has stopped the queue.
+/// A transmit ring: the sizes of the packets that were sent and aren't complete, the limit on their bytes, and whether the
+/// queue is stopped.
 ///
-/// A ring starts unstopped. After a send it is stopped where less than nothing is available of the limit
-/// (`netdev_tx_sent_queue`); after a completion of more than 0 bytes it is started where that is no longer so, and
-/// else stays as it was (`netdev_tx_completed_queue`). No call but [`new`](TxRing::new) takes memory.
+/// A new ring isn't stopped. A send stops it if [`Dql::avail`] becomes negative (`netdev_tx_sent_queue`). A completion of more
+/// than 0 bytes starts it if `avail` isn't negative then; any other leaves it as it was (`netdev_tx_completed_queue`). Only
+/// [`new`](TxRing::new) allocates.
 #[derive(Drop)]
 pub struct TxRing {
     limit: Dql,
@@ -38,10 +38,10 @@ impl TxRing {
     ghost use Rattle.tx_ring.specs.Ring.{ShowsQueue};
     ghost use Rattle.tx_ring.specs.declared.event.TxFault.TheVariants.{BadCapacity, OutOfMemory};
 
-    /// A new ring of `capacity` packets over a limit that is new or was just reset; it isn't stopped.
+    /// Returns a new ring for `capacity` packets, with a limit that is new or was just reset; the queue isn't stopped.
     ///
-    /// Refused by [`BadCapacity`](TxFault::BadCapacity) where `capacity` is 0 or over [`MAX_CAPACITY`], and else by
-    /// [`OutOfMemory`](TxFault::OutOfMemory) where there is no memory for the ring. The limit is dropped then.
+    /// Fails with [`BadCapacity`](TxFault::BadCapacity) if `capacity` is 0 or over [`MAX_CAPACITY`], otherwise with
+    /// [`OutOfMemory`](TxFault::OutOfMemory) if the allocation fails. The limit is dropped then.
     pub fn new(alloc: Global, capacity: usize, limit: Dql) -> Result<TxRing, TxFault>
         requires { IsNew limit }
         ensures ok { (min max hold now : ℕ) → Shows limit (opening min max hold now)
@@ -62,7 +62,7 @@ impl TxRing {
         }
     }
 
-    /// What the ring shows.
+    /// The state of the ring.
     pub fn state(&self) -> TxState
         ensures { (t : TransmitQueue) → ShowsQueue self.now t → result ≡ state_of t }
     {
@@ -75,12 +75,12 @@ impl TxRing {
         }
     }
 
-    /// A packet of `bytes` bytes is sent, and the queue is stopped where less than nothing is available then.
+    /// Sends a packet of `bytes` bytes, and stops the queue if the bytes available become negative.
     ///
-    /// Refused by [`Stopped`](TxFault::Stopped) where the queue is stopped, else by [`Full`](TxFault::Full) where the
-    /// ring holds as many packets as it can, else by [`TooLarge`](TxFault::TooLarge) where `bytes` is over
-    /// [`dql_core::MAX_OBJECT`], else by [`TooMuchInFlight`](TxFault::TooMuchInFlight) where more than
-    /// [`dql_core::MAX_IN_FLIGHT`] bytes would be in flight. The packet isn't sent then, and nothing changes.
+    /// Fails, in this order, with [`Stopped`](TxFault::Stopped) if the queue is stopped, [`Full`](TxFault::Full) if the ring is
+    /// full, [`TooLarge`](TxFault::TooLarge) if `bytes` is over [`dql_core::MAX_OBJECT`], and
+    /// [`TooMuchInFlight`](TxFault::TooMuchInFlight) if more than [`dql_core::MAX_IN_FLIGHT`] bytes would be in flight. The
+    /// packet isn't sent then, and nothing changes.
     pub fn send(&mut self, bytes: u32) -> Result<(), TxFault>
         ensures ok { (t : TransmitQueue) → ShowsQueue self.old t
             → OnOk result (ShowsQueue self.new (after_send t bytes)) }
@@ -106,10 +106,10 @@ impl TxRing {
         Ok(())
     }
 
-    /// The `count` oldest packets are complete at the moment `now`. Where these are more than 0 bytes the limit learns
-    /// of them, and a stopped queue is started where the limit has room again; else the limit is left alone.
+    /// Completes the `count` oldest packets at the time `now`. If they have more than 0 bytes, it reports these to the limit,
+    /// and starts a stopped queue if the bytes available aren't negative; otherwise the limit isn't changed.
     ///
-    /// Refused by [`MoreThanSent`](TxFault::MoreThanSent) where the ring holds fewer packets; nothing changes then.
+    /// Fails with [`MoreThanSent`](TxFault::MoreThanSent) if the ring holds fewer packets; nothing changes then.
     pub fn done(&mut self, count: u32, now: u64) -> Result<(), TxFault>
         ensures ok { (t : TransmitQueue) → ShowsQueue self.old t
             → OnOk result (ShowsQueue self.new (after_done t count now)) }
@@ -130,7 +130,7 @@ impl TxRing {
         Ok(())
     }
 
-    /// Makes each of these calls in turn, and gives how many were refused.
+    /// Makes these calls in order, and returns how many failed.
     pub fn run(&mut self, events: &[TxEvent]) -> u64
         ensures state { (t : TransmitQueue) → ShowsQueue self.old t
             → ShowsQueue self.new (after_all fault_of after t events.now) }
@@ -145,7 +145,7 @@ impl TxRing {
         refused
     }
 
-    // Makes the call that the event stands for.
+    // Makes the call that the event names.
     fn apply(&mut self, event: TxEvent) -> Result<(), TxFault>
         ensures ok { (t : TransmitQueue) → ShowsQueue self.old t
             → OnOk result (ShowsQueue self.new (after t event)) }
@@ -172,7 +172,7 @@ fn stays_stopped(stopped: bool, limit: &Dql) -> bool
     stopped && is_over(limit)
 }
 
-// Takes the oldest sizes out, and adds them.
+// Removes the oldest sizes, and returns their sum.
 #[tactic(auto, using(crate::proofs::Sums::sums))]
 fn take_front(sizes: &mut HeapCircularBuffer<u32>, count: usize) -> u32
     requires { (count ≤ length sizes.old.items) × (sum sizes.old.items < 2 ^ 32) }

@@ -5,7 +5,7 @@ use Rattle.device_rows.specs.declared.row.Row.{Row}
 use Rattle.replay_words.specs.declared.settings.Settings.{Settings}
 use Rattle.napi_series.proofs.series.write_series.Goals as goal
 
--- no row's fault is that of an output
+-- no error of a row is that of an output
 never : (s : Settings) (rows : List Row) (fault : ReplayFault) → IsWantOfMemory fault ⊎ (after_all s rows ≡ Err fault)
     → fault ≡ OutputFailed → ⊥
 never s rows fault (inl memory) = unwritten {A = ℕ} s 1 rows (Err fault) (inl memory)

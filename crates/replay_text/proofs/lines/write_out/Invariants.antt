@@ -1,4 +1,4 @@
--- What is gone from `rest` was appended.
+-- What was removed from `rest` was written.
 use Rattle.std.{proofs.Common.{◌≡◌, ℕ, List, ◌++◌}, specs.Io.KnownBytes.Appends}
 use Rattle.replay_text.proofs.lines.write_out.Given as goal
 

@@ -1,4 +1,4 @@
--- A held value may cross threads, as what it leads to may.
+-- An owning pointer can be sent to another thread if its value can.
 use mir.Raw.{raw}
 use base.Shift.{Keyless}
 use denote.{Memory.lone, RawPtr.Ptr, Struct.{Struct.exits_of, Owning.{shape, fields, to}}}

@@ -1,4 +1,4 @@
--- `into_parts` moves two fields of a held value that is there, and what they own goes with them.
+-- `into_parts` moves the two fields of an owning pointer, and with them what they own.
 use Rattle.{std.specs.Prelude.{Option, Some}, std_alloc.proofs.BoxSteps.{Form.{D, word, box_typed}, Steps.{box_out, box_in}}}
 use Rattle.c_handles.{specs.{declared.body.Body.Body, contracts.held.Held.into_parts.Key.name as #self}, proofs.AsBox.{E, FromHeld as From}}
 use mathlib.Core.{Path.{◌≡◌, refl, sym, subst}, List.{List, [], ◌∷◌, ◌++◌}}

@@ -1,4 +1,4 @@
--- `into_box` hands what the parts own to `from_raw`.
+-- `into_box` passes what the parts own to `from_raw`.
 use Rattle.{std.proofs.alloc.Calls.{token, Goes-blank}, std_alloc.{specs.Box.Ownership.box_owns, proofs.BoxSteps.Form.{Bx, D, R, P, B}}}
 use Rattle.std_alloc.proofs.BoxSteps.{Form.{args, box_ty, word, box_typed}, Steps.{box_out, box_in}}
 use mathlib.Core.{Path.{◌≡◌, refl, sym, subst, ap}, List.{List, [], ◌∷◌, ◌++◌}}
@@ -70,7 +70,7 @@ module _ (E : Bx) where
         ! (of_opd ! (get_in ! (fld ! refl (stop !)) (sub ! 1 refl (whole !)))) refl fa $
         first ! $ blocks ! $ sets ! (of_opd ! (get ! refl)) refl fa $
         move ! (4 ∷ []) $ split3 ! $ move ! (2 ∷ []) $ drop ! $ move ! (1 ∷ 2 ∷ []) $ join ! $ move ! (1 ∷ 0 ∷ []) $ join ! $
-        -- [what it requires; the handle; true; the tokens]
+        -- [its precondition; the handle; true; the tokens]
         move ! (2 ∷ []) $ feq_i ! (List Val) (vptr b o ∷ []) (vptr b o ∷ []) refl $ fjoin ! $ move ! (2 ∷ 0 ∷ []) $ fjoin ! $ move
         ! (2 ∷ 0 ∷ []) $ join ! $ join ! $ use1 𝓛 (raw (Shuts.pre y)) (id⊢ 𝓤 _) $
         calls_at_last ! (fm_of 𝓤 H 𝓛.laws 𝓣) Shuts kn y (and_then ! (get ! refl) (and_then ! (get ! refl) (no_more !))) (λ u.

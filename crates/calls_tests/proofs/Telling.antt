@@ -1,0 +1,53 @@
+-- What a sequence of calls says about a caller's own list.
+use Rattle.std.proofs.Common.{◌≡◌, List, [], ◌∷◌, ◌++◌, ℕ, true, refl}
+use Rattle.napi_model.specs.declared.{event.{Call.Call, Operation.{Operation, TheVariants.{Look, TakeDisable, Unmark}}}, state.Seen.Seen}
+use Rattle.{napi_model.specs.Word.word_of, napi_word.specs.declared.table.Pass.Pass}
+use Rattle.napi_calls.{specs.Made.{Made, WasLost}, proofs.Making.more}
+use Rattle.calls_tests.specs.OwnLists.{Told, says, looks, changed, does, IsTold, Did}
+
+told_more : (ts : List Told) (os : List Operation) (us : List Told) (ps : List Operation) → IsTold ts os → IsTold us ps
+    → IsTold (ts ++ us) (os ++ ps)
+told_more [] [] us ps t u = u
+told_more (says w ∷ ts) (Look x ∷ os) us ps t u = (t.0, told_more ts os us ps t.1 u)
+told_more (looks ∷ ts) (Look x ∷ os) us ps t u = told_more ts os us ps t u
+told_more (changed ∷ ts) (Look x ∷ Look y ∷ os) us ps t u = (t.0, told_more ts os us ps t.1 u)
+told_more (does o ∷ ts) (p ∷ os) us ps t u = (t.0, told_more ts os us ps t.1 u)
+told_more _ _ us ps t u = absurd t
+
+none_told : (u : Told) (us : List Told) → IsTold (u ∷ us) [] → ⊥
+none_told (says w) us t = t
+none_told looks us t = t
+none_told changed us t = t
+none_told (does o) us t = t
+
+-- one call after another
+pub then : {p q r : Pass} {ts : List Told} {u : Told} {us : List Told} → Did p ts q → Did q (u ∷ us) r → Did p (ts ++ u ∷ us) r
+then {p} {q} {r} {ts} {u} {us} d e = by e.operations e.told e.made
+  where
+    by : (ps : List Operation) → IsTold (u ∷ us) ps → Made q ps r → Did p (ts ++ u ∷ us) r
+    by [] t m = absurd (none_told u us t)
+    by (o ∷ ps) t m = record {
+      operations = d.operations ++ o ∷ ps;
+      told = told_more ts d.operations (u ∷ us) (o ∷ ps) d.told t;
+      made = more o ps d.made m;
+    }
+
+-- one operation, a look, one after its look, and two looks of a failed attempt
+pub one : {p q : Pass} (o : Operation) → Made p (o ∷ []) q → Did p (does o ∷ []) q
+one o m = record { operations = o ∷ []; told = (refl, tt); made = m }
+
+pub said : {p q : Pass} {w : ℕ} → ((x : Seen) × (word_of x ≡ w) × Made p (Look x ∷ []) q) → Did p (says w ∷ []) q
+said m = record { operations = Look m.0 ∷ []; told = (m.1, tt); made = m.2 }
+
+pub met : {p q : Pass} → ((x : Seen) × Made p (Look x ∷ []) q) → Did p (looks ∷ []) q
+met m = record { operations = Look m.0 ∷ []; told = tt; made = m.1 }
+
+pub tried : {p q : Pass} (o : Operation) → ((x : Seen) × Made p (Look x ∷ o ∷ []) q) → Did p (looks ∷ does o ∷ []) q
+tried o m = record { operations = Look m.0 ∷ o ∷ []; told = (refl, tt); made = m.1 }
+
+pub lost : {p q : Pass} (c : Call) → WasLost c p q → Did p (changed ∷ []) q
+lost c m = record { operations = Look m.0.first ∷ Look m.0.second ∷ []; told = (m.0.differ, tt); made = m.1 }
+
+pub disabled : {p q : Pass} → ((x : Seen) × Made p (Look x ∷ TakeDisable true ∷ Unmark ∷ []) q)
+    → Did p (looks ∷ does (TakeDisable true) ∷ does Unmark ∷ []) q
+disabled m = record { operations = Look m.0 ∷ TakeDisable true ∷ Unmark ∷ []; told = (refl, (refl, tt)); made = m.1 }

@@ -1,0 +1,2 @@
+pub mod OwnLists
+pub mod CallCounts

@@ -1,0 +1,37 @@
+-- What a run says about a caller's own list.
+use Rattle.std.specs.Prelude.{◌≡◌, ◌≢◌, ℕ, List, [], ◌∷◌, Option, Some, None}
+use Rattle.napi_model.specs.declared.event.Operation.{Operation}
+use Rattle.napi_model.specs.declared.event.Operation.TheVariants.{Look}
+use Rattle.napi_model.specs.Word.{word_of}
+use Rattle.napi_word.specs.declared.table.Pass.{Pass}
+use Rattle.napi_calls.specs.declared.types.Caller.{Caller}
+use Rattle.napi_calls.specs.declared.answers.TryPrep.{TryPrep}
+use Rattle.napi_calls.specs.Made.{Made}
+use Rattle.napi_calls.specs.Calls.{Prepares}
+
+-- a look that showed this word, a look within a call, two looks of a failed attempt, or another operation
+pub data Told : Type 0 where
+  says : ℕ → Told
+  looks : Told
+  changed : Told
+  does : Operation → Told
+
+abbrev pub IsTold : List Told → List Operation → Type 0
+IsTold [] [] = Unit {0}
+IsTold (says w ∷ ts) (Look x ∷ os) = (word_of x ≡ w) × IsTold ts os
+IsTold (looks ∷ ts) (Look x ∷ os) = IsTold ts os
+IsTold (changed ∷ ts) (Look x ∷ Look y ∷ os) = (y ≢ x) × IsTold ts os
+IsTold (does o ∷ ts) (p ∷ os) = (p ≡ o) × IsTold ts os
+IsTold _ _ = ⊥
+
+-- from p to q the own list grew by these
+pub record Did (p : Pass) (ts : List Told) (q : Pass) : Type 0 where
+  pub operations : List Operation
+  pub told : IsTold ts operations
+  pub made : Made p operations q
+
+-- a caller that schedules while another is within a call, and the result
+abbrev pub Asked : Option Caller → Option TryPrep → Type 0
+Asked (Some c) (Some a) = Prepares c.pass a
+Asked (Some c) None = ⊥
+Asked None _ = Unit {0}

@@ -1,0 +1,144 @@
+//! Two callers in two threads, which alternate by a lock: each reply depends on the turns before it.
+
+ghost use Rattle.std.specs.Prelude.{[], ◌∷◌, true, false};
+ghost use Rattle.napi_model.specs.declared.state.Kind.TheVariants as kind;
+ghost use Rattle.napi_model.specs.declared.event.Prep.TheVariants as prep;
+ghost use Rattle.napi_model.specs.declared.event.Done.TheVariants as done;
+ghost use Rattle.napi_model.specs.declared.event.Operation.TheVariants.{Schedule, Hand, Take, Complete};
+ghost use Rattle.napi_calls.specs.Instance.{IsSeatOf};
+ghost use Rattle.calls_tests.specs.OwnLists.{Did, looks, does};
+
+use crate::bed::{
+    Bed, again, closed, disabled, enabled, granted, handed, make_bed, missed, not_there, released,
+    taken,
+};
+use napi_calls::{Caller, Kept, Napi, meet};
+use napi_model::Kind;
+use rx_ring::Batch;
+use std::process::Abort;
+use std::sync::{Condvar, Mutex, Wait};
+use std::test::Fail;
+use std::thread;
+use std::thread::Threads;
+
+// How many turns were made, and the condition on which the next thread waits.
+#[derive(Drop)]
+struct Turns {
+    made: Mutex<u32>,
+    changed: Condvar,
+}
+
+// Waits until this many turns were made.
+fn await_turn<R: Wait>(rt: &R, turns: &Turns, made: u32) {
+    let _made = turns
+        .changed
+        .wait_while(rt, turns.made.lock(rt), |count| *count != made);
+}
+
+// Records that this many turns were made.
+fn end_turn<R: Wait>(rt: &R, turns: &Turns, made: u32) {
+    *turns.made.lock(rt) = made;
+    turns.changed.notify_all();
+}
+
+// Number 0 has the turns 0, 2 and 4: it is granted the instance, misses it, and takes and releases what number 1 queues.
+fn first_turns<R: Wait + Abort>(rt: &R, napi: &Napi, first: Caller, turns: &Turns) -> Caller
+    requires { IsSeatOf napi.now first.pass }
+    ensures { Did first.pass
+        (looks ∷ does (Schedule prep.Granted) ∷ does (Hand kind.List)
+        ∷ does (Take kind.List false) ∷ looks ∷ does (Schedule prep.Missed)
+        ∷ does (Take kind.List true) ∷ looks ∷ does (Complete done.Released)
+        ∷ []) result.pass }
+{
+    await_turn(rt, turns, 0);
+    let owner = granted(rt, napi, first);
+    let first = handed(napi, owner, Kind::List);
+    end_turn(rt, turns, 1);
+    await_turn(rt, turns, 2);
+    let first = not_there(rt, napi, first, Kind::List);
+    let first = missed(rt, napi, first);
+    end_turn(rt, turns, 3);
+    await_turn(rt, turns, 4);
+    let mut poller = taken(rt, napi, first, Kind::List);
+    assert_eq!(rt; poller.poll(64, &mut Batch::new()), 0);
+    released(rt, napi, poller)
+}
+
+// Number 1 has the turns 1 and 3: it takes the instance, and is granted it again and queues it.
+fn second_turns<R: Wait + Abort>(rt: &R, napi: &Napi, second: Caller, turns: &Turns) -> Caller
+    requires { IsSeatOf napi.now second.pass }
+    ensures { Did second.pass
+        (does (Take kind.List true) ∷ looks ∷ does (Complete done.Again)
+        ∷ does (Hand kind.List) ∷ []) result.pass }
+{
+    await_turn(rt, turns, 1);
+    let poller = taken(rt, napi, second, Kind::List);
+    end_turn(rt, turns, 2);
+    await_turn(rt, turns, 3);
+    let owner = again(rt, napi, poller);
+    let second = handed(napi, owner, Kind::List);
+    end_turn(rt, turns, 4);
+    second
+}
+
+// Runs both callers, each in its own thread.
+fn play<R: Threads + Wait + Abort + Copy + Drop + Send>(
+    rt: R,
+    napi: &Napi,
+    first: Caller,
+    second: Caller,
+) -> (Caller, Caller)
+    requires first { IsSeatOf napi.now first.pass }
+    requires second { IsSeatOf napi.now second.pass }
+    ensures first { Did first.pass
+        (looks ∷ does (Schedule prep.Granted) ∷ does (Hand kind.List)
+        ∷ does (Take kind.List false) ∷ looks ∷ does (Schedule prep.Missed)
+        ∷ does (Take kind.List true) ∷ looks ∷ does (Complete done.Released)
+        ∷ []) result.0.pass }
+    ensures second { Did second.pass
+        (does (Take kind.List true) ∷ looks ∷ does (Complete done.Again)
+        ∷ does (Hand kind.List) ∷ []) result.1.pass }
+{
+    let turns = Turns {
+        made: Mutex::new(0),
+        changed: Condvar::new(),
+    };
+    let turns = &turns;
+    let first = Kept::new(rt, first);
+    let second = Kept::new(rt, second);
+    thread::join(
+        &rt,
+        move || -> Caller
+            requires { IsSeatOf napi.now first.value.pass }
+            ensures { Did first.value.pass
+                (looks ∷ does (Schedule prep.Granted) ∷ does (Hand kind.List)
+                ∷ does (Take kind.List false) ∷ looks ∷ does (Schedule prep.Missed)
+                ∷ does (Take kind.List true) ∷ looks ∷ does (Complete done.Released)
+                ∷ []) result.pass }
+        { first_turns(&rt, napi, first.open(), turns) },
+        move || -> Caller
+            requires { IsSeatOf napi.now second.value.pass }
+            ensures { Did second.value.pass
+                (does (Take kind.List true) ∷ looks ∷ does (Complete done.Again)
+                ∷ does (Hand kind.List) ∷ []) result.pass }
+        { second_turns(&rt, napi, second.open(), turns) },
+    )
+}
+
+#[test]
+fn two_threads_take_turns(rt: HostRuntime) -> Result<(), Fail> {
+    let Bed {
+        input: _,
+        napi,
+        mut first,
+        mut second,
+        control,
+    } = make_bed(&rt, rt.alloc());
+    let control = enabled(&rt, &napi, control, false);
+    meet(&napi, &mut first, &mut second);
+    let (first, second) = play(rt, &napi, first, second);
+    let control = disabled(&rt, &napi, control);
+    let ctx = closed(&rt, rt.alloc(), napi, first, second, control);
+    assert_eq!(rt; ctx.counts().polls, 1);
+    Ok(())
+}

@@ -1,0 +1,25 @@
+//! Tests of the calls on an instance that threads share, from another crate as their users are: worked runs, refusals, and threads.
+#![tactic(auto)]
+
+#[cfg(test)]
+mod bed;
+#[cfg(test)]
+mod busy;
+#[cfg(test)]
+mod by_turns;
+#[cfg(test)]
+mod calls;
+#[cfg(test)]
+mod contention;
+#[cfg(test)]
+mod dealing;
+#[cfg(test)]
+mod events;
+#[cfg(test)]
+mod refusals;
+#[cfg(test)]
+mod switching;
+#[cfg(test)]
+mod threads;
+#[cfg(test)]
+mod turns;

@@ -1,0 +1,327 @@
+//! Two interrupts, a poller and the controller, each in its own thread.
+
+ghost use Rattle.std.specs.Prelude.{◌≡◌};
+ghost use Rattle.napi_word.specs.Passes.{SameTable};
+ghost use Rattle.napi_calls.specs.Instance.{IsNewSeat, IsSeatOf, callers_of};
+ghost use Rattle.calls_tests.specs.CallCounts.{Calls, HasCalled, HoldCalls, is_schedule, is_take};
+
+use crate::bed::enabled;
+use napi_calls::{Caller, Completed, Control, Kept, Napi, Off, On, Polling, Sched};
+use napi_model::Kind;
+use rx_ring::{Batch, Packet, RxCtx, RxIn, ring};
+use std::alloc::Global;
+use std::process::Abort;
+use std::sync::Wait;
+use std::sync::atomic::{AtomicU64, Ordering};
+use std::test::Fail;
+use std::thread;
+use std::thread::Threads;
+
+const SCHEDULES: u64 = 1000;
+
+const TURNS: u64 = 1_000_000;
+
+// An instance with three callers over this ring.
+struct Seated {
+    napi: Napi,
+    first: Caller,
+    second: Caller,
+    poller: Caller,
+    control: Control<Off>,
+}
+
+fn seat_three(rt: &impl Abort, alloc: Global, ctx: RxCtx) -> Seated
+    ensures count { callers_of result.napi ≡ 3 }
+    ensures first { IsNewSeat result.napi 0 result.first.pass }
+    ensures second { IsNewSeat result.napi 1 result.second.pass }
+    ensures poller { IsNewSeat result.napi 2 result.poller.pass }
+    ensures control { IsNewSeat result.napi 3 result.control.pass }
+{
+    let made = Napi::new(alloc, ctx, 3);
+    let Ok((napi, mut callers, control)) = made else {
+        panic!(rt; "no instance")
+    };
+    let popped = callers.pop();
+    let Some(poller) = popped else { unreachable!() };
+    let popped = callers.pop();
+    let Some(second) = popped else { unreachable!() };
+    let popped = callers.pop();
+    let Some(first) = popped else { unreachable!() };
+    callers.destroy_empty();
+    Seated {
+        napi,
+        first,
+        second,
+        poller,
+        control,
+    }
+}
+
+// Requests a poll, and queues the instance on the list if it is granted.
+fn ask(rt: &impl Wait, napi: &Napi, caller: Caller) -> Caller
+    requires { IsSeatOf napi.now caller.pass }
+    ensures { Calls is_schedule 1 caller.pass result.pass }
+{
+    match caller.schedule(rt, napi) {
+        Sched::Granted(granted) => granted.hand(napi, Kind::List),
+        Sched::Missed(caller) => caller,
+        Sched::Disabled(caller) => caller,
+    }
+}
+
+// Puts a packet before each schedule, if it has a ring.
+fn interrupt(
+    rt: &impl Wait,
+    napi: &Napi,
+    caller: Caller,
+    mut input: Option<RxIn>,
+    halves: &AtomicU64,
+    done: &AtomicU64,
+) -> Caller
+    requires { IsSeatOf napi.now caller.pass }
+    ensures { Calls is_schedule 1000 caller.pass result.pass }
+{
+    let mut caller = caller;
+    for number in 0..SCHEDULES {
+        if let Some(input) = &mut input {
+            let _ = input.put(Packet { number, bytes: 60 });
+        }
+        caller = ask(rt, napi, caller);
+        if number == SCHEDULES / 2 {
+            halves.fetch_add(1, Ordering::SeqCst);
+        }
+    }
+    done.fetch_add(1, Ordering::SeqCst);
+    caller
+}
+
+// What a poller did: its caller, how many packets arrived in order, and how often it tried to take the instance.
+struct Polled {
+    caller: Caller,
+    in_turn: u64,
+    takes: u64,
+}
+
+// Returns how many packets arrived in order, after this batch.
+fn counted(batch: &Batch, in_turn: u64) -> u64 {
+    let mut next = in_turn;
+    for packet in batch.as_slice() {
+        next = next.wrapping_add(u64::from(packet.number == next));
+    }
+    next
+}
+
+// Takes the instance, if it is on the list, and polls it once; returns whether it was.
+fn turn(
+    rt: &impl Wait,
+    napi: &Napi,
+    caller: Caller,
+    batch: &mut Batch,
+    in_turn: &mut u64,
+) -> (Caller, bool)
+    requires { IsSeatOf napi.now caller.pass }
+    ensures { Calls is_take 1 caller.pass result.0.pass }
+{
+    match caller.take(napi, Kind::List) {
+        Err(caller) => (caller, false),
+        Ok(mut polling) => {
+            let work = polling.poll(64, batch);
+            *in_turn = counted(batch, *in_turn);
+            (end_poll(rt, napi, polling, work), true)
+        }
+    }
+}
+
+// Polls until all others are done and the instance isn't on the list.
+#[tactic(auto, using(crate::proofs::Counting::then))]
+fn poll_all(rt: &impl Wait, napi: &Napi, caller: Caller, done: &AtomicU64) -> Polled
+    requires { IsSeatOf napi.now caller.pass }
+    ensures { Calls is_take result.takes caller.pass result.caller.pass }
+{
+    let mut caller = caller;
+    let mut in_turn = 0u64;
+    let mut batch = Batch::new();
+    for takes in 0..TURNS {
+        let last = done.load(Ordering::SeqCst) == 3;
+        let (rest, is_there) = turn(rt, napi, caller, &mut batch, &mut in_turn);
+        caller = rest;
+        if last && !is_there {
+            return Polled {
+                caller,
+                in_turn,
+                takes: takes + 1,
+            };
+        }
+        if !is_there {
+            thread::yield_now();
+        }
+    }
+    Polled {
+        caller,
+        in_turn,
+        takes: TURNS,
+    }
+}
+
+fn end_poll(rt: &impl Wait, napi: &Napi, polling: Polling, work: usize) -> Caller
+    requires { IsSeatOf napi.now polling.pass }
+    ensures { Calls is_take 0 polling.pass result.pass }
+{
+    if work == 64 {
+        return polling.requeue(napi);
+    }
+    match polling.complete(rt, napi) {
+        Completed::Released(caller) => caller,
+        Completed::Again(granted) => granted.hand(napi, Kind::List),
+    }
+}
+
+// Disables and enables the instance once both interrupts have made half of their schedules.
+fn switch(
+    rt: &impl Wait,
+    napi: &Napi,
+    control: Control<On>,
+    halves: &AtomicU64,
+    done: &AtomicU64,
+) -> Control<On>
+    requires { IsSeatOf napi.now control.pass }
+    ensures { IsSeatOf napi.now result.pass }
+{
+    for _ in 0..TURNS {
+        if halves.load(Ordering::SeqCst) == 2 {
+            break;
+        }
+        thread::yield_now();
+    }
+    let control = control.disable(rt, napi);
+    let control = control.enable(rt, napi, false);
+    done.fetch_add(1, Ordering::SeqCst);
+    control
+}
+
+// Runs both interrupts, the poller and the controller, each in its own thread.
+fn play<R: Threads + Wait + Copy + Drop + Send>(
+    rt: R,
+    napi: &Napi,
+    callers: (Caller, Caller, Caller),
+    control: Control<On>,
+    input: RxIn,
+) -> (Caller, Caller, Polled, Control<On>)
+    requires first { IsSeatOf napi.now callers.0.pass }
+    requires second { IsSeatOf napi.now callers.1.pass }
+    requires poller { IsSeatOf napi.now callers.2.pass }
+    requires control { IsSeatOf napi.now control.pass }
+    ensures first { Calls is_schedule 1000 callers.0.pass result.0.pass }
+    ensures second { Calls is_schedule 1000 callers.1.pass result.1.pass }
+    ensures poller { Calls is_take result.2.takes callers.2.pass result.2.caller.pass }
+    ensures control { IsSeatOf napi.now result.3.pass }
+{
+    let (first, second, poller) = callers;
+    let halves = AtomicU64::new(0);
+    let done = AtomicU64::new(0);
+    let first = Kept::new(rt, first);
+    let second = Kept::new(rt, second);
+    let poller = Kept::new(rt, poller);
+    let control = Kept::new(rt, control);
+    let (half, end) = (&halves, &done);
+    let ((first, second), (poller, control)) = thread::join(
+        &rt,
+        move || -> (Caller, Caller)
+            requires { IsSeatOf napi.now first.value.pass × IsSeatOf napi.now second.value.pass }
+            ensures { Calls is_schedule 1000 first.value.pass result.0.pass
+                × Calls is_schedule 1000 second.value.pass result.1.pass }
+        {
+            thread::join(
+                &rt,
+                move || -> Caller
+                    requires { IsSeatOf napi.now first.value.pass }
+                    ensures { Calls is_schedule 1000 first.value.pass result.pass }
+                { interrupt(&rt, napi, first.open(), Some(input), half, end) },
+                move || -> Caller
+                    requires { IsSeatOf napi.now second.value.pass }
+                    ensures { Calls is_schedule 1000 second.value.pass result.pass }
+                { interrupt(&rt, napi, second.open(), None, half, end) },
+            )
+        },
+        move || -> (Polled, Control<On>)
+            requires { IsSeatOf napi.now poller.value.pass × IsSeatOf napi.now control.value.pass }
+            ensures { Calls is_take result.0.takes poller.value.pass result.0.caller.pass
+                × SameTable control.value.pass result.1.pass }
+        {
+            thread::join(
+                &rt,
+                move || -> Polled
+                    requires { IsSeatOf napi.now poller.value.pass }
+                    ensures { Calls is_take result.takes poller.value.pass result.caller.pass }
+                { poll_all(&rt, napi, poller.open(), end) },
+                move || -> Control<On>
+                    requires { IsSeatOf napi.now control.value.pass }
+                    ensures { SameTable control.value.pass result.pass }
+                { switch(&rt, napi, control.open(), half, end) },
+            )
+        },
+    );
+    (first, second, poller, control)
+}
+
+// Closes the instance: its one history contains each caller's calls.
+fn closed(
+    rt: &impl Abort,
+    alloc: Global,
+    napi: Napi,
+    callers: (Caller, Caller, Caller),
+    takes: u64,
+    control: Control<Off>,
+) -> RxCtx
+    requires count { callers_of napi ≡ 3 }
+    requires first { HasCalled napi 0 is_schedule 1000 callers.0.pass }
+    requires second { HasCalled napi 1 is_schedule 1000 callers.1.pass }
+    requires poller { HasCalled napi 2 is_take takes callers.2.pass }
+    requires control { IsSeatOf napi control.pass }
+    ensures { HoldCalls takes }
+{
+    let (first, second, poller) = callers;
+    let made = Vec::with_capacity(alloc, 3);
+    let Ok(mut all) = made else {
+        panic!(rt; "no memory")
+    };
+    all.push_reserved(first);
+    all.push_reserved(second);
+    all.push_reserved(poller);
+    let answer = napi_calls::close(napi, all, control);
+    let Ok(ctx) = answer else { unreachable!() };
+    ctx
+}
+
+#[test]
+fn two_interrupts_and_a_poller(rt: HostRuntime) -> Result<(), Fail> {
+    let (input, ctx) = ring(rt.alloc(), 1024)?;
+    let Seated {
+        napi,
+        first,
+        second,
+        poller,
+        control,
+    } = seat_three(&rt, rt.alloc(), ctx);
+    let control = enabled(&rt, &napi, control, false);
+    let (first, second, polled, control) = play(rt, &napi, (first, second, poller), control, input);
+    let Polled {
+        caller: poller,
+        in_turn,
+        takes,
+    } = polled;
+    let control = control.disable(&rt, &napi);
+    let counts = control.counts();
+    assert_eq!(rt; counts.packets, in_turn);
+    let callers = (first, second, poller);
+    let mut ctx = closed(&rt, rt.alloc(), napi, callers, takes, control);
+    let mut batch = Batch::new();
+    let mut next = in_turn;
+    for _ in 0..20 {
+        ctx.poll(64, &mut batch);
+        next = counted(&batch, next);
+    }
+    assert_eq!(rt; next, SCHEDULES);
+    assert_eq!(rt; ctx.counts().packets, SCHEDULES);
+    Ok(())
+}

@@ -1,0 +1,43 @@
+//! Devices that are attached again, and devices of all numbers.
+
+use crate::sides::told_of;
+use device_model::{ReplayBench, SerialBench, SharedBench};
+use std::alloc::{AllocError, Global};
+use std::test::Fail;
+
+// A device that exists is unchanged. The program `memory_tests` tries failing allocations.
+#[test]
+fn attached_again(rt: HostRuntime) -> Result<(), Fail> {
+    let mut bench = SerialBench::new(rt.alloc())?;
+    bench.attach(rt.alloc(), 1, 256, 0)?;
+    bench.arrive(1, 100);
+    let before = told_of(&bench, 1);
+    assert!(rt; !bench.is_attached(2));
+    bench.attach(rt.alloc(), 2, 4, 0)?;
+    assert!(rt; bench.is_attached(2));
+    bench.attach(rt.alloc(), 1, 4, 0)?;
+    assert_eq!(rt; told_of(&bench, 1), before);
+    assert_eq!(rt; bench.attached(), 2);
+    Ok(())
+}
+
+// Devices of all numbers, with rings of capacity 333 and more.
+fn attach_each<B: ReplayBench>(alloc: Global, bench: &mut B) -> Result<(), AllocError> {
+    for device in 1..17u32 {
+        bench.attach(alloc, device, 333 * device, 0)?;
+    }
+    Ok(())
+}
+
+#[test]
+fn benches_of_sixteen_devices(rt: HostRuntime) -> Result<(), Fail> {
+    let mut serial = SerialBench::new(rt.alloc())?;
+    attach_each(rt.alloc(), &mut serial)?;
+    assert_eq!(rt; serial.attached(), 16);
+    let mut shared = SharedBench::new(&rt, rt.alloc())?;
+    assert_eq!(rt; attach_each(rt.alloc(), &mut shared), Ok(()));
+    assert_eq!(rt; shared.attached(), 16);
+    let ends = shared.end();
+    assert_eq!(rt; ends.iter().flatten().count(), 16);
+    Ok(())
+}

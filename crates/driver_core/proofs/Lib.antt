@@ -1,0 +1,3 @@
+pub mod QueueFacts
+pub mod WorldFacts
+pub mod StepFacts

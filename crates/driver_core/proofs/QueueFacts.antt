@@ -1,0 +1,328 @@
+-- What calls make of the poll list and the run over it.
+use Rattle.std.proofs.Common.{◌≡◌, ◌≢◌, ◌∙◌, inl, inr, ℕ, ◌+◌, ◌<◌, ◌≤◌, Bool, true, false, cond, List, [], ◌∷◌, ◌++◌, length}
+use Rattle.std.proofs.Common.{refl, sym, ap, arith}
+use Rattle.std.proofs.Common.{Option, Some, None, get_or, set, MatchOption, length-append}
+use Rattle.std.proofs.lemmas.{List.{append-nil, get_or-set_other, get_or-set_same, get_or_default, get_or_past}}
+use Rattle.std.proofs.lemmas.{List.Sums.{sum_by-append, sum_by-set, count_by-le-length}}
+use Rattle.std.proofs.lemmas.{Bool.{cases_Bool, cases_eq, cases_lt, eq-eqb}, Bool.Decides.eqb_tells}
+use Rattle.std.proofs.Math.ListN.{length-set}
+use Rattle.std.specs.Prelude.{◌==◌, ◌||◌, if◌then◌else◌}
+use Rattle.std.specs.List.{All}
+use Rattle.poll_runs.specs.declared.bench.Next.TheVariants as next
+use Rattle.napi_model.specs.declared.state.Kind.TheVariants as kind
+use Rattle.poll_runs.specs.{Driven.held, Plain.{HasRoom, NothingBehind, OwnPushes, all_held}, Turn.{HandsOn, Refills, asked_for}}
+use Rattle.poll_runs.specs.{Polls.{is_arrival, is_repoll}, Steps.{Asks, Begins, HoldsNothing, has_spent}}
+use Rattle.poll_runs.specs.{declared.{bench.Next.Next, polling_run.PollingRun.PollingRun}}
+use Rattle.driver_core.specs.{Device.{at, chore_at, completed_at, is_listed, is_stopping, polled, polled_at, IsAtRest}}
+use Rattle.driver_core.specs.{Queue.{IsQueue, device_at, listed_at, listed_in, occurs}}
+use Rattle.driver_core.specs.declared.device.{Device.Device}
+use Rattle.driver_core.specs.declared.device.{Stage.{Stage, TheVariants.{Closed, Masking, Closing, Listed, Unmasking, Looking, Armed}}}
+
+-- ---- devices
+
+abbrev flag : Bool → ℕ
+flag b = cond b 1 0
+
+listed-same : (devices : List Device) (id : ℕ) (to : Device) → id < length devices → listed_at (set devices id to) id ≡ is_listed to.stage
+listed-same devices id to lt = ap (λ (d : Device). is_listed d.stage) (get_or-set_same devices id to (at Closed false) lt)
+
+listed-other : (devices : List Device) (id k : ℕ) (to : Device) → k ≢ id → listed_at (set devices id to) k ≡ listed_at devices k
+listed-other devices id k to ne = ap (λ (d : Device). is_listed d.stage) (get_or-set_other devices id k to (at Closed false) ne)
+
+sum-set : (devices : List Device) (id : ℕ) (to : Device) → id < length devices
+    → listed_in (set devices id to) + cond (listed_at devices id) 1 0 ≡ listed_in devices + cond (is_listed to.stage) 1 0
+sum-set devices id to lt = sum_by-set (λ (d : Device). cond (is_listed d.stage) 1 0) devices id to (at Closed false) lt
+
+-- a device that is listed as before changes nothing
+pub put_same : (devices : List Device) (list : List ℕ) (run : PollingRun) (id : ℕ) (to : Device) → id < length devices
+    → is_listed to.stage ≡ listed_at devices id → IsQueue devices list run → IsQueue (set devices id to) list run
+put_same devices list run id to lt same q = record {
+  each = λ k. q.each k ∙ sym (ap (λ (b : Bool). cond b 1 0) (elim (cases_eq k id) [
+    | inl e ↦ rw e (listed-same devices id to lt ∙ same)
+    | inr ne ↦ listed-other devices id k to ne
+  ]));
+  size = let s = sum-set devices id to lt in let t = rw same at s in omega (arith, t, q.size);
+}
+
+-- ---- numbers
+
+occurs-append : (k : ℕ) (xs ys : List ℕ) → occurs k (xs ++ ys) ≡ occurs k xs + occurs k ys
+occurs-append k xs ys = sum_by-append (λ x. cond (x == k) 1 0) xs ys
+
+occurs-itself : (k id : ℕ) → k ≡ id → occurs k (id ∷ []) ≡ 1
+occurs-itself k id e = ap (λ (b : Bool). 0 + cond b 1 0) (eq-eqb id k (sym e))
+
+occurs-other : (k id : ℕ) → k ≢ id → occurs k (id ∷ []) ≡ 0
+occurs-other k id ne = elim (eqb_tells id k) [
+  | inl a ↦ absurd (ne (sym a.1))
+  | inr a ↦ ap (λ (b : Bool). 0 + cond b 1 0) a.0
+]
+
+-- there is room for one that isn't listed
+pub room : (devices : List Device) (list : List ℕ) (run : PollingRun) (id : ℕ) → id < length devices → listed_at devices id ≡ false
+    → IsQueue devices list run → length list + held run < length devices
+room devices list run id lt unlisted q =
+    let to : Device = at (Listed false) false in
+    let s = sum-set devices id to lt in
+    let t = rw unlisted at s in
+    let most = count_by-le-length (λ (d : Device). is_listed d.stage) (set devices id to) in
+    omega (arith, t, most, q.size, length-set devices id to)
+
+-- one that wasn't listed, and is now, goes onto the list
+pub put_new : (devices : List Device) (list : List ℕ) (run : PollingRun) (id : ℕ) (to : Device) → id < length devices
+    → listed_at devices id ≡ false → is_listed to.stage ≡ true → IsQueue devices list run
+    → IsQueue (set devices id to) (list ++ id ∷ []) run
+put_new devices list run id to lt unlisted listed q = record {
+  each = λ k. elim (cases_eq k id) [
+    | inl e ↦
+        let on : listed_at (set devices id to) k ≡ true = rw e (listed-same devices id to lt ∙ listed) in
+        let off : listed_at devices k ≡ false = rw e unlisted in
+        let now : flag (listed_at (set devices id to) k) ≡ 1 = ap flag on in
+        let before : flag (listed_at devices k) ≡ 0 = ap flag off in
+        omega (arith, now, before, q.each k, occurs-append k list (id ∷ []), occurs-itself k id e)
+    | inr ne ↦
+        let same : flag (listed_at (set devices id to) k) ≡ flag (listed_at devices k) = ap flag (listed-other devices id k to ne) in
+        omega (arith, same, q.each k, occurs-append k list (id ∷ []), occurs-other k id ne)
+  ];
+  size =
+      let s = sum-set devices id to lt in let t = rw (unlisted, listed) at s in
+      omega (arith, t, q.size, length-append list (id ∷ []));
+}
+
+-- ---- the run
+
+-- what is the same however numbers are moved between lists
+module _ (m : List ℕ → ℕ) (add : (xs ys : List ℕ) → m (xs ++ ys) ≡ m xs + m ys) where
+  none : m [] ≡ 0
+  none = omega (arith, add [] [])
+
+  refilled : (own list repoll filled after : List ℕ) → Refills all_held OwnPushes NothingBehind HasRoom own list repoll filled after
+      → m filled + m after ≡ m own + m list
+  refilled (id ∷ own) list repoll filled after r = rw (r.0, r.1) refl
+  refilled [] list (id ∷ repoll) filled after r = rw (r.0, r.1) refl
+  refilled [] list [] filled after r =
+      let gives : filled ≡ list = r.takes.gives ∙ ap (λ (xs : List ℕ). list ++ xs) r.takes.moved ∙ append-nil list in
+      rw (gives, r.takes.nothing_kept) (omega (arith, none))
+
+  asks-first : (answer : Option ℕ) (filled own : List ℕ) → MatchOption answer ((filled ≡ []) × (own ≡ [])) (λ id. filled ≡ id ∷ own)
+      → m filled ≡ m (asked_for answer) + m own
+  asks-first None filled own h = rw (h.0, h.1) (omega (arith, none))
+  asks-first (Some id) filled own h = rw h (add (id ∷ []) own)
+
+  asks-keep : (run : PollingRun) (list own after : List ℕ) (answer : Option ℕ)
+      → Asks all_held OwnPushes NothingBehind HasRoom run list answer own after
+      → m (asked_for answer) + m own + m after ≡ m run.own + m list
+  asks-keep run list own after answer a =
+      omega (arith, refilled run.own list run.repoll a.filled after a.refills, asks-first answer a.filled own a.first)
+
+held-is : (run : PollingRun) → held run ≡ length (asked_for run.asked) + length run.own + length run.repoll
+held-is run = ap (λ (n : ℕ). n + length run.repoll) (length-append (asked_for run.asked) run.own)
+
+-- the run asks for its next poll
+pub next_keeps : (devices : List Device) (list after : List ℕ) (run run' : PollingRun) → run.asked ≡ None
+    → Asks all_held OwnPushes NothingBehind HasRoom run list run'.asked run'.own after → run'.repoll ≡ run.repoll
+    → IsQueue devices list run → IsQueue devices after run'
+next_keeps devices list after run run' rests a repoll q =
+    let count : (k : ℕ) → occurs k (asked_for run'.asked) + occurs k run'.own + occurs k after ≡ occurs k run.own + occurs k list =
+    λ k. asks-keep (occurs k) (occurs-append k) run list run'.own after run'.asked a in
+    let sizes = asks-keep length length-append run list run'.own after run'.asked a in
+    let idle : (k : ℕ) → occurs k (asked_for run.asked) ≡ 0 = λ k. ap (λ (o : Option ℕ). occurs k (asked_for o)) rests in
+    let idle-length : length (asked_for run.asked) ≡ 0 = ap (λ (o : Option ℕ). length (asked_for o)) rests in
+    record {
+      each = λ k. omega (arith, count k, idle k, ap (occurs k) repoll, q.each k);
+      size = omega (arith, sizes, idle-length, ap (λ (xs : List ℕ). length xs) repoll, q.size, held-is run, held-is run');
+    }
+
+-- the same where budget or window may be spent
+pub advance_keeps : (devices : List Device) (list after : List ℕ) (run run' : PollingRun) (answer : Option ℕ) → run.asked ≡ None
+    → (has_spent run ≡ true → (answer ≡ None) × (run' ≡ run) × (after ≡ list))
+    → (has_spent run ≡ false → Asks all_held OwnPushes NothingBehind HasRoom run list answer run'.own after)
+    → run'.asked ≡ answer → run'.repoll ≡ run.repoll
+    → IsQueue devices list run → IsQueue devices after run'
+advance_keeps devices list after run run' answer rests spent left asks repoll q =
+    elim (cases_Bool (has_spent run)) [
+      | inl over ↦ let same = spent over in rw (same.1, same.2) q
+      | inr more ↦ next_keeps devices list after run run' rests (rw asks (left more)) repoll q
+    ]
+
+-- a run begins
+pub begin_keeps : (devices : List Device) (list after : List ℕ) (run run' : PollingRun) → HoldsNothing run
+    → Begins all_held OwnPushes NothingBehind list run' after → run'.asked ≡ None
+    → IsQueue devices list run → IsQueue devices after run'
+begin_keeps devices list after run run' nothing b rests q =
+    let own : run'.own ≡ list = b.takes.gives ∙ ap (λ (xs : List ℕ). list ++ xs) b.takes.moved ∙ append-nil list in
+    let moved : (m : List ℕ → ℕ) → ((xs ys : List ℕ) → m (xs ++ ys) ≡ m xs + m ys)
+    → (m after + (m (asked_for run'.asked) + (m run'.own + m run'.repoll))
+    ≡ m list + (m (asked_for run.asked) + (m run.own + m run.repoll))) =
+    λ m add. omega (
+      arith,
+      none m add,
+      ap m own,
+      ap m b.takes.nothing_kept,
+      ap m b.repoll,
+      ap m nothing.own,
+      ap m nothing.repoll,
+      ap (λ (o : Option ℕ). m (asked_for o)) rests,
+      ap (λ (o : Option ℕ). m (asked_for o)) nothing.asked,
+    ) in
+    record {
+      each = λ k. moved (occurs k) (occurs-append k) ∙ q.each k;
+      size = omega (arith, moved length length-append, q.size, held-is run, held-is run');
+    }
+
+-- a run ends
+pub finish_keeps : (devices : List Device) (list came after : List ℕ) (run run' : PollingRun) → run.asked ≡ None → HoldsNothing run'
+    → came ≡ [] → after ≡ run.own ++ (list ++ came) ++ run.repoll
+    → IsQueue devices list run → IsQueue devices after run'
+finish_keeps devices list came after run run' rests nothing nobody back q =
+    let moved : (m : List ℕ → ℕ) → ((xs ys : List ℕ) → m (xs ++ ys) ≡ m xs + m ys)
+    → (m after + (m (asked_for run'.asked) + (m run'.own + m run'.repoll))
+    ≡ m list + (m (asked_for run.asked) + (m run.own + m run.repoll))) =
+    λ m add. omega (
+      arith,
+      none m add,
+      ap m back,
+      add run.own ((list ++ came) ++ run.repoll),
+      add (list ++ came) run.repoll,
+      add list came,
+      ap m nobody,
+      ap m nothing.own,
+      ap m nothing.repoll,
+      ap (λ (o : Option ℕ). m (asked_for o)) rests,
+      ap (λ (o : Option ℕ). m (asked_for o)) nothing.asked,
+    ) in
+    record {
+      each = λ k. moved (occurs k) (occurs-append k) ∙ q.each k;
+      size = omega (arith, moved length length-append, q.size, held-is run, held-is run');
+    }
+
+-- ---- a poll
+
+-- its device goes onto the list again, or is to be repolled
+abbrev pub comes_back : Next → Bool
+comes_back next = is_arrival next || is_repoll next
+
+module _ (m : List ℕ → ℕ) (add : (xs ys : List ℕ) → m (xs ++ ys) ≡ m xs + m ys) where
+  handed : (next : Next) (id : ℕ) (list after repoll : List ℕ) → HandsOn all_held OwnPushes HasRoom list (is_arrival next) id after
+      → m after + m (repoll ++ (if is_repoll next then id ∷ [] else [])) ≡ m list + m repoll + cond (comes_back next) (m (id ∷ [])) 0
+  handed next.Absent id list after repoll h = rw (h, add repoll []) (omega (arith, none m add))
+  handed next.Gone id list after repoll h = rw (h, add repoll []) (omega (arith, none m add))
+  handed (next.Again kind.Thread) id list after repoll h = rw (h, add repoll []) (omega (arith, none m add))
+  handed (next.Again kind.List) id list after repoll h =
+      omega (arith, none m add, add repoll [], ap m h.entries_after, add list h.came, ap m h.moved)
+  handed next.Repoll id list after repoll h = rw (h, add repoll (id ∷ [])) (omega arith)
+
+cond-same : (b : Bool) (n : ℕ) → cond b n n ≡ n
+cond-same true n = refl
+cond-same false n = refl
+
+flag-one : (b : Bool) → 1 ≤ flag b → b ≡ true
+flag-one true h = refl
+flag-one false h = absurd (omega arith)
+
+-- the number that is being polled is that of a listed device
+pub asked_is_listed : (devices : List Device) (list : List ℕ) (run : PollingRun) (id : ℕ) → run.asked ≡ Some id
+    → IsQueue devices list run → listed_at devices id ≡ true
+asked_is_listed devices list run id asked q =
+    let one : occurs id (asked_for run.asked) ≡ occurs id (id ∷ []) = ap (λ (o : Option ℕ). occurs id (asked_for o)) asked in
+    flag-one (listed_at devices id) (omega (arith, q.each id, one, occurs-itself id id refl))
+
+pub asked_in_range : (devices : List Device) (list : List ℕ) (run : PollingRun) (id : ℕ) → run.asked ≡ Some id
+    → IsQueue devices list run → id < length devices
+asked_in_range devices list run id asked q = elim (cases_lt id (length devices)) [
+  | inl lt ↦ lt
+  | inr past ↦
+      let none : listed_at devices id ≡ false =
+      ap (λ (d : Device). is_listed d.stage) (get_or_past devices id (at Closed false) past) in
+      let both : true ≡ false = sym (asked_is_listed devices list run id asked q) ∙ none in
+      absurd (cc both)
+]
+
+pub polled_keeps : (devices : List Device) (list after : List ℕ) (run run' : PollingRun) (id : ℕ) (to : Device) (next : Next)
+    → id < length devices → run.asked ≡ Some id → run'.asked ≡ None → run'.own ≡ run.own
+    → run'.repoll ≡ run.repoll ++ (if is_repoll next then id ∷ [] else [])
+    → HandsOn all_held OwnPushes HasRoom list (is_arrival next) id after
+    → is_listed to.stage ≡ comes_back next
+    → IsQueue devices list run → IsQueue (set devices id to) after run'
+polled_keeps devices list after run run' id to next lt asked rests own repoll hands back q =
+    let was : flag (listed_at devices id) ≡ 1 = ap flag (asked_is_listed devices list run id asked q) in
+    let now : flag (is_listed to.stage) ≡ flag (comes_back next) = ap flag back in
+    let moved : (m : List ℕ → ℕ) → ((xs ys : List ℕ) → m (xs ++ ys) ≡ m xs + m ys)
+    → (m after + (m (asked_for run'.asked) + (m run'.own + m run'.repoll)) + m (id ∷ [])
+    ≡ m list + (m (asked_for run.asked) + (m run.own + m run.repoll)) + cond (comes_back next) (m (id ∷ [])) 0) =
+    λ m add. omega (
+      arith,
+      none m add,
+      handed m add next id list after run.repoll hands,
+      ap m repoll,
+      ap m own,
+      ap (λ (o : Option ℕ). m (asked_for o)) rests,
+      ap (λ (o : Option ℕ). m (asked_for o)) asked,
+    ) in
+    record {
+      each = λ k. elim (cases_eq k id) [
+        | inl e ↦
+            let one = occurs-itself k id e in
+            let extra : cond (comes_back next) (occurs k (id ∷ [])) 0 ≡ flag (comes_back next) =
+            ap (λ (n : ℕ). cond (comes_back next) n 0) one in
+            let to-now : flag (listed_at (set devices id to) k) ≡ flag (is_listed to.stage) =
+            rw e (ap flag (listed-same devices id to lt)) in
+            let before : flag (listed_at devices k) ≡ 1 = rw e was in
+            omega (arith, moved (occurs k) (occurs-append k), q.each k, one, extra, to-now, before, now)
+        | inr ne ↦
+            let other = occurs-other k id ne in
+            let extra : cond (comes_back next) (occurs k (id ∷ [])) 0 ≡ 0 =
+            ap (λ (n : ℕ). cond (comes_back next) n 0) other ∙ cond-same (comes_back next) 0 in
+            let same : flag (listed_at (set devices id to) k) ≡ flag (listed_at devices k) = ap flag (listed-other devices id k to ne) in
+            omega (arith, moved (occurs k) (occurs-append k), q.each k, other, extra, same)
+      ];
+      size = omega (arith, moved length length-append, q.size, held-is run, held-is run', sum-set devices id to lt, was, now);
+    }
+
+-- ---- sleep
+
+rests-at : (stage : Stage) → chore_at stage ≡ None → is_listed stage ≡ false → IsAtRest stage
+rests-at Closed c l = tt
+rests-at (Masking stopping) c l = cc
+rests-at Closing c l = cc
+rests-at (Listed stopping) c l = cc
+rests-at Unmasking c l = cc
+rests-at Looking c l = cc
+rests-at Armed c l = tt
+
+flag-none : (b : Bool) → flag b ≡ 0 → b ≡ false
+flag-none true h = absurd (omega arith)
+flag-none false h = refl
+
+-- with nothing to be done at any card and nothing on the list each device is at rest
+pub all_rest : (devices : List Device) (list : List ℕ) (run : PollingRun) → All (λ (d : Device). chore_at d.stage ≡ None) devices
+    → list ≡ [] → HoldsNothing run → IsQueue devices list run → All (λ (d : Device). IsAtRest d.stage) devices
+all_rest devices list run chores empty nothing q k d lt =
+    let e : get_or devices k d ≡ device_at devices k = get_or_default devices k d (at Closed false) lt in
+    let unlisted : listed_at devices k ≡ false =
+    flag-none (listed_at devices k) (omega (
+      arith,
+      q.each k,
+      ap (occurs k) empty,
+      ap (occurs k) nothing.own,
+      ap (occurs k) nothing.repoll,
+      ap (λ (o : Option ℕ). occurs k (asked_for o)) nothing.asked,
+    )) in
+    rests-at (get_or devices k d).stage (chores k d lt) (rw e unlisted)
+
+-- ---- of devices
+
+after-completion : (stopping missed : Bool) → is_listed (completed_at stopping missed).0.stage ≡ comes_back (completed_at stopping missed).1
+after-completion stopping true = refl
+after-completion false false = refl
+after-completion true false = refl
+
+after-poll : (full stopping missed : Bool)
+    → is_listed (polled_at full stopping missed).0.stage ≡ comes_back (polled_at full stopping missed).1
+after-poll true false missed = refl
+after-poll true true missed = after-completion true missed
+after-poll false stopping missed = after-completion stopping missed
+
+-- after a poll a device is listed if its number comes back
+pub polled_listed : (full : Bool) (d : Device) → is_listed (polled full d).0.stage ≡ comes_back (polled full d).1
+polled_listed full d = after-poll full (is_stopping d.stage) d.missed

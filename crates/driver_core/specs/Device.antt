@@ -1,0 +1,147 @@
+-- The rule of one device of a driver: an instance (`struct napi_struct`), the mask of its card's interrupt, and what each call
+-- makes of them. A card interrupts when a packet arrives, and loses that interrupt while it is masked.
+use Rattle.std.specs.Prelude.{◌≡◌, Bool, true, false, Option, Some, None}
+use Rattle.driver_core.specs.declared.device.{Chore.{Chore, TheVariants.{Mask, Unmask, Look}}, Device.Device}
+use Rattle.driver_core.specs.declared.device.Stage.{Stage, TheVariants.{Closed, Masking, Closing, Listed, Unmasking, Looking, Armed}}
+use Rattle.poll_runs.specs.declared.bench.Next.{Next, TheVariants.{Gone, Again, Repoll}}
+use Rattle.napi_model.specs.declared.state.Kind.TheVariants as kind
+
+abbrev pub at : Stage → Bool → Device
+at stage missed = record { stage = stage; missed = missed }
+
+-- ---- what is to be done at its card
+
+abbrev pub chore_at : Stage → Option Chore
+chore_at Closed = None
+chore_at (Masking stopping) = Some Mask
+chore_at Closing = Some Mask
+chore_at (Listed stopping) = None
+chore_at Unmasking = Some Unmask
+chore_at Looking = Some Look
+chore_at Armed = None
+
+-- ---- the card interrupts (`napi_schedule_prep`)
+
+-- While an instance is scheduled or disabled the request is missed; while it is being disabled it is rejected. Else it is
+-- granted: the card is masked first, and then the instance is handed over.
+abbrev pub interrupted_at : Stage → Bool → Device
+interrupted_at Closed missed = at Closed true
+interrupted_at (Masking false) missed = at (Masking false) true
+interrupted_at (Masking true) missed = at (Masking true) missed
+interrupted_at Closing missed = at Closing missed
+interrupted_at (Listed false) missed = at (Listed false) true
+interrupted_at (Listed true) missed = at (Listed true) missed
+interrupted_at Unmasking missed = at (Masking false) missed
+interrupted_at Looking missed = at (Masking false) missed
+interrupted_at Armed missed = at (Masking false) missed
+
+-- ---- its card was masked, unmasked, looked at
+
+-- After the mask a granted instance goes onto the poll list (`____napi_schedule`), and one that was stopped while no poll was
+-- pending is disabled.
+abbrev pub masked_at : Stage → Stage
+masked_at (Masking stopping) = Listed stopping
+masked_at Closing = Closed
+masked_at stage = stage
+
+abbrev pub unmasked_at : Stage → Stage
+unmasked_at Unmasking = Looking
+unmasked_at stage = stage
+
+-- a card that has packets then didn't interrupt for them: a poll is asked for
+abbrev pub looked_at : Bool → Stage → Stage
+looked_at true Looking = Masking false
+looked_at false Looking = Armed
+looked_at has_more stage = stage
+
+-- ---- it was polled (`__napi_poll`, `napi_complete_done`)
+
+-- the instance is completed: again, if a request was missed, else released; a stop ends here
+abbrev pub completed_at : Bool → Bool → Device × Next
+completed_at stopping true = (at (Listed stopping) false, Again kind.List)
+completed_at false false = (at Unmasking false, Gone)
+completed_at true false = (at Closed false, Gone)
+
+-- a poll that used its whole weight keeps the instance, unless it is being disabled
+abbrev pub polled_at : Bool → Bool → Bool → Device × Next
+polled_at true false missed = (at (Listed false) missed, Repoll)
+polled_at true true missed = completed_at true missed
+polled_at false stopping missed = completed_at stopping missed
+
+-- ---- it is opened and stopped (`napi_enable`, `napi_disable`)
+
+-- after the enable the card is unmasked and looked at
+abbrev pub opened_at : Stage → Stage
+opened_at Closed = Unmasking
+opened_at stage = stage
+
+-- a scheduled instance is polled until it is completed; another one is masked and disabled at once
+abbrev pub stopped_at : Stage → Stage
+stopped_at (Masking stopping) = Masking true
+stopped_at (Listed stopping) = Listed true
+stopped_at Unmasking = Closing
+stopped_at Looking = Closing
+stopped_at Armed = Closing
+stopped_at stage = stage
+
+abbrev pub MayStop : Stage → Type 0
+MayStop (Masking stopping) = stopping ≡ false
+MayStop (Listed stopping) = stopping ≡ false
+MayStop Closed = ⊥
+MayStop Closing = ⊥
+MayStop _ = Unit {0}
+
+-- a stop was asked for, and isn't done
+abbrev pub is_stopping : Stage → Bool
+is_stopping Closing = true
+is_stopping (Masking stopping) = stopping
+is_stopping (Listed stopping) = stopping
+is_stopping _ = false
+
+-- ---- the same of a device
+
+abbrev pub interrupted : Device → Device
+interrupted d = interrupted_at d.stage d.missed
+
+abbrev pub masked : Device → Device
+masked d = at (masked_at d.stage) d.missed
+
+abbrev pub unmasked : Device → Device
+unmasked d = at (unmasked_at d.stage) d.missed
+
+abbrev pub looked : Bool → Device → Device
+looked has_more d = at (looked_at has_more d.stage) d.missed
+
+abbrev pub opened : Device → Device
+opened d = at (opened_at d.stage) d.missed
+
+abbrev pub stopped : Device → Device
+stopped d = at (stopped_at d.stage) d.missed
+
+-- after a poll, and how the poll ends
+abbrev pub polled : Bool → Device → Device × Next
+polled full d = polled_at full (is_stopping d.stage) d.missed
+
+-- ---- words of clauses
+
+-- an interrupt asks for a poll, which is granted
+abbrev pub IsGranted : Stage → Type 0
+IsGranted Unmasking = Unit {0}
+IsGranted Looking = Unit {0}
+IsGranted Armed = Unit {0}
+IsGranted _ = ⊥
+
+abbrev pub is_listed : Stage → Bool
+is_listed (Listed stopping) = true
+is_listed _ = false
+
+abbrev pub IsMasking : Stage → Type 0
+IsMasking (Masking stopping) = Unit {0}
+IsMasking Closing = Unit {0}
+IsMasking _ = ⊥
+
+-- closed, or unmasked, looked at after the unmask, and without packets then
+abbrev pub IsAtRest : Stage → Type 0
+IsAtRest Closed = Unit {0}
+IsAtRest Armed = Unit {0}
+IsAtRest _ = ⊥

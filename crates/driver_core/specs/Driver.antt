@@ -1,0 +1,95 @@
+-- What a driver holds, and what it says is to be done.
+use Rattle.std.specs.Prelude.{◌≡◌, ◌≤◌, ◌<◌, ◌+◌, ℕ, Bool, true, false, List, [], ◌∷◌, ◌++◌, length, replicate, slice_set, Option}
+use Rattle.std.specs.Prelude.{Some, None, ◌==◌, if◌then◌else◌}
+use Rattle.std.specs.List.{All}
+use Rattle.poll_runs.specs.{Laws.IsPlainRun, declared.run.RunReport.RunReport}
+use Rattle.driver_core.specs.declared.limits.Limits.{Limits}
+use Rattle.poll_runs.specs.{Driven.IsGoing, Steps.HoldsNothing, Plain.{NothingBehind, OwnPushes, all_held}, Polls.Poll}
+use Rattle.poll_runs.specs.{declared.bench.Next.Next}
+use Rattle.driver_core.specs.declared.device.{Device.Device, Stage.{Stage, TheVariants.Closed}}
+use Rattle.driver_core.specs.declared.device.Chore.TheVariants as chore
+use Rattle.driver_core.specs.{Device.{at, chore_at, is_listed, polled, IsAtRest}, Queue.device_at, declared.driver.Driver.Driver}
+use Rattle.driver_core.specs.declared.todo.Todo.{Todo, TheVariants.{Mask, Unmask, Look, Fetch, Ended, Sleep}}
+
+abbrev pub devices_of : Driver → List Device
+devices_of driver = driver.devices.items
+
+abbrev pub device_of : Driver → ℕ → Device
+device_of driver id = device_at (devices_of driver) id
+
+abbrev pub stage_of : Driver → ℕ → Stage
+stage_of driver id = (device_of driver id).stage
+
+-- the devices that are on the poll list and not yet in a run, in order
+abbrev pub list_of : Driver → List ℕ
+list_of driver = driver.list
+
+abbrev pub limits_of : Driver → Limits
+limits_of driver = driver.limits
+
+-- a run is under way
+abbrev pub is_running : Driver → Bool
+is_running driver = driver.runs
+
+-- the device that is being polled
+abbrev pub polled_in : Driver → Option ℕ
+polled_in driver = driver.run.asked
+
+-- the run, and the limits of runs, are what they were
+pub record SameRun (before after : Driver) : Type 0 where
+  pub run : after.run ≡ before.run
+  pub runs : after.runs ≡ before.runs
+  pub limits : after.limits ≡ before.limits
+
+-- this device is so now, and nothing else changed
+pub record Puts (id : ℕ) (to : Device) (before after : Driver) : Type 0 where
+  pub devices : devices_of after ≡ slice_set (devices_of before) id to
+  pub list : after.list ≡ before.list
+  pub same : SameRun before after
+
+-- the same; if the device is listed now, it is the last on the list
+pub record HandsOver (id : ℕ) (to : Device) (before after : Driver) : Type 0 where
+  pub devices : devices_of after ≡ slice_set (devices_of before) id to
+  pub list : after.list ≡ before.list ++ (if is_listed to.stage then id ∷ [] else [])
+  pub same : SameRun before after
+
+-- the poll of a device that took so many packets, and how it ended
+abbrev pub polled_of : ℕ → ℕ → Driver → Device × Next
+polled_of id packets driver = polled (packets == driver.limits.weight) (device_of driver id)
+
+abbrev pub poll_of : ℕ → ℕ → Driver → Poll
+poll_of id packets driver = record { id = id; once = record { work = packets; next = (polled_of id packets driver).1 } }
+
+-- the poll under way was this one, and its device is what the poll leaves
+pub record Ends (id packets : ℕ) (before after : Driver) : Type 0 where
+  pub devices : devices_of after ≡ slice_set (devices_of before) id (polled_of id packets before).0
+  pub polled : polled_in after ≡ None
+  pub limits : after.limits ≡ before.limits
+
+-- nothing is on the list, and no run is under way
+pub record IsIdle (driver : Driver) : Type 0 where
+  pub list : driver.list ≡ []
+  pub run : HoldsNothing driver.run
+
+-- a run is under way that began when the list held these devices, and made these polls; nothing else was put on the list since
+abbrev pub IsRunning : List ℕ → List Poll → Driver → Type 0
+IsRunning start polls driver = (is_running driver ≡ true) × IsGoing all_held OwnPushes NothingBehind start polls driver.list driver.run
+
+-- the run that began when the list held these devices, and made these polls, is over, and this is its report
+abbrev pub IsEnded : Limits → List ℕ → List Poll → Driver → RunReport → Type 0
+IsEnded limits start polls after report = IsPlainRun limits.budget limits.window start polls (list_of after) report
+
+-- so many devices, all closed
+abbrev pub AreClosed : ℕ → Driver → Type 0
+AreClosed count driver = devices_of driver ≡ replicate count (at Closed false)
+
+-- what is said to be done is to be done; sleep is said only if each device is at rest, and nothing is on the list
+abbrev pub IsDue : Driver → Todo → Type 0
+IsDue driver (Mask id) = (id < length (devices_of driver)) × (chore_at (stage_of driver id) ≡ Some chore.Mask)
+IsDue driver (Unmask id) = (id < length (devices_of driver)) × (chore_at (stage_of driver id) ≡ Some chore.Unmask)
+IsDue driver (Look id) = (id < length (devices_of driver)) × (chore_at (stage_of driver id) ≡ Some chore.Look)
+IsDue driver (Fetch id most) = (id < length (devices_of driver)) × (polled_in driver ≡ Some id)
+    × (is_listed (stage_of driver id) ≡ true) × (most ≡ (limits_of driver).weight)
+IsDue driver (Ended report) = HoldsNothing driver.run × (report.polls ≤ (limits_of driver).window)
+    × (report.work < (limits_of driver).budget + (limits_of driver).weight)
+IsDue driver Sleep = All (λ device. IsAtRest device.stage) (devices_of driver) × IsIdle driver

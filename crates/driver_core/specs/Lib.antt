@@ -1,0 +1,6 @@
+pub mod Device
+pub mod Queue
+pub mod Driver
+pub mod Todo
+pub mod World
+pub mod Steps

@@ -1,0 +1,87 @@
+-- A device as a NAPI instance, and its calls as legal steps of one (`LegalStep` of `napi_model`).
+use Rattle.std.specs.Prelude.{◌≡◌, ℕ, Bool, true, false, List, [], ◌∷◌}
+use Rattle.napi_model.specs.declared.{state.{Place.Place, Place.TheVariants.{Nobody, Granted, Control}, State.State}, event.{Event.Event}}
+use Rattle.napi_model.specs.declared.event.Operation.TheVariants.{Schedule, Hand, Take, Complete, MarkDisable, TakeDisable}
+use Rattle.napi_model.specs.declared.event.Operation.TheVariants.{Unmark, Enable}
+use Rattle.napi_model.specs.declared.event.Done.TheVariants.{Released, Again}
+use Rattle.napi_model.specs.{History.{LegalHistory, state_after}, Step.{event, no_flags, schedule_reply}}
+use Rattle.napi_model.specs.declared.state.Place.TheVariants as place
+use Rattle.napi_model.specs.declared.state.Kind.TheVariants as kind
+use Rattle.napi_model.specs.declared.event.Prep.TheVariants as prep
+use Rattle.driver_core.specs.Device.{interrupted, is_listed, is_stopping, looked, masked, opened, polled, stopped, unmasked}
+use Rattle.driver_core.specs.Device.{IsMasking, MayStop}
+use Rattle.driver_core.specs.declared.device.{Device.Device, Stage.{Stage, TheVariants.{Closed, Masking, Closing, Listed, Looking}}}
+
+-- the callers of the instance: the one that opens and stops it, its interrupt, and its poller
+abbrev pub CONTROLLER : ℕ
+CONTROLLER = 0
+
+abbrev pub INTERRUPT : ℕ
+INTERRUPT = 1
+
+abbrev pub POLLER : ℕ
+POLLER = 2
+
+abbrev pub place_of : Stage → Place
+place_of Closed = Control CONTROLLER
+place_of (Masking stopping) = Granted INTERRUPT
+place_of (Listed stopping) = place.Listed
+place_of stage = Nobody
+
+abbrev pub is_scheduled : Stage → Bool
+is_scheduled Closed = true
+is_scheduled (Masking stopping) = true
+is_scheduled (Listed stopping) = true
+is_scheduled stage = false
+
+abbrev pub is_closed : Stage → Bool
+is_closed Closed = true
+is_closed stage = false
+
+-- the instance of a device
+abbrev pub napi_of : Device → State
+napi_of d = record {
+  flags = record no_flags { sched = is_scheduled d.stage; missed = d.missed; disable = is_stopping d.stage; npsvc = is_closed d.stage };
+  place = place_of d.stage;
+}
+
+-- by these events, each of them legal, the one device becomes the other
+abbrev pub Leads : Device → List Event → Device → Type 0
+Leads d events d' = LegalHistory CONTROLLER (napi_of d) events × (napi_of d' ≡ state_after (napi_of d) events)
+
+-- a stop ends: the controller takes the instance (`napi_disable`)
+abbrev pub disables : List Event
+disables = event CONTROLLER (TakeDisable true) ∷ event CONTROLLER Unmark ∷ []
+
+-- after the mask a granted instance is handed over, and an idle one is disabled
+abbrev pub mask_events : Stage → List Event
+mask_events Closing = disables
+mask_events stage = event INTERRUPT (Hand kind.List) ∷ []
+
+abbrev pub look_events : Bool → List Event
+look_events true = event INTERRUPT (Schedule prep.Granted) ∷ []
+look_events false = []
+
+abbrev pub complete_events : Bool → Bool → List Event
+complete_events stopping true = event POLLER (Complete Again) ∷ event POLLER (Hand kind.List) ∷ []
+complete_events false false = event POLLER (Complete Released) ∷ []
+complete_events true false = event POLLER (Complete Released) ∷ disables
+
+abbrev pub end_events : Bool → Bool → Bool → List Event
+end_events true false missed = event POLLER (Hand kind.List) ∷ []
+end_events true true missed = complete_events true missed
+end_events false stopping missed = complete_events stopping missed
+
+-- a poll: the instance is taken from the list, and the poll ends by its rule
+abbrev pub poll_events : Bool → Device → List Event
+poll_events full d = event POLLER (Take kind.List true) ∷ end_events full (is_stopping d.stage) d.missed
+
+-- law: each call of a device makes legal steps of its instance, with that object's replies
+pub record CallsAreLegal : Type 0 where
+  pub interrupted : (d : Device) → Leads d (event INTERRUPT (Schedule (schedule_reply (napi_of d))) ∷ []) (interrupted d)
+  pub masked : (d : Device) → IsMasking d.stage → Leads d (mask_events d.stage) (masked d)
+  pub unmasked : (d : Device) → Leads d [] (unmasked d)
+  pub looked : (d : Device) (has_more : Bool) → d.stage ≡ Looking → Leads d (look_events has_more) (looked has_more d)
+  pub polled : (d : Device) (full : Bool) → is_listed d.stage ≡ true → Leads d (poll_events full d) (polled full d).0
+  pub opened : (d : Device) → d.stage ≡ Closed → Leads d (event CONTROLLER (Enable false) ∷ []) (opened d)
+  pub stopped : (d : Device) → MayStop d.stage → Leads d (event CONTROLLER MarkDisable ∷ []) (stopped d)

@@ -1,0 +1,139 @@
+-- A device with its card, the thread that drives it, and packets that arrive. What `Driver::next` says is done in three steps, and
+-- between any two of them packets may arrive and the card may interrupt.
+use Rattle.std.specs.Prelude.{◌≡◌, ◌⊎◌, ◌||◌, ℕ, ◌+◌, ◌-◌, zero, suc, Bool, true, false, not, List, [], ◌∷◌, if◌then◌else◌}
+use Rattle.driver_core.specs.Device.{at, interrupted, looked, masked, opened, polled, stopped, unmasked}
+use Rattle.driver_core.specs.declared.device.{Device.Device}
+use Rattle.driver_core.specs.declared.device.Stage.{Stage, TheVariants.{Closed, Masking, Closing, Listed, Unmasking, Looking, Armed}}
+
+-- what the thread is doing: nothing, or what `next` said, done or not yet, and not yet reported
+pub data Hand : Type 0 where
+  free : Hand
+  to_mask : Hand
+  to_unmask : Hand
+  to_look : Hand
+  to_fetch : Hand
+  did_mask : Hand
+  did_unmask : Hand
+  -- it looked, and the card had packets or none
+  saw : Bool → Hand
+  -- it took packets, as many as the weight or fewer
+  took : Bool → Hand
+
+pub record World : Type 0 where
+  pub device : Device
+  pub hand : Hand
+  -- the card: whether its interrupt is masked, whether it has an interrupt that isn't reported yet, the packets that it has
+  pub masked : Bool
+  pub interrupting : Bool
+  pub packets : ℕ
+
+pub data Event : Type 0 where
+  -- a packet arrives; the card interrupts unless it is masked
+  arrives : Event
+  -- an interrupt is reported to the driver
+  interrupts : Event
+  -- `next` says what is to be done
+  says : Event
+  -- it is done; a fetch takes so many packets, which are the weight or fewer
+  acts : ℕ → Bool → Event
+  -- it is reported
+  reports : Event
+  opens : Event
+  stops : Event
+
+abbrev pub said_at : Stage → Hand
+said_at Closed = free
+said_at (Masking stopping) = to_mask
+said_at Closing = to_mask
+said_at (Listed stopping) = to_fetch
+said_at Unmasking = to_unmask
+said_at Looking = to_look
+said_at Armed = free
+
+abbrev pub says_by : Hand → Stage → Hand
+says_by free stage = said_at stage
+says_by hand stage = hand
+
+abbrev pub has_any : ℕ → Bool
+has_any zero = false
+has_any (suc n) = true
+
+abbrev pub hand_after : ℕ → Bool → Hand → Hand
+hand_after packets full to_mask = did_mask
+hand_after packets full to_unmask = did_unmask
+hand_after packets full to_look = saw (has_any packets)
+hand_after packets full to_fetch = took full
+hand_after packets full hand = hand
+
+abbrev pub masked_after : Hand → Bool → Bool
+masked_after to_mask masked = true
+masked_after to_unmask masked = false
+masked_after hand masked = masked
+
+abbrev pub packets_after : ℕ → Hand → ℕ → ℕ
+packets_after taken to_fetch packets = packets - taken
+packets_after taken hand packets = packets
+
+abbrev pub is_told : Hand → Hand
+is_told did_mask = free
+is_told did_unmask = free
+is_told (saw more) = free
+is_told (took full) = free
+is_told hand = hand
+
+abbrev pub told : Hand → Device → Device
+told did_mask d = masked d
+told did_unmask d = unmasked d
+told (saw more) d = looked more d
+told (took full) d = (polled full d).0
+told hand d = d
+
+-- it is opened and stopped between two things that `next` says
+abbrev pub controlled : Hand → (Device → Device) → Device → Device
+controlled free change d = change d
+controlled hand change d = d
+
+abbrev pub world_step : Event → World → World
+world_step arrives w = record w { packets = w.packets + 1; interrupting = w.interrupting || not w.masked }
+world_step interrupts w = record w { device = (if w.interrupting then interrupted w.device else w.device); interrupting = false }
+world_step says w = record w { hand = says_by w.hand w.device.stage }
+world_step (acts taken full) w = record w {
+  hand = hand_after w.packets full w.hand;
+  masked = masked_after w.hand w.masked;
+  packets = packets_after taken w.hand w.packets;
+}
+world_step reports w = record w { hand = is_told w.hand; device = told w.hand w.device }
+world_step opens w = record w { device = controlled w.hand opened w.device }
+world_step stops w = record w { device = controlled w.hand stopped w.device }
+
+abbrev pub world_after : List Event → World → World
+world_after [] w = w
+world_after (e ∷ es) w = world_after es (world_step e w)
+
+-- a new device: its card is masked, and may have packets
+abbrev pub new_world : ℕ → World
+new_world packets = record { device = at Closed false; hand = free; masked = true; interrupting = false; packets = packets }
+
+-- an open device at rest has its card unmasked, and no packets, or an interrupt that isn't reported yet; a closed one is
+-- masked
+abbrev pub IsWatched : Stage → World → Type 0
+IsWatched Armed w = (w.masked ≡ false) × ((w.packets ≡ 0) ⊎ (w.interrupting ≡ true))
+IsWatched Closed w = w.masked ≡ true
+IsWatched stage w = Unit {0}
+
+-- law: whatever arrives, interrupts, is opened and stopped, and whenever, no packet waits unseen while the device is at rest
+abbrev pub NoPacketWaitsUnseen : Type 0
+NoPacketWaitsUnseen =
+    (packets : ℕ) (events : List Event) → (world_after events (new_world packets)).hand ≡ free
+    → IsWatched (world_after events (new_world packets)).device.stage (world_after events (new_world packets))
+
+-- law: while a device is listed, or closed, its card is masked
+abbrev pub IsMaskedWhileListed : Stage → World → Type 0
+IsMaskedWhileListed (Listed stopping) w = w.masked ≡ true
+IsMaskedWhileListed Closed w = w.masked ≡ true
+IsMaskedWhileListed stage w = Unit {0}
+
+abbrev pub ListedIsMasked : Type 0
+ListedIsMasked =
+    (packets : ℕ) (events : List Event)
+    → IsMaskedWhileListed (world_after events (new_world packets)).device.stage (world_after events (new_world packets))

@@ -1,0 +1,213 @@
+//! One device of a driver.
+
+ghost use Rattle.std.specs.Prelude.{◌≡◌};
+
+use napi_model::Kind;
+use poll_runs::Next;
+
+/// The stage of a device: the state of its instance (`struct napi_struct`), and whether the interrupt of its card is masked.
+#[derive(Clone, Copy, PartialEq, Eq, PartialOrd, Ord, Debug)]
+pub enum Stage {
+    /// Disabled and masked (after `napi_disable`).
+    Closed,
+    /// A poll was requested and granted. The card is to be masked, and then the device goes onto the poll list. True if it is
+    /// being stopped.
+    Masking(bool),
+    /// It was stopped while no poll was pending. The card is to be masked, and then the device is closed.
+    Closing,
+    /// On the poll list or being polled, and masked. True if it is being stopped.
+    Listed(bool),
+    /// No poll is pending, and the card is to be unmasked: after the last poll, or after an open.
+    Unmasking,
+    /// The card was unmasked, and is to be looked at: what arrived before the unmask didn't interrupt.
+    Looking,
+    /// Unmasked, looked at after the unmask, and without packets then: the next packet interrupts.
+    Armed,
+}
+
+/// What is to be done at the card of a device.
+#[derive(Clone, Copy, PartialEq, Eq, PartialOrd, Ord, Debug)]
+pub enum Chore {
+    /// Mask its interrupt.
+    Mask,
+    /// Unmask its interrupt.
+    Unmask,
+    /// Look whether it has packets.
+    Look,
+}
+
+/// One device of a driver.
+#[derive(Clone, Copy, PartialEq, Eq, PartialOrd, Ord, Debug)]
+pub struct Device {
+    /// Its stage.
+    pub stage: Stage,
+    /// A poll was requested while one was pending (`NAPI_STATE_MISSED`): another poll follows.
+    pub missed: bool,
+}
+
+impl Device {
+    ghost use Rattle.std.specs.Prelude.{◌≡◌, ◌↔◌, IsTrue, true};
+    ghost use Rattle.driver_core.specs.Device.{at, chore_at, completed_at, interrupted, is_listed, looked, masked, opened, polled, stopped, unmasked, IsGranted, IsMasking, MayStop};
+
+    /// A new device is closed.
+    pub const NEW: Device = Device {
+        stage: Stage::Closed,
+        missed: false,
+    };
+
+    // The same device, at another stage.
+    fn to(self, stage: Stage) -> Device
+        ensures { result ≡ at stage self.missed }
+    {
+        Device { stage, ..self }
+    }
+
+    /// What is to be done at its card, `None` if nothing is.
+    pub fn chore(self) -> Option<Chore>
+        ensures { result ≡ chore_at self.stage }
+    {
+        match self.stage {
+            Stage::Masking(_) | Stage::Closing => Some(Chore::Mask),
+            Stage::Unmasking => Some(Chore::Unmask),
+            Stage::Looking => Some(Chore::Look),
+            Stage::Closed | Stage::Listed(_) | Stage::Armed => None,
+        }
+    }
+
+    // Whether it is on the poll list, or being polled.
+    pub(crate) fn is_listed(self) -> bool
+        ensures { result ≡ is_listed self.stage }
+    {
+        matches!(&self.stage, Stage::Listed(_))
+    }
+
+    // Whether its card is to be masked.
+    pub(crate) fn is_masking(self) -> bool
+        ensures { IsTrue result ↔ IsMasking self.stage }
+    {
+        matches!(&self.stage, Stage::Masking(_) | Stage::Closing)
+    }
+
+    // Whether it isn't closed or being stopped.
+    pub(crate) fn may_stop(self) -> bool
+        ensures { IsTrue result ↔ MayStop self.stage }
+    {
+        match self.stage {
+            Stage::Masking(stopping) | Stage::Listed(stopping) => !stopping,
+            Stage::Closed | Stage::Closing => false,
+            Stage::Unmasking | Stage::Looking | Stage::Armed => true,
+        }
+    }
+
+    // Whether an interrupt of its card asks for a poll that is granted.
+    pub(crate) fn is_granted(self) -> bool
+        ensures { IsTrue result ↔ IsGranted self.stage }
+    {
+        matches!(
+            &self.stage,
+            Stage::Unmasking | Stage::Looking | Stage::Armed
+        )
+    }
+
+    // After an interrupt of its card.
+    pub(crate) fn interrupted(self) -> Device
+        ensures { result ≡ interrupted self }
+    {
+        match self.stage {
+            Stage::Closed | Stage::Masking(false) | Stage::Listed(false) => Device {
+                missed: true,
+                ..self
+            },
+            Stage::Masking(true) | Stage::Listed(true) | Stage::Closing => self,
+            Stage::Unmasking | Stage::Looking | Stage::Armed => self.to(Stage::Masking(false)),
+        }
+    }
+
+    // After its card was masked.
+    pub(crate) fn masked(self) -> Device
+        ensures { result ≡ masked self }
+    {
+        match self.stage {
+            Stage::Masking(stopping) => self.to(Stage::Listed(stopping)),
+            Stage::Closing => self.to(Stage::Closed),
+            _ => self,
+        }
+    }
+
+    // After its card was unmasked.
+    pub(crate) fn unmasked(self) -> Device
+        ensures { result ≡ unmasked self }
+    {
+        if self.stage == Stage::Unmasking {
+            return self.to(Stage::Looking);
+        }
+        self
+    }
+
+    // After its card was looked at, and had packets or none.
+    pub(crate) fn looked(self, has_more: bool) -> Device
+        ensures { result ≡ looked has_more self }
+    {
+        if self.stage != Stage::Looking {
+            return self;
+        }
+        self.to(if has_more {
+            Stage::Masking(false)
+        } else {
+            Stage::Armed
+        })
+    }
+
+    // After its instance was completed, and how that ends the poll.
+    fn completed(self, stopping: bool) -> (Device, Next)
+        ensures { result ≡ completed_at stopping self.missed }
+    {
+        if self.missed {
+            let listed = Device {
+                stage: Stage::Listed(stopping),
+                missed: false,
+            };
+            return (listed, Next::Again(Kind::List));
+        }
+        let stage = if stopping {
+            Stage::Closed
+        } else {
+            Stage::Unmasking
+        };
+        (self.to(stage), Next::Gone)
+    }
+
+    // After a poll, which used its whole weight or less, and how the poll ends.
+    pub(crate) fn polled(self, full: bool) -> (Device, Next)
+        requires { is_listed self.stage ≡ true }
+        ensures { result ≡ polled full self }
+    {
+        let stopping = self.stage == Stage::Listed(true);
+        if full && !stopping {
+            return (self, Next::Repoll);
+        }
+        self.completed(stopping)
+    }
+
+    // After it was opened.
+    pub(crate) fn opened(self) -> Device
+        ensures { result ≡ opened self }
+    {
+        if self.stage == Stage::Closed {
+            return self.to(Stage::Unmasking);
+        }
+        self
+    }
+
+    // After it was stopped.
+    pub(crate) fn stopped(self) -> Device
+        ensures { result ≡ stopped self }
+    {
+        match self.stage {
+            Stage::Masking(_) => self.to(Stage::Masking(true)),
+            Stage::Listed(_) => self.to(Stage::Listed(true)),
+            Stage::Unmasking | Stage::Looking | Stage::Armed => self.to(Stage::Closing),
+            Stage::Closed | Stage::Closing => self,
+        }
+    }
+}

@@ -1,0 +1,252 @@
+//! A card, the driver of it, and the thread that does what the driver says.
+
+ghost use Rattle.std.specs.Prelude.{◌≡◌, length, IfOk};
+ghost use Rattle.driver_core.specs.Driver.{devices_of};
+
+use driver_core::{Device, Driver, Limits, Stage, Todo};
+use std::alloc::{AllocError, Global};
+
+/// A card that interrupts when a packet arrives, and loses that interrupt while it is masked.
+#[derive(Clone, Copy, PartialEq, Eq, PartialOrd, Ord, Debug)]
+pub struct Card {
+    /// The packets that are still to arrive.
+    pub to_come: u32,
+    /// The packets that it has.
+    pub packets: u32,
+    pub masked: bool,
+    /// It has an interrupt that isn't reported to the driver yet.
+    pub interrupting: bool,
+}
+
+/// What the thread is about: what the driver said, done or not.
+#[derive(Clone, Copy, PartialEq, Eq, PartialOrd, Ord, Debug)]
+pub enum Hand {
+    Free,
+    ToMask,
+    ToUnmask,
+    ToLook,
+    /// It is to take so many packets at most.
+    ToFetch(u32),
+    Masked,
+    Unmasked,
+    /// It looked, and saw packets or none.
+    Saw(bool),
+    /// It took so many packets.
+    Took(u32),
+}
+
+/// One step of the card, of the thread, or an open or stop of the device.
+#[derive(Clone, Copy, PartialEq, Eq, Debug)]
+pub enum Step {
+    Arrive,
+    Interrupt,
+    Say,
+    Act,
+    Report,
+    Open,
+    Stop,
+}
+
+/// Each step.
+pub const STEPS: [Step; 7] = [
+    Step::Arrive,
+    Step::Interrupt,
+    Step::Say,
+    Step::Act,
+    Step::Report,
+    Step::Open,
+    Step::Stop,
+];
+
+/// What a run did so far.
+#[derive(Clone, Copy, PartialEq, Eq, PartialOrd, Ord, Debug)]
+pub struct RunSoFar {
+    pub polls: u32,
+    pub packets: u32,
+    /// A poll used its whole weight, and the device is to be polled again.
+    pub repolled: bool,
+}
+
+impl RunSoFar {
+    /// A run that made no poll.
+    const NONE: RunSoFar = RunSoFar {
+        polls: 0,
+        packets: 0,
+        repolled: false,
+    };
+}
+
+/// The state of a bench: two benches in the same state go on alike.
+#[derive(Clone, Copy, PartialEq, Eq, PartialOrd, Ord, Debug)]
+pub struct State {
+    device: Device,
+    card: Card,
+    hand: Hand,
+    run: Option<RunSoFar>,
+    stops: u32,
+    sleeps: bool,
+}
+
+/// A driver of one device, its card, and its thread.
+#[derive(Drop)]
+pub struct Bench {
+    pub driver: Driver,
+    pub card: Card,
+    pub hand: Hand,
+    /// How often the device may still be stopped.
+    pub stops: u32,
+    /// The packets that were taken from the card.
+    pub taken: u32,
+    /// The run under way, if one is.
+    pub run: Option<RunSoFar>,
+    weight: u32,
+    /// The driver said that nothing is to be done, and nothing happened since.
+    pub sleeps: bool,
+    ghost one: { length (devices_of driver) ≡ 1 },
+}
+
+impl Bench {
+    /// A closed device. So many packets are to arrive, and it may be stopped so often.
+    pub fn new(
+        alloc: Global,
+        limits: Limits,
+        to_come: u32,
+        stops: u32,
+    ) -> Result<Bench, AllocError> {
+        Ok(Bench {
+            driver: Driver::new(alloc, 1, limits)?,
+            card: Card {
+                to_come,
+                packets: 0,
+                masked: true,
+                interrupting: false,
+            },
+            hand: Hand::Free,
+            stops,
+            taken: 0,
+            run: None,
+            weight: limits.weight,
+            sleeps: false,
+        })
+    }
+
+    fn arrive(&mut self) -> bool {
+        if self.card.to_come == 0 || self.card.packets == u32::MAX {
+            return false;
+        }
+        self.card.to_come -= 1;
+        self.card.packets += 1;
+        self.card.interrupting |= !self.card.masked;
+        true
+    }
+
+    fn interrupt(&mut self) -> bool {
+        if !self.card.interrupting {
+            return false;
+        }
+        self.card.interrupting = false;
+        self.driver.interrupt(0);
+        true
+    }
+
+    fn say(&mut self) -> bool {
+        if self.hand != Hand::Free || self.sleeps {
+            return false;
+        }
+        match self.driver.next() {
+            Todo::Sleep => self.sleeps = true,
+            Todo::Ended(_) => self.run = None,
+            Todo::Mask(_) => self.hand = Hand::ToMask,
+            Todo::Unmask(_) => self.hand = Hand::ToUnmask,
+            Todo::Look(_) => self.hand = Hand::ToLook,
+            Todo::Fetch(_, most) => {
+                self.hand = Hand::ToFetch(most);
+                self.run = self.run.or(Some(RunSoFar::NONE));
+            }
+        }
+        true
+    }
+
+    fn act(&mut self) -> bool {
+        self.hand = match self.hand {
+            Hand::ToMask => {
+                self.card.masked = true;
+                Hand::Masked
+            }
+            Hand::ToUnmask => {
+                self.card.masked = false;
+                Hand::Unmasked
+            }
+            Hand::ToLook => Hand::Saw(self.card.packets > 0),
+            Hand::ToFetch(most) => {
+                let taken = self.card.packets.min(most);
+                self.card.packets -= taken;
+                Hand::Took(taken)
+            }
+            _ => return false,
+        };
+        true
+    }
+
+    fn report(&mut self) -> bool {
+        let driver = &mut self.driver;
+        // An interrupt may have come between what was said and this report, which isn't due then.
+        let _ = match self.hand {
+            Hand::Masked => driver.masked(0),
+            Hand::Unmasked => driver.unmasked(0),
+            Hand::Saw(has_more) => driver.looked(0, has_more),
+            Hand::Took(taken) => {
+                let stays = driver.device(0).stage == Stage::Listed(false) && taken == self.weight;
+                self.taken = self.taken.saturating_add(taken);
+                if let Some(run) = &mut self.run {
+                    run.polls = run.polls.saturating_add(1);
+                    run.packets = run.packets.saturating_add(taken);
+                    run.repolled |= stays;
+                }
+                driver.fetched(0, taken)
+            }
+            _ => return false,
+        };
+        self.hand = Hand::Free;
+        true
+    }
+
+    fn open(&mut self) -> bool {
+        self.hand == Hand::Free && self.driver.open(0).is_ok()
+    }
+
+    fn stop(&mut self) -> bool {
+        if self.stops == 0 || self.hand != Hand::Free || self.driver.stop(0).is_err() {
+            return false;
+        }
+        self.stops -= 1;
+        true
+    }
+
+    /// Its state. Packets that were taken are those that aren't in the card and aren't to come.
+    pub fn state(&self) -> State {
+        State {
+            device: self.driver.device(0),
+            card: self.card,
+            hand: self.hand,
+            run: self.run,
+            stops: self.stops,
+            sleeps: self.sleeps,
+        }
+    }
+
+    /// Makes a step. Returns whether it could be made.
+    pub fn make(&mut self, step: Step) -> bool {
+        let made = match step {
+            Step::Arrive => self.arrive(),
+            Step::Interrupt => self.interrupt(),
+            Step::Say => return self.say(),
+            Step::Act => self.act(),
+            Step::Report => self.report(),
+            Step::Open => self.open(),
+            Step::Stop => self.stop(),
+        };
+        self.sleeps &= !made || step == Step::Arrive;
+        made
+    }
+}

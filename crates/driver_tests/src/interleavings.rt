@@ -1,0 +1,115 @@
+//! Each interleaving of a card, the thread that drives it, and stops, over the driver itself.
+
+use crate::card::{Bench, STEPS, State, Step};
+use driver_core::{Limits, Stage};
+use std::alloc::Global;
+use std::collections::{BTreeSet, VecDeque};
+use std::mem;
+use std::process::Abort;
+use std::test::Fail;
+
+const LIMITS: Limits = Limits {
+    budget: 3,
+    weight: 2,
+    window: 2,
+};
+
+// The bench that these steps lead to.
+fn bench_after(alloc: Global, packets: u32, stops: u32, path: &[Step]) -> Result<Bench, Fail> {
+    let mut bench = Bench::new(alloc, LIMITS, packets, stops)?;
+    for step in path {
+        bench.make(*step);
+    }
+    Ok(bench)
+}
+
+// While it sleeps the device is closed and masked, or the card is unmasked and has no packets, or an interrupt
+// that isn't reported yet.
+fn check_sleep(rt: &impl Abort, bench: &Bench) {
+    if !bench.sleeps {
+        return;
+    }
+    let card = bench.card;
+    match bench.driver.device(0).stage {
+        Stage::Closed => assert!(rt; card.masked, "closed and unmasked: {card:?}"),
+        Stage::Armed => assert!(rt;
+            !card.masked && (card.packets == 0 || card.interrupting),
+            "sleeps with packets: {card:?}"
+        ),
+        stage => assert!(rt; false, "sleeps at {stage:?}"),
+    }
+}
+
+// With nothing more arriving, the thread takes all packets and sleeps.
+fn check_drains(rt: &impl Abort, mut bench: Bench) {
+    for _ in 0..100 {
+        if bench.sleeps && !bench.card.interrupting {
+            break;
+        }
+        let _ = bench.make(Step::Interrupt)
+            || bench.make(Step::Act)
+            || bench.make(Step::Report)
+            || bench.make(Step::Say);
+    }
+    check_sleep(rt, &bench);
+    assert!(rt; bench.sleeps, "doesn't come to rest");
+    let is_open = bench.driver.device(0).stage == Stage::Armed;
+    assert!(rt;
+        !is_open || bench.card.packets == 0,
+        "left packets in the card"
+    );
+}
+
+/// What an exploration met.
+#[derive(Clone, Copy)]
+struct Met {
+    states: usize,
+    sleeping: u32,
+    ends: u32,
+}
+
+// Each state that so many packets and stops lead to.
+fn explore(rt: &impl Abort, alloc: Global, packets: u32, stops: u32) -> Result<Met, Fail> {
+    let mut seen: BTreeSet<State> = BTreeSet::new(alloc);
+    let mut paths: VecDeque<Vec<Step>> = VecDeque::new(alloc);
+    paths.push_back(Vec::new(alloc))?;
+    let mut met = Met {
+        states: 0,
+        sleeping: 0,
+        ends: 0,
+    };
+    for _ in 0..1_000_000u32 {
+        let Some(path) = paths.pop_front() else {
+            break;
+        };
+        let mut is_end = true;
+        let mut bench = bench_after(alloc, packets, stops, &path)?;
+        for step in STEPS {
+            if !bench.make(step) {
+                continue;
+            }
+            is_end = false;
+            let reached = mem::replace(&mut bench, bench_after(alloc, packets, stops, &path)?);
+            if !seen.insert(reached.state())? {
+                continue;
+            }
+            check_sleep(rt, &reached);
+            met.sleeping = met.sleeping.saturating_add(u32::from(reached.sleeps));
+            check_drains(rt, reached);
+            let mut longer = path.clone()?;
+            longer.push(step)?;
+            paths.push_back(longer)?;
+        }
+        met.ends = met.ends.saturating_add(u32::from(is_end));
+    }
+    met.states = seen.len();
+    assert!(rt; paths.is_empty(), "too many states");
+    Ok(met)
+}
+
+#[test]
+fn it_never_sleeps_with_work_left(rt: HostRuntime) -> Result<(), Fail> {
+    let met = explore(&rt, rt.alloc(), 5, 2)?;
+    assert!(&rt; met.sleeping > 0 && met.ends > 0, "{} states", met.states);
+    Ok(())
+}

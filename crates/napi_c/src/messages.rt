@@ -1,0 +1,70 @@
+//! What the statuses say, in words for people.
+ghost use Rattle.std.specs.Prelude.{◌≡◌, ◌≤◌, length};
+
+use crate::names::write;
+
+/// What a status says, into an array: its length. Where there is no room for it and a 0 behind it the array stays. "?" of a number
+/// that is none.
+#[unsafe(no_mangle)]
+pub extern "C" fn fq_status_message(status: u32, to: &mut [u8]) -> usize
+    ensures kept { length to.new ≤ result → to.new ≡ to.old }
+{
+    write(message_of(status), to)
+}
+
+fn message_of(status: u32) -> &'static [u8] {
+    match status {
+        1..=4 => limit_fault(status),
+        16..=29 => found(status),
+        100..=120 => refused(status),
+        0 => b"done",
+        _ => b"?",
+    }
+}
+
+fn limit_fault(status: u32) -> &'static [u8] {
+    match status {
+        1 => b"min is above max, or max above 1879048192 bytes",
+        2 => b"an object of more than 268435455 bytes",
+        3 => b"more than 1073741823 bytes would be in flight",
+        _ => b"more bytes are completed than are in flight",
+    }
+}
+
+fn found(status: u32) -> &'static [u8] {
+    match status {
+        16 => b"the instance is this caller's, who has to hand it over",
+        17 => b"a poll is asked for already, and one more follows",
+        18 => b"a disable is pending, nothing is asked for",
+        19 => b"the instance is this caller's",
+        20 => b"the instance was not handed over so",
+        21 => b"nobody has the instance any more",
+        22 => b"a request was missed: this caller has to hand the instance over again",
+        23 => b"this caller polls on",
+        24 => b"another caller has the instance",
+        25 => b"another thread changed the instance, nothing is decided: call again",
+        26 => b"there is no room",
+        27 => b"no poll is left in the run",
+        28 => b"the limit has stopped the queue",
+        _ => b"more packets are done than were sent",
+    }
+}
+
+fn refused(status: u32) -> &'static [u8] {
+    match status {
+        100 => b"the state of the object does not allow this call",
+        101 => b"the kind is 0 (list) or 1 (thread)",
+        110 => b"the handle leads to nothing, or to another kind of object",
+        111 => b"the handle is set already, or the number is listed already",
+        112 => b"out of memory",
+        113 => b"a ring has 1 to 65536 places",
+        114 => b"a weight is 1 to 64 packets",
+        115 => b"the array is too short",
+        116 => b"budget and window are 1 to 65535",
+        117 => b"a shared instance has 2 to 8 seats",
+        118 => b"how a poll ended is 0 to 4 (enum fq_next)",
+        119 => b"a poll told of more packets than the weight",
+        120 => b"the bytes are no trace, or a row of it can't be played",
+        _ => b"?",
+    }
+}

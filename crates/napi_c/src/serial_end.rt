@@ -1,0 +1,84 @@
+//! How a poll of the instance of one thread ends.
+ghost use Rattle.std.specs.Prelude.{◌≡◌, ◌↔◌, true, false};
+ghost use Rattle.napi_model.specs.declared.event.Operation.TheVariants as operation;
+ghost use Rattle.napi_model.specs.declared.event.Call.TheVariants as call;
+ghost use Rattle.napi_model.specs.declared.state.Kind.TheVariants as kind;
+ghost use Rattle.napi_model.specs.Step.{MayCall, complete_reply};
+ghost use Rattle.napi_c.specs.Serial.{state_in, Steps, Completes, stays_scheduled, NEXT_GONE, NEXT_REPOLL};
+ghost use Rattle.c_handles.specs.Status.{OK, HELD, NOT_ALLOWED};
+
+use crate::serial::{FqNapi, state_of, step};
+use c_handles::status;
+use napi_model::{Call, Done, Kind, Operation};
+
+const GONE: u32 = 0;
+
+const AGAIN: u32 = 1;
+
+const AGAIN_THREAD: u32 = 2;
+
+const REPOLL: u32 = 3;
+
+/// The end of a poll, full or not, as `__napi_poll` and its callers end it: a full one goes to the list again, or stays with its thread,
+/// unless a disable is pending; any other is completed, and handed over again where a request was missed.
+#[unsafe(no_mangle)]
+pub extern "C" fn fq_napi_end(napi: &mut FqNapi, who: u32, full: bool, next: &mut u32) -> u32
+    ensures list { MayCall who call.Complete (state_in napi.old)
+        → stays_scheduled full (state_in napi.old).flags ≡ true
+        → (state_in napi.old).flags.sched_threaded ≡ false
+        → (result ≡ OK) × (next.new ≡ NEXT_REPOLL)
+        × Steps napi.old who (operation.Hand kind.List) napi.new }
+    ensures thread { MayCall who call.Complete (state_in napi.old)
+        → stays_scheduled full (state_in napi.old).flags ≡ true
+        → (state_in napi.old).flags.sched_threaded ≡ true
+        → (result ≡ HELD) × (next.new ≡ NEXT_GONE) × (napi.new ≡ napi.old) }
+    ensures completed { MayCall who call.Complete (state_in napi.old)
+        → stays_scheduled full (state_in napi.old).flags ≡ false
+        → Completes (complete_reply (state_in napi.old)) napi.old who result next.new napi.new }
+    ensures refused { (result ≡ NOT_ALLOWED) ↔ ¬ MayCall who call.Complete (state_in napi.old) }
+    ensures kept { result ≡ NOT_ALLOWED → (napi.new ≡ napi.old) × (next.new ≡ NEXT_GONE) }
+{
+    *next = GONE;
+    let state = state_of(napi);
+    if !state.may_call(who, Call::Complete) {
+        return status::NOT_ALLOWED;
+    }
+    let flags = state.flags;
+    if !full || flags.disable || flags.in_busy_poll {
+        return completed(napi, who, next);
+    }
+    if flags.sched_threaded {
+        return status::HELD;
+    }
+    let Some(_) = step(napi, who, Call::Hand(Kind::List)) else {
+        unreachable!()
+    };
+    *next = REPOLL;
+    status::OK
+}
+
+// Completes, and hands over again what was granted again.
+fn completed(napi: &mut FqNapi, who: u32, next: &mut u32) -> u32
+    requires polls { MayCall who call.Complete (state_in napi.old) }
+    requires gone { next.old ≡ NEXT_GONE }
+    ensures { Completes (complete_reply (state_in napi.old)) napi.old who result next.new napi.new }
+{
+    let is_threaded = napi.threaded != 0;
+    match step(napi, who, Call::Complete) {
+        Some(Operation::Complete(Done::Released)) => status::OK,
+        Some(Operation::Complete(Done::Held)) => status::HELD,
+        Some(Operation::Complete(Done::Again)) => {
+            let kind = if is_threaded {
+                Kind::Thread
+            } else {
+                Kind::List
+            };
+            let Some(_) = step(napi, who, Call::Hand(kind)) else {
+                unreachable!()
+            };
+            *next = if is_threaded { AGAIN_THREAD } else { AGAIN };
+            status::OK
+        }
+        _ => unreachable!(),
+    }
+}

@@ -1,0 +1,11 @@
+-- The effect of a poll on a card.
+use Rattle.std.specs.Prelude.{◌≡◌, ℕ, ◌-◌, ◌<◌, min}
+use Rattle.poll_engine.specs.Next.TheVariants.{Gone}
+use Rattle.poll_engine.specs.Once.{Once}
+use Rattle.uses_facades.specs.declared.polling.Card.{Card}
+
+-- it returns the packets that wait, at most the weight; one that returns fewer completes
+pub record Polls (before : Card) (id weight : ℕ) (once : Once) (after : Card) : Type 0 where
+  pub work : once.work ≡ min before.packets weight
+  pub left : after.packets ≡ before.packets - weight
+  pub ends : once.work < weight → once.next ≡ Gone

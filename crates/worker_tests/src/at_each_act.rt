@@ -1,0 +1,131 @@
+//! Gates that are asked at each act, and a gate that must not be asked.
+
+use crate::threads::{settings_of, text_of};
+use poll_engine::Gate;
+use replay::{ReplayFault, Settings, replay_threads};
+use std::alloc::Global;
+use std::sync::Wait;
+use std::sync::atomic::{AtomicU32, AtomicU64, Ordering};
+use std::test::Fail;
+use std::thread;
+use std::thread::Threads;
+
+const ACTS: u32 = 50;
+
+/// Lets devices 1 and 2 continue at an act once the other one has reached its own act with that number.
+#[derive(Drop)]
+struct MeetsAtEachAct {
+    // The acts that each device reached, a bit each.
+    came: [AtomicU64; 2],
+}
+
+impl MeetsAtEachAct {
+    fn meet(&self, mine: usize, other: usize, act: u32) -> bool {
+        let flag = 1u64.checked_shl(act).unwrap_or(0);
+        if let Some(came) = self.came.get(mine) {
+            came.fetch_or(flag, Ordering::SeqCst);
+        }
+        for _ in 0..1_000_000u32 {
+            if let Some(came) = self.came.get(other)
+                && came.load(Ordering::SeqCst) & flag != 0
+            {
+                return true;
+            }
+            thread::yield_now();
+        }
+        false
+    }
+}
+
+impl Gate for MeetsAtEachAct {
+    fn pass(&self, worker: u32, act: u32) -> bool {
+        match worker {
+            1 => self.meet(0, 1, act),
+            2 => self.meet(1, 0, act),
+            _ => true,
+        }
+    }
+}
+
+// An implementation that makes all acts on one thread, or runs one device after the other, gets a closed gate.
+#[test]
+fn devices_meet_at_each_of_50_acts(rt: HostRuntime) -> Result<(), Fail> {
+    let rows = [
+        (1, "0,1,open,50\n0,2,open,50\n"),
+        (ACTS, "1,1,rx,100\n1,2,rx,100\n"),
+    ];
+    let text = text_of(rt.alloc(), &rows)?;
+    for pollers in [1, 2, 8] {
+        let settings = settings_of(pollers, 300, 64, 1024)?;
+        let gate = MeetsAtEachAct {
+            came: [AtomicU64::new(0), AtomicU64::new(0)],
+        };
+        let mut report = Vec::new(rt.alloc());
+        let polled = replay_threads(
+            &rt,
+            rt.alloc(),
+            text.as_bytes(),
+            &mut report,
+            &settings,
+            &gate,
+        )?;
+        assert_eq!(rt; polled.len(), 2);
+        assert_eq!(rt;
+            report.as_slice(),
+            b"device 1 arrived 50 bytes 5000\ndevice 2 arrived 50 bytes 5000\ntotal devices 2\n".as_slice()
+        );
+        for came in &gate.came {
+            assert_eq!(rt; came.load(Ordering::SeqCst), (1u64 << ACTS) - 1);
+        }
+    }
+    Ok(())
+}
+
+/// A gate that is never open, and counts how often it is asked.
+#[derive(Drop)]
+struct CountsAsked {
+    asked: AtomicU32,
+}
+
+impl Gate for CountsAsked {
+    fn pass(&self, _worker: u32, _act: u32) -> bool {
+        self.asked.fetch_add(1, Ordering::SeqCst);
+        false
+    }
+}
+
+// The error of these rows with such a gate, and whether the gate was asked. Nothing is written.
+fn shut_out<P: Threads + Wait + Sync>(
+    rt: &P,
+    alloc: Global,
+    rows: &[(u32, &str)],
+) -> Result<(Option<ReplayFault>, bool), Fail> {
+    let text = text_of(alloc, rows)?;
+    let gate = CountsAsked {
+        asked: AtomicU32::new(0),
+    };
+    let mut report = Vec::new(alloc);
+    let settings = Settings::default();
+    let answer = replay_threads(rt, alloc, text.as_bytes(), &mut report, &settings, &gate);
+    if !report.is_empty() {
+        return Err("a report is written".into());
+    }
+    Ok((answer.err(), gate.asked.load(Ordering::SeqCst) != 0))
+}
+
+// The error of a ring that is too small names the device with the lowest number, and comes before any gate is asked.
+#[test]
+fn a_ring_is_too_small_before_any_gate(rt: HostRuntime) -> Result<(), Fail> {
+    let opened = (1, "0,2,open,4\n0,1,open,1\n0,3,open,1\n");
+    let small = |device, needs| Some(ReplayFault::RingTooSmall { device, needs });
+    for (times, row, told) in [
+        (2, "1,1,rx,100\n1,3,rx,100\n", (small(1, 2), false)),
+        (3, "1,3,rx,100\n1,2,rx,100\n", (small(3, 3), false)),
+        (5, "1,2,rx,100\n", (small(2, 5), false)),
+        (4, "1,2,rx,100\n", (Some(ReplayFault::GateShut), true)),
+    ] {
+        let found = shut_out(&rt, rt.alloc(), &[opened, (times, row)])?;
+        assert_eq!(rt; found, told, "{times} times {row:?}");
+    }
+    Ok(())
+}

@@ -1,0 +1,183 @@
+"""The reference of the Rattle crates as pages in Markdown, from the sources: for each facade its public items with `///`, signatures and
+clauses (rattle/FACADE.md), and for each crate its definitions (definitions/CRATE.md). A name in a clause or in a definition links to where
+it is defined. scripts/site.sh begins it: reference.py FOLDER.
+"""
+import functools
+import html
+import pathlib
+import re
+import sys
+
+import surface
+
+TOP = pathlib.Path(__file__).resolve().parent.parent
+FACADES = sorted(page.parent.name for page in (TOP / "crates").glob("*/README.md"))  # only facades have a page
+# A definition at the start of a line, or in a `module _`; not a record's field.
+DEFINED = re.compile(r"^(?:(?:abbrev|pub|unfoldable|record|data) )+([\w-]+)|"
+                     r"^ +(?:pub )?(?:abbrev|unfoldable|record|data) (?:pub )?([\w-]+)|^([\w-]+) :(?: |$)")
+NAME = re.compile(r"[A-Za-z_][\w-]*")
+
+
+@functools.cache
+def definitions(crate):
+    """The module of each definition in a crate's specs/, by its name; of two with one name both modules."""
+    found = {}
+    for path in sorted((TOP / "crates" / crate / "specs").glob("*.antt")):
+        for line in path.read_text().splitlines():
+            if is_defined := DEFINED.match(line):
+                found.setdefault(is_defined[is_defined.lastindex], {})[path.stem] = True
+    return {name: list(modules) for name, modules in found.items()}
+
+
+def paths_of(tree, before=()):
+    """The whole paths that a `use` names, such as A.B.C of `A.{B.{C}, D}`."""
+    depth, part, parts = 0, "", []
+    for letter in tree + ",":
+        depth += (letter == "{") - (letter == "}")
+        if letter == "," and not depth:
+            parts, part = [*parts, part.strip()], ""
+        else:
+            part += letter
+    for part in filter(None, parts):
+        head, brace, rest = part.partition("{")
+        names = tuple(filter(None, head.split(" as ")[0].strip().split(".")))
+        yield from paths_of(rest.rpartition("}")[0], before + names) if brace else [before + names]
+
+
+@functools.cache
+def scope(path):
+    """The page and anchor of each definition that a file uses or has."""
+    found = {}
+    text, crate = path.read_text(), path.parts[-3]
+    for tree in re.findall(r"^ *(?:ghost )?use ([^;\n]*);?$", text, re.M):
+        for names in paths_of(tree):
+            if len(names) > 4 and names[0] == "Rattle" and names[2] == "specs" and names[3] != "declared":
+                found[names[-1]] = (names[1], f"{names[3]}.{names[-1]}")
+    if path.suffix == ".antt":
+        found.update({name: (crate, f"{path.stem}.{name}") for name, modules in definitions(crate).items() if path.stem in modules})
+    return {name: (crate, at) for name, (crate, at) in found.items() if at.partition(".")[0] in definitions(crate).get(name, ())}
+
+
+def linked(line, names, way, is_own=None):
+    """A line of code as HTML: names that are defined link there; the one that the line itself defines is the anchor."""
+    def one(found):
+        name = found[0]
+        if name == is_own:
+            return f'<b id="{names[name][1]}">{name}</b>'
+        return f'<a href="{way}{names[name][0]}.html#{names[name][1]}">{name}</a>' if name in names else name
+    line = re.sub(r"\[(`[^`]*`)\]\([\w:]+\)", r"\1", line)  # a link in a `///`
+    code, mark, remark = line.partition("--" if is_own is not None else "//")
+    return NAME.sub(one, html.escape(code, quote=False)) + html.escape(mark + remark, quote=False)
+
+
+def definition_page(crate):
+    has_page = (TOP / "crates" / crate / "README.md").exists()
+    name = f"[{crate}](../../crates/{crate}/README.md)" if has_page else crate
+    yield from (f"# Definitions of {crate}", "", f"The definitions that contracts of {name} cite, module by module.", "")
+    for path in sorted((TOP / "crates" / crate / "specs").glob("*.antt")):
+        if path.stem == "Lib":
+            continue
+        yield from (f"## {path.stem}", "", f"`crates/{crate}/specs/{path.name}`", "")
+        yield from ("<pre><code>" + "\n".join(definition_lines(path)) + "</code></pre>", "")
+
+
+def definition_lines(path):
+    names, shown = scope(path), set()
+    text = re.sub(r"^use .*\n", "", path.read_text(), flags=re.M)  # links take their place
+    for line in text.splitlines():
+        is_defined = DEFINED.match(line)
+        name = is_defined and is_defined[is_defined.lastindex]
+        own = name if name in names and names[name][1] == f"{path.stem}.{name}" and name not in shown else ""
+        shown.add(own)
+        yield linked(line, names, "", own)
+
+
+class Facade:
+    """A page of a facade's items, each with its `impl`s. An item has the anchor NAME, a call of a type TYPE.NAME."""
+
+    def __init__(self, facade):
+        self.facade, self.anchors, self.contents, self.lines = facade, set(), [], []
+        for crate, alias, found in surface.surface(facade):
+            self.lines += [f"## {crate}" + (f": {alias[1]}, re-exported as {alias[0]}" if alias else ""), ""]
+            items = [(path, lines) for path, lines in found if lines]
+            blocks = [(path, lines) for path, lines in items if lines[0].startswith("impl")]
+            for path, lines in items:
+                if not lines[0].startswith("impl"):
+                    name = self.item(path, lines)
+                    for other in [it for it in blocks if surface.type_of(it[1][0]) == name]:
+                        self.block(*other)
+                        blocks.remove(other)
+            for other in blocks:
+                self.block(*other)
+
+    def anchor(self, name):
+        at = next(at for at in (name, *(f"{name}-{n}" for n in range(2, 99))) if at not in self.anchors)
+        self.anchors.add(at)
+        return at
+
+    def show(self, path, doc, code):
+        depth = len(code[0]) - len(code[0].lstrip())
+        lines = [linked(line[depth:] if not line[:depth].strip() else line, scope(path), "../definitions/") for line in code]
+        self.lines += [*(re.sub(r"^ */// ?", "", line) for line in doc), "", "<pre><code>" + "\n".join(lines) + "</code></pre>", ""]
+
+    def item(self, path, lines):
+        """A function, type, trait or constant; returns its name."""
+        first = next(at for at, line in enumerate(lines) if not line.startswith("///"))
+        name = surface.ITEM.match(lines[first])[2]
+        at = self.anchor(name)
+        self.contents.append((at, name))
+        self.lines += [f'<h3 id="{at}">{name}</h3>', ""]
+        self.show(path, lines[:first], lines[first:-1])
+        return name
+
+    def block(self, path, lines):
+        """An `impl` with its calls."""
+        head, type_of = lines[0], surface.type_of(lines[0])
+        self.lines += [f'<h4 id="{self.anchor("impl." + type_of)}"><code>{html.escape(head)}</code></h4>', ""]
+        for doc, code in self.parts(lines[1:]):
+            if name := re.search(r"\b(?:fn|type|const) (\w+)", " ".join(code)):
+                self.lines += [f'<h5 id="{self.anchor(f"{type_of}.{name[1]}")}">{name[1]}</h5>', ""]
+            self.show(path, doc, code)
+
+    @staticmethod
+    def parts(lines):
+        """Pairs of the `///` above some lines of code, and these, up to an empty line."""
+        doc, code = [], []
+        for line in [*lines, ""]:
+            if line.strip() and not (line.lstrip().startswith("///") and not code):
+                code.append(line)
+            elif line.strip():
+                doc.append(line)
+            elif code:
+                yield doc, code
+                doc, code = [], []
+
+    def resolve(self, found):
+        """A link of a `///` to an item: to its place on this page, if it is here."""
+        at = found[2].removeprefix("crate::").replace("::", ".")
+        return f"[{found[1]}](#{at})" if at in self.anchors else found[1]
+
+    def page(self):
+        yield from (f"# {self.facade}: all public items", "")
+        yield from (f"Each item that the facade [{self.facade}](../../crates/{self.facade}/README.md) exports, with its comment, signature "
+                    "and clauses; a name in a clause links to its definition. `requires` is what a caller has to prove, `ensures` what the "
+                    "call guarantees. The part below a crate's name comes from this crate.", "")
+        yield from (" · ".join(f"[{name}](#{at})" for at, name in self.contents), "")
+        text = "\n".join(self.lines)
+        yield re.sub(r"\[(`[^`\n]*`)\]\(([\w:]+)\)", self.resolve, text)
+
+
+def write(path, lines):
+    path.parent.mkdir(parents=True, exist_ok=True)
+    path.write_text("\n".join(lines) + "\n")
+
+
+def main(folder):
+    for facade in FACADES:
+        write(folder / "rattle" / f"{facade}.md", Facade(facade).page())
+    for crate in sorted(path.parent.parent.name for path in (TOP / "crates").glob("*/specs/*.antt") if path.stem != "Lib"):
+        write(folder / "definitions" / f"{crate}.md", definition_page(crate))
+
+
+if __name__ == "__main__":
+    main(pathlib.Path(sys.argv[1]))

@@ -1,0 +1,215 @@
+/* boxes: each call that takes memory, in each state in which what it made can end, by each call that gives memory back, and the same
+ * where it is refused: then nothing is left on the heap. To be linked with --wrap for malloc, realloc and free, and to be run under
+ * valgrind too, which sees what is given back twice, or read behind its end. Where it isn't so it tells which, and ends by 9. */
+#include "memory.h"
+#include <fintaqush.h>
+#include <stdio.h>
+#include <stdlib.h>
+#include <string.h>
+
+static int cases;
+
+static void want(bool holds, const char *what) {
+    if (holds) return;
+    fprintf(stderr, "boxes: %s, case %d\n", what, cases);
+    exit(9);
+}
+
+static void nothing_is_left(const char *what) {
+    cases++;
+    want(blocks == 0, what);
+}
+
+/* What stays as it is, and on the heap, where a call is refused. */
+static void stays(uint32_t said, uint32_t wanted, long before, const char *what) {
+    cases++;
+    want(said == wanted && blocks == before, what);
+}
+
+enum end { FREE, ABANDON };
+
+static void ended(struct fq_handle *handle, enum end end, const char *what) {
+    const long before = blocks;
+    want((end == FREE ? fq_free(handle) : fq_abandon(handle)) == FQ_OK && blocks < before, what);
+    const long behind = blocks;
+    want(!handle->private_set && fq_free(handle) == FQ_BAD_HANDLE && fq_abandon(handle) == FQ_BAD_HANDLE && blocks == behind, what);
+}
+
+/* Not freed in this state, and then abandoned. */
+static void given_up(struct fq_handle *handle, const char *what) {
+    stays(fq_free(handle), FQ_NOT_ALLOWED, blocks, what);
+    ended(handle, ABANDON, what);
+}
+
+static const size_t capacities[] = {1, 2, 3, 64, 1000, 65535, 65536};
+enum { CAPACITIES = sizeof capacities / sizeof capacities[0] };
+
+static void rings(void) {
+    struct fq_handle ring = FQ_NONE, moved = FQ_NONE, out = FQ_NONE;
+    struct fq_totals totals;
+    struct fq_packet packets[64];
+    size_t count;
+    for (size_t i = 0; i < CAPACITIES; i++) {
+        for (int filled = 0; filled < 2; filled++) {
+            for (int how = 0; how < 4; how++) {
+                want(fq_ring_new(&ring, capacities[i]) == FQ_OK, "a ring");
+                stays(fq_ring_new(&ring, 4), FQ_IN_USE, blocks, "a ring in its place");
+                while (filled && fq_ring_put(&ring, 1, 60) == FQ_OK) continue;
+                if (how == 3) {
+                    const long before = blocks;
+                    want(fq_move(&ring, &moved) == FQ_OK && blocks == before && fq_move(&moved, &ring) == FQ_OK, "a ring moved");
+                }
+                if (how == 2) want(fq_ring_finish(&ring, &totals) == FQ_OK, "a ring finished");
+                else ended(&ring, how == 1 ? ABANDON : FREE, "a ring ended");
+                nothing_is_left("of a ring");
+            }
+            for (int how = 0; how < 4; how++) {
+                want(fq_ring_new(&ring, capacities[i]) == FQ_OK && fq_ring_split(&ring, &out) == FQ_OK, "a split ring");
+                stays(fq_ring_split(&ring, &moved), FQ_BAD_HANDLE, blocks, "a second split");
+                stays(fq_ring_finish(&ring, &totals), FQ_BAD_HANDLE, blocks, "the end of a split ring");
+                while (filled && fq_ring_put(&ring, 1, 60) == FQ_OK) continue;
+                want(fq_ring_poll(&out, 64, packets, 64, &count) == FQ_OK, "a poll of a split ring");
+                ended(how < 2 ? &ring : &out, how % 2 ? ABANDON : FREE, "the first end");
+                ended(how < 2 ? &out : &ring, how % 2 ? ABANDON : FREE, "the second end");
+                nothing_is_left("of a split ring");
+            }
+        }
+    }
+    stays(fq_ring_new(&ring, 0), FQ_BAD_CAPACITY, 0, "a ring of no place");
+    stays(fq_ring_new(&ring, 65537), FQ_BAD_CAPACITY, 0, "a ring of too many");
+    want(fq_ring_new(&ring, 4) == FQ_OK && fq_ring_new(&out, 4) == FQ_OK, "two rings");
+    stays(fq_ring_split(&ring, &out), FQ_IN_USE, blocks, "a split into a ring");
+    ended(&ring, FREE, "one");
+    ended(&out, FREE, "the other");
+    nothing_is_left("of two rings");
+}
+
+static void transmit_rings(void) {
+    struct fq_handle tx = FQ_NONE;
+    for (size_t i = 0; i < CAPACITIES; i++) {
+        for (int filled = 0; filled < 2; filled++) {
+            for (enum end end = FREE; end <= ABANDON; end++) {
+                want(fq_tx_new(&tx, capacities[i], 1000000, 1000000, 1000, 0) == FQ_OK, "a transmit ring");
+                stays(fq_tx_new(&tx, 4, 0, 1000, 1000, 0), FQ_IN_USE, blocks, "a transmit ring in its place");
+                while (filled && fq_tx_send(&tx, 60) == FQ_OK) continue;
+                ended(&tx, end, "a transmit ring ended");
+                nothing_is_left("of a transmit ring");
+            }
+        }
+    }
+    stays(fq_tx_new(&tx, 0, 0, 1000, 1000, 0), FQ_BAD_CAPACITY, 0, "a transmit ring of no place");
+    stays(fq_tx_new(&tx, 65537, 0, 1000, 1000, 0), FQ_BAD_CAPACITY, 0, "a transmit ring of too many");
+    stays(fq_tx_new(&tx, 4, 1001, 1000, 1000, 0), FQ_BAD_BOUNDS, 0, "a limit between bounds that there aren't");
+}
+
+static void lists(void) {
+    struct fq_handle list = FQ_NONE;
+    struct fq_run_report report;
+    uint32_t id;
+    for (uint32_t numbers = 0; numbers < 65; numbers += 32) {
+        for (int how = 0; how < 5; how++) {
+            want(fq_list_new(&list) == FQ_OK, "a list");
+            stays(fq_list_new(&list), FQ_IN_USE, blocks, "a list in its place");
+            for (uint32_t i = 0; i < numbers; i++) want(fq_list_push(&list, i) == FQ_OK, "a push");
+            if (how > 1) want(fq_run_begin(&list, 300, 64, 1024) == FQ_OK, "a run");
+            if (how > 2 && numbers > 0) want(fq_run_next(&list, &id) == FQ_OK, "its first poll");
+            if (how == 4 && numbers > 0) want(fq_run_polled(&list, 64, FQ_NEXT_REPOLL) == FQ_OK, "which was full");
+            if (how == 4) want(fq_run_end(&list, &report) == FQ_OK, "its end");
+            if (how == 2 || how == 3) given_up(&list, "a list in a run");
+            else ended(&list, how == 1 ? ABANDON : FREE, "a list");
+            nothing_is_left("of a list");
+        }
+    }
+}
+
+/* The handles of an instance: its ring's input, its controller, and two seats; and of seats that there are too many of. */
+static struct fq_handle many[9], handles[4], *const input = &handles[0], *const control = &handles[1], *const irq = &handles[2], *const poller = &handles[3];
+
+static void made(bool bare) {
+    if (bare) {
+        want(fq_shared_bare(control, irq, 2) == FQ_OK, "a bare instance");
+        stays(fq_shared_bare(control, irq, 2), FQ_IN_USE, blocks, "one in its place");
+        return;
+    }
+    want(fq_ring_new(input, 4) == FQ_OK, "its ring");
+    stays(fq_shared_new(input, control, irq, 1), FQ_BAD_COUNT, blocks, "one seat");
+    stays(fq_shared_new(input, control, many, 9), FQ_BAD_COUNT, blocks, "nine");
+    stays(fq_shared_new(control, input, irq, 2), FQ_IN_USE, blocks, "a controller where the ring is");
+    want(fq_shared_new(input, control, irq, 2) == FQ_OK, "an instance");
+    stays(fq_shared_new(input, control, irq, 2), FQ_IN_USE, blocks, "one in its place");
+    want(fq_ring_put(input, 7, 60) == FQ_OK, "a packet, which stays");
+}
+
+/* In each order: the ring's context, which is everybody's, goes with the last of them. */
+static void in_each_order(bool bare, enum end end) {
+    for (int first = 0; first < 256; first++) {
+        const int order[4] = {first & 3, first >> 2 & 3, first >> 4 & 3, first >> 6};
+        int seen = 0;
+        for (int i = 0; i < 4; i++) seen |= 1 << order[i];
+        if (seen != 15) continue;
+        made(bare);
+        for (int i = 0; i < 4; i++)
+            if (handles[order[i]].private_set) ended(&handles[order[i]], end, "one of an instance");
+        nothing_is_left("of an instance");
+    }
+}
+
+/* How far an instance was brought, and who can't be freed then. */
+static void in_state(bool bare, int state) {
+    struct fq_handle *held = poller;
+    made(bare);
+    want(fq_control_enable(control, false) == FQ_OK, "it is enabled");
+    if (state == 1) want(fq_seat_schedule(irq) == FQ_GRANTED, "granted"), held = irq;
+    if (state == 2 || state == 3) want(fq_seat_schedule(irq) == FQ_GRANTED && fq_seat_hand(irq, FQ_LIST) == FQ_OK && fq_seat_take(poller, FQ_LIST) == FQ_TAKEN, "polled");
+    if (state == 4) want(fq_seat_busy_take(poller) == FQ_TAKEN, "busy polled");
+    if (state == 3 || state == 5) want(fq_control_mark(control) == FQ_OK, "marked");
+    given_up(control, "a controller that isn't off");
+    if (state >= 1 && state <= 4) given_up(held, "a seat that doesn't rest");
+    else ended(held, FREE, "a seat that rests");
+    ended(held == irq ? poller : irq, FREE, "the other seat");
+    if (!bare) ended(input, FREE, "the input");
+    nothing_is_left("of an instance at work");
+}
+
+static void instances(void) {
+    for (int bare = 0; bare < 2; bare++) {
+        in_each_order(bare, FREE);
+        in_each_order(bare, ABANDON);
+        for (int state = 0; state < 6; state++) in_state(bare, state);
+    }
+    stays(fq_shared_bare(control, irq, 1), FQ_BAD_COUNT, 0, "a bare instance of one seat");
+    stays(fq_shared_bare(control, many, 9), FQ_BAD_COUNT, 0, "of nine");
+    struct fq_handle list = FQ_NONE;
+    want(fq_list_new(&list) == FQ_OK, "a list");
+    stays(fq_shared_new(&list, control, irq, 2), FQ_BAD_HANDLE, blocks, "an instance over a list");
+    ended(&list, FREE, "the list");
+    nothing_is_left("of a list");
+}
+
+static void replayed(const char *trace, size_t room, uint32_t budget, uint32_t wanted) {
+    static uint8_t report[4096];
+    const struct fq_settings settings = {budget, 64, 1024};
+    struct fq_replayed what;
+    want(fq_replay(&settings, (const uint8_t *)trace, strlen(trace), report, room, &what) == wanted, "a replay");
+    nothing_is_left("of a replay");
+}
+
+static void replays(void) {
+    const char *const good = "moment,device,event,value\n0,1,open,4\n0,2,open,65536\n1,1,rx,100\n1,2,rx,60\n2,0,softirq,0\n3,1,tx,9\n";
+    replayed(good, 4096, 300, FQ_OK);
+    replayed(good, 10, 300, FQ_NO_ROOM);
+    replayed(good, 4096, 0, FQ_BAD_BUDGET);
+    replayed("", 4096, 300, FQ_BAD_TRACE);
+    replayed("moment,device,event,value\n0,1,open,4\n0,1,open,4\n", 4096, 300, FQ_BAD_TRACE);
+    replayed("moment,device,event,value\n0,1,open,4\n1,1,rx,1\n1,1,disable,0\n1,1,enable,0\n", 4096, 300, FQ_BAD_TRACE);
+}
+
+int main(void) {
+    rings();
+    transmit_rings();
+    lists();
+    instances();
+    replays();
+    printf("%d cases, and nothing is left\n", cases);
+    return 0;
+}

@@ -1,0 +1,89 @@
+"""Where the sources answer that there is no memory: each place passes on an allocation that was refused, and PLACES lists them all.
+
+A body can write `Err(AllocError)` without any allocation, and no clause refuses that. So the places are counted, file by file: one that is
+new fails here until it is listed, and one that is gone until it is taken off the list. Types, patterns, comparisons, texts and the crates of
+tests don't count. Each file is a test; the last line is `N passed, M failed`.
+"""
+import pathlib
+import re
+import subprocess
+import sys
+
+TOP = pathlib.Path(__file__).resolve().parent.parent
+# How many answers a file makes, and what was refused.
+PLACES = {
+    "device_rows/src/fault.rt": (1, "`From<AllocError>`: the growth that an `?` passes on"),
+    "device_rows/src/source.rt": (1, "a read that has `ErrorKind::OutOfMemory`, of the reader's own buffer"),
+    "device_rows/src/trace.rt": (2, "the next record: `Next::OutOfMemory`"),
+    "device_shared/src/opening.rt": (2, "the ring, the instance"),
+    "device_transmit/src/transmit.rt": (1, "the transmit ring"),
+    "machine_report/src/arrivals.rt": (2, "the next record: `Next::OutOfMemory`"),
+    "machine_report/src/fault.rt": (1, "`From<AllocError>`"),
+    "napi_c/src/ends.rt": (1, "a box"),
+    "napi_c/src/list.rt": (2, "a box, the list"),
+    "napi_c/src/ring.rt": (2, "a box, the ring"),
+    "napi_c/src/shared.rt": (4, "boxes, the list of seats, the instance"),
+    "napi_c/src/transmit.rt": (2, "the transmit ring, a box"),
+    "napi_calls/src/instance.rt": (2, "the table, the callers"),
+    "poll_interrupts/src/opening.rt": (2, "the ring, the instance"),
+    "poll_list/src/list_ends.rt": (1, "the queue or its ends"),
+    "poll_workers/src/pollers.rt": (1, "the shared list"),
+    "poll_workers/src/run.rt": (2, "what the threads begin with; an `AllocError` of the run"),
+    "replay_c/src/fault.rt": (1, "the trace's fault, and the report's bytes, which a `Vec` takes"),
+    "replay_text/src/fault.rt": (1, "`From<AllocError>`"),
+    "replay_text/src/program.rt": (2, "a word of the command line"),
+    "replay_threads/src/stations.rt": (1, "`WorkFault::OutOfMemory` of the workers"),
+    "replay_words/src/options.rt": (1, "what `clap` allocates"),
+    "replay_words/src/words.rt": (1, "`From<AllocError>`"),
+    "rx_ring/src/pair.rt": (2, "the ring's box, its places"),
+    "tx_ring/src/ring.rt": (1, "the ring's places"),
+}
+NAME = re.compile(r"\b(?:\w+::)*(?:AllocError|OutOfMemory|OUT_OF_MEMORY)\b")
+TEXT = re.compile(r"""//[^\n]*|b?"(?:[^"\\]|\\.)*\"""")
+# A clause, or another ghost item, up to where its brackets close, and an import.
+GHOST = re.compile(r"^ *(?:(?:pub )?ghost\b|requires\b|ensures\b|(?:pub )?use\b)", re.M)
+
+
+def code(text):
+    """The text without comments, literals, ghost items, clauses and imports."""
+    text = TEXT.sub("", text)
+    found = GHOST.search(text)
+    while found:
+        at, depth = found.end(), 0
+        while at < len(text) and not (depth == 0 and text[at] in ";\n" and "{" in text[found.start() : at] + (text[at] == ";") * "{"):
+            depth += (text[at] in "({[") - (text[at] in ")}]")
+            at += 1
+        text = text[: found.start()] + text[at:]
+        found = GHOST.search(text)
+    return text
+
+
+def is_value(text, found):
+    """Whether an answer is made of the name: it is no declaration, no type, no pattern, and is compared with nothing."""
+    before, behind = text[: found.start()].rstrip(), text[found.end() :].lstrip()
+    if "::" not in found[0] and found[0] == "OutOfMemory":
+        return False  # the variant where it is declared
+    if found[0] == "OUT_OF_MEMORY" and behind.startswith(":"):
+        return False  # the constant
+    if found[0].endswith("AllocError") and (behind.startswith(">") or re.search(r"[\w)]:$|\bfor$", before)):
+        return False
+    return not re.match(r"\)*\s*(=>|\||if\b)", behind) and not before.endswith(("==", "!="))
+
+
+def main():
+    passed, failed, counts = 0, 0, {}
+    for name in subprocess.run(["git", "ls-files", "crates/*/src/*.rt"], cwd=TOP, capture_output=True, text=True, check=True).stdout.split():
+        if not name.split("/")[1].endswith("_tests") and (TOP / name).exists():
+            text = code((TOP / name).read_text())
+            counts[name.removeprefix("crates/")] = sum(is_value(text, found) for found in NAME.finditer(text) if "ErrorKind" not in found[0])
+    for name in sorted({*PLACES, *(it for it in counts if counts[it])}):
+        wanted, found = PLACES.get(name, (0, ""))[0], counts.get(name, 0)
+        passed, failed = passed + (wanted == found), failed + (wanted != found)
+        if wanted != found:
+            print(f"crates/{name}: it answers {found} times that there is no memory, and tests/out_of_memory.py lists {wanted}")
+    print(f"{passed} passed, {failed} failed")
+    return failed != 0
+
+
+if __name__ == "__main__":
+    sys.exit(main())

@@ -1,0 +1,97 @@
+"""Tests of how tools/from-pcap reads captures: by their records it writes the same as by tcpdump's text."""
+
+import os
+import random
+import struct
+import subprocess
+import unittest
+
+from tooltest import InFolder, run, skip_without
+
+MACS = [bytes([2, 0, 0, 0, 0, place]) for place in range(1, 5)] + [b"\xff" * 6, b"\x01\x00\x5e\0\0\1", b"\x33\x33\0\0\0\1"]
+ADDRESSES = [bytes([10, 0, 0, place]) for place in range(1, 4)]
+ADDRESSES6 = [bytes([0xFE, 0x80, *[0] * 13, place]) for place in range(1, 4)] + [bytes([0x20, 1, 0xD, 0xB8, *[0] * 11, 9])]
+UDP, TCP, ICMP, ICMP6 = 17, 6, 1, 58
+
+
+def transport(chance, protocol):
+    """A header with its ports, and some bytes."""
+    ports = struct.pack(">HH", chance.randrange(1000, 60000), chance.choice((9, 443, 5000)))
+    if protocol == UDP:
+        return ports + struct.pack(">HH", 26, 0) + bytes(18)
+    if protocol == TCP:
+        return ports + struct.pack(">IIBBHHH", 1, 1, 0x50, 0x10, 100, 0, 0) + bytes(10)
+    return bytes([8 if protocol == ICMP else 128, 0, 0, 0, 0, 1, 0, 1]) + bytes(20)
+
+
+def inner(chance, is_strange):
+    """The type and the bytes of a packet: ARP, IPv4 or IPv6; a strange one may also have a VLAN, be a fragment, have options or be of another type."""
+    kind = chance.randrange(10 if is_strange else 6)
+    if kind == 0:
+        return b"\x08\x06", struct.pack(">HHBBH", 1, 0x0800, 6, 4, 1) + MACS[0] + ADDRESSES[0] + bytes(6) + ADDRESSES[1]
+    if kind in (1, 2):
+        protocol = chance.choice((UDP, TCP, ICMP6))
+        body = transport(chance, protocol)
+        return b"\x86\xdd", struct.pack(">IHBB", 0x60000000, len(body), protocol, 64) + b"".join(chance.sample(ADDRESSES6, 2)) + body
+    protocol = chance.choice((UDP, TCP, ICMP))
+    body = transport(chance, protocol)
+    options = b"\x01" * 4 if kind == 6 else b""
+    fragment = 0x2000 if kind == 7 else 0
+    packet = struct.pack(">BBHHHBBH", 0x45 + len(options) // 4, 0, 20 + len(options) + len(body), 7, fragment, 64, protocol, 0)
+    packet += b"".join(chance.sample(ADDRESSES, 2)) + options + body
+    if kind == 8:
+        return b"\x81\x00", b"\0\5\x08\0" + packet
+    return (b"\x88\xb5", bytes(46)) if kind == 9 else (b"\x08\0", packet)
+
+
+def capture_of(seed, is_strange=False, order="<", ticks=10**6, count=300):
+    """A capture of packets by chance, whose times don't always rise."""
+    chance = random.Random(seed)
+    magic = 0xA1B2C3D4 if ticks == 10**6 else 0xA1B23C4D
+    text, time = struct.pack(order + "IHHiIII", magic, 2, 4, 0, 0, 262144, 1), 1_700_000_000 * ticks
+    for _ in range(count):
+        time += chance.randrange(-5, 50)
+        to, sender = chance.choice(MACS), chance.choice(MACS[:4])
+        kind, body = inner(chance, is_strange)
+        packet = (to + sender + kind + body).ljust(60, b"\0")
+        text += struct.pack(order + "IIII", time // ticks, time % ticks, len(packet), len(packet) + chance.choice((0, 0, 1400, 70000 if is_strange else 0))) + packet
+    return text
+
+
+class Captures(InFolder):
+    def made(self, name, *words, text=None, **others):
+        done = run("from-pcap", name, "made", *words, text=text, folder=self.folder, **others)
+        self.assertEqual((done.stderr, done.returncode), ("", 0))
+        files = [(self.folder / f"made.{end}").read_text() for end in ("csv", "notes")]
+        for end in ("csv", "notes"):
+            (self.folder / f"made.{end}").unlink()
+        return files
+
+    @skip_without("tcpdump")
+    def test_records_are_what_tcpdump_says(self):
+        """In both orders of bytes, with times in \u00b5s and ns, with and without what only tcpdump reads."""
+        for seed, (order, ticks, is_strange) in enumerate((order, ticks, is_strange) for order in "<>" for ticks in (10**6, 10**9) for is_strange in (False, True)):
+            (self.folder / "captured").write_bytes(capture_of(seed, is_strange, order, ticks))
+            told = subprocess.run(["tcpdump", "-r", "captured", "-tt", "--nano", "-n", "-e"], cwd=self.folder, capture_output=True, text=True, check=True).stdout
+            for words in (["--arrivals"], ["--arrivals", "--flows"], ["--arrivals", "--to", "02:00:00:00:00:01"], ["--unit", "us"], ["-c", "100", "--arrivals"]):
+                self.assertEqual(self.made("captured", *words), self.made("-", *words, text=told), (seed, words))
+
+    def test_a_plain_capture_needs_no_tcpdump(self):
+        (self.folder / "captured").write_bytes(capture_of(1))
+        rows = self.made("captured", "--arrivals", "--flows", path="/none")[0].splitlines()
+        self.assertGreater(len(rows), 200)
+        (self.folder / "captured").write_bytes(capture_of(1)[:-3])
+        done = run("from-pcap", "captured", "made", "--arrivals", folder=self.folder, path="/none")
+        self.assertEqual((done.stderr, done.returncode), ("from-pcap: captured: it needs tcpdump, which isn't on PATH (Debian: apt install tcpdump)\n", 1))
+
+    def test_what_a_million_packets_take(self):
+        """A hundred thousand, in processor time, with room for a machine that is ten times slower than a second for each million."""
+        (self.folder / "captured").write_bytes(capture_of(1, count=1000)[:24] + 100 * capture_of(1, count=1000)[24:])
+        before = os.times()
+        self.made("captured", "--arrivals")
+        after = os.times()
+        self.assertLess(after.children_user - before.children_user, 3)
+
+
+if __name__ == "__main__":
+    unittest.main()
