@@ -3,6 +3,7 @@
 ghost use Rattle.std.specs.Prelude.{◌≡◌, ◌++◌, IfOk, codes, string_bytes};
 ghost use Rattle.machine_report.specs.Fault.{line_of, number_of, status_of};
 
+use device_rows::ReadError;
 use replay_text::Fault;
 use std::alloc::{AllocError, Global};
 use std::fmt;
@@ -45,6 +46,20 @@ impl From<AllocError> for MachineFault {
 
     fn from(_: AllocError) -> MachineFault {
         MachineFault::OutOfMemory
+    }
+}
+
+impl From<ReadError> for MachineFault {
+    ghost use Rattle.device_rows.specs.Source.{HasCause};
+    ghost use Rattle.machine_report.specs.Fault.{IsReadFailure};
+
+    ghost from_gives = { λ error fault. HasCause error → IsReadFailure fault };
+
+    fn from(error: ReadError) -> MachineFault {
+        match error {
+            ReadError::ReadFailed => MachineFault::ReadFailed,
+            ReadError::OutOfMemory => MachineFault::OutOfMemory,
+        }
     }
 }
 

@@ -5,6 +5,7 @@
 mod arrival;
 mod arrivals;
 mod fault;
+mod plain;
 mod report;
 mod run;
 

@@ -1,10 +1,9 @@
 //! A whole run of the machine: from the bytes of arrivals to the bytes of its report.
 
 ghost use Rattle.std.specs.Prelude.{◌≡◌, ◌≤◌, ◌⊎◌, ℕ, [], List, Some, Ok, Err, IfErr, IfOk, OnOk, Result, length, string_bytes};
-ghost use Rattle.device_rows.specs.Source.{IsOpen};
 ghost use Rattle.machine_report.specs.Answer.{IsFaultOf, IsReportOf, Takes};
 ghost use Rattle.machine_report.specs.Fault.{IsFaultBy, IsOutside, IsReadFailure, LeavesAsItWas};
-ghost use Rattle.machine_report.specs.Reading.{HasGiven};
+ghost use Rattle.machine_report.specs.Reading.{HasGiven, IsOpenAt};
 ghost use Rattle.machine_report.specs.declared.arrival.Arrival.{Arrival};
 ghost use Rattle.machine_report.specs.declared.fault.MachineFault.{MachineFault};
 ghost use Rattle.machine_report.specs.declared.fault.MachineFault.TheVariants.{OutputFailed};
@@ -25,7 +24,7 @@ fn take_all<R: Read + Drop>(
     arrivals: &mut Arrivals<R>,
     machine: &mut Machine,
 ) -> Result<(), MachineFault>
-    requires opened { IsOpen arrivals.old.reader }
+    requires opened { IsOpenAt arrivals.old.source }
     requires processors { arrivals.old.settings.processors ≡ length machine.old }
     ensures taken { OnOk result ((all : Result (List Arrival) MachineFault)
         → HasGiven R.remaining arrivals.old [] all
