@@ -113,7 +113,7 @@ Cflags: "-I${includedir}"
 END
 
 sed -e "s|@UP@|$(realpath -sm --relative-to="/$libdir/cmake/Fintaqush" /)|" -e "s|@LIBDIR@|$(for_sed "$libdir")|g" > "$scratch/FintaqushConfig.cmake" << 'END'
-# Fintaqush::fintaqush, the shared library, and Fintaqush::static. Paths are told from where this file lies.
+# Fintaqush::fintaqush, the shared library, and Fintaqush::static. Paths are relative to the directory of this file.
 get_filename_component(fintaqush_prefix "${CMAKE_CURRENT_LIST_DIR}/@UP@" ABSOLUTE)
 if(NOT TARGET Fintaqush::fintaqush)
   add_library(Fintaqush::fintaqush SHARED IMPORTED)

@@ -3,7 +3,7 @@ ghost use Rattle.std.specs.Prelude.{◌≡◌, ◌≤◌, length};
 
 use crate::names::write;
 
-/// What a status says, into an array: its length. Where there is no room for it and a 0 behind it the array stays. "?" of a number
+/// Writes the message of a status into an array, and returns its length. If there is no room for it and a 0 after it, the array is unchanged. "?" of a number
 /// that is none.
 #[unsafe(no_mangle)]
 pub extern "C" fn fq_status_message(status: u32, to: &mut [u8]) -> usize
