@@ -23,7 +23,7 @@ pub struct Tasks<P, W, S> {
 
 /// Runs the threads of a run. All pollers and thread pollers are started before the workers: if one of them can't be started,
 /// no worker makes an act, so none waits for a poll. After all workers have ended, the pollers, which wait by these wakers, are
-/// told to end. Sets `unpolled` if a poller couldn't be started, and `refused` if any thread couldn't.
+/// signalled to end. Sets `unpolled` if a poller couldn't be started, and `refused` if any thread couldn't.
 pub fn drive<R, P, W, S>(
     rt: &R,
     tasks: Tasks<P, W, S>,
