@@ -1,4 +1,4 @@
-"""Where the sources return "out of memory": each place passes on an allocation that failed, and PLACES lists them all.
+"""Where the sources return out of memory: each place passes on an allocation that failed, and PLACES lists them all.
 
 A body can write `Err(AllocError)` without any allocation, and no clause rejects that. So the places are counted in each file: a new place
 fails this test until it is listed, and a removed one until it is taken off the list. Types, patterns, comparisons, texts and the test crates
@@ -80,7 +80,7 @@ def main():
         wanted, found = PLACES.get(name, (0, ""))[0], counts.get(name, 0)
         passed, failed = passed + (wanted == found), failed + (wanted != found)
         if wanted != found:
-            print(f"crates/{name}: it returns "out of memory" in {found} places, and tests/out_of_memory.py lists {wanted}")
+            print(f"crates/{name}: {found} places return out of memory, and tests/out_of_memory.py lists {wanted}")
     print(f"{passed} passed, {failed} failed")
     return failed != 0
 
