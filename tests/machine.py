@@ -13,6 +13,7 @@ import shlex
 import subprocess
 import sys
 import tempfile
+import time
 from collections import Counter
 
 import machine_model
@@ -233,11 +234,13 @@ def not_faulty(program, arguments, text, line):
 
 
 def texts(program):
-    """Arrivals as other programs write them: other line ends, a byte-order mark, quotes, many zeros, the bounds of the ranges."""
+    """Arrivals as other programs write them: other line ends, a byte-order mark, quotes in all rows or in one, many zeros, the bounds
+    of the ranges."""
     plain = f"{HEADER}\n0,1,60\n{2**62 - 1},128,65535\n"
     zeros = f"{HEADER}\n{'0' * 20},{'1'.zfill(20)},{'60'.zfill(20)}\n{2**62 - 1},128,65535\n"
     quoted = "".join(",".join(f'"{field}"' for field in line.split(",")) + "\n" for line in plain.splitlines())
     others = [plain.replace("\n", end) for end in ("\r\n", "\r", "\n\n")] + [plain.rstrip(), "\ufeff" + plain, zeros, quoted]
+    others += [plain.replace("0,1,", '"0",1,'), plain.replace(",128,", ',"128",'), plain.replace("bytes", '"bytes"')]
     wanted = same(program, ["--processors", "2"], plain)
     same(program, ["--processors", "2"], f"{HEADER}\n")
     return [f"{text!r} gives {printed}" for text in others if (printed := ran(program, ["--processors", "2"], text)) != (wanted, "", 0)]
@@ -279,6 +282,31 @@ def ends(program):
                               check=False)
     if (done.stderr, done.returncode) != ("output fault 15 OutputFailed\n", 4):
         wrong.append(f"a writer that fails: {done}")
+    return wrong + slow_ends(program)
+
+
+def slow_ends(program):
+    """A pipe that gives some bytes at a time, and a terminal, on which one Ctrl-D ends the text."""
+    wrong, text = [], text_of([(0, 1, 60), (5, 1, 60), (9, 1, 60)])
+    wanted = ran(program, [], text)[0]
+    for name, (read, write), end in (("a slow pipe", os.pipe(), b""), ("a terminal", os.openpty()[::-1], b"\x04")):
+        with subprocess.Popen(shlex.split(program), stdin=read, stdout=subprocess.PIPE, text=True) as child:
+            os.close(read)
+            for at in range(0, len(text), 7):
+                os.write(write, text[at:at + 7].encode())
+                time.sleep(0.01)
+            os.write(write, end)
+            if not end:
+                os.close(write)
+            try:
+                printed = child.communicate(timeout=60)[0]
+            except subprocess.TimeoutExpired:
+                child.kill()
+                printed = "nothing in 60 s"
+        if printed != wanted:
+            wrong.append(f"{name}: {printed}")
+        if end:
+            os.close(write)
     return wrong
 
 

@@ -15,7 +15,7 @@ import snippets
 from page_commands import SKIPPED, is_missing, listed
 
 TOP = pathlib.Path(__file__).resolve().parent.parent
-DOORS = "napi_model dql_core rx_ring tx_ring napi_word napi_calls poll_engine device_model replay machine".split()
+DOORS = "napi_model dql_core rx_ring tx_ring napi_word napi_calls poll_engine driver_core device_model replay machine".split()
 README_WORDS = 700
 # What is generated, or is in another folder than the repository's.
 MADE = re.compile(r"(^|/)out(/|$)|include/linux/|crates/first|NAME|FOLDER|FILE|PROGRAM|TRACE|DOOR|\.\.\./|^\.\.?/\.\./|[*<>{}$]|^/")

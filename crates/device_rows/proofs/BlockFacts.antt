@@ -1,8 +1,10 @@
 -- What remains after the bytes that were read ahead.
 use Rattle.std.proofs.Common.{◌≡◌, ◌∙◌, ℕ, ◌+◌, ◌-◌, ◌≤◌, List, [], ◌∷◌, ◌++◌, Some, None, Option, length, take, drop, refl, sym, ap, arith}
 use Rattle.std.proofs.{Common.{append_assoc, length-append, take_all, take_at, take-take, drop_at}, lemmas.List.take-append-le}
-use Rattle.{std.specs.Io.KnownBytes.Consumes, csv.specs.{Reading.{default_config, records_from, strip_bom}, declared.parser.State.State}}
-use Rattle.device_rows.specs.{Block.{Holds, unread}, Plain.StartsWithTitles, declared.block.Block.{Block}}
+use Rattle.{std.specs.Io.KnownBytes.Consumes, csv.specs.declared.parser.State.State}
+use Rattle.csv.specs.Reading.{default_config, records_from, records_next, strip_bom}
+use Rattle.device_rows.specs.{Block.{Holds, fused_remaining, unread}, Plain.StartsWithTitles, declared.block.Block.{Block}}
+use Rattle.device_rows.proofs.RowsFacts.{records-next}
 use lib.Seq.{take-append-add}
 
 -- a line feed doesn't begin a byte-order mark
@@ -22,11 +24,11 @@ read-on held taken items behind bytes (Some xs) (Some ys) known took all made =
     (ys, refl, all ∙ ap (λ b. held ++ b) same ∙ sym (append_assoc held taken ys) ∙ ap (λ i. i ++ ys) (sym made))
 
 -- a read put bytes after the unread ones, and the first `count` of them are valid
-pub put-behind : (held ahead zeros taken spare rest items : List ℕ) (before count size : ℕ) → before ≡ length held
-    → ahead ≡ take (before + 65536) held ++ zeros → count ≤ length taken → before + count ≤ size
+pub put-behind : (held ahead zeros taken spare rest items : List ℕ) (before asked count size : ℕ) → before ≡ length held
+    → ahead ≡ take (before + asked) held ++ zeros → count ≤ length taken → before + count ≤ size
     → items ≡ take (before + count) (take size ((take before ahead ++ (taken ++ spare)) ++ rest)) → items ≡ held ++ take count taken
-put-behind held ahead zeros taken spare rest items before count size long made few fits is =
-    let whole : take (before + 65536) held ≡ held = take_all (before + 65536) held (omega (arith, long)) in
+put-behind held ahead zeros taken spare rest items before asked count size long made few fits is =
+    let whole : take (before + asked) held ≡ held = take_all (before + asked) held (omega (arith, long)) in
     let all : ahead ≡ held ++ zeros = rw whole at made in
     let front : take before ahead ≡ held = rw all (take_at held zeros before (sym long)) in
     let flat : (take before ahead ++ (taken ++ spare)) ++ rest ≡ held ++ (taken ++ (spare ++ rest)) =
@@ -50,7 +52,7 @@ used-up {R} remaining old new text used rest left count is splits size behind sa
       holds.all ∙ ap (λ t. t ++ holds.behind) (sym is),
       record {
         behind = holds.behind;
-        known = ap remaining same ∙ holds.known;
+        known = ap (fused_remaining remaining) same ∙ holds.known;
         all = ap (λ t. t ++ holds.behind) (sym (behind ∙ left-over));
       },
     )
@@ -62,5 +64,12 @@ pub titles-used : {R : Type 0} (remaining : R → Option (List ℕ)) (old new : 
     → (left : List ℕ) × Holds remaining new left × (records_from default_config 100002 State.StartRecord (strip_bom bytes)
     ≡ titles.fields ∷ records_from default_config 100001 State.StartRecord left)
 titles-used {R} remaining old new text rest bytes count version is titles size behind same holds =
-    let (more, all, stands) = used-up remaining old new text titles.used rest bytes count is titles.splits size behind same holds in
-    (rest ++ more, stands, ap (λ b. records_from default_config 100002 State.StartRecord (strip_bom b)) all ∙ titles.reads 100001 more)
+    let starts = titles.title.starts in
+    let (more, all, stands) = used-up remaining old new text starts.used rest bytes count is starts.splits size behind same holds in (
+      rest ++ more,
+      stands,
+      ap (λ b. records_from default_config 100002 State.StartRecord (strip_bom b)) all
+          ∙ ap (records_from default_config 100002 State.StartRecord) (titles.title.unmarked more)
+          ∙ records-next 100002 100001 State.StartRecord (text ++ more) refl
+          ∙ ap (records_next (records_from default_config 100001)) (starts.reads more),
+    )

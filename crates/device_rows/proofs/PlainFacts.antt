@@ -1,15 +1,16 @@
 -- How csv reads plain rows.
-use Rattle.std.proofs.Common.{◌≡◌, ◌∙◌, ℕ, suc, ◌+◌, ◌-◌, ◌*◌, ◌<◌, ◌≤◌, ◌^◌, true, false, List, [], ◌∷◌, ◌++◌, length, take, drop, refl}
+use Rattle.std.proofs.Common.{◌≡◌, ◌∙◌, ℕ, ◌+◌, ◌-◌, ◌*◌, ◌<◌, ◌≤◌, ◌^◌, true, false, List, [], ◌∷◌, ◌++◌, length, take, drop, refl}
 use Rattle.std.proofs.Common.{sym, ap}
 use Rattle.std.proofs.Common.{append_assoc, arith, Some, slice_index_or, take-append-drop, length-take-le}
 use Rattle.std.proofs.lemmas.{Bool.{and_parts, le-leb, Decides.nat_tests}, List.{drop_more, take_more, Folds.list_any_more}}
 use Rattle.std.proofs.lemmas.Int.Digits.{digits_value_push}
 use Rattle.std.specs.{Prelude.{◌&&◌, nat_le}, Char.{digit_value, is_ascii_digit, is_ascii_lowercase}, Str.all_ascii_digits}
-use Rattle.csv.specs.{Machine.next_record, Reading.{default_config, records_from, strip_bom}, Writing.{default_writer, needs_byte}}
+use Rattle.csv.specs.{Machine.next_record, Reading.{default_config, strip_bom}, Writing.{default_writer, needs_byte}}
 use Rattle.csv.specs.Records.{field_at}
 use Rattle.csv.proofs.RoundTrip.{field-run, record-same}
 use Rattle.csv.specs.declared.parser.State.TheVariants as state
-use Rattle.device_rows.specs.Plain.{IsPlain, StartsWithNumber, StartsWithRow, StartsWithTitles, StartsWithWord}
+use Rattle.device_rows.specs.Plain.{IsPlain, StartsWithNumber, StartsWithRecord, StartsWithRow, StartsWithTitle, StartsWithTitles}
+use Rattle.device_rows.specs.Plain.{StartsWithWord}
 use Rattle.device_rows.specs.Record.{event_of, four_of, is_numeral, numeral, version_of}
 use Rattle.device_rows.specs.declared.{event.Event.Event}
 use Rattle.device_rows.proofs.{NumeralFacts.digits-push, ShortFacts.short-row}
@@ -58,12 +59,46 @@ numeral-starts (c ∷ cs) rest h =
     let digit = (and_parts (is_ascii_digit c) (all_ascii_digits cs) digits).0 in
     record-same [] [] c (cs ++ rest) (grind (arith, nat_tests)) (grind (arith, nat_tests))
 
-pub four-read : (m d e v rest : List ℕ) → is_numeral m ≡ true → IsPlain d → IsPlain e → IsPlain v
-    → next_record default_config state.StartRecord [] [] (m ++ 44 ∷ (d ++ 44 ∷ (e ++ 44 ∷ (v ++ 10 ∷ rest))))
-    ≡ Some (m ∷ d ∷ e ∷ v ∷ [], state.StartRecord, rest)
-four-read m d e v rest is d-plain e-plain v-plain =
-    numeral-starts m _ is ∙ comma-ends [] m _ (numeral-plain m is) ∙ comma-ends (m ∷ []) d _ d-plain
-    ∙ comma-ends (m ∷ d ∷ []) e _ e-plain ∙ line-ends (m ∷ d ∷ e ∷ []) v rest v-plain
+-- behind these fields csv goes on with the rest
+pub record Begins (text : List ℕ) (fields : List (List ℕ)) (rest : List ℕ) : Type 0 where
+  pub used : List ℕ
+  pub splits : text ≡ used ++ rest
+  pub reads : (more : List ℕ) → next_record default_config state.StartRecord [] [] (text ++ more)
+      ≡ next_record default_config state.StartField fields [] (rest ++ more)
+
+pub begins-first : (text rest : List ℕ) (number : ℕ) → (first : StartsWithNumber text 44 number rest) → Begins text (first.field ∷ []) rest
+begins-first text rest number first = record {
+  used = first.field ++ 44 ∷ [];
+  splits = first.splits ∙ sym (append_assoc first.field (44 ∷ []) rest);
+  reads = λ more. ap (λ t. next_record default_config state.StartRecord [] [] (t ++ more)) first.splits
+      ∙ ap (next_record default_config state.StartRecord [] []) (append_assoc first.field (44 ∷ rest) more)
+      ∙ numeral-starts first.field (44 ∷ (rest ++ more)) first.is_one
+      ∙ comma-ends [] first.field (rest ++ more) (numeral-plain first.field first.is_one);
+}
+
+splits-more : (text used left field rest : List ℕ) (stop : ℕ) → text ≡ used ++ left → left ≡ field ++ stop ∷ rest
+    → text ≡ (used ++ (field ++ stop ∷ [])) ++ rest
+splits-more text used left field rest stop splits is =
+    splits ∙ ap (λ t. used ++ t) (is ∙ sym (append_assoc field (stop ∷ []) rest)) ∙ sym (append_assoc used (field ++ stop ∷ []) rest)
+
+module _ (text left field rest : List ℕ) (fields : List (List ℕ)) (begins : Begins text fields left) (plain : IsPlain field) where
+  pub begins-next : left ≡ field ++ 44 ∷ rest → Begins text (fields ++ field ∷ []) rest
+  begins-next is = record {
+    used = begins.used ++ (field ++ 44 ∷ []);
+    splits = splits-more text begins.used left field rest 44 begins.splits is;
+    reads = λ more. begins.reads more ∙ ap (λ t. next_record default_config state.StartField fields [] (t ++ more)) is
+        ∙ ap (next_record default_config state.StartField fields []) (append_assoc field (44 ∷ rest) more)
+        ∙ comma-ends fields field (rest ++ more) plain;
+  }
+
+  pub record-ends : left ≡ field ++ 10 ∷ rest → StartsWithRecord text (fields ++ field ∷ []) rest
+  record-ends is = record {
+    used = begins.used ++ (field ++ 10 ∷ []);
+    splits = splits-more text begins.used left field rest 10 begins.splits is;
+    reads = λ more. begins.reads more ∙ ap (λ t. next_record default_config state.StartField fields [] (t ++ more)) is
+        ∙ ap (next_record default_config state.StartField fields []) (append_assoc field (10 ∷ rest) more)
+        ∙ line-ends fields field (rest ++ more) plain;
+  }
 
 digit-worth : (byte : ℕ) → is_ascii_digit byte ≡ true → digit_value byte ≡ byte - 48
 digit-worth byte h = grind (arith, nat_tests)
@@ -112,28 +147,18 @@ number-ends text place stop number below some few digits value ends =
       value = value;
     }
 
-lines : (m d w v tail rest : List ℕ) → (m ++ 44 ∷ (d ++ 44 ∷ (w ++ 44 ∷ (v ++ 10 ∷ tail)))) ++ rest
-    ≡ m ++ 44 ∷ (d ++ 44 ∷ (w ++ 44 ∷ (v ++ 10 ∷ (tail ++ rest))))
-lines m d w v tail rest =
-    append_assoc m _ rest ∙ ap (λ t. m ++ 44 ∷ t) (append_assoc d _ rest ∙ ap (λ t. d ++ 44 ∷ t) (append_assoc w _ rest
-    ∙ ap (λ t. w ++ 44 ∷ t) (append_assoc v (10 ∷ tail) rest)))
-
 pub row-starts : (version : ℕ) (text behind-m behind-d w behind-w rest : List ℕ) (moment device value : ℕ) (event : Event)
     → StartsWithNumber text 44 moment behind-m → StartsWithNumber behind-m 44 device behind-d → StartsWithWord behind-d w behind-w
     → event_of version w ≡ Some event → StartsWithNumber behind-w 10 value rest → moment < 2 ^ 64
     → StartsWithRow version text (record { moment = moment; device = device; event = event; value = value }) rest
 unfolding four_of field_at
 row-starts version text behind-m behind-d w behind-w rest moment device value event m d word names v small =
-    let whole : text ≡ m.field ++ 44 ∷ (d.field ++ 44 ∷ (w ++ 44 ∷ (v.field ++ 10 ∷ rest))) =
-    m.splits ∙ ap (λ t. m.field ++ 44 ∷ t) (d.splits ∙ ap (λ t. d.field ++ 44 ∷ t) (word.splits ∙ ap (λ t. w ++ 44 ∷ t) v.splits)) in
+    let begun = begins-first text behind-m moment m in
+    let device-ends = begins-next text behind-m d.field behind-d _ begun (numeral-plain d.field d.is_one) d.splits in
+    let word-ends' = begins-next text behind-d w behind-w _ device-ends word.plain word.splits in
     record {
-      used = m.field ++ 44 ∷ (d.field ++ 44 ∷ (w ++ 44 ∷ (v.field ++ 10 ∷ [])));
-      splits = whole ∙ sym (lines m.field d.field w v.field [] rest);
       fields = m.field ∷ d.field ∷ w ∷ v.field ∷ [];
-      reads = λ more. ap (λ t. next_record default_config state.StartRecord [] [] (t ++ more)) whole
-          ∙ ap (λ t. next_record default_config state.StartRecord [] [] t) (lines m.field d.field w v.field rest more)
-          ∙ four-read m.field d.field w v.field (rest ++ more) m.is_one (numeral-plain d.field d.is_one) word.plain
-          (numeral-plain v.field v.is_one);
+      starts = record-ends text behind-w v.field rest _ word-ends' (numeral-plain v.field v.is_one) v.splits;
       tells = λ fits bears number. short-row version moment device value event m.field d.field w v.field m.is_one m.value d.is_one d.value
           v.is_one v.value names small fits bears number;
     }
@@ -146,34 +171,31 @@ abbrev pub titles-of-two : List ℕ
 titles-of-two = 109 ∷ 111 ∷ 109 ∷ 101 ∷ 110 ∷ 116 ∷ 44 ∷ 100 ∷ 101 ∷ 118 ∷ 105 ∷ 99 ∷ 101 ∷ 44 ∷ 101 ∷ 118 ∷ 101 ∷ 110 ∷ 116 ∷ 44
     ∷ 118 ∷ 97 ∷ 108 ∷ 117 ∷ 101 ∷ 44 ∷ 50 ∷ 10 ∷ []
 
-pub titles-start : (text rest : List ℕ)
-    → text ≡ titles ++ rest
-    → StartsWithTitles text 1 rest
-unfolding next_record records_from strip_bom version_of field_at
-titles-start text rest e = record {
-  used = titles;
-  splits = e;
-  fields = (109 ∷ 111 ∷ 109 ∷ 101 ∷ 110 ∷ 116 ∷ []) ∷ (100 ∷ 101 ∷ 118 ∷ 105 ∷ 99 ∷ 101 ∷ []) ∷ (101 ∷ 118 ∷ 101 ∷ 110 ∷ 116 ∷ [])
-      ∷ (118 ∷ 97 ∷ 108 ∷ 117 ∷ 101 ∷ []) ∷ [];
-  reads = λ count more. rw (e, suc-of count) refl;
-  tells = refl;
-}
-  where
-    suc-of : (n : ℕ) → n + 1 ≡ suc n
-    suc-of n = omega arith
+pub title-starts : (title : List ℕ) (fields : List (List ℕ)) (text rest : List ℕ)
+    → ((rest : List ℕ) → next_record default_config state.StartRecord [] [] (title ++ rest) ≡ Some (fields, state.StartRecord, rest))
+    → ((rest : List ℕ) → strip_bom (title ++ rest) ≡ title ++ rest) → text ≡ title ++ rest → StartsWithTitle text fields rest
+title-starts title fields text rest reads unmarked splits =
+    let all : (more : List ℕ) → text ++ more ≡ title ++ (rest ++ more) =
+    λ more. ap (λ t. t ++ more) splits ∙ append_assoc title rest more in
+    record {
+      starts = record {
+        used = title;
+        splits = splits;
+        reads = λ more. ap (next_record default_config state.StartRecord [] []) (all more) ∙ reads (rest ++ more);
+      };
+      unmarked = λ more. ap strip_bom (all more) ∙ unmarked (rest ++ more) ∙ sym (all more);
+    }
 
-pub titles-of-two-start : (text rest : List ℕ)
-    → text ≡ titles-of-two ++ rest
-    → StartsWithTitles text 2 rest
-unfolding next_record records_from strip_bom version_of field_at
-titles-of-two-start text rest e = record {
-  used = titles-of-two;
-  splits = e;
-  fields = (109 ∷ 111 ∷ 109 ∷ 101 ∷ 110 ∷ 116 ∷ []) ∷ (100 ∷ 101 ∷ 118 ∷ 105 ∷ 99 ∷ 101 ∷ []) ∷ (101 ∷ 118 ∷ 101 ∷ 110 ∷ 116 ∷ [])
-      ∷ (118 ∷ 97 ∷ 108 ∷ 117 ∷ 101 ∷ []) ∷ (50 ∷ []) ∷ [];
-  reads = λ count more. rw (e, suc-of count) refl;
-  tells = refl;
-}
-  where
-    suc-of : (n : ℕ) → n + 1 ≡ suc n
-    suc-of n = omega arith
+pub titles-start : (text rest : List ℕ) → text ≡ titles ++ rest → StartsWithTitles text 1 rest
+unfolding next_record strip_bom version_of field_at
+titles-start text rest splits =
+    let fields : List (List ℕ) = (109 ∷ 111 ∷ 109 ∷ 101 ∷ 110 ∷ 116 ∷ []) ∷ (100 ∷ 101 ∷ 118 ∷ 105 ∷ 99 ∷ 101 ∷ [])
+    ∷ (101 ∷ 118 ∷ 101 ∷ 110 ∷ 116 ∷ []) ∷ (118 ∷ 97 ∷ 108 ∷ 117 ∷ 101 ∷ []) ∷ [] in
+    record { fields = fields; title = title-starts titles fields text rest (λ rest. refl) (λ rest. refl) splits; tells = refl }
+
+pub titles-of-two-start : (text rest : List ℕ) → text ≡ titles-of-two ++ rest → StartsWithTitles text 2 rest
+unfolding next_record strip_bom version_of field_at
+titles-of-two-start text rest splits =
+    let fields : List (List ℕ) = (109 ∷ 111 ∷ 109 ∷ 101 ∷ 110 ∷ 116 ∷ []) ∷ (100 ∷ 101 ∷ 118 ∷ 105 ∷ 99 ∷ 101 ∷ [])
+    ∷ (101 ∷ 118 ∷ 101 ∷ 110 ∷ 116 ∷ []) ∷ (118 ∷ 97 ∷ 108 ∷ 117 ∷ 101 ∷ []) ∷ (50 ∷ []) ∷ [] in
+    record { fields = fields; title = title-starts titles-of-two fields text rest (λ rest. refl) (λ rest. refl) splits; tells = refl }

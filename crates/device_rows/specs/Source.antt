@@ -3,6 +3,7 @@ use Rattle.std.specs.Prelude.{◌≡◌, ◌⊎◌, ℕ, Bool, true, false, List
 use Rattle.csv.specs.{Machine.Read, Reading.Ready}
 use Rattle.csv.specs.Reading.{default_config, is_flexible, reader_config, reader_state, reader_trim, source_of}
 use Rattle.{csv.specs.declared.reader.Reader.Reader, device_rows.specs.Failures.{HasFailed, IsRefused}}
+use Rattle.device_rows.specs.declared.source.ReadError.{ReadError}
 use Rattle.device_rows.specs.declared.fault.TraceFault.{TraceFault, TheVariants.{ReadFailed, OutOfMemory}}
 use Rattle.csv.specs.declared.reader.Trim.TheVariants as trim
 
@@ -22,6 +23,11 @@ abbrev pub TakesNext : {R : Type 0} → (R → Option (List ℕ)) → Option Rea
 TakesNext remaining None found fields after = found ≡ false
 TakesNext remaining (Some read) found fields after =
     (found ≡ true) × (fields ≡ read.0) × (reader_state after ≡ read.1) × StandsAt remaining after read.2
+
+-- the reader failed, or an allocation, as the error says
+abbrev pub HasCause : ReadError → Type 0
+HasCause ReadError.ReadFailed = HasFailed
+HasCause ReadError.OutOfMemory = IsRefused
 
 -- the reader failed, or an allocation
 abbrev pub IsReadFailure : TraceFault → Type 0

@@ -2,35 +2,39 @@
 
 ghost use Rattle.std.specs.Prelude.{◌≤◌, length};
 
-use crate::fault::TraceFault;
-use crate::source::reader_of;
+use crate::fused::Fused;
+use crate::source::{ReadError, reader_of};
 use csv::Reader;
 use std::alloc::{AllocError, Global};
 use std::io::{Chain, Cursor, Read};
 
-// The size of a read.
+// The largest and the smallest size of a read.
 const AHEAD: usize = 1 << 16;
+
+const FEWEST: usize = 512;
 
 /// An upper bound on the length of a plain row whose numbers have at most twenty digits.
 const LONGEST_LINE: usize = 128;
 
+/// A reader of the records that remain: of the bytes that were read ahead, and of the source after them.
+pub type RecordsLeft<R> = Reader<Chain<Cursor<Vec<u8>>, Fused<R>>>;
+
 /// A source, and bytes that were read ahead from it.
 #[derive(Drop)]
 pub struct Block<R> {
-    source: R,
+    source: Fused<R>,
     held: Vec<u8>,
     at: usize,
+    wanted: usize,
     ghost within: { at ≤ length held.items },
 }
 
 impl<R: Read> Block<R> {
     ghost use Rattle.std.specs.Prelude.{◌≡◌, ◌≤◌, ◌∷◌, ℕ, List, Some, IfErr, IfOk, OnOk, drop, length};
-    ghost use Rattle.std.specs.Io.Chain.{chain_remaining};
-    ghost use Rattle.std.specs.Io.Cursor.{cursor_remaining};
     ghost use Rattle.csv.specs.Reading.{reader_state, strip_bom};
     ghost use Rattle.csv.specs.declared.parser.State.TheVariants as state;
-    ghost use Rattle.device_rows.specs.Block.{Holds, unread};
-    ghost use Rattle.device_rows.specs.Source.{IsOpen, IsReadFailure, StandsAt};
+    ghost use Rattle.device_rows.specs.Block.{Holds, left_remaining, unread};
+    ghost use Rattle.device_rows.specs.Source.{HasCause, IsOpen, StandsAt};
 
     /// Returns a block of which nothing is read yet.
     pub fn new(alloc: Global, source: R) -> Block<R>
@@ -38,9 +42,10 @@ impl<R: Read> Block<R> {
             → Holds R.remaining result bytes }
     {
         Block {
-            source,
+            source: Fused::new(source),
             held: Vec::new(alloc),
             at: 0,
+            wanted: AHEAD,
         }
     }
 
@@ -65,21 +70,24 @@ impl<R: Read> Block<R> {
     /// # Errors
     ///
     /// `ReadFailed`, `OutOfMemory`. The block can't be used after an error.
-    pub fn refill(&mut self, alloc: Global) -> Result<bool, TraceFault>
+    pub fn refill(&mut self, alloc: Global) -> Result<bool, ReadError>
         ensures holds { OnOk result ((bytes : List ℕ) → Holds R.remaining self.old bytes
             → Holds R.remaining self.new bytes) }
-        ensures fault { IfErr result IsReadFailure }
+        ensures fault { IfErr result HasCause }
     {
-        let mut held = Vec::with_capacity(alloc, self.text().len() + AHEAD)?;
+        let ahead = self.wanted.min(AHEAD);
+        let mut held = Vec::with_capacity(alloc, self.text().len() + ahead)?;
         held.extend_from_slice(self.text())?;
         let before = held.len();
-        held.resize(before + AHEAD, 0)?;
+        held.resize(before + ahead, 0)?;
         let Ok(count) = self.source.read(&mut held[before..]) else {
-            return Err(TraceFault::ReadFailed);
+            return Err(ReadError::ReadFailed);
         };
         held.truncate(before + count);
         self.held = held;
         self.at = 0;
+        // A source of few bytes per read, such as a terminal, is asked for few.
+        self.wanted = count.saturating_mul(2).max(FEWEST);
         Ok(count > 0)
     }
 
@@ -95,10 +103,10 @@ impl<R: Read> Block<R> {
     /// # Errors
     ///
     /// Those of [`refill`](Block::refill).
-    pub fn fill_line(&mut self, alloc: Global) -> Result<(), TraceFault>
+    pub fn fill_line(&mut self, alloc: Global) -> Result<(), ReadError>
         ensures holds { OnOk result ((bytes : List ℕ) → Holds R.remaining self.old bytes
             → Holds R.remaining self.new bytes) }
-        ensures fault { IfErr result IsReadFailure }
+        ensures fault { IfErr result HasCause }
     {
         for _ in 0..u64::MAX {
             if self.has_line() || !self.refill(alloc)? {
@@ -109,14 +117,19 @@ impl<R: Read> Block<R> {
     }
 
     /// Returns a reader of the records of a text of which nothing was consumed.
-    pub fn records(self, alloc: Global) -> Reader<Chain<Cursor<Vec<u8>>, R>>
+    pub fn records(self, alloc: Global) -> RecordsLeft<R>
         ensures opened { IsOpen result }
         ensures start { (bytes : List ℕ) → Holds R.remaining self bytes
-            → StandsAt (chain_remaining (cursor_remaining (λ held. Some held.items)) R.remaining)
+            → StandsAt (left_remaining R.remaining)
             result (strip_bom bytes) }
         ensures state { reader_state result ≡ state.StartRecord }
     {
-        let Block { source, held, at } = self;
+        let Block {
+            source,
+            held,
+            at,
+            ..
+        } = self;
         let mut unread = Cursor::new(held);
         unread.set_position(at as u64);
         reader_of(alloc, unread.chain(source))
@@ -125,22 +138,17 @@ impl<R: Read> Block<R> {
 
 impl<R: Read + Drop> Block<R> {
     ghost use Rattle.std.specs.Prelude.{◌≡◌, ◌≤◌, ◌∷◌, ℕ, List, Some, IfErr, IfOk, OnOk, drop, length};
-    ghost use Rattle.std.specs.Io.Chain.{chain_remaining};
-    ghost use Rattle.std.specs.Io.Cursor.{cursor_remaining};
     ghost use Rattle.csv.specs.Reading.{reader_state, strip_bom};
     ghost use Rattle.csv.specs.declared.parser.State.TheVariants as state;
-    ghost use Rattle.device_rows.specs.Block.{Holds, unread};
-    ghost use Rattle.device_rows.specs.Source.{IsOpen, IsReadFailure, StandsAt};
+    ghost use Rattle.device_rows.specs.Block.{Holds, left_remaining, unread};
+    ghost use Rattle.device_rows.specs.Source.{HasCause, IsOpen, StandsAt};
 
     /// Returns a reader of the records after those that were consumed. An empty line is put in front, because a byte-order mark
     /// is skipped only at the start of a text; the line is no record.
-    pub fn records_left(
-        self,
-        alloc: Global,
-    ) -> Result<Reader<Chain<Cursor<Vec<u8>>, R>>, AllocError>
+    pub fn records_left(self, alloc: Global) -> Result<RecordsLeft<R>, AllocError>
         ensures opened { IfOk result (λ reader. IsOpen reader) }
         ensures start { IfOk result (λ reader. (bytes : List ℕ) → Holds R.remaining self bytes
-            → StandsAt (chain_remaining (cursor_remaining (λ held. Some held.items)) R.remaining)
+            → StandsAt (left_remaining R.remaining)
             reader (10 ∷ bytes)) }
         ensures state { IfOk result (λ reader. reader_state reader ≡ state.StartRecord) }
     {

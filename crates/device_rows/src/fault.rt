@@ -3,6 +3,7 @@
 ghost use Rattle.std.specs.Prelude.{◌≡◌};
 ghost use Rattle.device_rows.specs.Fault.{number_of};
 
+use crate::source::ReadError;
 use std::alloc::AllocError;
 use thiserror::Error;
 
@@ -54,6 +55,19 @@ impl From<AllocError> for TraceFault {
 
     fn from(_: AllocError) -> TraceFault {
         TraceFault::OutOfMemory
+    }
+}
+
+impl From<ReadError> for TraceFault {
+    ghost use Rattle.device_rows.specs.Source.{HasCause, IsReadFailure};
+
+    ghost from_gives = { λ error fault. HasCause error → IsReadFailure fault };
+
+    fn from(error: ReadError) -> TraceFault {
+        match error {
+            ReadError::ReadFailed => TraceFault::ReadFailed,
+            ReadError::OutOfMemory => TraceFault::OutOfMemory,
+        }
     }
 }
 

@@ -10,8 +10,9 @@ ghost use Rattle.device_rows.specs.Source.{IsOpen, StandsAt, TakesNext};
 ghost use Rattle.device_rows.specs.declared.source.Next.TheVariants as next;
 
 use csv::{ByteRecord, ErrorKind, Reader, ReaderBuilder};
-use std::alloc::Global;
+use std::alloc::{AllocError, Global};
 use std::io::Read;
+use thiserror::Error;
 
 /// Returns a reader of records of any length, without a header row of its own.
 pub fn reader_of<R: Read>(alloc: Global, source: R) -> Reader<R>
@@ -24,6 +25,27 @@ pub fn reader_of<R: Read>(alloc: Global, source: R) -> Reader<R>
         .has_headers(false)
         .flexible(true)
         .from_reader(alloc, source)
+}
+
+/// Why a text couldn't be read on.
+#[derive(Clone, Copy, Debug, PartialEq, Eq, Error)]
+pub enum ReadError {
+    /// The reader failed.
+    #[error("the text could not be read")]
+    ReadFailed,
+    /// An allocation failed.
+    #[error("out of memory")]
+    OutOfMemory,
+}
+
+impl From<AllocError> for ReadError {
+    ghost use Rattle.device_rows.specs.Source.{HasCause};
+
+    ghost from_gives = { λ _ error. HasCause error };
+
+    fn from(_: AllocError) -> ReadError {
+        ReadError::OutOfMemory
+    }
 }
 
 /// The result of a read.

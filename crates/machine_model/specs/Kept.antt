@@ -1,4 +1,4 @@
--- The invariant of each processor.
+-- The invariant of each processor of the program. It isn't part of the machine's definition.
 use Rattle.std.specs.Prelude.{◌≡◌, ◌≤◌, ◌<◌, ◌&&◌, not, Bool, true, false, is_some, ℕ, sum_by, Option, Some, None, if◌then◌else◌}
 use Rattle.{std.specs.Option.option_map_or, machine_words.specs.declared.settings.Settings.Settings}
 use Rattle.{machine_model.specs.Device.DeviceView}

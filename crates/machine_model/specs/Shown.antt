@@ -1,4 +1,5 @@
 -- The program's state, as the definitions see it: a driven run, and cached values of the devices so that no step searches them.
+-- It isn't part of the machine's definition.
 use Rattle.std.specs.{Prelude.{ℕ, ◌+◌, ◌==◌, ◌||◌, ◌&&◌, nat_lt, Bool, true, false, ◌++◌, length, position, Option, Some, None}}
 use Rattle.std.specs.{Prelude.{if◌then◌else◌}, Option.option_map_or}
 use Rattle.{poll_runs.specs.Turn.asked_for, poll_runs.specs.declared.polling_run.PollingRun.PollingRun}

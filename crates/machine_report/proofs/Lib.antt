@@ -1,4 +1,5 @@
 pub mod FaultFacts
+pub mod PlainFacts
 pub mod ReadingFacts
 pub mod ReportFacts
 pub mod RisingFacts

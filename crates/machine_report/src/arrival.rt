@@ -1,6 +1,6 @@
-//! One arrival, as a record of the text has it.
+//! One arrival, as a record of the text.
 
-ghost use Rattle.std.specs.Prelude.{◌≡◌, ◌≤◌, ◌*◌, IfOk, option_map};
+ghost use Rattle.std.specs.Prelude.{◌≡◌, ◌≤◌, ◌*◌, ◌%◌, IfOk, option_map};
 ghost use Rattle.csv.specs.Records.{fields_of};
 ghost use Rattle.machine_report.specs.Arrivals.{IsInRange, flow_of, four_of, is_title, of_four, queue_of, ranged, width};
 
@@ -21,10 +21,10 @@ pub struct Arrival {
 /// The numbers of a row. With one queue `flow` is 0.
 #[derive(Clone, Copy)]
 pub(crate) struct Numbers {
-    moment: u128,
-    device: u128,
-    bytes: u128,
-    flow: u128,
+    pub(crate) moment: u128,
+    pub(crate) device: u128,
+    pub(crate) bytes: u128,
+    pub(crate) flow: u128,
 }
 
 // How many fields a record has.
@@ -45,7 +45,7 @@ fn flow_of(queues: u32, fields: &ByteRecord) -> Option<&[u8]>
     }
 }
 
-// The fields of a record that has as many as there are to be.
+// Returns the fields of a record that has the right number of fields.
 #[tactic(auto, unfolding(crate::specs::Arrivals::four_of))]
 fn four_of(queues: u32, fields: &ByteRecord) -> Option<(&[u8], &[u8], &[u8], &[u8])>
     ensures { option_map (λ four. (four.0.now, four.1.now, four.2.now, four.3.now)) result
@@ -61,7 +61,7 @@ fn four_of(queues: u32, fields: &ByteRecord) -> Option<(&[u8], &[u8], &[u8], &[u
     Some((moment, device, bytes, flow))
 }
 
-/// Whether a record is the header: `moment,device,bytes`, and `flow` with several queues.
+/// Returns whether a record is the header: `moment,device,bytes`, and `flow` with several queues.
 pub(crate) fn is_title(queues: u32, fields: &ByteRecord) -> bool
     ensures { result ≡ is_title queues (four_of queues (fields_of fields.now)) }
 {
@@ -74,18 +74,30 @@ pub(crate) fn is_title(queues: u32, fields: &ByteRecord) -> bool
         && (queues == 1 || flow == b"flow".as_slice())
 }
 
-// The number of the queue that receives a flow of a device.
+// Returns the remainder of a flow divided by the number of queues. A division of 128 bits is a call, and few flows need it.
+fn remainder(flow: u128, queues: u32) -> u32
+    requires { (1 ≤ queues) × (queues ≤ 64) }
+    ensures { result ≡ flow % queues }
+{
+    match u64::try_from(flow) {
+        Ok(small) => (small % u64::from(queues)) as u32,
+        Err(_) => (flow % u128::from(queues)) as u32,
+    }
+}
+
+// Returns the number of the queue that receives a flow of a device.
 fn queue_of(queues: u32, device: u32, flow: u128) -> u32
     requires queues { (1 ≤ queues) × (queues ≤ 64) }
     requires device { (1 ≤ device) × (device ≤ 4096) }
     ensures { result ≡ queue_of queues device flow }
 {
-    (device - 1) * queues + (flow % u128::from(queues)) as u32 + 1
+    (device - 1) * queues + remainder(flow, queues) + 1
 }
 
-// The arrival of row `row` with these numbers, after a row at `last`.
+/// Returns the arrival of row `row` with these numbers, after a row at `last`.
 #[tactic(auto, unfolding(crate::specs::Arrivals::ranged))]
-fn ranged(
+#[inline]
+pub(crate) fn ranged(
     settings: &Settings,
     row: u64,
     last: u64,
@@ -112,7 +124,7 @@ fn ranged(
     })
 }
 
-/// Returns the arrival that a record has as row `row`, after a row at `last`, or its first fault.
+/// Returns the arrival of a record in row `row`, after a row at `last`, or its first error.
 #[tactic(auto, unfolding(crate::specs::Arrivals::of_four))]
 pub(crate) fn arrival_of(
     settings: &Settings,

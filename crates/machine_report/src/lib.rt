@@ -1,10 +1,11 @@
-//! Behind the door `machine`: from the bytes of arrivals to the bytes of the report of a receiving machine, or the line and the exit
-//! status of a fault.
+//! Internal crate of the facade `machine`: from the bytes of arrivals to the bytes of the report of a receiving machine, or the
+//! message and the exit status of an error.
 #![tactic(auto)]
 
 mod arrival;
 mod arrivals;
 mod fault;
+mod plain;
 mod report;
 mod run;
 

@@ -1,12 +1,12 @@
 //! An interrupt worker: it makes its device's acts, and hands the instance to its poller.
 
 ghost use Rattle.std.specs.Prelude.{◌≡◌, ℕ, ◌+◌, ◌≤◌, ◌<◌, ◌++◌, true, false, None, IfSome, is_some, length};
+ghost use Rattle.std.specs.List.{All};
 ghost use Rattle.rx_ring.specs.Ends.{SameIn, capacity_of, put_list};
 ghost use Rattle.napi_calls.specs.Instance.{IsSeatOf};
 ghost use Rattle.poll_interrupts.specs.Acts.{after_acts, arrivals, brings};
 ghost use Rattle.poll_interrupts.specs.Calls.{Acts, AllActs, HandsOver, Interrupts, IsPutLast, IsSameAccess, Leaves, Lists, TurnsOn};
 ghost use Rattle.poll_interrupts.specs.Seats.{AreSeatsOf, IsAccessOf, IsPowerOf};
-ghost use Rattle.poll_interrupts.specs.Works.{IsDoneBy};
 ghost use Rattle.poll_tasks.specs.Asks.{WasLet};
 ghost use Rattle.poll_tasks.specs.Stops.{IsStop};
 
@@ -14,7 +14,7 @@ use crate::acts::{Act, Device};
 use napi_calls::{Between, Caller, Control, Granted, Kept, Napi, Off, On, Sched};
 use napi_model::Kind;
 use poll_list::ListIn;
-use poll_tasks::{Bell, Gate, Setting, Stop};
+use poll_tasks::{Bell, Gate, Setting, Stop, Task};
 use rx_ring::{Packet, RxIn};
 use std::sync::Wait;
 use std::thread;
@@ -49,34 +49,6 @@ pub struct OwnSeats {
     pub caller: Caller,
     /// The controller of the instance.
     pub control: Control<Off>,
-}
-
-/// What a worker begins with.
-#[derive(Drop)]
-pub struct Work<R: Wait + Drop, D> {
-    /// The worker's end of its poller's list.
-    pub list: ListIn<R>,
-    /// The device, before its acts.
-    pub device: D,
-    /// The input of its receive ring.
-    pub rx: RxIn,
-    /// The worker's seats at the instance.
-    pub seats: Kept<R, OwnSeats>,
-}
-
-/// What a worker ends with.
-#[derive(Drop)]
-pub struct Done<R: Wait + Drop, D> {
-    /// The worker's end of its poller's list.
-    pub list: ListIn<R>,
-    /// The device, after its acts.
-    pub device: D,
-    /// The input of its receive ring.
-    pub rx: RxIn,
-    /// The worker's seats at the instance, which is off again.
-    pub seats: Kept<R, OwnSeats>,
-    /// Why not all acts were made, if so.
-    pub stop: Option<Stop>,
 }
 
 /// Where a worker's interrupts go.
@@ -270,43 +242,87 @@ impl<'p, 'n, R: Wait> InterruptHandler<'p, 'n, R> {
     }
 }
 
-impl<'p, 'n, R: Wait + Drop + Copy> InterruptHandler<'p, 'n, R> {
-    /// Makes the device's acts over an instance that is enabled before, and disabled after.
-    pub(crate) fn work<D: Device, G: Gate>(
-        &self,
-        setting: &Setting<R, G>,
-        work: Work<R, D>,
-    ) -> Done<R, D>
-        requires { AreSeatsOf self.now.napi.now work.seats.value }
-        ensures done { IsDoneBy D.acts D.answer D.after (G.answers setting.now.gate.now)
-            self.now.napi.now (is_some self.now.thread) self.now.number work result }
-        ensures why { IfSome result.stop (IsStop G.may_shut) }
-    {
-        let Work {
+/// An interrupt worker, which has a thread of its own. It makes its device's acts over an instance that is enabled before, and
+/// disabled after, also if the run was stopped.
+#[derive(Drop)]
+pub struct InterruptWorker<'t, 'p, 'n, R: Wait + Drop, D, G: Gate> {
+    /// What all threads of the run have.
+    pub setting: &'t Setting<'t, R, G>,
+    /// Where its interrupts go.
+    pub handler: InterruptHandler<'p, 'n, R>,
+    /// Its end of its poller's list.
+    pub list: ListIn<R>,
+    /// The device.
+    pub device: D,
+    /// The input of the device's receive ring.
+    pub rx: RxIn,
+    /// Its seats at the instance, which is off.
+    pub seats: Kept<R, OwnSeats>,
+    /// Why not all acts were made, if so.
+    pub stop: Option<Stop>,
+    ghost of: { AreSeatsOf handler.napi.now seats.value },
+}
+
+impl<'t, 'p, 'n, R: Wait + Copy + Drop, D: Device + Drop, G: Gate> Task
+    for InterruptWorker<'t, 'p, 'n, R, D, G> {
+    ghost use Rattle.poll_interrupts.specs.Works.{IsWorked};
+
+    ghost gives = { IsWorked D.acts D.answer D.after G.may_shut G.answers };
+
+    fn is_idle(&self) -> bool {
+        false
+    }
+
+    fn run(self) -> InterruptWorker<'t, 'p, 'n, R, D, G> {
+        let InterruptWorker {
+            setting,
+            handler,
             mut list,
             mut device,
             mut rx,
             seats,
-        } = work;
+            stop: _,
+        } = self;
         let OwnSeats { caller, control } = seats.open();
         let access = Access {
             caller,
-            power: self.turn_on(Power::Off(control), false),
+            power: handler.turn_on(Power::Off(control), false),
             threaded: false,
         };
-        let (access, stop) = self.make_acts(&mut list, &mut device, access, &mut rx, setting);
+        let (access, stop) = handler.make_acts(&mut list, &mut device, access, &mut rx, setting);
         let Access {
             caller,
             power,
             threaded: _threaded,
         } = access;
-        let control = self.turn_off(power);
-        Done {
+        let control = handler.turn_off(power);
+        if let Some(bell) = handler.thread {
+            bell.tell();
+        }
+        InterruptWorker {
+            setting,
+            handler,
             list,
             device,
             rx,
-            seats: Kept::new(self.rt, OwnSeats { caller, control }),
+            seats: Kept::new(setting.rt, OwnSeats { caller, control }),
             stop,
         }
     }
+}
+
+/// Why the first of the workers that didn't make all their acts didn't.
+pub fn worker_stop<'t, 'p, 'n, R: Wait + Drop, D, G: Gate>(
+    all: &[InterruptWorker<'t, 'p, 'n, R, D, G>],
+) -> Option<Stop>
+    requires { All (λ w. IfSome w.stop (IsStop G.may_shut)) all.now }
+    ensures none { result ≡ None → All (λ w. w.stop ≡ None) all.now }
+    ensures some { IfSome result (IsStop G.may_shut) }
+{
+    for one in all {
+        if let Some(stop) = one.stop {
+            return Some(stop);
+        }
+    }
+    None
 }

@@ -1,12 +1,12 @@
-//! Behind the door `poll_engine`: pollers, one of many instances, and the threads of single ones.
+//! Behind the door `poll_engine`: pollers, each in a thread of its own: of the instances on a list, and of single ones.
 #![tactic(auto)]
 
+mod list_poller;
 mod poller;
 mod seat;
-mod serving;
 mod thread_poller;
-mod unseating;
 
-pub use poller::PollTask;
+pub use list_poller::{ListPoller, SeatBench};
+pub use poller::{Poller, Serves, first_stop};
 pub use seat::Seat;
-pub use thread_poller::{Own, ThreadSide};
+pub use thread_poller::ThreadPoller;

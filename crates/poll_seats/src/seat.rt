@@ -47,7 +47,7 @@ impl<'n> Seat<'n> {
     }
 
     /// Gives the caller back.
-    pub(crate) fn leave(self) -> Caller
+    pub fn leave(self) -> Caller
         requires { IsSome self.caller }
         ensures of { IsSeatOf self.entry.napi.now result.pass }
         ensures caller { self.entry.caller ≡ Some result }

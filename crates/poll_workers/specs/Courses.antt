@@ -1,10 +1,12 @@
 -- Who polled what in a run, and by which numbers.
-use Rattle.poll_tasks.specs.{Tasks.IsAt, declared.{pace.Pace.Pace, tasks.Turned.Turned}}
-use Rattle.poll_workers.specs.Spreads.{IsEndOf, IsKeptSeatFor}
-use Rattle.poll_seats.specs.{declared.seat.Seat.Seat, SeatKeeping.IsCallerOf, Gives.{IsPolledAlone, IsPolledBy}}
+use Rattle.poll_tasks.specs.{Asks.IsAsked, Tasks.{EachAt, IsAt}, declared.pace.{Pace.Pace, Setting.Setting}}
+use Rattle.poll_workers.specs.{Finishes.IsWorkedOf, Outcomes.AreLeftBy, Spreads.{IsEndOf, IsKeptSeatFor}}
+use Rattle.poll_seats.specs.{declared.seat.Seat.Seat, Gives.{IsPolledAlone, IsPolledBy}}
+use Rattle.poll_seats.specs.declared.{poller.Poller.Poller, list_poller.ListPoller.ListPoller, thread_poller.ThreadPoller.ThreadPoller}
+use Rattle.poll_interrupts.specs.declared.worker.InterruptWorker.{InterruptWorker}
 use Rattle.poll_list.specs.{SharedList.{IsInOf, IsNewList, pushed_by}, declared.{list_in.ListIn.ListIn, shared.SharedList.SharedList}}
-use Rattle.std.specs.{Prelude.{◌≡◌, ◌≢◌, ℕ, ◌<◌, Bool, List, [], ◌∷◌, Some, None, filter, is_some, map, MatchBool, vec_items}, Global.Vec}
-use Rattle.{std.specs.List.{AllByRecursion, AllZip}, napi_calls.specs.{Seats.own_list, declared.{kept.Kept.Kept, types.Caller.Caller}}}
+use Rattle.std.specs.Prelude.{◌≡◌, ◌≢◌, ℕ, ◌<◌, Bool, List, [], ◌∷◌, Some, None, filter, is_some, length, map, MatchBool, vec_items}
+use Rattle.{std.specs.List.{All, AllByRecursion, AllZip}, napi_calls.specs.{Seats.own_list, declared.{kept.Kept.Kept, types.Caller.Caller}}}
 use Rattle.poll_interrupts.specs.{Seats.IsUnused, Calls.listings, Deals.{is_dealt, is_own, poller_by}}
 use Rattle.poll_interrupts.specs.{declared.{opening.Loose.Loose, acts.Act.Act, station.{Finished.Finished, Station.Station}}, Runs.HasRun}
 use Rattle.poll_interrupts.specs.Runs.{poller_number, thread_number}
@@ -21,16 +23,16 @@ pub record Course (D : Type 0) : Type 0 where
 
 -- the poller's seat at a station before its first turn: it has the station's number, knows of a bell exactly if the station has
 -- a thread, and nothing was done by it
-pub record IsFreshSeat {D : Type 0} (station : Station D) (seat : Seat) : Type 0 where
-  pub number : seat.number ≡ station.number
-  pub thread : is_some seat.thread ≡ station.thread
+pub record IsFreshSeat {R D : Type 0} (station : Station D) (seat : Kept R Seat) : Type 0 where
+  pub number : seat.value.number ≡ station.number
+  pub thread : is_some seat.value.thread ≡ station.thread
   pub caller : Caller
-  pub there : seat.caller ≡ Some caller
+  pub there : seat.value.caller ≡ Some caller
   pub unused : IsUnused poller_number caller
 
 -- and behind its last one
-abbrev pub IsSpentSeat : Caller → Seat → Type 0
-IsSpentSeat caller seat = seat.caller ≡ Some caller
+abbrev pub IsSpentSeat : {R : Type 0} → Caller → Kept R Seat → Type 0
+IsSpentSeat caller seat = seat.value.caller ≡ Some caller
 
 -- The worker of the station with this number, whose caller this was at the end, pushed into the list of its own poller: the number
 -- once for each time that it handed its instance to the list, and nothing else.
@@ -56,8 +58,8 @@ module _ (R : Type 0) (asked : ℕ → Type 0) (pace : Pace) (lists : List (Shar
     pub there : IsAt lists number list
     pub ends : ℕ
     pub new : IsNewList ends list
-    pub before : List Seat
-    pub after : List Seat
+    pub before : List (Kept R Seat)
+    pub after : List (Kept R Seat)
     pub from : AllZip (λ course seat. IsFreshSeat course.station seat) courses before
     pub turns : IsPolledBy asked pace number list before after
     pub to : AllZip (λ course seat. IsSpentSeat course.end.closed.poller.value seat) courses after
@@ -89,22 +91,35 @@ module _ (R : Type 0) (asked : ℕ → Type 0) (pace : Pace) {D : Type 0} (acts 
     pub crews : (number : ℕ) → number < pollers
         → IsCrew R asked pace lists pollers number (filter (λ course. is_dealt number pollers course.station) courses)
 
--- ---- what the threads of a run gave back
+-- ---- what the threads of a run came back with
 
-module _ {R D : Type 0} (asked : ℕ → Type 0) (pace : Pace) (lists : List (SharedList R)) (pollers : ℕ) where
-  -- the poller took its turns, where it has seats, from those at its own instances to those with the callers that it gave back
-  pub record HasPolled (loose : List (Kept R (Loose D))) (number : ℕ) (turned : Turned (Vec (Kept R Caller))) : Type 0 where
-    pub before : List Seat
-    pub after : List Seat
+module _ {R D G : Type 0} (asked : ℕ → Type 0) (pace : Pace) (lists : List (SharedList R)) (pollers : ℕ) where
+  -- the poller took its turns, if it has seats, from those at its own instances to those that it came back with
+  pub record HasPolled (loose : List (Kept R (Loose D))) (number : ℕ) (poller : Poller R G (ListPoller R)) : Type 0 where
+    pub before : List (Kept R Seat)
     pub list : SharedList R
     pub there : IsAt lists number list
     pub ends : ℕ
     pub new : IsNewList ends list
     pub from : AllZip IsKeptSeatFor (filter (λ l. is_own number pollers l.value.number) loose) before
-    pub turns : turned.stop ≡ None → before ≢ [] → IsPolledBy asked pace number list before after
-    pub to : AllZip IsCallerOf after (vec_items turned.back)
+    pub turns : poller.stop ≡ None → before ≢ [] → IsPolledBy asked pace number list before (vec_items poller.served.seat_bench.seats)
 
   -- an instance's thread took its turns, unless the run is cut short
-  abbrev pub HasTurned : Kept R (Loose D) → Turned (Kept R Caller) → Type 0
-  HasTurned loose given = given.stop ≡ None
-      → TurnsIfThread R asked pace lists pollers (is_some loose.value.pause) loose.value.number loose.value.thread given.back.value
+  abbrev pub HasTurned : Kept R (Loose D) → Poller R G (ThreadPoller R) → Type 0
+  HasTurned loose thread = (after : Caller) → thread.served.seat.value.caller ≡ Some after → thread.stop ≡ None
+      → TurnsIfThread R asked pace lists pollers loose.value.has_thread loose.value.number loose.value.thread after
+
+-- All threads of a run came back, none cut short: what they left of the instances that went to them.
+pub record HaveRun {R D G : Type 0} (acts : D → ℕ) (answer : D → ℕ → Act) (after : D → ℕ → D) (answers : G → ℕ → ℕ → Bool → Type 0)
+    (setting : Setting R G) (lists : List (SharedList R)) (pollers : ℕ) (loose left : List (Kept R (Loose D))) : Type 0 where
+  pub workers : List (InterruptWorker R D G)
+  pub polled : List (Poller R G (ListPoller R))
+  pub threads : List (Poller R G (ThreadPoller R))
+  pub same : length polled ≡ pollers
+  pub made : AllZip (IsWorkedOf acts answer after (answers setting.gate.now) lists pollers) loose workers
+  pub ran : EachAt (HasPolled (IsAsked answers setting.gate.now) setting.pace lists pollers loose) polled
+  pub turned : AllZip (HasTurned (IsAsked answers setting.gate.now) setting.pace lists pollers) loose threads
+  pub left_by : AreLeftBy workers (map (λ p. p.served.seat_bench.seats) polled) threads left
+  pub whole : All (λ w. w.stop ≡ None) workers
+  pub whole_polls : All (λ p. p.stop ≡ None) polled
+  pub whole_turns : All (λ p. p.stop ≡ None) threads

@@ -2,6 +2,7 @@
 #![tactic(auto)]
 
 mod fault;
+mod gathering;
 mod numbers;
 mod pollers;
 mod run;

@@ -41,10 +41,13 @@ loop-before-preserved c =
     record {
       so_far = pushed;
       count = omega (arith, c.push_reserved.ensures.len, pushed.filled, so_far.filled, c.loop-before.invariant.count);
-      behind = (used ++ starts.used, splits ∙ ap (λ t. used ++ t) starts.splits ∙ sym (append_assoc used starts.used c.in-Some.behind.now));
+      behind = (
+        used ++ starts.starts.used,
+        splits ∙ ap (λ t. used ++ t) starts.starts.splits ∙ sym (append_assoc used starts.starts.used c.in-Some.behind.now),
+      );
       same = λ more. c.loop-before.invariant.same more
           ∙ with-next c.args.version (vec_items c.loop-before.rows) c.in-Some.row starts.fields state.StartRecord state.StartRecord
-          (c.loop-before.left.now ++ more) (c.in-Some.behind.now ++ more) below (starts.reads more) one
+          (c.loop-before.left.now ++ more) (c.in-Some.behind.now ++ more) below (starts.starts.reads more) one
           ∙ ap (λ r. rows_with c.args.version r state.StartRecord (c.in-Some.behind.now ++ more)) (sym c.push_reserved.ensures.items);
     }
 

@@ -1,11 +1,11 @@
 use Rattle.std.{proofs.Common.{◌≡◌, List, [], length}, specs.Prelude.{Result}}
-use Rattle.device_rows.specs.Source.{IsOpen}
-use Rattle.machine_report.specs.{Answer.Takes, Reading.HasGiven, declared.{arrival.Arrival.Arrival, fault.MachineFault.MachineFault}}
+use Rattle.machine_report.specs.{Answer.Takes, Reading.{HasGiven, IsOpenAt}}
+use Rattle.machine_report.specs.declared.{arrival.Arrival.Arrival, fault.MachineFault.MachineFault}
 use Rattle.machine_report.proofs.run.take_all.Given as goal
 
 abbrev pub invariant-rows : goal.invariant-rows
 invariant-rows g l = record {
-  opened : IsOpen l.arrivals.reader;
+  opened : IsOpenAt l.arrivals.source;
   processors : l.arrivals.settings.processors ≡ length l.machine;
   count : length l.machine ≡ length l.fn.machine;
   given : (all : Result (List Arrival) MachineFault) → HasGiven g.R.Read.remaining l.fn.arrivals [] all
