@@ -81,7 +81,7 @@ replay_names() { awk '/^\/\* Replays a trace/ { on = 1 } on { print } /\*\// { o
 
 order_of_a_replay() { [ "$(replay_names)" = 'FQ_BAD_WEIGHT FQ_BAD_BUDGET FQ_OUT_OF_MEMORY FQ_BAD_TRACE FQ_NO_ROOM FQ_OK' ]; }
 
-# The page tells the size of the archive, within a tenth.
+# The page states the size of the archive, within a tenth.
 told_size() {
     local told
     told=$(grep -oE 'libfintaqush\.a` \(some [0-9]+ KB' "$top/docs/C.md" | grep -oE '[0-9]+')

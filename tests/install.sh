@@ -42,7 +42,7 @@ exports_calls_alone() {
 # What came with 1.0 stays there: a program that was linked then asks for it by that version.
 stays_in_its_version() { [ "$(grep -c '@@FINTAQUSH_1\.0$' "$scratch/exported")" -ge 66 ] && grep -q '^fq_seat_poll@@FINTAQUSH_1\.0$' "$scratch/exported"; }
 
-# by_a_prefix_with_spaces: pkg-config tells it so that a shell reads it.
+# by_a_prefix_with_spaces: pkg-config prints it so that a shell can read it.
 by_a_prefix_with_spaces() {
     local spaced="$scratch/a prefix & more" words
     "$top/scripts/install.sh" --library --libdir=lib/here "$spaced" &&

@@ -1,4 +1,4 @@
--- How a station ends.
+-- The end of a station.
 use Rattle.std.specs.Prelude.{◌≡◌, ◌+◌, ◌<◌, ◌^◌, length}
 use Rattle.rx_ring.specs.{Ends.put_list, ReceiveRing.{bytes_of, capped}}
 use Rattle.napi_calls.specs.declared.kept.Kept.{Kept}

@@ -35,7 +35,7 @@ module _ {D : Type 0} where
     pub poller : IsUnused poller_number loose.poller
     pub own : IsUnused thread_number loose.thread
 
-  -- what goes to the threads, or came back from them, and what stays behind are of one instance, and of one ring
+  -- what goes to the threads, or came back from them, and what stays with the caller belong to one instance, and to one ring
   pub record IsPartOf (loose : Loose D) (placed : Placed) : Type 0 where
     pub number : placed.number ≡ loose.number
     pub seats : AreSeatsOf placed.napi loose.seats
@@ -45,7 +45,7 @@ module _ {D : Type 0} where
     pub ring : IsInputOf loose.rx placed.napi
     pub home : IsHome placed
 
-  -- and so is how its own thread waits, if it has one
+  -- and so does the way in which its own thread waits, if it has one
   pub record IsSideOf (loose : Loose D) (placed : Placed) : Type 0 where
     pub part : IsPartOf loose placed
     pub name : loose.number ≤ 16

@@ -1,4 +1,4 @@
--- What a worker promises of its own station.
+-- The contract of a worker, for its own station.
 use Rattle.std.specs.Prelude.{◌≡◌, ℕ, ◌+◌, ◌≤◌, ◌++◌, Bool, false, None, IfSome, is_some, length}
 use Rattle.{poll_tasks.specs.{Asks.WasLet, Stops.IsStop}, rx_ring.specs.{declared.ends.RxIn.RxIn, Ends.SameIn}}
 use Rattle.{rx_ring.specs.Ends.{capacity_of, put_list}, napi_calls.specs.{declared.types.Napi.Napi, Seats.{number_of, own_list}}}
@@ -16,7 +16,7 @@ ledger_of seats rx threaded = record {
   threaded = threaded;
 }
 
--- whose ledger that is
+-- the owner of that ledger
 abbrev pub whose : OwnSeats → RxIn → Bool → Whose
 whose seats rx thread =
     record { caller = number_of seats.caller.pass; controller = number_of seats.control.pass; places = capacity_of rx; thread = thread }
@@ -25,7 +25,7 @@ whose seats rx thread =
 abbrev pub AreSameSeats : OwnSeats → OwnSeats → Type 0
 AreSameSeats a b = (number_of b.caller.pass ≡ number_of a.caller.pass) × (number_of b.control.pass ≡ number_of a.control.pass)
 
--- `answers` is what a gate answers: to whom, before which act
+-- `answers` is what a gate returns: to which thread, before which act
 module _ {R D G : Type 0} (acts : D → ℕ) (answer : D → ℕ → Act) (after : D → ℕ → D) (answers : ℕ → ℕ → Bool → Type 0) where
   -- what it did is the run of these acts, by the events that its seats had before and have afterwards
   abbrev pub HasWorked : Bool → InterruptWorker R D G → InterruptWorker R D G → Type 0
@@ -33,7 +33,7 @@ module _ {R D G : Type 0} (acts : D → ℕ) (answer : D → ℕ → Act) (after
       (threaded : Bool) × WorksBy (whose before.seats.value before.rx thread) answer after before.device (acts before.device)
       (ledger_of before.seats.value before.rx false) (ledger_of done.seats.value done.rx threaded)
 
-  -- it made all acts of the device, each once and in order, and put what they brought, where there is room for all
+  -- it made all acts of the device, each once and in order, and put their packets, if there is room for all
   pub record IsDoneBy (napi : Napi) (thread : Bool) (number : ℕ) (before done : InterruptWorker R D G) : Type 0 where
     pub seats : AreSeatsOf napi done.seats.value
     pub same : AreSameSeats before.seats.value done.seats.value

@@ -1,4 +1,5 @@
-//! Behind the door `poll_engine`: interrupt workers, each the device of a station, its instance, and the thread that makes its acts.
+//! //! Internal crate of the facade `poll_engine`: interrupt workers, each with the device of a station and its instance, in
+//! its own thread.
 #![tactic(auto)]
 
 mod act_list;

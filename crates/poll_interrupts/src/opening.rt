@@ -1,4 +1,4 @@
-//! How the instances of stations are made and closed.
+//! //! How the instances of stations are opened and closed.
 
 ghost use Rattle.std.specs.Prelude.{◌≡◌, ◌≤◌, ◌+◌, ℕ, [], ◌∷◌, IfOk, length, slice_get, Some, vec_items, vec_len, vec_capacity};
 ghost use Rattle.std.specs.List.{All, AllZip};
@@ -19,22 +19,22 @@ use std::alloc::{AllocError, Global};
 use std::snapshot::Snapshot;
 use std::sync::Wait;
 
-/// What stays where it is of an instance while its threads run: the instance, the bell of its own thread, if it has one, and room
-/// for its three callers. It must be spent.
+/// The part of an instance that stays with the caller while its threads run: the instance, the waker of its own thread, if it
+/// has one, and room for its three callers. A linear value: it can't be dropped.
 pub struct Placed {
     /// The device's number.
     pub number: u32,
     /// The instance.
     pub napi: Napi,
-    /// Whether it has a thread of its own.
+    /// Whether it has its own thread.
     pub has_thread: bool,
-    /// The bell of that.
+    /// The waker of that thread.
     pub bell: Bell,
     /// Room for its three callers.
     pub room: Vec<Caller>,
 }
 
-/// What goes to the threads of an instance. It must be spent.
+/// The parts of an instance that go to its threads. A linear value: it can't be dropped.
 pub struct Loose<D> {
     /// The device's number.
     pub number: u32,
@@ -44,13 +44,13 @@ pub struct Loose<D> {
     pub rx: RxIn,
     /// The worker's seats at the instance.
     pub seats: OwnSeats,
-    /// The caller of the poller of its list.
+    /// The caller that the poller of its list uses.
     pub poller: Caller,
-    /// The caller of its own thread.
+    /// The caller that its own thread uses.
     pub thread: Caller,
-    /// Whether it has a thread of its own.
+    /// Whether it has its own thread.
     pub has_thread: bool,
-    /// How that waits.
+    /// How that thread waits.
     pub pause: Pause,
 }
 
@@ -89,7 +89,7 @@ impl Placed {
     }
 }
 
-// The last one left of an instance's callers.
+// Returns the last remaining one of an instance's callers.
 fn next(napi: &Napi, callers: &mut Vec<Caller>) -> Caller
     requires some { 1 ≤ length callers.old.items }
     requires seats { (k : ℕ) (c : Caller) → slice_get callers.old.items k ≡ Some c
@@ -105,7 +105,7 @@ fn next(napi: &Napi, callers: &mut Vec<Caller>) -> Caller
     caller
 }
 
-// The instance of a station.
+// Returns the instance of a station.
 fn open<D: Drop>(alloc: Global, station: Station<D>) -> Result<(Placed, Loose<D>), AllocError>
     requires { IsStation station }
     ensures loose { IfOk result (λ r. IsLoose station r.1) }
@@ -189,7 +189,7 @@ pub fn shut_all<R: Wait + Drop, D: Drop>(
     }
 }
 
-/// Closes all instances, in order, after their threads have ended. There is room for how they ended.
+/// Closes all instances, in order, after their threads have ended. Requires room for the results.
 pub fn end_all<R: Wait + Drop, D: Drop>(
     placed: Vec<Kept<R, Placed>>,
     loose: Vec<Kept<R, Loose<D>>>,
@@ -211,7 +211,7 @@ pub fn end_all<R: Wait + Drop, D: Drop>(
     finished
 }
 
-/// Makes the instances of all stations. With no memory for all of them those that were made are closed.
+/// Opens the instances of all stations. If an allocation fails, those already opened are closed.
 pub fn open_all<R: Wait + Drop + Copy, D: Drop>(
     rt: R,
     alloc: Global,

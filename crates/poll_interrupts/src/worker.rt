@@ -1,4 +1,4 @@
-//! An interrupt worker: it makes its device's acts, and hands the instance to its poller.
+//! //! An interrupt worker: makes its device's acts, and hands the instance to its poller.
 
 ghost use Rattle.std.specs.Prelude.{◌≡◌, ℕ, ◌+◌, ◌≤◌, ◌<◌, ◌++◌, true, false, None, IfSome, is_some, length};
 ghost use Rattle.std.specs.List.{All};
@@ -19,7 +19,7 @@ use rx_ring::{Packet, RxIn};
 use std::sync::Wait;
 use std::thread;
 
-// Leaves the processor to others, so that whoever has an instance can go on.
+// Yields the processor, so that the thread that owns an instance can continue.
 #[derive(Drop)]
 struct Yields;
 
@@ -29,23 +29,23 @@ impl Between for Yields {
     }
 }
 
-/// The controller, by whether the instance is on.
+/// The controller, in its state: the instance is on or off.
 pub(crate) enum Power {
     On(Control<On>),
     Off(Control<Off>),
 }
 
-/// What a worker holds of its instance. It must be spent.
+/// A worker's handles on its instance. A linear value: it can't be dropped.
 pub(crate) struct Access {
     pub(crate) caller: Caller,
     pub(crate) power: Power,
-    /// The device's threaded setting, which an enable writes again (`dev_set_threaded`).
+    /// The device's threaded setting, which an enable writes (`dev_set_threaded`).
     pub(crate) threaded: bool,
 }
 
-/// The worker's seats at its instance, which is off. They must be spent.
+/// The worker's handles on its instance, which is off. A linear value: they can't be dropped.
 pub struct OwnSeats {
-    /// The caller that asks for polls.
+    /// The caller that requests polls.
     pub caller: Caller,
     /// The controller of the instance.
     pub control: Control<Off>,
@@ -54,20 +54,20 @@ pub struct OwnSeats {
 /// Where a worker's interrupts go.
 #[derive(Drop)]
 pub struct InterruptHandler<'p, 'n, R> {
-    /// What waits.
+    /// The runtime, which waits.
     pub rt: R,
     /// The device's number.
     pub number: u32,
     /// The instance.
     pub napi: &'n Napi,
-    /// The bell of its thread, where it has one.
+    /// The waker of its thread, if it has one.
     pub thread: Option<&'n Bell>,
-    /// The bell of the poller of its list.
+    /// The waker of the poller of its list.
     pub poller: &'p Bell,
 }
 
 impl<'p, 'n, R: Wait> InterruptHandler<'p, 'n, R> {
-    // Hands the instance to the list, and wakes who polls it.
+    // Hands the instance to the list, and wakes the poller of the list.
     fn hand_to_list(&self, list: &mut ListIn<R>, granted: Granted) -> Caller
         requires { IsSeatOf self.now.napi.now granted.pass }
         ensures of { IsSeatOf self.now.napi.now result.pass }
@@ -80,7 +80,7 @@ impl<'p, 'n, R: Wait> InterruptHandler<'p, 'n, R> {
         caller
     }
 
-    // Hands the instance to its thread, where it has one and THREADED is set, else to the list, and wakes who polls it
+    // Hands the instance to its thread, if it has one and THREADED is set, otherwise to the list, and wakes the poller
     // (`____napi_schedule`).
     fn hand_over(&self, list: &mut ListIn<R>, mut granted: Granted) -> Caller
         requires { IsSeatOf self.now.napi.now granted.pass }
@@ -99,8 +99,7 @@ impl<'p, 'n, R: Wait> InterruptHandler<'p, 'n, R> {
         caller
     }
 
-    // The interrupt of a packet that was put: it asks for a poll, and where that is granted it hands the instance over
-    // (`napi_schedule`).
+    // The interrupt of a packet that was put: requests a poll, and if it is granted, hands the instance over (`napi_schedule`).
     fn interrupt(&self, list: &mut ListIn<R>, caller: Caller, rx: &RxIn, packet: Packet) -> Caller
         requires of { IsSeatOf self.now.napi.now caller.pass }
         requires put { IsPutLast packet rx.now }
@@ -138,7 +137,7 @@ impl<'p, 'n, R: Wait> InterruptHandler<'p, 'n, R> {
         }
     }
 
-    // One act: the device is asked for it, and it is made.
+    // Makes one act: the device returns it, and the worker makes it.
     #[inline(always)]
     fn make_act<D: Device>(
         &self,
@@ -189,7 +188,7 @@ impl<'p, 'n, R: Wait> InterruptHandler<'p, 'n, R> {
         }
     }
 
-    // Why the worker may not make its next act, if so. If the gate says no, the run is shut.
+    // Returns why the worker may not make its next act, if so. If the gate returns false, the run stops.
     fn stop_before<G: Gate>(&self, setting: &Setting<R, G>, k: u32) -> Option<Stop>
         ensures open { result ≡ None → G.answers setting.now.gate.now self.now.number k true }
         ensures why { IfSome result (IsStop G.may_shut) }
@@ -200,7 +199,7 @@ impl<'p, 'n, R: Wait> InterruptHandler<'p, 'n, R> {
         }
     }
 
-    // The device's acts in order, and why not all were made, if so.
+    // Makes the device's acts in order. Returns why not all were made, if so.
     #[tactic(auto, using(crate::proofs::ActSteps::steps))]
     fn make_acts<D: Device, G: Gate>(
         &self,
@@ -242,21 +241,21 @@ impl<'p, 'n, R: Wait> InterruptHandler<'p, 'n, R> {
     }
 }
 
-/// An interrupt worker, which has a thread of its own. It makes its device's acts over an instance that is enabled before, and
-/// disabled after, also if the run was stopped.
+/// An interrupt worker, run in its own thread. It makes its device's acts over an instance that is enabled before and disabled
+/// after, also if the run was stopped.
 #[derive(Drop)]
 pub struct InterruptWorker<'t, 'p, 'n, R: Wait + Drop, D, G: Gate> {
-    /// What all threads of the run have.
+    /// What all threads of the run share.
     pub setting: &'t Setting<'t, R, G>,
     /// Where its interrupts go.
     pub handler: InterruptHandler<'p, 'n, R>,
-    /// Its end of its poller's list.
+    /// Its end of the list of its poller.
     pub list: ListIn<R>,
     /// The device.
     pub device: D,
     /// The input of the device's receive ring.
     pub rx: RxIn,
-    /// Its seats at the instance, which is off.
+    /// Its handles on the instance, which is off.
     pub seats: Kept<R, OwnSeats>,
     /// Why not all acts were made, if so.
     pub stop: Option<Stop>,
@@ -311,7 +310,7 @@ impl<'t, 'p, 'n, R: Wait + Copy + Drop, D: Device + Drop, G: Gate> Task
     }
 }
 
-/// Why the first of the workers that didn't make all their acts didn't.
+/// Returns why the first worker that didn't make all its acts didn't.
 pub fn worker_stop<'t, 'p, 'n, R: Wait + Drop, D, G: Gate>(
     all: &[InterruptWorker<'t, 'p, 'n, R, D, G>],
 ) -> Option<Stop>

@@ -1,4 +1,4 @@
--- What polls, runs and turns keep of a poller's seats.
+-- What polls, runs and turns preserve of a poller's seats.
 use Rattle.std.proofs.Common.{◌≡◌, ◌∙◌, ℕ, zero, suc, ◌<◌, Bool, List, [], ◌∷◌, Option, Some, None, length, refl, sym, ap, subst, vec_items}
 use Rattle.std.{proofs.Common.{set, get_or, arith}, specs.{Prelude.{◌==◌, IsSome, MatchOption, position}, List.AllByRecursion}}
 use Rattle.poll_runs.specs.Polls.{At, Chain, Poll}
@@ -9,7 +9,7 @@ use Rattle.poll_seats.specs.declared.thread_poller.ThreadPoller.{ThreadPoller}
 use Rattle.poll_seats.specs.SeatBenches.{IsNowhere, IsPolledAt}
 use Rattle.poll_seats.specs.{SeatBenches.PollsSeat, Serving.IsServed, Turns.{TurnsAlone, TurnsByRun}}
 
--- a seat that nobody touched
+-- a seat that wasn't used
 pub seat_stays : (x : Seat) → IsSameSeat x x
 seat_stays x = record { number = refl; napi = refl; thread = refl; caller = λ s. s }
 
@@ -17,7 +17,7 @@ pub seats_stay : {R : Type 0} (l : List (Kept R Seat)) → AreSameSeats l l
 seats_stay [] = tt
 seats_stay (x ∷ xs) = (seat_stays x.value, seats_stay xs)
 
--- what is kept from a first moment to a second and from there to a third
+-- what is preserved from a first moment to a second and from there to a third
 pub seat_joins : (x y z : Seat) → IsSameSeat x y → IsSameSeat y z → IsSameSeat x z
 seat_joins x y z p q =
     record { number = q.number ∙ p.number; napi = q.napi ∙ p.napi; thread = q.thread ∙ p.thread; caller = λ s. q.caller (p.caller s) }
@@ -30,7 +30,7 @@ seats_join (x ∷ a) [] c p q = absurd p
 seats_join (x ∷ a) (y ∷ b) [] p q = absurd q
 seats_join (x ∷ a) (y ∷ b) (z ∷ c) p q = (seat_joins x.value y.value z.value p.0 q.0, seats_join a b c p.1 q.1)
 
--- callers that are there are there again
+-- callers that were present are present again
 pub still_there : {R : Type 0} (a b : List (Kept R Seat)) → AreSameSeats a b → AllByRecursion (λ s. IsSome s.value.caller) a
     → AllByRecursion (λ s. IsSome s.value.caller) b
 still_there [] [] p there = tt
@@ -71,7 +71,7 @@ polls_nowhere {R} seen before id weight once after s e p =
     subst (λ at. MatchOption at (IsNowhere before once after) (IsPolledAt before weight once after))
     (e ∙ ap (λ l. position (λ (seat : Kept R Seat). seat.value.number == id) l) s) p
 
--- a run keeps the seats
+-- a run preserves the seats
 pub run_keeps : {R : Type 0} (weight : ℕ) (polls : List Poll) (before after : SeatBench R) → Chain (At PollsSeat weight) before polls after
     → AreSameSeats (vec_items before.seats) (vec_items after.seats)
 run_keeps {R} weight [] before after c =
@@ -81,7 +81,7 @@ run_keeps {R} weight (p ∷ polls) before after c =
     (vec_items before.seats)) weight p.once before c.0 c.1 in
     seats_join (vec_items before.seats) (vec_items c.0.seats) (vec_items after.seats) one (run_keeps weight polls c.0 after c.2)
 
--- a poller's turn keeps them
+-- a poller's turn preserves them
 turn_keeps : {R : Type 0} (found : Bool) (before after : ListPoller R) → TurnsByRun before found after
     → AreSameSeats (vec_items before.seat_bench.seats) (vec_items after.seat_bench.seats)
 turn_keeps found before after t = run_keeps before.pace.weight t.run.polls before.seat_bench after.seat_bench t.run.seats

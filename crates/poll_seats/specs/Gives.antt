@@ -1,4 +1,4 @@
--- What a poller's thread, and the thread of an instance, give back.
+-- What a poller's thread, and the thread of an instance, return.
 use Rattle.{poll_list.specs.declared.shared.SharedList.SharedList, napi_calls.specs.declared.{kept.Kept.Kept, types.Caller.Caller}}
 use Rattle.poll_tasks.specs.{Asks.IsAsked, Stops.IsStop, declared.pace.Pace.Pace}
 use Rattle.poll_list.specs.declared.list_in.ListIn.{ListIn}
@@ -7,7 +7,7 @@ use Rattle.poll_seats.specs.declared.{poller.Poller.Poller, seat.Seat.Seat, list
 use Rattle.poll_seats.specs.declared.thread_poller.ThreadPoller.{ThreadPoller}
 use Rattle.poll_seats.specs.{Turns.{TurnsAlone, TurnsByRun}, Serving.IsServed}
 
--- by what numbers a gate knows a poller, and the thread of an instance
+-- the numbers that identify a poller, and the thread of an instance, to a gate
 abbrev pub poller_name : ℕ → ℕ
 poller_name number = 100 + number
 
@@ -15,7 +15,7 @@ abbrev pub thread_name : ℕ → ℕ
 thread_name number = 200 + number
 
 module _ {R : Type 0} where
-  -- The poller with this number started, which its gate knows of, and took its turns, one after the other, each a run by this
+  -- The poller with this number started, which its gate allowed, and took its turns, one after the other, each a run by this
   -- pace: over this list, and from its seats as they were to these.
   pub record IsPolledBy (asked : ℕ → Type 0) (pace : Pace) (number : ℕ) (list : SharedList R) (before after : List
       (Kept R Seat)) : Type 0 where
@@ -29,8 +29,8 @@ module _ {R : Type 0} where
     pub to : vec_items last.seat_bench.seats ≡ after
 
 module _ (R : Type 0) where
-  -- The thread of the instance with this number started, which its gate knows of, and took its turns, one after the other,
-  -- each a polling by this pace: with a bell of its own, handing on to this end of a list, and from this caller to that one.
+  -- The thread of the instance with this number started, which its gate allowed, and took its turns, one after the other, each
+  -- a polling by this pace: with its own waker, handing over to this end of a list, and from this caller to that one.
   pub record IsPolledAlone (asked : ℕ → Type 0) (pace : Pace) (number : ℕ) (list : ListIn R) (before after : Caller) : Type 0 where
     pub first : ThreadPoller R
     pub last : ThreadPoller R
@@ -43,10 +43,11 @@ module _ (R : Type 0) where
     pub turns : IsServed TurnsAlone first last
     pub to : last.seat.value.caller ≡ Some after
 
--- `idle` says whether there is nothing to poll, `turns` what a turn is; `may_shut` is true of a gate that may answer false
+-- `idle` says whether there is nothing to poll, `turns` is the relation of a turn, `may_shut` is true of a gate that may return
+-- false
 module _ {R G S : Type 0} (idle : S → Bool) (turns : S → Bool → S → Type 0) (may_shut : Type 0) (answers : G → ℕ → ℕ → Bool → Type 0) where
-  -- The poller started, which its gate knows of, and took its turns, one after the other, unless it has nothing to poll or its run
-  -- was cut short; and what it polls is as its turns left it.
+  -- The poller started, which its gate allowed, and took its turns, one after the other, unless it has nothing to poll or its
+  -- run ended early; and what it polls is as after its turns.
   pub record IsPolled (before after : Poller R G S) : Type 0 where
     pub why : IfSome after.stop (IsStop may_shut)
     pub started : after.stop ≡ None → idle before.served ≡ false → IsAsked answers before.setting.now.gate.now before.name

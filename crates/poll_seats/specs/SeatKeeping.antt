@@ -1,8 +1,8 @@
--- A poller's seats, which stay at their instances.
+-- A poller's seats stay at their instances.
 use Rattle.std.specs.{Prelude.{◌≡◌, List, IsSome}, List.AllZip}
 use Rattle.{napi_calls.specs.declared.kept.Kept.Kept, poll_seats.specs.declared.seat.Seat.Seat}
 
--- the seat is at the same instance, with the same bell, and its caller is there again
+-- the seat is at the same instance, with the same waker, and its caller is present again
 pub record IsSameSeat (a b : Seat) : Type 0 where
   pub number : b.number ≡ a.number
   pub napi : b.napi ≡ a.napi

@@ -1,4 +1,5 @@
-//! Behind the door `poll_engine`: pollers, each in a thread of its own: of the instances on a list, and of single ones.
+//! //! Internal crate of the facade `poll_engine`: pollers, each in its own thread, of the instances on a list or of a single
+//! one.
 #![tactic(auto)]
 
 mod list_poller;

@@ -1,4 +1,4 @@
-//! What a poller with a list polls: its seats are a bench, over which it runs while there is something on the list.
+//! //! What a poller with a list polls: its seats are a bench, over which it runs while there is an instance on the list.
 
 ghost use Rattle.std.specs.Prelude.{◌≡◌, ◌==◌, position, vec_items};
 ghost use Rattle.poll_tasks.specs.Paces.{IsLawful};
@@ -12,7 +12,7 @@ use poll_tasks::Pace;
 use rx_ring::Batch;
 use std::sync::Wait;
 
-/// A poller's seats, as what is polled by the instances' numbers.
+/// A poller's seats, as the bench of the instances' numbers.
 #[derive(Drop)]
 pub struct SeatBench<'n, R: Wait + Drop> {
     rt: R,
@@ -21,7 +21,7 @@ pub struct SeatBench<'n, R: Wait + Drop> {
     batch: Batch,
 }
 
-// Where the instance of this number has its seat.
+// Returns the place of the seat at the instance with this number.
 fn find<'n, R: Wait + Drop>(seats: &[Kept<R, Seat<'n>>], number: u32) -> Option<usize>
     ensures { result ≡ position (λ seat. seat.value.number == number) seats.now }
 {
@@ -67,7 +67,7 @@ pub struct ListPoller<'n, R: Wait + Drop> {
 impl<'n, R: Wait + Drop> ListPoller<'n, R> {
     ghost use Rattle.poll_seats.specs.Turns.{RunsOnce};
 
-    /// What polls what is on this list, with these seats.
+    /// Creates the poller of this list, with these seats.
     pub fn new(rt: R, list: SharedList<R>, seats: Vec<Kept<R, Seat<'n>>>, pace: Pace) -> Self
         requires { IsLawful pace }
         ensures list { result.list ≡ list }
@@ -85,7 +85,7 @@ impl<'n, R: Wait + Drop> ListPoller<'n, R> {
         }
     }
 
-    /// Gives the seats back.
+    /// Returns the seats.
     pub fn leave(self) -> Vec<Kept<R, Seat<'n>>>
         ensures { result ≡ self.entry.seat_bench.seats }
     {
@@ -102,7 +102,7 @@ impl<'n, R: Wait + Drop> ListPoller<'n, R> {
         seats
     }
 
-    // A run over what is on the list, by the budget, the weight and the window of the pace (`net_rx_action`).
+    // Runs over the instances on the list, with the budget, the weight and the window of the pace (`net_rx_action`).
     fn run(&mut self) -> RunReport
         ensures { RunsOnce self.old result self.new }
     {

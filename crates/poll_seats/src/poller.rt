@@ -1,4 +1,4 @@
-//! The thread of a poller, which takes turns until nothing comes any more.
+//! //! The thread of a poller: it takes turns until nothing will be handed over any more.
 
 ghost use Rattle.std.specs.Prelude.{◌≡◌, None, IfSome};
 ghost use Rattle.std.specs.List.{All};
@@ -14,20 +14,20 @@ pub trait Serves {
 
     ghost idle: { Self → Bool };
 
-    /// `turns before found after`: one turn leads from the one to the other, and found something or nothing.
+    /// `turns before found after`: one turn leads from `before` to `after`, and polled something or nothing.
     ghost turns: { Self → Bool → Self → Type 0 };
 
-    /// Whether there is nothing that it could ever poll.
+    /// Returns whether there is nothing that it could ever poll.
     fn is_idle(&self) -> bool
         ensures { result ≡ idle self.now };
 
-    /// Polls what there is to poll. Returns whether there was something.
+    /// Polls what there is to poll. Returns whether there was anything.
     fn turn(&mut self) -> bool
         ensures { turns self.old result self.new };
 }
 
-// Polls while there is something to poll. A turn that finds nothing is the last one if the bell had told before it that nothing
-// comes any more: whoever hands something over does so first, and then tells.
+// Takes turns while there is something to poll. A turn that finds nothing is the last one if it was signalled before that turn
+// that nothing will be handed over any more: a hand-over comes before that signal.
 fn serve<R: Wait, S: Serves>(rt: &R, bell: &Bell, pause: &Pause, served: &mut S)
     ensures { IsServed S.turns served.old served.new }
 {
@@ -44,20 +44,20 @@ fn serve<R: Wait, S: Serves>(rt: &R, bell: &Bell, pause: &Pause, served: &mut S)
     unreachable!()
 }
 
-/// A poller, which has a thread of its own. One that has nothing to poll needs none, and takes no turns.
+/// A poller, run in its own thread. One that has nothing to poll needs none, and takes no turns.
 #[derive(Drop)]
 pub struct Poller<'t, 'p, R: Wait + Drop, G: Gate, S: Drop> {
-    /// What all threads of the run have.
+    /// What all threads of the run share.
     pub setting: &'t Setting<'t, R, G>,
-    /// The number by which the gate knows the poller.
+    /// The number that identifies the poller to the gate.
     pub name: u32,
-    /// What wakes the poller.
+    /// The waker of the poller.
     pub bell: &'p Bell,
     /// How the poller waits.
     pub pause: Pause,
     /// What it polls.
     pub served: S,
-    /// Why its run was cut short: a thread couldn't be started, and it took no turn; or its gate returned false.
+    /// Why its run ended early: a thread couldn't be started, and it took no turn; or its gate returned false.
     pub stop: Option<Stop>,
 }
 
@@ -88,7 +88,7 @@ impl<'t, 'p, R: Wait + Drop, G: Gate, S: Serves + Drop> Task for Poller<'t, 'p, 
     }
 }
 
-/// Why the first of these pollers whose run was cut short had it cut short.
+/// Returns why the first of these pollers whose run ended early did so.
 pub fn first_stop<'t, 'p, R: Wait + Drop, G: Gate, S: Drop>(
     all: &[Poller<'t, 'p, R, G, S>],
 ) -> Option<Stop>

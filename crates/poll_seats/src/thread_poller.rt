@@ -1,4 +1,4 @@
-//! What the thread of an instance polls: that one only.
+//! //! What the thread of an instance polls: only that instance.
 
 ghost use Rattle.std.specs.Prelude.{◌≡◌, ◌++◌, not, is_some};
 ghost use Rattle.poll_list.specs.SharedList.{pushed_by};
@@ -18,13 +18,13 @@ use std::sync::Wait;
 /// What the thread of an instance polls, if the instance has one (`napi_threaded_poll`).
 #[derive(Drop)]
 pub struct ThreadPoller<'p, 'n, R: Wait + Drop> {
-    /// What waits.
+    /// The runtime, which waits.
     pub rt: R,
-    /// The seat that polls as the instance's thread. It knows of a bell if the instance has a thread.
+    /// The handle that polls as the instance's thread. It has a waker if the instance has a thread.
     pub seat: Kept<R, Seat<'n>>,
-    /// Where the instance goes that the thread may not poll again, or from which THREADED was taken.
+    /// The list that gets the instance if the thread may not poll it again, or if THREADED was cleared.
     pub list: ListIn<R>,
-    /// The bell of the poller of that list.
+    /// The waker of that list's poller.
     pub poller: &'p Bell,
     /// How it polls.
     pub pace: Pace,
@@ -33,7 +33,7 @@ pub struct ThreadPoller<'p, 'n, R: Wait + Drop> {
     ghost lawful: { IsLawful pace },
 }
 
-// Hands an instance on to the list, if a poll ended so that its thread may not poll it again, and wakes who polls it there.
+// Hands an instance to the list, if a poll ended such that its thread may not poll it again, and wakes the poller of the list.
 fn hand_on<R: Wait>(list: &mut ListIn<R>, poller: &Bell, number: u32, next: Next)
     ensures { pushed_by list.new ≡ pushed_by list.old ++ handed_on next number }
 {

@@ -8,7 +8,7 @@ abbrev pub IsSpawned : {J : Type 0} → (J → J → Type 0) → J → Spawned J
 IsSpawned gives task (Running handle) = handle.promise.0.value ≡ task
 IsSpawned gives task (Ended after) = gives task after
 
--- there is nothing in it yet, and room for so many
+-- it is still empty, with room for so many
 abbrev pub HasRoom : {A : Type 0} → ℕ → Vec A → Type 0
 HasRoom count room = (vec_len room ≡ 0) × (count ≤ vec_capacity room)
 
@@ -16,6 +16,6 @@ HasRoom count room = (vec_len room ≡ 0) × (count ≤ vec_capacity room)
 abbrev pub IsAt : {A : Type 0} → List A → ℕ → A → Type 0
 IsAt xs k x = (k < length xs) × (slice_index_or xs k x ≡ x)
 
--- of each item so much is known, by its place
+-- this is known of each item, by its place
 abbrev pub EachAt : {A : Type 0} → (ℕ → A → Type 0) → List A → Type 0
 EachAt {A} P xs = (k : ℕ) (d : A) → k < length xs → P k (slice_index_or xs k d)

@@ -10,20 +10,20 @@ use std::sync::Wait;
 use std::thread;
 use std::thread::Threads;
 
-/// The tasks of a run, before their threads and after; or room for what they are while these run.
+/// The tasks of a run, before and after their threads ran them; or room for them while the threads run.
 #[derive(Drop)]
 pub struct Tasks<P, W, S> {
     /// The pollers.
     pub pollers: Vec<P>,
-    /// The workers, one of each instance.
+    /// The interrupt workers, one for each instance.
     pub workers: Vec<W>,
     /// The instances' own threads.
     pub threads: Vec<S>,
 }
 
-/// Runs the threads of a run. All that poll are started before the workers: if one can't be started, no worker makes an act, so
-/// that none waits for it. The pollers, whose bells these are, are told when all workers have ended. `unpolled` is told if one
-/// that polls couldn't be started, and `refused` if any couldn't.
+/// Runs the threads of a run. All pollers and thread pollers are started before the workers: if one of them can't be started,
+/// no worker makes an act, so none waits for a poll. After all workers have ended, the pollers, which wait by these wakers, are
+/// signalled to end. Sets `unpolled` if a poller couldn't be started, and `refused` if any thread couldn't.
 pub fn drive<R, P, W, S>(
     rt: &R,
     tasks: Tasks<P, W, S>,

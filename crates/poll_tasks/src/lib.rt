@@ -1,4 +1,4 @@
-//! Behind the door `poll_engine`: tasks in threads of their own, and what the threads of a run have in common.
+//! //! Internal crate of the facade `poll_engine`: tasks, each in its own thread, and what the threads of a run share.
 #![tactic(auto)]
 
 mod driving;

@@ -1,4 +1,4 @@
-//! Tasks, each in a thread of its own.
+//! //! Tasks, each in its own thread.
 
 ghost use Rattle.std.specs.Prelude.{◌≤◌, ◌≡◌, List, vec_len, vec_capacity};
 ghost use Rattle.std.specs.List.{AllZip};
@@ -8,20 +8,20 @@ use crate::signals::Refusal;
 use std::snapshot::Snapshot;
 use std::thread::{Promise, PromisedHandle, Scope, Threads};
 
-/// What one thread does. A task returns itself, so what comes of it is in its own fields.
+/// What one thread does. A task returns itself, so its results are in its own fields.
 pub trait Task {
     /// `gives before after`: the task as it was, and as it returned itself.
     ghost gives: { Self → Self → Type 0 };
 
-    /// Whether it needs no thread, because it waits for no other one.
+    /// Returns whether it needs no thread, because it waits for no other one.
     fn is_idle(&self) -> bool;
 
-    /// Does what the task is for.
+    /// Does the work of the task.
     fn run(self) -> Self
         ensures { gives self result };
 }
 
-/// The promise that a thread returns its task, run.
+/// The postcondition of a thread: it returns its task after running it.
 #[derive(Drop)]
 pub struct Gives<J>(pub Snapshot<J>);
 
@@ -34,12 +34,12 @@ impl<J: Task> Promise<J> for Gives<J> {
 pub enum Spawned<J: Task> {
     /// Its thread was started.
     Running(PromisedHandle<J, Gives<J>>),
-    /// It was run where it was started, because it needs no thread, or none could be made.
+    /// It was run by the caller's thread, because it needs no thread or none could be started.
     Ended(J),
 }
 
-/// Starts a task. If no thread can be made, the flag is set first, and then the task is run here: a task reads its flag before it
-/// waits for any other.
+/// Starts a task. If no thread can be started, the flag is set first, and then the task is run by the caller: a task reads its
+/// flag before it waits for any other.
 pub fn spawn<'s, E, J: Task + Drop + Send + 's>(
     scope: &Scope<'s, E>,
     task: J,
@@ -63,7 +63,7 @@ pub fn spawn<'s, E, J: Task + Drop + Send + 's>(
     }
 }
 
-/// Starts all tasks, in order. The vector that they came from has room for them then.
+/// Starts all tasks, in order. Requires room for them in the vector that they came from.
 pub fn spawn_all<'s, E, J: Task + Drop + Send + 's>(
     scope: &Scope<'s, E>,
     tasks: &mut Vec<J>,
@@ -79,7 +79,7 @@ pub fn spawn_all<'s, E, J: Task + Drop + Send + 's>(
     }
 }
 
-/// Joins all, in order. There is room for them.
+/// Joins all, in order. Requires room for them.
 pub fn join_all<R: Threads, J: Task>(rt: &R, spawned: &mut Vec<Spawned<J>>, tasks: &mut Vec<J>)
     requires { HasRoom (vec_len spawned.old) tasks.old }
     ensures { (before : List J) → AllZip (IsSpawned J.gives) before spawned.old.items

@@ -14,14 +14,14 @@ pub each_push : {A : Type 0} (P : A → Type 0) (xs : List A) (x : A) → AllByR
 each_push P [] x h p = (p, tt)
 each_push P (y ∷ xs) x h p = (h.0, each_push P xs x h.1 p)
 
--- a station is that of one poller alone
+-- a station belongs to one poller only
 pub not_other : (pollers number k n : ℕ) → is_own k pollers number ≡ true → n ≢ k → is_own n pollers number ≡ false
 not_other pollers number k n own ne =
     ne_eqb ((number - 1) % pollers) n (λ same. ne (sym same ∙ eqb-true ((number - 1) % pollers) k own))
 
 -- ---- the seats of a poller
 
--- they went to its stations so far, and are of those that are left
+-- they went to its stations so far, and are among the remaining ones
 pub record HasGiven {R D G : Type 0} (pollers : ℕ) (before : List (Vec (Kept R Seat))) (did : List (Outcome R D G))
     (left : List (InterruptWorker R D G)) (k : ℕ) (turned : Vec (Kept R Seat)) : Type 0 where
   pub rest : AreSeatsAt pollers left k turned
@@ -63,7 +63,7 @@ module _ {R D G : Type 0} (pollers : ℕ) (before : List (Vec (Kept R Seat))) (d
       → HasGiven pollers before did (place ∷ left) k was → AllZip Goes (place ∷ own_left k) (vec_items was)
   own_first k was own h = subst (λ b. AllZip Goes (cond b (place ∷ own_left k) (own_left k)) (vec_items was)) own h.rest
 
-  -- there is one for the station at hand, and it is of its instance
+  -- there is one for the current station, and it is at its instance
   pub some_left : (polled : List (Vec (Kept R Seat))) (k : ℕ) (was : Vec (Kept R Seat))
       → is_own k pollers place.handler.number ≡ true → k < length polled → EachAt (HasGiven pollers before did (place ∷ left)) polled
       → get_or polled k was ≡ was → suc (length (own_left k)) ≡ length (vec_items was)
@@ -104,7 +104,7 @@ module _ {R D G : Type 0} (pollers : ℕ) (before : List (Vec (Kept R Seat))) (d
           ∙ append-nil (filter (by k) did)) ∙ h.gone d;
     }
 
-    -- the next one goes to the station at hand
+    -- the next one goes to the current station
     pub given_more : (polled : List (Vec (Kept R Seat))) (k : ℕ) (after : List (Vec (Kept R Seat)))
         → is_own k pollers place.handler.number ≡ true → k < length polled → EachAt (HasGiven pollers before did (place ∷ left)) polled
         → TakesNext polled k o.poller after → EachAt (HasGiven pollers before (did ++ o ∷ []) left) after

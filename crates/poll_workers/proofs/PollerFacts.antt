@@ -1,4 +1,4 @@
--- Pollers that get their seats.
+-- Pollers receive their seats.
 use Rattle.std.proofs.Common.{◌≡◌, ◌≢◌, ◌∙◌, ℕ, ◌+◌, ◌<◌, ◌≤◌, Bool, true, List, [], ◌∷◌, ◌++◌}
 use Rattle.std.proofs.Common.{length, ap, sym, subst, get_or, arith, append-nil}
 use Rattle.std.{proofs.{Common.{cond, vec_items}, lemmas.List.length-set}, specs.{Global.Vec, Prelude.{filter, vec_capacity}}}
@@ -67,7 +67,7 @@ all_cut P (x ∷ xs) y h =
     let rest = all_cut P xs y (λ k d low. h (suc k) d (omega (arith, low))) in
     (all_cons P x xs (h 0 x (omega arith)) rest.0, rest.1)
 
--- two ends of a poller's list are ends of it, and so are those that are left
+-- two ends of a poller's list are ends of it, and so are the remaining ones
 pub ends_cut : {R : Type 0} (lists : List (SharedList R)) (ends : List (Vec (ListIn R))) (k : ℕ) (was now : Vec (ListIn R))
     (mid : List (ListIn R)) (one other : ListIn R)
     → k < length ends → get_or ends k was ≡ was → vec_items was ≡ mid ++ one ∷ [] → mid ≡ vec_items now ++ other ∷ []
@@ -80,7 +80,7 @@ ends_cut {R} lists ends k was now mid one other within there whole rest each =
     let second = all_cut (IsEndOf lists k) (vec_items now) other (subst (λ l. All (IsEndOf lists k) l) rest first.0) in
     (first.1, second.1, each_set P P ends k now within each second.0 (λ n x ne h. h) (length-set ends k now))
 
--- ---- the list and the bell of a station's poller
+-- ---- the list and the waker of a station's poller
 
 pub by_station : (pollers number k n : ℕ) → is_own k pollers number ≡ true → n ≡ number → poller_by pollers n ≡ k
 by_station pollers number k n own e = ap (λ m. poller_by pollers m) e ∙ eqb-true (poller_by pollers number) k own
@@ -93,7 +93,7 @@ wired_end lists k n given end is same e =
 pub wired_bell : (bells : List Bell) (k n : ℕ) (here bell : Bell) → IsAt bells k here → bell ≡ here → n ≡ k → IsAt bells n bell
 wired_bell bells k n here bell is same e = subst (λ m. IsAt bells m bell) (sym e) (subst (λ b. IsAt bells k b) (sym same) is)
 
--- ---- what is counted while one more is given out
+-- ---- the counts while one more is given out
 
 pub within_of : (k n l m : ℕ) → l ≡ m → k < n → n ≡ m → k < l
 within_of k n l m e h f = omega (arith, e, h, f)

@@ -1,4 +1,4 @@
--- What the parts of a run come to for its stations.
+-- What follows from the parts of a run for its stations.
 use Rattle.std.proofs.lemmas.{Bool.ne_eqb, Grind.common_steps, List.{get_or_default, length-map, nil_from_length}}
 use Rattle.std.proofs.Common.{◌≡◌, ◌≢◌, ℕ, zero, suc, ◌≤◌, ◌<◌, Bool, true, false, None, is_some, List, [], ◌∷◌, ◌++◌, sym}
 use Rattle.std.{proofs.Common.{ap, inl, inr, ◌∙◌, refl, subst, Some, All, arith, rules, get_or, length}, specs.Prelude.{filter, map}}
@@ -47,7 +47,7 @@ same_ring a b c napi e s h = let whole : IsInputOf b napi = subst (λ (r : RxIn)
 capped_small : (n : ℕ) → n ≤ 4294967295 → capped n ≡ n
 capped_small n h = omega arith
 
--- what the worker of a station came back with, where it made all its acts
+-- the state of a station's worker after all its acts
 module _ {R D G : Type 0} (acts : D → ℕ) (answer : D → ℕ → Act) (after : D → ℕ → D) (answers : ℕ → ℕ → Bool → Type 0)
     (lists : List (SharedList R)) (pollers : ℕ) (station : Station D) (loose : Kept R (Loose D)) (worked : InterruptWorker R D G)
     (poller : Kept R Seat) (thread : OwnThread R G) (left : Loose D) (end : Finished D) (opened : IsLoose station loose.value)
@@ -117,7 +117,7 @@ module _ {R D G : Type 0} (acts : D → ℕ) (answer : D → ℕ → Act) (after
             ∙ ap (λ (s : OwnSeats). s.caller) taken.seats)));
       }
 
-  -- a station whose worker made all its acts, and which was ended, is finished
+  -- a station whose worker made all its acts, and which was closed, is finished
   finished_of : IsFinished acts answer after answers station end
   finished_of =
       let work = made.before in
@@ -151,7 +151,7 @@ module _ {R D G : Type 0} (acts : D → ℕ) (answer : D → ℕ → Act) (after
 
 module _ {R D G : Type 0} (acts : D → ℕ) (answer : D → ℕ → Act) (after : D → ℕ → D) (answers : ℕ → ℕ → Bool → Type 0)
     (asked : ℕ → Type 0) (pace : Pace) (lists : List (SharedList R)) (pollers : ℕ) where
-  -- the worker of this station came back so, and so did its thread
+  -- the worker of this station ended in this state, and so did its thread
   abbrev Works : Station D → InterruptWorker R D G → Type 0
   Works station worked = (loose : Kept R (Loose D)) × IsKeptLoose station loose
       × IsWorkedOf acts answer after answers lists pollers loose worked
@@ -247,14 +247,14 @@ fresh_of station seat (loose, opened, for) =
       unused = opened.poller;
     }
 
--- a poller without stations isn't there
+-- a poller without stations doesn't exist
 crew_is : {D : Type 0} (R : Type 0) (asked : ℕ → Type 0) (pace : Pace) (lists : List (SharedList R)) (pollers : ℕ) (number : ℕ)
     (courses : List (Course D))
     → (courses ≢ [] → TakesTurns R asked pace lists pollers number courses) → IsCrew R asked pace lists pollers number courses
 crew_is R asked pace lists pollers number [] turns = tt
 crew_is R asked pace lists pollers number (c ∷ cs) turns = turns (λ e. absurd (let n = ap (λ l. length l) e in omega (arith, n)))
 
--- what the threads of a run came to, where all went well
+-- what the threads of a run return if none failed
 module _ {R D G : Type 0} (acts : D → ℕ) (answer : D → ℕ → Act) (after : D → ℕ → D) (answers : G → ℕ → ℕ → Bool → Type 0)
     (setting : Setting R G) (lists : List (SharedList R)) (pollers : ℕ) (stations : List (Station D)) (loose left : List (Kept R (Loose D)))
     (opened : AllZip IsKeptLoose stations loose) (ran : HaveRun acts answer after answers setting lists pollers loose left)
@@ -343,7 +343,7 @@ module _ {R D G : Type 0} (acts : D → ℕ) (answer : D → ℕ → Act) (after
         (length-map polled (λ p. p.served.seat_bench.seats) ∙ ran.same) (by_poller ∙ ap (λ v. vec_items v) here.1)) t.1.2;
   }
 
--- no station is polled by nobody
+-- each station has a poller
 pub none_polled : {D : Type 0} (R : Type 0) (asked : ℕ → Type 0) (pace : Pace) (acts : D → ℕ) (answer : D → ℕ → Act) (after : D → ℕ → D)
     (pollers : ℕ) → ArePolled R asked pace acts answer after pollers [] []
 none_polled R asked pace acts answer after pollers =
@@ -375,7 +375,7 @@ some_seat served some =
 some_is : {A : Type 0} {x y : A} → Some x ≡ Some y → x ≡ y
 some_is {x = x} e = ap (λ o. unwrap_or o x) e
 
--- ---- what came back of what was given out
+-- ---- what came back of the distributed parts
 
 module _ {R D G : Type 0} (acts : D → ℕ) (answer : D → ℕ → Act) (after : D → ℕ → D) (may_shut : Type 0)
     (answers : G → ℕ → ℕ → Bool → Type 0) (setting : Setting R G) (lists : List (SharedList R)) (bells : List Bell) where
@@ -404,7 +404,7 @@ module _ {R D G : Type 0} (acts : D → ℕ) (answer : D → ℕ → Act) (after
   all_worked loose jobs done given wired made =
       zip_same _ _ _ _ (λ l d h. worked_of l h.0 d h.1.0 h.1.1 h.2) (zip_both _ _ _ _ _ (zip_right _ _ _ _ given wired) made)
 
-  -- the worker came back at the instance that stayed behind
+  -- the worker came back at the instance that stayed with the caller
   pub record IsBackAt (placed : Kept R Placed) (done : InterruptWorker R D G) : Type 0 where
     pub number : done.handler.number ≡ placed.value.number
     pub napi : done.handler.napi.now ≡ placed.value.napi
@@ -436,7 +436,7 @@ module _ {R D G : Type 0} (acts : D → ℕ) (answer : D → ℕ → Act) (after
       → All (λ w. IfSome w.stop (IsStop may_shut)) done
   all_worker_stops jobs done made = each_index _ _ (zip_each _ _ _ _ (λ j d h. h.why) made)
 
-  -- ---- what the threads left
+  -- ---- the parts after the threads have ended
 
   part_of : (placed : Kept R Placed) (o : Outcome R D G) → IsBackAt placed o.worker
       → IsLeftBy o.worker o.poller o.thread o.loose.value → IsKeptPartOf o.loose placed
@@ -601,7 +601,7 @@ module _ {R D G : Type 0} (acts : D → ℕ) (answer : D → ℕ → Act) (after
       h.1.0.seat.thread (turned_by l h.0 t _ refl h.1.0 h.1.1 h.2 whole after is))
       (zip_both _ _ _ _ _ (zip_right _ _ _ _ for wired) did)
 
--- why the runs of pollers were cut short
+-- why the runs of pollers ended early
 pub all_stops : {R G S : Type 0} (idle : S → Bool) (turns : S → Bool → S → Type 0) (may_shut : Type 0) (answers : G → ℕ → ℕ → Bool → Type 0)
     (before after : List (Poller R G S)) → AllZip (IsPolled idle turns may_shut answers) before after
     → All (λ p. IfSome p.stop (IsStop may_shut)) after

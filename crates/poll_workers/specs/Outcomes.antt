@@ -31,7 +31,7 @@ module _ {R D G : Type 0} where
     pub thread_is : thread.served.seat.value.caller ≡ Some loose.thread
     pub thread_of : IsSeatOf worker.handler.napi.now loose.thread.pass
 
--- the next one of a poller's seats was taken
+-- the next of a poller's seats was taken
 pub record TakesNext {R : Type 0} (before : List (Vec (Kept R Seat))) (k : ℕ) (seat : Kept R Seat) (after : List (Vec (Kept R Seat)))
     : Type 0 where
   pub was : Vec (Kept R Seat)
@@ -48,7 +48,7 @@ pub record Outcome (R D G : Type 0) : Type 0 where
   pub loose : Kept R (Loose D)
 
 module _ {R D G : Type 0} where
-  -- so for all instances, in order, each with the next one of the seats of its poller
+  -- the same for all instances, in order, each with the next of the seats of its poller
   pub record AreLeftBy (workers : List (InterruptWorker R D G)) (seats : List (Vec (Kept R Seat)))
       (threads : List (Poller R G (ThreadPoller R))) (loose : List (Kept R (Loose D))) : Type 0 where
     pub all : List (Outcome R D G)

@@ -12,7 +12,8 @@ use Rattle.poll_seats.specs.declared.{seat.Seat.Seat, poller.Poller.Poller, list
 use Rattle.poll_seats.specs.{declared.thread_poller.ThreadPoller.ThreadPoller, Gives.{poller_name, thread_name}}
 
 module _ {R D G : Type 0} where
-  -- the worker has what all threads have, the device, its number, its end of the ring and its seats, and knows of its thread
+  -- the worker has what all threads share, the device, its number, its end of the ring and its seats, and the waker of its
+  -- thread
   pub record IsJobOf (setting : Setting R G) (loose : Loose D) (job : InterruptWorker R D G) : Type 0 where
     pub has : job.setting.now ≡ setting
     pub same_number : job.handler.number ≡ loose.number
@@ -28,7 +29,7 @@ module _ {R D G : Type 0} where
   IsJobAt placed job = job.handler.napi.now ≡ placed.value.napi
 
 module _ {R D : Type 0} where
-  -- the seat has the number and this caller, and knows of a bell exactly if there is a thread
+  -- the seat has the number and this caller, and has a waker exactly if there is a thread
   pub record IsSeatFor (loose : Loose D) (caller : Caller) (seat : Kept R Seat) : Type 0 where
     pub number : seat.value.number ≡ loose.number
     pub thread : is_some seat.value.thread ≡ loose.has_thread
@@ -38,7 +39,7 @@ module _ {R D : Type 0} where
   IsKeptSeatFor loose seat = IsSeatFor loose.value loose.value.poller seat
 
   module _ {G : Type 0} where
-    -- the instance's thread has the name and the thread's caller, and what all threads have
+    -- the instance's thread has the name and the thread's caller, and what all threads share
     pub record IsThreadFor (setting : Setting R G) (loose : Loose D) (side : Poller R G (ThreadPoller R)) : Type 0 where
       pub has : side.setting.now ≡ setting
       pub paced : side.served.pace ≡ setting.pace
@@ -49,21 +50,21 @@ module _ {R D : Type 0} where
     IsKeptThreadFor setting loose side = IsThreadFor setting loose.value side
 
 module _ {R : Type 0} where
-  -- it is at the instance, and knows the bell of its thread, if it has one
+  -- it is at the instance, and has the waker of its thread, if there is one
   pub record IsSeatAt (placed : Kept R Placed) (seat : Kept R Seat) : Type 0 where
     pub number : seat.value.number ≡ placed.value.number
     pub napi : seat.value.napi.now ≡ placed.value.napi
     pub bell : IfSome seat.value.thread (λ b. b.now ≡ placed.value.bell)
     pub caller : IsSome seat.value.caller
 
-  -- the thread's seat is at the instance, whose bell wakes it
+  -- the thread's seat is at the instance, whose waker wakes the thread
   pub record IsThreadAt {G : Type 0} (placed : Kept R Placed) (side : Poller R G (ThreadPoller R)) : Type 0 where
     pub seat : IsSeatAt placed side.served.seat
     pub bell : side.bell.now ≡ placed.value.bell
     pub wakes : Wakes side.bell.now side.pause
 
 module _ {R : Type 0} where
-  -- an end of this list, at which nothing was pushed
+  -- an end of this list, by which nothing was pushed
   abbrev pub IsNewEnd : SharedList R → ListIn R → Type 0
   IsNewEnd list end = IsInOf list end × (pushed_by end ≡ [])
 
@@ -76,27 +77,27 @@ module _ {R : Type 0} where
   AreEndsOf lists ends = EachAt (λ k own. All (IsEndOf lists k) (vec_items own)) ends
 
   module _ {G : Type 0} (lists : List (SharedList R)) (bells : List Bell) where
-    -- a worker pushes into the list of the poller of its station, and wakes that one
+    -- a worker pushes into the list of the poller of its station, and wakes that poller
     pub record IsWiredJob {D : Type 0} (job : InterruptWorker R D G) : Type 0 where
       pub list : IsEndOf lists (poller_by (length bells) job.handler.number) job.list
       pub bell : IsAt bells (poller_by (length bells) job.handler.number) job.handler.poller.now
 
-    -- so does the thread of an instance
+    -- the same for the thread of an instance
     pub record IsWiredSide (side : Poller R G (ThreadPoller R)) : Type 0 where
       pub list : IsEndOf lists (poller_by (length bells) side.served.seat.value.number) side.served.list
       pub bell : IsAt bells (poller_by (length bells) side.served.seat.value.number) side.served.poller.now
 
--- a poller begins with a new list
+-- a poller starts with a new list
 abbrev pub IsBegin : {R : Type 0} → Begin R → Type 0
 IsBegin begin = (ends : ℕ) × IsNewList ends begin.list
 
 module _ {R : Type 0} where
-  -- each of so many pollers has those seats that are its own, and room for so many
+  -- each of so many pollers has its own seats, and room for so many
   abbrev pub HaveOwn : ℕ → ℕ → List (Kept R Seat) → List (Vec (Kept R Seat)) → Type 0
   HaveOwn count pollers seats =
       EachAt (λ k own. (vec_items own ≡ filter (λ (s : Kept R Seat). is_own k pollers s.value.number) seats) × (count ≤ vec_capacity own))
 
-  -- a poller has one seat more
+  -- a poller has one more seat
   pub record TakesSeat (before : List (Vec (Kept R Seat))) (poller : ℕ) (seat : Kept R Seat) (after : List (Vec
       (Kept R Seat))) : Type 0 where
     pub was : Vec (Kept R Seat)
@@ -107,7 +108,8 @@ module _ {R : Type 0} where
     pub rest : after ≡ slice_set before poller now
 
 module _ {R G : Type 0} where
-  -- The poller with this number has what all threads have, the bell of this number, which wakes it, a new list, and these seats.
+  -- The poller with this number has what all threads share, the waker of this number, which wakes it, a new list, and these
+  -- seats.
   pub record IsPoller (setting : Setting R G) (bells : List Bell) (seats : List (Kept R Seat)) (number : ℕ)
       (poller : Poller R G (ListPoller R)) : Type 0 where
     pub has : poller.setting.now ≡ setting
@@ -118,7 +120,7 @@ module _ {R G : Type 0} where
     pub new : (ends : ℕ) × IsNewList ends poller.served.list
     pub seats_are : vec_items poller.served.seat_bench.seats ≡ seats
 
-  -- so for all of so many pollers, each with those seats that are its own
+  -- the same for all of so many pollers, each with its own seats
   abbrev pub ArePollers : Setting R G → List Bell → ℕ → List (Kept R Seat) → List (Poller R G (ListPoller R)) → Type 0
   ArePollers setting bells pollers seats =
       EachAt (λ k poller. IsPoller setting bells (filter (λ (s : Kept R Seat). is_own k pollers s.value.number) seats) k poller)

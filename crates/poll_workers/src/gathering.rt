@@ -1,4 +1,4 @@
-//! What the threads of a run hold of the instances is taken out of them.
+//! //! Takes the parts of each instance out of the threads of a run.
 
 ghost use Rattle.std.specs.Prelude.{◌≡◌, ◌≤◌, ◌<◌, length, map, slice_index_or, vec_items, vec_len};
 ghost use Rattle.std.specs.List.{AllZip};
@@ -21,7 +21,7 @@ pub(crate) type RunTasks<'t, 'p, 'n, R, D, G> = Tasks<
     OwnThread<'t, 'p, 'n, R, G>,
 >;
 
-// What the threads of one instance hold of it.
+// The parts of one instance, as its threads hold them.
 fn leave<'t, 'p, 'n, R: Wait + Drop, D: Drop, G: Gate>(
     worker: InterruptWorker<'t, 'p, 'n, R, D, G>,
     poller: Kept<R, Seat<'n>>,
@@ -68,7 +68,7 @@ fn leave<'t, 'p, 'n, R: Wait + Drop, D: Drop, G: Gate>(
     }
 }
 
-/// The seats of all pollers. There is room for them.
+/// Returns the seats of all pollers. Requires room for them.
 pub(crate) fn seats_left<'t, 'p, 'n, R: Wait + Drop, G: Gate>(
     pollers: Vec<OwnPoller<'t, 'p, 'n, R, G>>,
     room: Vec<Vec<Kept<R, Seat<'n>>>>,
@@ -92,7 +92,7 @@ pub(crate) fn seats_left<'t, 'p, 'n, R: Wait + Drop, G: Gate>(
     seats
 }
 
-// The next one of a poller's seats.
+// Returns the next of a poller's seats.
 fn next_of<'n, R: Wait + Drop>(
     seats: &mut Vec<Vec<Kept<R, Seat<'n>>>>,
     poller: usize,
@@ -105,7 +105,7 @@ fn next_of<'n, R: Wait + Drop>(
     seats[poller].remove(0)
 }
 
-/// Takes what the threads hold of each instance out of them, in order. There is room for it.
+/// Takes the parts of each instance out of the threads, in order. Requires room for them.
 pub(crate) fn gather<'t, 'p, 'n, R: Wait + Drop + Copy, D: Drop, G: Gate>(
     rt: R,
     workers: Vec<InterruptWorker<'t, 'p, 'n, R, D, G>>,

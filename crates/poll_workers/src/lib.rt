@@ -1,4 +1,5 @@
-//! Behind the door `poll_engine`: interrupt workers, pollers and thread pollers, each in a thread of its own, over shared instances.
+//! //! Internal crate of the facade `poll_engine`: interrupt workers, pollers and thread pollers, each in its own thread, over
+//! shared instances.
 #![tactic(auto)]
 
 mod fault;

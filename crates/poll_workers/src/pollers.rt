@@ -1,4 +1,4 @@
-//! The pollers of a run, each with its bell, its list and its seats.
+//! //! The pollers of a run, each with its waker, its list and its seats.
 
 ghost use Rattle.std.specs.Prelude.{◌≡◌, ◌≤◌, ◌<◌, ◌+◌, ℕ, [], List, IfOk, length, map, slice_index_or, vec_items, vec_len, vec_capacity};
 ghost use Rattle.std.specs.Global.{Vec};
@@ -18,27 +18,27 @@ use poll_tasks::{Bell, Gate, Pause, Setting};
 use std::alloc::{AllocError, Global};
 use std::sync::Wait;
 
-// A poller goes by 100 and its number from 0 (`poller_name`).
+// The name of a poller is 100 plus its number, counted from 0 (`poller_name`).
 const FIRST_POLLER: u32 = 100;
 
 /// A poller with a list.
 pub(crate) type OwnPoller<'t, 'p, 'n, R, G> = Poller<'t, 'p, R, G, ListPoller<'n, R>>;
 
-/// What a poller begins with beside its bell and its seats: its list, and how it waits.
+/// What a poller starts with, apart from its waker and its seats: its list, and how it waits.
 #[derive(Drop)]
 pub(crate) struct Begin<R: Wait + Drop> {
     list: SharedList<R>,
     pause: Pause,
 }
 
-/// What all pollers begin with, and the ends of their lists.
+/// What all pollers start with, and the ends of their lists.
 #[derive(Drop)]
 pub(crate) struct Begins<R: Wait + Drop> {
     pub(crate) pollers: Vec<Begin<R>>,
     pub(crate) ends: Vec<Vec<ListIn<R>>>,
 }
 
-// What a poller of so many stations at most begins with, and two ends of its list for each.
+// Returns what a poller of at most so many stations starts with, and two ends of its list for each.
 fn begin_of<R: Wait + Drop + Copy>(
     rt: R,
     alloc: Global,
@@ -57,7 +57,7 @@ fn begin_of<R: Wait + Drop + Copy>(
     Ok((Begin { list, pause }, ends))
 }
 
-/// The bells of so many pollers, and what these begin with, each with room for so many stations.
+/// Returns the wakers of so many pollers, and what these start with, each with room for so many stations.
 pub(crate) fn begins_of<R: Wait + Drop + Copy>(
     rt: R,
     alloc: Global,
@@ -93,7 +93,7 @@ pub(crate) fn begins_of<R: Wait + Drop + Copy>(
     Ok((bells, begins))
 }
 
-/// Room for the seats of so many pollers, for so many of each.
+/// Returns room for the seats of so many pollers, for so many of each.
 pub(crate) fn seats_of<'n, R: Wait + Drop + Copy>(
     alloc: Global,
     pollers: usize,
@@ -109,7 +109,7 @@ pub(crate) fn seats_of<'n, R: Wait + Drop + Copy>(
     Ok(seats)
 }
 
-/// Gives a poller one seat more. It has room for it.
+/// Gives a poller one more seat. Requires room for it.
 pub(crate) fn seat_at<'n, R: Wait + Drop>(
     seats: &mut Vec<Vec<Kept<R, Seat<'n>>>>,
     poller: usize,
@@ -123,7 +123,7 @@ pub(crate) fn seat_at<'n, R: Wait + Drop>(
     seats[poller].push_reserved(seat);
 }
 
-/// Two ends of a poller's list. Each poller has two.
+/// Returns two ends of a poller's list. Each poller has two.
 pub(crate) fn two_ends<R: Wait + Drop>(
     ends: &mut Vec<Vec<ListIn<R>>>,
     poller: usize,
@@ -145,7 +145,7 @@ pub(crate) fn two_ends<R: Wait + Drop>(
     (one, other)
 }
 
-/// The pollers with these bells, what they begin with, and their seats. There is room for them.
+/// Returns the pollers with these wakers, what they start with, and their seats. Requires room for them.
 pub(crate) fn pollers_of<'t, 'p, 'n, R: Wait + Drop + Copy, G: Gate>(
     setting: &'t Setting<'t, R, G>,
     bells: &'p [Bell],

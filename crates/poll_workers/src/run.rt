@@ -31,10 +31,10 @@ use std::alloc::{AllocError, Global};
 use std::sync::Wait;
 use std::thread::Threads;
 
-// What the threads of a run left, and why it was cut short, if so.
+// The parts of the instances after the threads have ended, and why the run ended early, if so.
 type Ended<R, D> = (Vec<Kept<R, Loose<D>>>, Option<Stop>);
 
-// Room for what goes to the threads of so many pollers and stations, for the threads, and for what these leave.
+// Room for what goes to the threads of so many pollers and stations, for the threads, and for their results.
 struct Rooms<'n, R: Wait + Drop, P: Task, W: Task, S: Task, D> {
     pollers: Vec<P>,
     parts: Parts<'n, R, W, S>,
@@ -79,7 +79,7 @@ where
     })
 }
 
-// Why a run was cut short, if so.
+// Returns why a run ended early, if so.
 fn stop_of_run<'t, 'p, 'n, R: Wait + Drop, D: Drop, G: Gate>(
     tasks: &RunTasks<'t, 'p, 'n, R, D, G>,
 ) -> Option<Stop>
@@ -100,7 +100,8 @@ fn stop_of_run<'t, 'p, 'n, R: Wait + Drop, D: Drop, G: Gate>(
     worker_stop(tasks.workers.as_slice())
 }
 
-// Runs all threads, in one scope. If an allocation fails, no thread starts, and what was to go to them is returned.
+// Runs all threads, in one scope. If an allocation fails, no thread starts, and the parts that would have gone to them are
+// returned.
 fn run_threads<'t, 'p, 'n, R, D, G>(
     setting: &'t Setting<'t, R, G>,
     alloc: Global,
@@ -174,7 +175,7 @@ where
     Ok((gather(setting.rt, workers, seats, threads, left), stop))
 }
 
-// Opens all stations, and runs them. If an allocation fails, no thread starts; of a run that was cut short it returns why.
+// Opens all stations, and runs them. If an allocation fails, no thread starts; if a run ended early, it returns why.
 fn run_all<'t, R, D, G>(
     setting: &'t Setting<'t, R, G>,
     alloc: Global,
@@ -222,7 +223,7 @@ where
     }
 }
 
-// What is told of a run.
+// Returns the result of a run.
 fn tell<T: Drop>(came: Result<Result<T, Stop>, AllocError>, refused: bool) -> Result<T, WorkFault>
     ensures { result ≡ told came refused }
 {
@@ -235,19 +236,19 @@ fn tell<T: Drop>(came: Result<Result<T, Stop>, AllocError>, refused: bool) -> Re
     }
 }
 
-/// Runs the devices of the stations side by side, each in a thread of its own, which makes its acts in order as interrupts of
-/// an instance of its own. Station `number` is polled by poller `(number - 1) mod pollers`, in runs over that one's list
-/// (`net_rx_action`), and by its own thread while THREADED is set, where it has one (`napi_threaded_poll`). At the end each
-/// device is disabled, its instance closed, and its ring read off. The answer has the devices in the order of the stations, each
-/// with what is counted of its ring and with its instance as it was closed; of no stations it is empty.
+/// Runs the devices of the stations concurrently, each in its own thread, which makes its acts in order as interrupts of its
+/// own instance. Station `number` is polled by poller `(number - 1) mod pollers`, in runs over that poller's list
+/// (`net_rx_action`), and while THREADED is set, by its own thread, if it has one (`napi_threaded_poll`). At the end each
+/// device is disabled, its instance closed, and its ring counted. Returns the devices in the order of the stations, each with
+/// the counts of its ring and with its closed instance; for no stations the result is empty.
 ///
-/// `pollers` is 1 to 8. A run stops behind `budget` packets, 1 to 65535 (`netdev_budget`), or `window` polls, 1 to 65535; a
-/// thread's turn is at most `window` polls too. One poll gives at most `weight` packets, 1 to 64. Each station has a number
-/// of its own in 1 to 16 ([`have_distinct_numbers`](crate::have_distinct_numbers) tells) and 1 to 65536 places.
+/// `pollers` is 1 to 8. A run ends after `budget` packets, 1 to 65535 (`netdev_budget`), or `window` polls, 1 to 65535; a
+/// thread's turn also has at most `window` polls. One poll returns at most `weight` packets, 1 to 64. Each station has its own
+/// number in 1 to 16 ([`have_distinct_numbers`](crate::have_distinct_numbers) checks that) and 1 to 65536 places.
 ///
-/// Refused by `OutOfMemory` (1) where memory is, by `SpawnFailed` (3) where a thread can't be started, and by `GateShut` (2)
-/// where the gate answers false, the first two before the third. All threads that were started have then been joined, all
-/// instances are closed, and the stations are dropped.
+/// Fails with `OutOfMemory` (1) if an allocation fails, with `SpawnFailed` (3) if a thread can't be started, and with
+/// `GateShut` (2) if the gate returns false; the first two take precedence over the third. All threads that were started have
+/// then been joined, all instances are closed, and the stations are dropped.
 pub fn run_workers<R, D, G>(
     rt: &R,
     alloc: Global,
@@ -268,20 +269,21 @@ where
     requires budget { (1 ≤ budget) × (budget ≤ 65535) }
     requires weight { (1 ≤ weight) × (weight ≤ 64) }
     requires window { (1 ≤ window) × (window ≤ 65535) }
-    // Each device made all its acts, each once and in order, and each let by the gate; what was put was polled or is left.
+    // Each device made all its acts, each once and in order, and each allowed by the gate; every packet put was polled or is
+    // still in the ring.
     ensures finished { IfOk result
         (λ all. AllZip (IsFinished D.acts D.answer D.after (G.answers gate.now))
         (vec_items stations) (vec_items all)) }
-    // The one history of each instance has the polls of its poller, in runs by these numbers, and of its thread exactly if it has
-    // one; its worker pushed to the list of that poller. The gate let each of them start.
+    // The one history of each instance has the polls of its poller, in runs by these numbers, and of its thread exactly if it
+    // has one; its worker pushed to the list of that poller. The gate allowed each of them to start.
     ensures polled { IfOk result
         (λ all. ArePolled (Bor R) (IsAsked G.answers gate.now) (pace_of budget weight window)
         D.acts D.answer D.after pollers (vec_items stations) (vec_items all)) }
-    // Only where memory was refused.
+    // Only if an allocation failed.
     ensures memory { IsErrOf result OutOfMemory → IsWantOfMemory }
-    // So never with a gate that is always open.
+    // So never with a gate that always returns true.
     ensures gate { IsErrOf result GateShut → G.may_shut }
-    // Only where a thread could not be started, so for no gate that was shut.
+    // Only if a thread could not be started, so not because of the gate.
     ensures spawn { IsErrOf result SpawnFailed → IsRefused }
 {
     let flags = StopFlags::new();

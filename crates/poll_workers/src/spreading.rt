@@ -28,10 +28,10 @@ pub(crate) struct Parts<'n, R: Wait + Drop, W, S> {
     pub(crate) threads: Vec<S>,
 }
 
-/// The thread of an instance.
+/// The parts of an instance's thread.
 pub(crate) type OwnThread<'t, 'p, 'n, R, G> = Poller<'t, 'n, R, G, ThreadPoller<'p, 'n, R>>;
 
-/// Those of a run.
+/// Those of all threads of a run.
 pub(crate) type RunParts<'t, 'p, 'n, R, D, G> = Parts<
     'n,
     R,
@@ -39,10 +39,10 @@ pub(crate) type RunParts<'t, 'p, 'n, R, D, G> = Parts<
     OwnThread<'t, 'p, 'n, R, G>,
 >;
 
-// A thread poller goes by 200 and its device's number (`thread_name`).
+// The name of a thread poller is 200 plus its device's number (`thread_name`).
 const FIRST_THREAD: u32 = 200;
 
-// The bell of an instance's own thread, if it has one.
+// Returns the waker of an instance's own thread, if it has one.
 fn thread_bell<'n>(placed: &'n Placed) -> Option<&'n Bell>
     ensures thread { is_some result ≡ placed.now.has_thread }
     ensures bell { IfSome result (λ b. b.now ≡ placed.now.bell) }
@@ -54,7 +54,7 @@ fn thread_bell<'n>(placed: &'n Placed) -> Option<&'n Bell>
     }
 }
 
-// Where the interrupts of an instance's worker go.
+// Returns where the interrupts of an instance's worker go.
 fn handler_at<'t, 'p, 'n, R: Copy, G: Gate>(
     setting: &Setting<'t, R, G>,
     bell: &'p Bell,
@@ -76,7 +76,7 @@ fn handler_at<'t, 'p, 'n, R: Copy, G: Gate>(
     }
 }
 
-// The seat that polls an instance by this caller.
+// Returns the seat that polls an instance by this caller.
 fn seat_of<'n, R: Wait + Drop + Copy>(
     rt: R,
     placed: &'n Placed,
@@ -101,7 +101,7 @@ fn seat_of<'n, R: Wait + Drop + Copy>(
     )
 }
 
-// The parts of one instance: its worker, the seat of the poller of its list, and its thread.
+// Returns the parts of one instance: its worker, the seat of the poller of its list, and its thread.
 fn split<'t, 'p, 'n, R: Wait + Drop + Copy, D: Drop, G: Gate>(
     setting: &'t Setting<'t, R, G>,
     bell: &'p Bell,
@@ -162,8 +162,8 @@ fn split<'t, 'p, 'n, R: Wait + Drop + Copy, D: Drop, G: Gate>(
     (worker, seat, side)
 }
 
-/// Distributes the opened instances over the threads of the run. There is room for them, and there are two ends of its poller's
-/// list for each instance.
+/// Distributes the opened instances over the threads of the run. Requires room for them, and two ends of its poller's list for
+/// each instance.
 pub(crate) fn spread<'t, 'p, 'n, R: Wait + Drop + Copy, D: Drop, G: Gate>(
     setting: &'t Setting<'t, R, G>,
     bells: &'p [Bell],

@@ -26,7 +26,7 @@ loop-worker-init g c =
       },
     )
 
--- the poller at hand, and the instance at hand
+-- the current poller, and the current instance
 own_of : (pollers n k number : ℕ) → pollers ≡ n → is_own k pollers number ≡ true → is_own k n number ≡ true
 own_of pollers n k number e own = subst (λ m. is_own k m number ≡ true) e own
 
