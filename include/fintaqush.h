@@ -15,10 +15,10 @@
  * - No call from a signal handler, nor from the forked child of a process with threads.
  *
  * No call blocks, sleeps, locks or starts a thread. fq_seat_interrupt, fq_seat_interrupt_masked, fq_seat_request, fq_seat_end,
- * fq_seat_end_watched, fq_seat_end_unmasked, fq_control_step and fq_control_open call again as long as a try returns FQ_CHANGED, because another thread changed the instance:
- * some thread always gets on, but the number of tries has no bound. fq_ring_new, fq_ring_split, fq_tx_new, fq_list_new, fq_shared_new, fq_shared_bare and
- * fq_replay take memory, where all else is as they want it; refused any, they give back what they took, and nothing has changed.
- * fq_free, fq_abandon and fq_ring_finish give memory back. No other call does either.
+ * fq_seat_end_watched, fq_seat_end_unmasked, fq_control_step and fq_control_open call again as long as a try returns FQ_CHANGED, because
+ * another thread changed the instance: some thread always gets on, but the number of tries has no bound. fq_ring_new, fq_ring_split,
+ * fq_tx_new, fq_list_new, fq_shared_new, fq_shared_bare and fq_replay take memory, where all else is as they want it; refused any, they
+ * give back what they took, and nothing has changed. fq_free, fq_abandon and fq_ring_finish give memory back. No other call does either.
  *
  * Memory order: what a thread wrote before it put a packet is seen by the thread whose poll gives that packet. A poll empties the
  * places of the packets that it gives, at once: what was done before that poll is seen by the put that finds one of them free. What
@@ -385,7 +385,8 @@ FQ_CHECKED enum fq_status fq_shared_new(struct fq_handle *FQ_RESTRICT ring, stru
  * FQ_BAD_COUNT, FQ_OUT_OF_MEMORY. All else is as for fq_shared_new. */
 FQ_CHECKED enum fq_status fq_shared_bare(struct fq_handle *FQ_RESTRICT control, struct fq_handle *FQ_RESTRICT seats, size_t count);
 
-/* The calls of a seat, behind FQ_BAD_KIND, FQ_BAD_WEIGHT, FQ_NO_ROOM and FQ_BAD_HANDLE. Each makes one try. One that rests may schedule, take, busy take and set threaded; */
+/* The calls of a seat, behind FQ_BAD_KIND, FQ_BAD_WEIGHT, FQ_NO_ROOM and FQ_BAD_HANDLE. Each makes one try. One that rests may schedule,
+ * take, busy take and set threaded; */
 FQ_CHECKED enum fq_status fq_seat_schedule(struct fq_handle *seat); /* FQ_GRANTED, FQ_MISSED, FQ_DISABLED, FQ_CHANGED */
 FQ_CHECKED enum fq_status fq_seat_take(struct fq_handle *seat, uint32_t kind); /* FQ_TAKEN, FQ_NOT_THERE */
 FQ_CHECKED enum fq_status fq_seat_busy_take(struct fq_handle *seat); /* FQ_TAKEN, FQ_BUSY, FQ_CHANGED */
@@ -420,9 +421,9 @@ struct fq_card {
     size_t (*poll)(void *at, size_t most); /* polls at most so many packets, and answers how many */
 };
 
-/* An interrupt: schedules, try after try until one decides, and where it was granted masks and hands over, in the kernel's order:
- * masked behind the hand-over the card stays masked where the poller is faster. The kind goes by FQ_BIT_THREADED. FQ_GRANTED (and it
- * was handed over), FQ_MISSED, FQ_DISABLED; FQ_BAD_KIND, FQ_BAD_HANDLE, FQ_NOT_ALLOWED. */
+/* An interrupt: schedules, try after try until one decides, and where it was granted masks and hands over, in the kernel's order: masked
+ * behind the hand-over the card stays masked where the poller is faster. The kind goes by FQ_BIT_THREADED, which fq_seat_request reads
+ * itself. FQ_GRANTED (and it was handed over), FQ_MISSED, FQ_DISABLED; FQ_BAD_KIND, FQ_BAD_HANDLE, FQ_NOT_ALLOWED. */
 FQ_CHECKED static inline enum fq_status fq_seat_interrupt_masked(struct fq_handle *seat, uint32_t kind, const struct fq_card *card) {
     enum fq_status said;
     if (kind > FQ_THREAD) return FQ_BAD_KIND;
@@ -465,13 +466,13 @@ FQ_CHECKED static inline enum fq_status fq_seat_request(struct fq_handle *FQ_RES
     return handed;
 }
 
-/* The end of a poll, as the kernel ends it (__napi_poll). After a full one, which gave its whole weight, where no disable is pending:
- * who took the instance from the list has it on the list again, and who took it as its thread polls on, at once (FQ_HELD). After any
- * other it is completed, try after try until one decides, and handed over again where a request was missed. *next tells fq_run_polled
- * how the poll ended: FQ_NEXT_GONE, FQ_NEXT_AGAIN, FQ_NEXT_AGAIN_THREAD, FQ_NEXT_REPOLL; of FQ_NEXT_AGAIN and FQ_NEXT_REPOLL the number
- * is still to be listed, and of FQ_NEXT_AGAIN_THREAD the thread is still to be woken: it may follow a poll from the list too. FQ_OK; FQ_HELD: the seat polls on, as does a busy poller; FQ_NOT_ALLOWED where it doesn't poll, and
- * FQ_BAD_HANDLE. *next is FQ_NEXT_GONE on all but FQ_OK. A seat polls as thread while FQ_BIT_SCHED_THREADED is set, which stays through
- * an fq_seat_requeue. */
+/* The end of a poll, as the kernel ends it (__napi_poll). After a full one, which gave its whole weight, where no disable is pending: who
+ * took the instance from the list has it on the list again, and who took it as its thread polls on, at once (FQ_HELD). After any other it
+ * is completed, try after try until one decides, and handed over again where a request was missed. *next tells fq_run_polled how the poll
+ * ended: FQ_NEXT_GONE, FQ_NEXT_AGAIN, FQ_NEXT_AGAIN_THREAD, FQ_NEXT_REPOLL; of FQ_NEXT_AGAIN and FQ_NEXT_REPOLL the number is still to be
+ * listed, and of FQ_NEXT_AGAIN_THREAD the thread is still to be woken: it may follow a poll from the list too. FQ_OK; FQ_HELD: the seat
+ * polls on, as does a busy poller; FQ_NOT_ALLOWED where it doesn't poll, and FQ_BAD_HANDLE. *next is FQ_NEXT_GONE on all but FQ_OK. A seat
+ * polls as thread while FQ_BIT_SCHED_THREADED is set, which stays through an fq_seat_requeue. */
 FQ_CHECKED static inline enum fq_status fq_seat_end(struct fq_handle *FQ_RESTRICT seat, bool full, uint32_t *FQ_RESTRICT next) {
     uint64_t word;
     *next = FQ_NEXT_GONE;

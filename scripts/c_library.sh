@@ -1,7 +1,7 @@
 #!/usr/bin/env bash
 # scripts/c_library.sh FOLDER: proves and builds the C library, if that isn't done yet, and puts libfintaqush.a into the folder,
 # which it makes if necessary: the exports of napi_c, the replay of replay_c, and the kit's heap that they call. The archive
-# needs only the C library, and its only global names are those of the calls. Standard output stays empty.
+# needs only the C library, and exports only the calls. Standard output stays empty.
 set -euo pipefail
 unset CDPATH
 crates=$(dirname "$(dirname "$(readlink -f "${BASH_SOURCE[0]}")")")/crates

@@ -44,6 +44,12 @@ has() {
     return 1
 }
 
+# header_calls: the calls that the C header declares and the library exports, without those that are inline.
+header_calls() {
+    awk '/static inline/ { next } match($0, /fq_[a-z_]+\(/) && /^(FQ_|struct |uint|size_t)/ {
+        print substr($0, RSTART, RLENGTH - 1) }' "$top/include/fintaqush.h" | sort
+}
+
 # sum_up: prints `N passed, M failed, K skipped`, and returns whether none failed.
 sum_up() {
     echo "$passed passed, $failed failed, $skipped skipped"

@@ -79,7 +79,8 @@ def declaration(line, lines):
             line += "\n" + next(lines)
     elif comment := re.fullmatch(r"(.*;) +/\*(.*)\*/", line):
         line, behind = comment[1], prose(comment[2])
-    return re.sub(r"^(?:FQ_CHECKED |FQ_NONNULL |static inline )+", "", line).replace("FQ_RESTRICT ", ""), behind
+    line = re.sub(r"^(?:FQ_CHECKED |FQ_NONNULL |static inline )+", "", line)
+    return line.replace("FQ_RESTRICT ", "").replace("FQ_NUMBER ", ""), behind
 
 
 def calls_of(text):

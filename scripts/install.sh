@@ -4,10 +4,10 @@
 # the proved programs with theirs, and completions for bash, zsh and fish. What only `fintaqush` runs goes to
 # PREFIX/lib/fintaqush. What isn't built yet is proved and built first. --library leaves the command and the programs out, which
 # take most of the time. --python puts bindings/python where python3 looks below PREFIX, else into lib/python3/dist-packages.
-# With DESTDIR set, all goes below that folder, for PREFIX. --libdir names the folder of libraries below PREFIX (the default is
-# lib; Debian's is lib/x86_64-linux-gnu). --uninstall removes what an install put there, and nothing else. --programs only
-# prints the programs' names. Exit status: 0 done; 64 the arguments are wrong; 69 a program is missing; 70 something couldn't
-# be built; 73 it can't be written there.
+# With DESTDIR set, all goes below that folder, for PREFIX. --libdir is where libraries go below PREFIX, such as
+# lib/x86_64-linux-gnu; without it, lib. --uninstall removes what an install put there, and nothing else. --programs only prints
+# the programs' names. Exit status: 0 done; 64 the arguments are wrong; 69 a program is missing; 70 something couldn't be built;
+# 73 it can't be written there.
 set -euo pipefail
 unset CDPATH
 top=$(dirname "$(dirname "$(readlink -f "${BASH_SOURCE[0]}")")")
@@ -45,13 +45,14 @@ to=${DESTDIR:-}$prefix
 version=$(sed -n 's/^#define FQ_VERSION "\([0-9.]*\)"$/\1/p' "$top/include/fintaqush.h")
 major=${version%%.*}
 
-mapfile -t calls < <(python3 -EsSB "$top/scripts/header.py" --names) # a page for each group of calls, and one for each call, which leads there
 guide=share/doc/fintaqush # the pages for users of the library, and the examples
 pages=(C.md GUIDE.md LIMITS.md)
 examples=("$top"/examples/c/*)
 library_files=("$libdir"/{libfintaqush.a,"libfintaqush.so.$version","libfintaqush.so.$major",libfintaqush.so,pkgconfig/fintaqush.pc}
     "$libdir"/cmake/Fintaqush/{FintaqushConfig,FintaqushConfigVersion}.cmake include/{fintaqush.h,fintaqush.hpp,fintaqush_tsan.h}
-    share/man/man3/fintaqush.3 "${calls[@]/#/share/man/man3/}" "${pages[@]/#/$guide/}" "${examples[@]/#"$top"/$guide}")
+    share/man/man3/fintaqush.3 "${pages[@]/#/$guide/}" "${examples[@]/#"$top"/$guide}")
+mapfile -t call_pages < <(python3 -EsSB "$top/scripts/header.py" --names) # a page for each group of calls, and one for each call, which leads there
+library_files+=("${call_pages[@]/#/share/man/man3/}")
 home=lib/fintaqush # where what `fintaqush` runs lies, as in a checkout
 parts=(fintaqush scripts/{build,replay,subcommands,words}.py docs/usage.txt examples/{linux-veth-bursts,busy-poll}.csv examples/veth-backlog.rec)
 for file in "$top"/tools/*; do
@@ -90,7 +91,7 @@ command -v "$cc" > /dev/null || stop 69 "there is no $cc, which makes the shared
 [ -n "$is_library" ] && [ -z "$is_python" ] || command -v python3 > /dev/null ||
     stop 69 "there is no python3, which the command and the package are written in"
 "$top/scripts/c_library.sh" "$scratch" || stop 70 "the C library couldn't be built"
-# The exports alone, each of the version that it came with; what it writes once, as it is loaded, is read only then.
+# only the exports, each with the version that it came with; tables that the loader fills are read-only afterwards
 "$cc" -shared -s -Wl,-soname,"libfintaqush.so.$major" -Wl,--version-script="$top/scripts/exports.map" -Wl,-z,relro,-z,now \
     -Wl,--whole-archive "$scratch/libfintaqush.a" -Wl,--no-whole-archive -o "$scratch/libfintaqush.so.$version" ||
     stop 70 "the shared library couldn't be made"
@@ -113,7 +114,7 @@ Cflags: "-I${includedir}"
 END
 
 sed -e "s|@UP@|$(realpath -sm --relative-to="/$libdir/cmake/Fintaqush" /)|" -e "s|@LIBDIR@|$(for_sed "$libdir")|g" > "$scratch/FintaqushConfig.cmake" << 'END'
-# Fintaqush::fintaqush, the shared library, and Fintaqush::static. Paths are told from where this file lies.
+# Fintaqush::fintaqush, the shared library, and Fintaqush::static. Paths are relative to the folder of this file.
 get_filename_component(fintaqush_prefix "${CMAKE_CURRENT_LIST_DIR}/@UP@" ABSOLUTE)
 if(NOT TARGET Fintaqush::fintaqush)
   add_library(Fintaqush::fintaqush SHARED IMPORTED)
@@ -180,10 +181,9 @@ put 644 "$scratch/fintaqush.pc" "$libdir/pkgconfig/fintaqush.pc"
 put 644 "$scratch/FintaqushConfig.cmake" "$libdir/cmake/Fintaqush/FintaqushConfig.cmake"
 put 644 "$scratch/FintaqushConfigVersion.cmake" "$libdir/cmake/Fintaqush/FintaqushConfigVersion.cmake"
 put 644 "$top/docs/man/fintaqush.3" share/man/man3/fintaqush.3
-mkdir "$scratch/man3"
-python3 -EsSB "$top/scripts/header.py" "$scratch/man3" || stop 70 "the manual pages of the library couldn't be made"
-for name in "${calls[@]}"; do
-    put 644 "$scratch/man3/$name" "share/man/man3/$name"
+python3 -EsSB "$top/scripts/header.py" "$scratch/calls" || stop 70 "the manual pages of the calls couldn't be made, by python3"
+for name in "${call_pages[@]}"; do
+    put 644 "$scratch/calls/$name" "share/man/man3/$name"
 done
 for name in "${pages[@]}"; do
     page_of "$top/docs/$name" > "$scratch/page"

@@ -1,8 +1,9 @@
 #!/usr/bin/env bash
-# scripts/release.sh FOLDER: makes what a release has: the Debian packages; a tarball with libraries, headers, programs, tools, manual
-# pages and, if pandoc is installed, the HTML pages; the changelog's part; checksums of all of them. What isn't built yet is proved
-# and built first. The folder isn't there yet, or is empty. It is made beside itself and renamed at the end.
-# Exit status: 0 done; 64 no folder, or more arguments; 69 a program is missing; 70 a part couldn't be built; 73 it can't be written.
+# scripts/release.sh FOLDER: makes the files of a release: the Debian packages; a tarball with libraries, headers, programs,
+# tools, manual pages and, if pandoc is installed, the HTML pages; the changelog's part; checksums of all of them. What isn't
+# built yet is proved and built first. The folder must be new or empty. It is made under another name and renamed at the end.
+# Exit status: 0 done; 64 no folder, or more arguments; 69 a program is missing; 70 a part couldn't be built; 73 it can't be
+# written.
 set -euo pipefail
 unset CDPATH
 top=$(dirname "$(dirname "$(readlink -f "${BASH_SOURCE[0]}")")")

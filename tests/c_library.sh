@@ -35,11 +35,6 @@ refused() {
 
 # ---- the archive and the header
 
-header_calls() {
-    awk '/static inline/ { next } match($0, /fq_[a-z_]+\(/) && /^(FQ_|struct |uint|size_t)/ {
-        print substr($0, RSTART, RLENGTH - 1) }' "$header" | sort
-}
-
 exports() { nm -g --defined-only "$scratch/libfintaqush.a" | awk 'NF == 3 { print $3 }' | sort; }
 
 same_calls() { diff <(header_calls) <(exports | grep '^fq_'); }
@@ -47,7 +42,7 @@ same_calls() { diff <(header_calls) <(exports | grep '^fq_'); }
 no_other_exports() { ! exports | grep -v '^fq_'; }
 
 asks_for_libc_alone() {
-    ! nm -u "$scratch/libfintaqush.a" | awk 'NF == 2 { print $2 }' | grep -v -x -e 'rattle_.*' -e memcpy -e memset -e memmove -e malloc \
+    ! nm -u "$scratch/libfintaqush.a" | awk 'NF == 2 { print $2 }' | grep -v -x -e memcpy -e memset -e memmove -e malloc \
         -e realloc -e free -e _GLOBAL_OFFSET_TABLE_
 }
 
@@ -86,7 +81,7 @@ replay_names() { awk '/^\/\* Replays a trace/ { on = 1 } on { print } /\*\// { o
 
 order_of_a_replay() { [ "$(replay_names)" = 'FQ_BAD_WEIGHT FQ_BAD_BUDGET FQ_OUT_OF_MEMORY FQ_BAD_TRACE FQ_NO_ROOM FQ_OK' ]; }
 
-# The page tells the size of the archive, within a tenth.
+# The page states the size of the archive, within a tenth.
 told_size() {
     local told
     told=$(grep -oE 'libfintaqush\.a` \(some [0-9]+ KB' "$top/docs/C.md" | grep -oE '[0-9]+')

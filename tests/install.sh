@@ -31,13 +31,7 @@ needs() { readelf -d "$1" | grep -q "NEEDED.*\[$2\]"; }
 
 needs_libc_alone() { [ "$(readelf -d "$1" | grep -c NEEDED)" = 1 ] && needs "$1" libc.so.6; }
 
-# The calls that the header declares and the library has.
-header_calls() {
-    awk '/static inline/ { next } match($0, /fq_[a-z_]+\(/) && /^(FQ_|struct |uint|size_t)/ {
-        print substr($0, RSTART, RLENGTH - 1) }' "$top/include/fintaqush.h" | sort
-}
-
-# a shared library exports what the header declares, each call with the version that introduced it, which isn't later than this one
+# a shared library exports what the header declares, each call with the version that it came with, none later than the header's
 exports_calls_alone() {
     nm -D --defined-only "$1" | awk '$2 != "A" { print $3 }' > "$scratch/exported"
     sed 's/@.*//' "$scratch/exported" | sort | diff - <(header_calls) &&
@@ -48,7 +42,7 @@ exports_calls_alone() {
 # What came with 1.0 stays there: a program that was linked then asks for it by that version.
 stays_in_its_version() { [ "$(grep -c '@@FINTAQUSH_1\.0$' "$scratch/exported")" -ge 66 ] && grep -q '^fq_seat_poll@@FINTAQUSH_1\.0$' "$scratch/exported"; }
 
-# by_a_prefix_with_spaces: pkg-config tells it so that a shell reads it.
+# by_a_prefix_with_spaces: pkg-config prints it so that a shell can read it.
 by_a_prefix_with_spaces() {
     local spaced="$scratch/a prefix & more" words
     "$top/scripts/install.sh" --library --libdir=lib/here "$spaced" &&
@@ -183,7 +177,7 @@ tries() {
         [ "$(ls)" = "$(printf '%s\n' few fintaqush-try.html tour)" ]
 }
 
-# python_replays FOLDER: like napi_serial, by the package there and the installed library.
+# python_replays FOLDER: like napi_serial, by the package there.
 python_replays() {
     local program='import fintaqush, sys; print(end=fintaqush.replay(sys.stdin.buffer.read()).text)'
     PYTHONDONTWRITEBYTECODE='' PYTHONPATH=$1/lib/python3/dist-packages python3 -c "$program" < "$top/crates/napi_serial/stdin" |

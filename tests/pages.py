@@ -15,7 +15,7 @@ import snippets
 from page_commands import SKIPPED, is_missing, listed
 
 TOP = pathlib.Path(__file__).resolve().parent.parent
-DOORS = "napi_model dql_core rx_ring tx_ring napi_word napi_calls poll_engine device_model replay machine".split()
+DOORS = "napi_model dql_core rx_ring tx_ring napi_word napi_calls poll_engine driver_core device_model replay machine".split()
 README_WORDS = 700
 # What is generated, or is in another folder than the repository's.
 MADE = re.compile(r"(^|/)out(/|$)|include/linux/|crates/first|NAME|FOLDER|FILE|PROGRAM|TRACE|DOOR|\.\.\./|^\.\.?/\.\./|[*<>{}$]|^/")
@@ -145,7 +145,7 @@ def door_page(page):
     door = page.parent.name
     behind = [name for name, at in door_of().items() if at == door]
     programs = {"replay": ["napi_replay", "napi_serial", "napi_series"], "machine": ["napi_machine"]}.get(door, [])
-    yield from (f"it tells nothing of {name}" for name in behind if f"`{name}`" not in page.read_text())
+    yield from (f"it doesn't describe {name}" for name in behind if f"`{name}`" not in page.read_text())
     yield from claims.judge(page, [door, *behind, *programs])
     surface = subprocess.run(["scripts/surface.sh", door], cwd=TOP, capture_output=True, text=True, check=True).stdout
     passed_on = " ".join(re.findall(r"pub use ([^;]*);", (page.parent / "src/lib.rt").read_text()))
@@ -161,7 +161,7 @@ def door_rules(_page):
     yield from (f"{name} hasn't the prefix of {door[name]}" for name in door if name.split("_")[0] != door[name].split("_")[0])
     for name in needs:
         if name.startswith(USERS) or name.endswith("_tests"):
-            yield from (f"{name} names {low}, which stands behind {door[low]}" for low in needs[name] if low in door and low != "replay_text")
+            yield from (f"{name} names {low}, an internal crate of {door[low]}" for low in needs[name] if low in door and low != "replay_text")
     for user in sorted((TOP / "crates/uses_facades/src").glob("[!l]*.rt")):
         text = user.read_text()
         named = {*re.findall(r"^(?:ghost )?use (?:Rattle\.)?(\w+)", text, re.M)} - {"std", "mathlib", "crate", "uses_facades"}

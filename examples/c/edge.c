@@ -6,22 +6,20 @@
 #include <stdio.h>
 #include <stdlib.h>
 
-enum { PACKETS = 20000, ROOM = 256, WEIGHT = 64, STOPS = 20 };
+enum { STOPS = 20, BETWEEN = 1000, PACKETS = (STOPS + 1) * BETWEEN, ROOM = 256, WEIGHT = 64 };
 static struct fq_handle control, list, seats[3];
 static struct fq_handle *const irq = &seats[0], *const poller = &seats[1], *const opener = &seats[2];
 static struct fq_word pending;
-static atomic_uint arrived, polled, masked;
-
+static atomic_uint arrived, polled, masked, allowed, done;
 static void must(bool holds) { if (!holds) abort(); }
 static void mask(void *at) { (void)at, masked = 1; }
 static void unmask(void *at) { (void)at, masked = 0; }
 static bool look(void *at) { return (void)at, arrived != polled; }
 static const struct fq_card card = {NULL, mask, unmask, look, NULL};
-
 /* The card: an interrupt for each packet, unless it is masked. One that comes while the driver is stopped is missed. */
 static void *receive(void *none) {
     for (uint32_t next; arrived < PACKETS;) {
-        while (arrived - polled == ROOM) sched_yield();
+        while (arrived - polled == ROOM || arrived == allowed) sched_yield();
         arrived++;
         if (!masked && fq_seat_request(irq, &card, &next) == FQ_GRANTED) fq_word_raise(&pending, 0);
     }
@@ -31,7 +29,7 @@ static void *receive(void *none) {
 /* A run over what was handed over: it polls at most a weight of each device, and ends each poll with a look behind the unmask. */
 static void *poll_all(void *none) {
     struct fq_run_report report;
-    for (uint32_t id, next, work; polled < PACKETS; sched_yield()) {
+    for (uint32_t id, next, work; !done; sched_yield()) {
         if (fq_word_take(&pending) != 0) must(fq_list_push(&list, 0) == FQ_OK);
         must(fq_run_begin(&list, 300, WEIGHT, 1024) == FQ_OK);
         while (fq_run_next(&list, &id) == FQ_OK) {
@@ -48,13 +46,15 @@ int main(void) {
     pthread_t threads[2];
     must(fq_shared_bare(&control, seats, 3) == FQ_OK && fq_list_new(&list) == FQ_OK);
     must(pthread_create(&threads[0], NULL, receive, NULL) == 0 && pthread_create(&threads[1], NULL, poll_all, NULL) == 0);
-    for (uint32_t next, stops = 0; polled < PACKETS; stops++) {
+    for (uint32_t next, stops = 0; stops <= STOPS; stops++) {
         if (fq_control_open(&control, false, opener, &card, &next) == FQ_GRANTED) fq_word_raise(&pending, 0);
-        while (polled < PACKETS && (stops == STOPS || polled < (stops + 1) * (PACKETS / (STOPS + 1)))) sched_yield();
-        while (polled < PACKETS && fq_control_step(&control, false, false) == FQ_BUSY) sched_yield();
+        allowed += BETWEEN; /* of which half may come while the driver is stopped */
+        while (polled < (stops < STOPS ? allowed - BETWEEN / 2 : PACKETS)) sched_yield();
+        while (fq_control_step(&control, false, false) == FQ_BUSY) sched_yield();
     }
-    for (int i = 0; i < 2; i++) must(pthread_join(threads[i], NULL) == 0);
+    done = 1;
+    must(pthread_join(threads[0], NULL) == 0 && pthread_join(threads[1], NULL) == 0);
     printf("%u packets, each polled once, with %d stops\n", (unsigned)polled, STOPS);
-    for (int i = 0; i < 3; i++) fq_abandon(&seats[i]);
-    return fq_abandon(&control) + fq_abandon(&list);
+    for (int i = 0; i < 3; i++) must(fq_free(&seats[i]) == FQ_OK);
+    return fq_free(&control) + fq_free(&list);
 }

@@ -214,7 +214,10 @@ static void an_open_asks_once(void) {
         want(fq_shared_bare(&control, seats, 2) == FQ_OK && fq_seat_request(irq, &card, &next) == FQ_MISSED && next == FQ_NEXT_GONE && masks == 0, "off");
         want(fq_control_open(&control, threaded, poller, &card, &next) == FQ_GRANTED && masks == 1, "it is asked for");
         want(next == (threaded ? FQ_NEXT_AGAIN_THREAD : FQ_NEXT_AGAIN), "where it was handed");
-        want(fq_seat_take(poller, threaded ? FQ_THREAD : FQ_LIST) == FQ_TAKEN && fq_seat_end(poller, false, &next) == FQ_OK, "it is polled");
+        for (int polls = 0; polls < 2; polls++) {
+            want(fq_seat_take(poller, threaded ? FQ_THREAD : FQ_LIST) == FQ_TAKEN && fq_seat_end(poller, false, &next) == FQ_OK, "it is polled");
+            want((next == FQ_NEXT_GONE) == (polls == 1), "once more, for the request that was missed");
+        }
         want(fq_control_open(&control, threaded, poller, &card, &next) == FQ_NOT_ALLOWED && next == FQ_NEXT_GONE && masks == 1, "it is on already");
         want(fq_control_step(&control, false, false) == FQ_OK, "it is off again");
         given_up();
@@ -263,8 +266,8 @@ static void frees_and_lists(void) {
     want(fq_list_new(&list) == FQ_OK && fq_list_new(&list) == FQ_IN_USE && fq_free(&list) == FQ_OK && fq_free(&list) == FQ_BAD_HANDLE, "a list");
 }
 
-/* So many buffers are used in turn, for a ring of 256 places and bursts of 16, which are put as far as they fit while a poll's packets
- * are read: how many of these are written over by then. */
+/* This many buffers are used in turn, for a ring of capacity 256 and bursts of 16, of which as many are put as fit while a
+ * poll's packets are read: returns how many of these are overwritten by then. */
 static unsigned written_over(uint64_t buffers) {
     static uint64_t written[400];
     struct fq_handle ring = FQ_NONE;

@@ -67,14 +67,14 @@ static_assert(Weight::of<1>().get() == 1 && Weight().get() == 64 && !Weight::mak
 // What ends a run is told by its name, with what was polled until then, and the others stay listed.
 static void refused_runs(List &list) {
     using Did = std::pair<std::uint32_t, fq_next>;
-    const auto ends = [&](fq_status status, std::uint32_t polls, auto &&poll) {
+    const auto ends = [&](fq_status status, std::uint32_t left, auto &&poll) {
         want(list.push(1) && list.push(2) && list.push(3), "a list of three");
         const Ran ran = list.run(300, 64, 1024, poll);
-        want(ran.status == status && !ran && !ran.has_value() && ran.report.work == 5 && ran->polls == polls, "why a run ended, and its report");
-        want(list.run(300, 64, 1024, [](std::uint32_t, std::uint32_t) { return Did{0, FQ_NEXT_GONE}; })->polls == 1, "the last one is listed still");
+        want(ran.status == status && !ran && !ran.has_value() && ran.report.work == 5 && ran->polls == 2, "why a run ended, and its report");
+        want(list.run(300, 64, 1024, [](std::uint32_t, std::uint32_t) { return Did{0, FQ_NEXT_GONE}; })->polls == left, "the others are listed still");
     };
-    ends(FQ_BAD_WORK, 2, [](std::uint32_t id, std::uint32_t) { return id == 1 ? Did{5, FQ_NEXT_GONE} : Did{65, FQ_NEXT_GONE}; });
-    ends(FQ_BAD_NEXT, 2, [](std::uint32_t id, std::uint32_t) { return id == 1 ? Did{5, FQ_NEXT_GONE} : Did{0, fq_next(9)}; });
+    ends(FQ_BAD_WORK, 1, [](std::uint32_t id, std::uint32_t) { return id == 1 ? Did{5, FQ_NEXT_GONE} : Did{65, FQ_NEXT_GONE}; });
+    ends(FQ_BAD_NEXT, 1, [](std::uint32_t id, std::uint32_t) { return id == 1 ? Did{5, FQ_NEXT_GONE} : Did{0, fq_next(9)}; });
     ends(FQ_IN_USE, 2, [&](std::uint32_t id, std::uint32_t) {
         if (id == 1) return Did{5, FQ_NEXT_GONE};
         want(list.push(id).status == FQ_OK && list.push(id).status == FQ_IN_USE, "it lists itself, once");

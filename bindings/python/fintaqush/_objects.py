@@ -128,7 +128,7 @@ class Napi(_One):
         c.napi_set_threaded(self._state, who, threaded)
 
     def enable(self, threaded: bool = False, who: int = 0) -> None:
-        """For the controller: enables the instance (`napi_enable`). Call `schedule` once after it, because earlier requests aren't polled.
+        """For the controller: enables the instance (`napi_enable`). Schedule once after it: what was requested before isn't polled.
         NOT_ALLOWED."""
         c.napi_enable(self._state, who, threaded)
 

@@ -272,8 +272,9 @@ class TestShared(Refusals):
             self.assertEqual(control.open(poller, threaded, lambda: masks.append(1)), (Status.GRANTED, again))
             self.assertEqual(masks, [1])
             self.refused(Status.NOT_ALLOWED, control.enable)
-            self.assertTrue(poller.take(Kind.THREAD if threaded else Kind.LIST))
-            self.assertEqual(poller.end(False), Next.GONE)
+            for wanted in again, Next.GONE:  # once more, for the request that was missed
+                self.assertTrue(poller.take(Kind.THREAD if threaded else Kind.LIST))
+                self.assertEqual(poller.end(False), wanted)
 
     def test_ends_of_polls(self):
         input, control, (interrupts, poller) = shared(8)

@@ -119,9 +119,9 @@ impl Caller {
         prep
     }
 
-    /// Requests a poll (`napi_schedule`), from an interrupt, a timer or a driver's open. A granted
-    /// request queues the instance where the state word says: [`Next::Again`] says where, and the
-    /// caller puts the number on the list or wakes the thread. Otherwise returns [`Next::Gone`].
+    /// A request for a poll (`napi_schedule`), of an interrupt, a timer, a driver's open, which hands
+    /// over to where the state word tells: of [`Prep::Granted`], [`Next::Again`] tells where, and the
+    /// number is to be listed, or the thread to be woken; else it is [`Next::Gone`].
     pub fn request(&mut self) -> (Prep, Next) {
         self.request_and(|| {})
     }

@@ -79,8 +79,8 @@ impl Control<Off> {
     }
 
     /// Enables the instance, and retries until an attempt decides (`napi_enable`). Packets that arrived while it was disabled
-    /// are polled after the next schedule, so schedule once after this call, or enable by [`open`](Control::open). Otherwise a
-    /// card that is masked and whose ring is full is never polled again.
+    /// are polled after the next schedule: request a poll once after it, or enable by [`open`](Control::open). Otherwise a card
+    /// that is masked, with a full ring, would wait for ever.
     pub fn enable(self, threaded: bool) -> Control<On> {
         let mut control = self;
         loop {

@@ -57,7 +57,7 @@ impl Fault {
         sys::fq_status_name(self.0)
     }
 
-    /// Returns its message, as `"a weight is 1 to 64 packets"`.
+    /// What it says in words, as `"a weight is 1 to 64 packets"`.
     pub fn message(self) -> String {
         let mut text = vec![0; sys::FQ_MESSAGE_ROOM];
         // SAFETY: the array has so many bytes, and is this call's alone.

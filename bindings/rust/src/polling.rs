@@ -58,8 +58,8 @@ impl Polling {
     }
 
     /// Ends the poll as the kernel does (`__napi_poll`): after a full one, which used its whole weight, if no disable is
-    /// pending, the instance is requeued, or stays with its thread; otherwise it is completed, and queued again if a
-    /// request was missed. After [`Next::Again`] of [`Kind::Thread`] the caller wakes its thread, also if the list polled.
+    /// pending, the instance is requeued, or stays with its thread; otherwise it is completed, and handed over again if a
+    /// request was missed. After [`Next::Again`] of [`Kind::Thread`] wake its thread, also after a poll from the list.
     pub fn end(mut self, full: bool) -> End {
         let mut next = 0;
         // SAFETY: only this poller has the handle, and the number is elsewhere.
@@ -71,9 +71,8 @@ impl Polling {
     }
 
     /// Ends the poll of a card that can be checked for packets: like [`end`](Polling::end); if that releases the instance, it
-    /// unmasks, checks, and if there are packets requests a poll itself, masks and queues. Without this check an
-    /// edge-triggered interrupt could be lost. It may queue for the thread, which the caller wakes then, as after
-    /// [`end`](Polling::end).
+    /// unmasks, checks, and if there are packets requests a poll itself, masks and hands over. Without this check an
+    /// edge-triggered interrupt could be lost. It may hand over to the thread: wake it then, as after [`end`](Polling::end).
     pub fn end_watched(self, full: bool, card: &mut impl Look) -> End {
         let caller = match self.end(full) {
             End::Over(caller, Next::Gone) => caller,

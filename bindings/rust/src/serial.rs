@@ -59,10 +59,10 @@ impl SerialNapi {
         }
     }
 
-    /// Ends a poll as the kernel does (`__napi_poll`): after a full one, which used its whole weight,
-    /// the instance is on the list again, or stays with its thread, unless a disable is pending;
-    /// otherwise it is completed, and queued again if a request was missed. `None`: the caller polls
-    /// again. After [`Next::Again`] of [`Kind::Thread`] the caller wakes its thread.
+    /// Ends a poll as the kernel does (`__napi_poll`): after a full one, which gave its whole weight,
+    /// the instance is on the list again, or stays with its thread, unless a disable is pending; else
+    /// it is completed, and handed over again where a request was missed. `None`: the caller polls on.
+    /// After [`Next::Again`] of [`Kind::Thread`] its thread is to be woken.
     pub fn end(&mut self, who: u32, full: bool) -> Result<Option<Next>, Fault> {
         let mut next = sys::FQ_NEXT_GONE;
         // SAFETY: the instance is borrowed by this call alone, and the number lies elsewhere.
@@ -116,8 +116,8 @@ impl SerialNapi {
         Fault::unless_made(unsafe { sys::fq_napi_unmark(&mut self.raw, who) })
     }
 
-    /// For the controller: enables the instance (`napi_enable`). Call [`schedule`](SerialNapi::schedule) once after it, because
-    /// earlier requests aren't polled.
+    /// For the controller: enables the instance (`napi_enable`). [`schedule`](SerialNapi::schedule) once after it: what was
+    /// requested before isn't polled.
     pub fn enable(&mut self, who: u32, threaded: bool) -> Result<(), Fault> {
         // SAFETY: only this call borrows the instance.
         Fault::unless_made(unsafe { sys::fq_napi_enable(&mut self.raw, who, threaded) })

@@ -30,7 +30,7 @@ ApplicationIsFed = (s : Settings) (events : List Event) → s.apart ≡ true →
 
 -- ---- what it uses. Lists are in the order in which things happened.
 
--- the packet in its hand
+-- the packet that it is reading
 abbrev pub in_hand : Activity → List ℕ
 in_hand (Using came) = came ∷ []
 in_hand _ = []

@@ -1,4 +1,4 @@
--- No bytes have a failed output as their fault.
+-- A failed output is never the error of bytes.
 use Rattle.std.proofs.Common.{◌≡◌, ℕ, Bool, true, false, List, [], ◌∷◌, ◌++◌, length}
 use Rattle.std.specs.Prelude.{Option, Some, None, Result, Ok, Err, if◌then◌else◌, nat_le, nat_lt, ◌&&◌, ◌^◌, ◌*◌, ◌+◌}
 use Rattle.device_rows.specs.{Record.{is_numeral, numeral}, Row.is_within}
@@ -62,7 +62,7 @@ never-output s (header ∷ records) = by (is_title s.queues (four_of s.queues he
     by true is = after-never s [] records is
     by false is = cc is
 
--- no reader and no allocation fails so, and the bytes have no such fault
+-- no reader and no allocation fails with it, and the bytes don't have it
 pub read-never : (s : Settings) (bytes : List ℕ) (fault : MachineFault) → fault ≡ OutputFailed
     → IsReadFailure fault ⊎ IsFaultOf s bytes fault → ⊥
 read-never s bytes fault same (inl (inl read)) = cc (same, read.0)

@@ -1,4 +1,4 @@
--- How the arrivals of the records that are left follow from the next record.
+-- The arrivals of the remaining records, by the next record.
 use Rattle.std.proofs.lemmas.Grind.{common_steps}
 use Rattle.std.proofs.Common.{◌≡◌, ◌∙◌, ℕ, ◌+◌, ◌-◌, ◌<◌, ◌≤◌, Bool, true, false, List, [], ◌∷◌, ◌++◌, drop, length, refl, sym, ap}
 use Rattle.std.{proofs.Common.{Vec, arith, length-append, Some, None, Option}, specs.Prelude.{Result, Ok, Err, fold}}
@@ -18,7 +18,7 @@ use Rattle.machine_report.specs.declared.{arrivals.{Arrivals.Arrivals, Rows.Rows
 abbrev RecordsLeft : Type 0 → Type 0
 RecordsLeft R = Reader (Chain (Cursor (Vec ℕ Global)) (Fused R))
 
--- one record, and then those of the bytes that are left
+-- one record, and then those of the remaining bytes
 pub one-in : (state : State) (p : Read) (left : List ℕ) → ends_at_end state ≡ false
     → next_record default_config state [] [] left ≡ Some p
     → (ends_at_end p.1 ≡ false) × (records_in state left ≡ p.0 ∷ records_in p.1 p.2)
@@ -35,7 +35,7 @@ one-in state p left between reads =
     shorter [] e short = cc (sym (next-end state between) ∙ e)
     shorter (x ∷ xs) e short = omega arith
 
--- the same, where a reader read it
+-- the same, after the reader has read a record
 more-in : {R : Type 0} (remaining : R → Option (List ℕ)) (reader after : Reader R) (fields : List (List ℕ)) (left : List ℕ)
     → ends_at_end (reader_state reader) ≡ false
     → TakesNext remaining (next_record default_config (reader_state reader) [] [] left) true fields after
@@ -51,14 +51,14 @@ more-in {R} remaining reader after fields left between h = by (next_record defau
         let (tidy, one) = one-in (reader_state reader) p left between e in
         (p.2, h.3, ap ends_at_end h.2 ∙ tidy, rw (h.1, h.2) one)
 
--- no record is left
+-- no record remains
 none-in : {R : Type 0} (remaining : R → Option (List ℕ)) (reader after : Reader R) (fields : List (List ℕ)) (left : List ℕ)
     → TakesNext remaining (next_record default_config (reader_state reader) [] [] left) false fields after
     → records_in (reader_state reader) left ≡ []
 none-in remaining reader after fields left h =
     records-none remaining reader after fields (length left + 1) (length left) left (omega arith) h
 
--- an empty line in front is no record
+-- an empty line at the start is no record
 pub empty-in : (left : List ℕ) → records_in State.StartRecord left ≡ records_in State.StartRecord (10 ∷ left)
 unfolding next_record
 empty-in left =
@@ -115,15 +115,15 @@ last-push first earlier arrival = grind (arith, common_steps)
 between-start : (state : State) → state ≡ State.StartRecord → ends_at_end state ≡ false
 between-start state e = ap ends_at_end e
 
--- the first record
+-- what follows for the first record
 module _ {R : Type 0} (remaining : R → Option (List ℕ)) (reader after : Reader R) (fields : List (List ℕ)) (s : Settings)
     (bytes : List ℕ) (at : reader_state reader ≡ State.StartRecord) where
-  -- there is none
+  -- if there is none
   pub refused-start : TakesNext remaining (next_record default_config (reader_state reader) [] [] bytes) false fields after
       → arrivals_of s (records_in State.StartRecord bytes) ≡ Err MachineFault.BadHeader
   refused-start h = arrivals-none s _ (sym (ap (λ t. records_in t bytes) at) ∙ none-in remaining reader after fields bytes h)
 
-  -- another one
+  -- if it isn't the header
   pub refused-title : TakesNext remaining (next_record default_config (reader_state reader) [] [] bytes) true fields after
       → is_title s.queues (four_of s.queues fields) ≡ false
       → arrivals_of s (records_in State.StartRecord bytes) ≡ Err MachineFault.BadHeader
@@ -131,7 +131,7 @@ module _ {R : Type 0} (remaining : R → Option (List ℕ)) (reader after : Read
       let (rest, stands, between, one) = more-in remaining reader after fields bytes (between-start _ at) h in
       arrivals-other s _ _ fields (sym (ap (λ t. records_in t bytes) at) ∙ one) other
 
-  -- the titles
+  -- if it is the header
   pub behind-title : TakesNext remaining (next_record default_config (reader_state reader) [] [] bytes) true fields after
       → is_title s.queues (four_of s.queues fields) ≡ true
       → (rest : List ℕ) × StandsAt remaining after rest × (ends_at_end (reader_state after) ≡ false)
@@ -140,7 +140,7 @@ module _ {R : Type 0} (remaining : R → Option (List ℕ)) (reader after : Read
       let (rest, stands, between, one) = more-in remaining reader after fields bytes (between-start _ at) h in
       (rest, stands, between, arrivals-behind s _ _ fields (sym (ap (λ t. records_in t bytes) at) ∙ one) titled)
 
--- the header is plain
+-- if the header is plain
 pub behind-header : {R : Type 0} (remaining : R → Option (List ℕ)) (old new : Block R) (s : Settings) (text rest bytes : List ℕ)
     (count : ℕ) → text ≡ unread old → StartsWithHeader s.queues text rest → count ≡ length text - length rest
     → unread new ≡ drop count (unread old) → new.source ≡ old.source → Holds remaining old bytes
@@ -161,7 +161,7 @@ behind-header remaining old new s text rest bytes count is header size behind sa
       gives = arrivals-behind s _ _ header.fields (all-in bytes ∙ one) header.tells;
     }
 
--- a plain row of a block
+-- a plain row of a block was taken
 pub plain-taken : {R : Type 0} (remaining : R → Option (List ℕ)) (old new : Block R) (s : Settings) (row last : ℕ)
     (text rest bytes : List ℕ) (arrival : Arrival) (count : ℕ) → text ≡ unread old → StartsWithArrival s row last text arrival rest
     → count ≡ length text - length rest
@@ -184,7 +184,7 @@ module _ {R : Type 0} (remaining : R → Option (List ℕ)) (old : Arrivals R) (
       → arrival_of old.settings earlier fields ≡ of_four old.settings row old.last (four_of old.settings.queues fields)
   told-as row fields rows = grind (arith, common_steps, given.rows, given.last)
 
-  -- one more arrival, of the next record
+  -- one more arrival: that of the next record
   given-one : (new : Arrivals R) (fields : List (List ℕ)) (state : State) (rest : List ℕ) (arrival : Arrival)
       → LeftAt remaining new.source state rest → ends_at_end state ≡ false
       → records_in given.state given.left ≡ fields ∷ records_in state rest
@@ -203,7 +203,7 @@ module _ {R : Type 0} (remaining : R → Option (List ℕ)) (old : Arrivals R) (
         ∙ ap (λ n. arrivals_after n (earlier ++ arrival ∷ []) (records_in state rest)) (sym settings);
   }
 
-  -- of a plain row
+  -- one more arrival: that of a plain row
   pub given-plain : (new : Arrivals R) (before after : Block R) (row : ℕ) (arrival : Arrival)
       → old.source ≡ Rows.Plain before → new.source ≡ Rows.Plain after
       → ((bytes : List ℕ) → Holds remaining before bytes → TakesPlain remaining old.settings row old.last bytes arrival after)
@@ -219,7 +219,7 @@ module _ {R : Type 0} (remaining : R → Option (List ℕ)) (old : Arrivals R) (
       given-one new taken.fields State.StartRecord taken.rest arrival (rw is stands) between one settings (rows ∙ next) last
       (ap (λ n. of_four old.settings n old.last (four_of old.settings.queues taken.fields)) rows ∙ taken.tells)
 
-  -- the same records are left, in another way
+  -- the same records remain, in another form
   pub given-same : (new : Arrivals R) → new.settings ≡ old.settings → new.rows ≡ old.rows → new.last ≡ old.last
       → ((state : State) (bytes : List ℕ) → LeftAt remaining old.source state bytes → ends_at_end state ≡ false
       → LeavesSame remaining new.source state bytes) → HasGiven remaining new earlier all
@@ -261,7 +261,7 @@ module _ {R : Type 0} (remaining : R → Option (List ℕ)) (old : Arrivals R) (
         let (rest, left, tidy, one) = more-in (left_remaining remaining) reader after fields given.left between (h given.left stands) in
         (rest, left, tidy, ap (λ s. records_in s given.left) at ∙ one)
 
-    -- at a faulty row
+    -- at a row with an error
     pub given-fault : (row : ℕ) (fault : MachineFault) → Takes true → row ≡ old.rows + 1
         → of_four old.settings row old.last (four_of old.settings.queues fields) ≡ Err fault → all ≡ Err fault
     given-fault row fault h rows told =
@@ -269,7 +269,7 @@ module _ {R : Type 0} (remaining : R → Option (List ℕ)) (old : Arrivals R) (
         given.gives ∙ ap (arrivals_after old.settings earlier) one
         ∙ after-bad old.settings earlier fields _ fault (told-as row fields rows ∙ told)
 
-    -- one more
+    -- one more arrival
     pub given-next : (new : Arrivals R) (row : ℕ) (arrival : Arrival) → Takes true → new.source ≡ Rows.Records after
         → new.settings ≡ old.settings → row ≡ old.rows + 1 → new.rows ≡ row → new.last ≡ arrival.moment
         → of_four old.settings row old.last (four_of old.settings.queues fields) ≡ Ok arrival

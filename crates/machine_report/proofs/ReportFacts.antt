@@ -1,4 +1,4 @@
--- One device and one processor more.
+-- One more device, and one more processor.
 use Rattle.std.proofs.{Common.{arith, ◌≡◌, ◌∙◌, ℕ, ◌+◌, [], ◌++◌, Option, List, refl, add-one, append-nil, sym}, lemmas.Grind.common_steps}
 use Rattle.machine_model.specs.declared.{device.DeviceReport.DeviceReport, processor.ProcessorReport.ProcessorReport}
 use Rattle.machine_report.specs.{declared.report.Totals.Totals, Report.{device_lines, lines_of_devices, lines_of_processors, none_counted}}

@@ -1,4 +1,4 @@
--- The machine takes one arrival more.
+-- The machine takes one more arrival.
 use Rattle.std.proofs.Common.{rules}
 use Rattle.std.proofs.Common.{List, [], ◌∷◌, ◌++◌, refl}
 use Rattle.machine_model.specs.Machine.{Arrives, Machine}

@@ -1,4 +1,4 @@
--- The arrivals of a text, or its first fault, as a function of its records. See docs/FORMATS.md, "Arrivals".
+-- The arrivals of a text, or its first error, as a function of its records. See docs/FORMATS.md, "Arrivals".
 use Rattle.std.specs.Prelude.{ℕ, ◌+◌, ◌-◌, ◌*◌, ◌%◌, ◌^◌, ◌<◌, ◌≤◌, ◌==◌, ◌&&◌, ◌||◌, Bool, false, nat_le, nat_lt, List, [], ◌∷◌, ◌++◌}
 use Rattle.std.specs.{Prelude.{length, fold, Option, Some, None, if◌then◌else◌, Result, Ok, Err, codes}, Str.bytes_eq}
 use Rattle.csv.specs.Records.{field_at}
@@ -6,13 +6,13 @@ use Rattle.{device_rows.specs.{Record.{is_numeral, numeral}, Row.is_within}, mac
 use Rattle.machine_report.specs.declared.arrival.{Arrival.Arrival, Numbers.Numbers}
 use Rattle.machine_report.specs.declared.fault.MachineFault.{MachineFault, TheVariants.{BadHeader, BadFields, BadNumber, OutOfRange, Falls}}
 
--- a chain of steps that ends at the first fault
+-- a sequence of steps that ends at the first error
 infixl 10 ◌>>=◌
 abbrev pub ◌>>=◌ : {A B : Type 0} → Result A MachineFault → (A → Result B MachineFault) → Result B MachineFault
 (Ok x) >>= next = next x
 (Err fault) >>= next = Err fault
 
--- how many fields a record has: with several queues it has a flow too
+-- how many fields a record has: with several queues it also has a flow
 abbrev pub width : ℕ → ℕ
 width queues = if queues == 1 then 3 else 4
 
@@ -41,12 +41,12 @@ is_title queues (Some four) =
     bytes_eq four.0 (codes "moment")
     && (bytes_eq four.1 (codes "device") && (bytes_eq four.2 (codes "bytes") && (queues == 1 || bytes_eq four.3 (codes "flow"))))
 
--- the queue that receives a flow of a device: each device has so many queues of its own
+-- the queue that receives a flow of a device: each device has this many queues
 abbrev pub queue_of : ℕ → ℕ → ℕ → ℕ
 queue_of queues device flow = (device - 1) * queues + flow % queues + 1
 
--- the arrival of row n with these numbers, after a row at `last`: a moment below 2^62 that doesn't fall, a device and a queue of the
--- processors, which have 64 each, and 1 to 65535 bytes
+-- the arrival of row n with these numbers, after a row at `last`: a moment below 2^62 that doesn't decrease, a device and a
+-- queue of the processors, which have 64 each, and 1 to 65535 bytes
 unfoldable pub ranged : Settings → ℕ → ℕ → Numbers → Result Arrival MachineFault
 ranged s n last row =
     let most = 64 * s.processors in
@@ -72,17 +72,17 @@ of_four s n last (Some four) =
 abbrev pub last_moment : List Arrival → ℕ
 last_moment earlier = fold (λ _ arrival. arrival.moment) 0 earlier
 
--- the arrival that a record has after these earlier ones, or its first fault
+-- the arrival of a record after these earlier ones, or its first error
 abbrev pub arrival_of : Settings → List Arrival → List (List ℕ) → Result Arrival MachineFault
 arrival_of s earlier fields = of_four s (length earlier + 1) (last_moment earlier) (four_of s.queues fields)
 
--- the earlier arrivals and those of the records, or the first fault of these
+-- the earlier arrivals and those of the records, or the first error among these
 unfoldable pub arrivals_after : Settings → List Arrival → List (List (List ℕ)) → Result (List Arrival) MachineFault
 arrivals_after s earlier [] = Ok earlier
 arrivals_after s earlier (fields ∷ records) =
     arrival_of s earlier fields >>= (λ arrival. arrivals_after s (earlier ++ arrival ∷ []) records)
 
--- the arrivals of all records of a text, or the first fault
+-- the arrivals of all records of a text, or the first error
 unfoldable pub arrivals_of : Settings → List (List (List ℕ)) → Result (List Arrival) MachineFault
 arrivals_of s [] = Err BadHeader
 arrivals_of s (header ∷ records) = if is_title s.queues (four_of s.queues header) then arrivals_after s [] records else Err BadHeader

@@ -1,4 +1,4 @@
--- That rows came to no end: who meets it knows it by how many were read.
+-- That there were too many rows to count, which a function learns from how many were read.
 use Rattle.std.specs.Prelude.{◌≤◌, ◌-◌, ◌^◌, ℕ}
 
 pub IsEndless : Type 0

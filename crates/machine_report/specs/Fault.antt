@@ -1,4 +1,4 @@
--- The line, the number and the exit status of each fault. See docs/FORMATS.md, "Arrivals".
+-- The message, the number and the exit status of each error. See docs/FORMATS.md, "Arrivals".
 use Rattle.std.specs.Prelude.{◌≡◌, ◌≢◌, ◌⊎◌, ℕ, List, ◌++◌, Option, Some, codes, decimal}
 use Rattle.std.specs.Io.KnownBytes.{Keeps}
 use Rattle.device_rows.specs.Failures.{HasFailed, IsRefused}
@@ -33,11 +33,11 @@ status_of OutOfMemory = 4
 status_of OutputFailed = 4
 status_of _ = 2
 
--- memory was refused
+-- out of memory
 abbrev pub IsWantOfMemory : MachineFault → Type 0
 IsWantOfMemory fault = (fault ≡ OutOfMemory) × IsRefused
 
--- the reader or the memory failed, or there were more rows than are counted
+-- the reader or an allocation failed, or there were more rows than can be counted
 abbrev pub IsReadFailure : MachineFault → Type 0
 IsReadFailure fault = ((fault ≡ ReadFailed) × (HasFailed ⊎ IsEndless)) ⊎ IsWantOfMemory fault
 
@@ -45,10 +45,10 @@ IsReadFailure fault = ((fault ≡ ReadFailed) × (HasFailed ⊎ IsEndless)) ⊎ 
 abbrev pub IsOutside : MachineFault → Type 0
 IsOutside fault = IsReadFailure fault ⊎ ((fault ≡ OutputFailed) × HasStopped)
 
--- a fault is one of the bytes read, or none of theirs
+-- an error is one of the bytes read, or doesn't come from them
 abbrev pub IsFaultBy : (MachineFault → Type 0) → (List ℕ → MachineFault → Type 0) → Option (List ℕ) → MachineFault → Type 0
 IsFaultBy IsOutside IsFault input fault = (bytes : List ℕ) → input ≡ Some bytes → IsOutside fault ⊎ IsFault bytes fault
 
--- on each fault but a failed output nothing was written
+-- after each error but a failed output nothing was written
 abbrev pub LeavesAsItWas : Option (List ℕ) → Option (List ℕ) → MachineFault → Type 0
 LeavesAsItWas old new fault = fault ≢ OutputFailed → Keeps old new

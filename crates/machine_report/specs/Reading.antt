@@ -1,4 +1,4 @@
--- Where a reader of arrivals stands.
+-- The position of a reader of arrivals.
 use Rattle.std.specs.Prelude.{◌≡◌, ⊤, ℕ, ◌+◌, false, List, [], ◌∷◌, ◌++◌, length, Option, Some, None, Result, Ok}
 use Rattle.csv.specs.{Machine.{ends_at_end, next_record}, Reading.{default_config, reader_state, records_from}, declared.parser.State.State}
 use Rattle.device_rows.specs.{Block.{Holds, left_remaining}, Source.{IsOpen, StandsAt}}
@@ -7,7 +7,7 @@ use Rattle.machine_report.specs.declared.arrivals.{Arrivals.Arrivals, Rows.{Rows
 use Rattle.machine_report.specs.declared.{arrival.Arrival.Arrival, fault.MachineFault.MachineFault}
 use Rattle.{device_rows.specs.declared.block.Block.Block, machine_words.specs.declared.settings.Settings.Settings}
 
--- every record of these bytes, from a state between two records
+-- all records of these bytes, from a state between two records
 abbrev pub records_in : State → List ℕ → List (List (List ℕ))
 records_in state bytes = records_from default_config (length bytes + 1) state bytes
 
@@ -23,13 +23,13 @@ IsByRecords (Plain block) = ⊥
 IsByRecords (Records reader) = IsOpen reader
 IsByRecords Failed = ⊥
 
--- these bytes are left, in this state of csv
+-- these bytes remain, in this state of csv
 abbrev pub LeftAt : {R : Type 0} → (R → Option (List ℕ)) → Rows R → State → List ℕ → Type 0
 LeftAt remaining (Plain block) state bytes = (state ≡ State.StartRecord) × Holds remaining block bytes
 LeftAt remaining (Records reader) state bytes = (state ≡ reader_state reader) × StandsAt (left_remaining remaining) reader bytes
 LeftAt remaining Failed state bytes = ⊥
 
--- behind the header: all arrivals are those of the bytes that are left
+-- after the header: all arrivals are those of the remaining bytes
 pub record IsTitled {R : Type 0} (remaining : R → Option (List ℕ)) (s : Settings) (rows : Rows R)
     (all : Result (List Arrival) MachineFault) : Type 0 where
   pub state : State
@@ -38,7 +38,7 @@ pub record IsTitled {R : Type 0} (remaining : R → Option (List ℕ)) (s : Sett
   pub between : ends_at_end state ≡ false
   pub gives : all ≡ arrivals_after s [] (records_in state left)
 
--- the next record of these bytes is a plain row with this arrival, and the block goes on after it
+-- the next record of these bytes is a plain row with this arrival, and the block continues after it
 pub record TakesPlain {R : Type 0} (remaining : R → Option (List ℕ)) (s : Settings) (row last : ℕ) (bytes : List ℕ) (arrival : Arrival)
     (after : Block R) : Type 0 where
   pub fields : List (List ℕ)
@@ -47,7 +47,7 @@ pub record TakesPlain {R : Type 0} (remaining : R → Option (List ℕ)) (s : Se
   pub reads : next_record default_config State.StartRecord [] [] bytes ≡ Some (fields, State.StartRecord, rest)
   pub tells : of_four s row last (four_of s.queues fields) ≡ Ok arrival
 
--- the same records are left
+-- the same records remain
 pub record LeavesSame {R : Type 0} (remaining : R → Option (List ℕ)) (after : Rows R) (state : State) (bytes : List ℕ) : Type 0 where
   pub state_after : State
   pub left : List ℕ
@@ -55,7 +55,7 @@ pub record LeavesSame {R : Type 0} (remaining : R → Option (List ℕ)) (after 
   pub between : ends_at_end state_after ≡ false
   pub same : records_in state bytes ≡ records_in state_after left
 
--- these arrivals were given, and with those that are left they are all
+-- these arrivals were returned, and with the remaining ones they are all
 pub record HasGiven {R : Type 0} (remaining : R → Option (List ℕ)) (arrivals : Arrivals R) (earlier : List Arrival)
     (all : Result (List Arrival) MachineFault) : Type 0 where
   pub state : State

@@ -6,7 +6,7 @@ use Rattle.machine_model.specs.{declared.processor.ProcessorReport.ProcessorRepo
 use Rattle.{machine_model.specs.Waits.held, replay_text.specs.Lines.{ended, words}}
 use Rattle.machine_report.specs.declared.report.{ApplicationLine.ApplicationLine, Totals.Totals}
 
--- what is told of waits
+-- what is shown of waits
 unfoldable pub waits_text : WaitCounts → List ℕ
 waits_text w = words (codes "mean" ∷ decimal w.mean ∷ codes "wait50" ∷ decimal w.wait50 ∷ codes "wait90" ∷ decimal w.wait90
     ∷ codes "wait99" ∷ decimal w.wait99 ∷ codes "wait999" ∷ decimal w.wait999 ∷ codes "most" ∷ decimal w.most ∷ [])
@@ -24,7 +24,7 @@ device_line number d =
     words (codes "device" ∷ decimal number ∷ codes "arrived" ∷ decimal d.counts.arrived
     ∷ codes "dropped" ∷ decimal d.counts.dropped ∷ polls_text d ∷ [])
 
--- only where a packet came for it
+-- only if a packet arrived for it
 abbrev pub device_lines : ℕ → Option DeviceReport → List ℕ
 device_lines number None = []
 device_lines number (Some d) = ended (device_line number d)
@@ -49,9 +49,9 @@ time_line number p =
     ∷ codes "poll" ∷ decimal p.counts.poll_time
     ∷ codes "use" ∷ decimal p.counts.use_time ∷ codes "idle" ∷ decimal (idle_of p) ∷ [])
 
--- ---- the application on a processor of its own
+-- ---- the application on its own processor
 
--- what its uses took, and what is left of its last end without waking and uses
+-- the time of its uses, and the rest of the time up to its last end, without waking and uses
 unfoldable pub application_of : Settings → ℕ → ProcessorReport → ApplicationReport → ApplicationLine
 application_of s number p a =
     let used = held (p.waits.count * s.use_time) in
@@ -116,11 +116,11 @@ unfoldable pub sums_of_processors : (ℕ → Option ProcessorReport) → Totals 
 sums_of_processors processor t zero = t
 sums_of_processors processor t (suc n) = with_processor (processor n) (sums_of_processors processor t n)
 
--- what is told of a processor
+-- what is shown of a processor
 abbrev pub processor_in : Machine → ℕ → Option ProcessorReport
 processor_in machine number = option_map processor_report (slice_get machine number)
 
--- the lines of the devices that a packet came for, rising, those of the processors, and the total
+-- the lines of the devices for which a packet arrived, by increasing number, those of the processors, and the total
 abbrev pub text_of : Settings → Machine → List ℕ
 text_of s machine =
     let device : ℕ → Option DeviceReport = λ n. device_report n machine in

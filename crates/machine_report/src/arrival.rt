@@ -1,4 +1,4 @@
-//! One arrival, as a record of the text has it.
+//! One arrival, as a record of the text.
 
 ghost use Rattle.std.specs.Prelude.{◌≡◌, ◌≤◌, ◌*◌, ◌%◌, IfOk, option_map};
 ghost use Rattle.csv.specs.Records.{fields_of};
@@ -45,7 +45,7 @@ fn flow_of(queues: u32, fields: &ByteRecord) -> Option<&[u8]>
     }
 }
 
-// The fields of a record that has as many as there are to be.
+// Returns the fields of a record that has the right number of fields.
 #[tactic(auto, unfolding(crate::specs::Arrivals::four_of))]
 fn four_of(queues: u32, fields: &ByteRecord) -> Option<(&[u8], &[u8], &[u8], &[u8])>
     ensures { option_map (λ four. (four.0.now, four.1.now, four.2.now, four.3.now)) result
@@ -61,7 +61,7 @@ fn four_of(queues: u32, fields: &ByteRecord) -> Option<(&[u8], &[u8], &[u8], &[u
     Some((moment, device, bytes, flow))
 }
 
-/// Whether a record is the header: `moment,device,bytes`, and `flow` with several queues.
+/// Returns whether a record is the header: `moment,device,bytes`, and `flow` with several queues.
 pub(crate) fn is_title(queues: u32, fields: &ByteRecord) -> bool
     ensures { result ≡ is_title queues (four_of queues (fields_of fields.now)) }
 {
@@ -74,7 +74,7 @@ pub(crate) fn is_title(queues: u32, fields: &ByteRecord) -> bool
         && (queues == 1 || flow == b"flow".as_slice())
 }
 
-// What is left of a flow divided by the number of queues. A division of 128 bits is a call, and few flows need it.
+// Returns the remainder of a flow divided by the number of queues. A division of 128 bits is a call, and few flows need it.
 fn remainder(flow: u128, queues: u32) -> u32
     requires { (1 ≤ queues) × (queues ≤ 64) }
     ensures { result ≡ flow % queues }
@@ -85,7 +85,7 @@ fn remainder(flow: u128, queues: u32) -> u32
     }
 }
 
-// The number of the queue that receives a flow of a device.
+// Returns the number of the queue that receives a flow of a device.
 fn queue_of(queues: u32, device: u32, flow: u128) -> u32
     requires queues { (1 ≤ queues) × (queues ≤ 64) }
     requires device { (1 ≤ device) × (device ≤ 4096) }
@@ -94,7 +94,7 @@ fn queue_of(queues: u32, device: u32, flow: u128) -> u32
     (device - 1) * queues + remainder(flow, queues) + 1
 }
 
-/// The arrival of row `row` with these numbers, after a row at `last`.
+/// Returns the arrival of row `row` with these numbers, after a row at `last`.
 #[tactic(auto, unfolding(crate::specs::Arrivals::ranged))]
 #[inline]
 pub(crate) fn ranged(
@@ -124,7 +124,7 @@ pub(crate) fn ranged(
     })
 }
 
-/// Returns the arrival that a record has as row `row`, after a row at `last`, or its first fault.
+/// Returns the arrival of a record in row `row`, after a row at `last`, or its first error.
 #[tactic(auto, unfolding(crate::specs::Arrivals::of_four))]
 pub(crate) fn arrival_of(
     settings: &Settings,

@@ -22,17 +22,17 @@ use std::alloc::{AllocError, Global};
 use std::io::Read;
 use std::mem;
 
-// Room for the bytes of any row with four numbers of twenty digits, so that no row in its ranges makes the record grow.
+// Room for any row with four numbers of at most twenty digits, so that the record never grows for a valid row.
 const RECORD_BYTES: usize = 96;
 
-// Where the next rows come from.
+// Where the next rows are read from.
 #[derive(Drop)]
 enum Rows<R> {
-    // Bytes that were read ahead: all rows so far were plain.
+    // A block of bytes that were read ahead: all rows so far were plain.
     Plain(Block<R>),
-    // `csv`, from the first row on that isn't plain or has a fault.
+    // `csv`, from the first row that isn't plain or has an error.
     Records(RecordsLeft<R>),
-    // Nothing, because memory ran out.
+    // Nothing: memory ran out.
     Failed,
 }
 
@@ -47,7 +47,7 @@ pub struct Arrivals<R> {
     last: u64,
 }
 
-// The rows after the header, which `csv` reads.
+// Returns the rows after the header, read by `csv`.
 fn titled<R: Read + Drop>(
     mut reader: RecordsLeft<R>,
     fields: &mut ByteRecord,
@@ -76,7 +76,7 @@ fn titled<R: Read + Drop>(
     Ok(Rows::Records(reader))
 }
 
-// The rows after the header of a text.
+// Returns the rows after the header of a text.
 fn rows_of<R: Read + Drop>(
     alloc: Global,
     source: R,
@@ -100,7 +100,7 @@ fn rows_of<R: Read + Drop>(
     Ok(Rows::Plain(block))
 }
 
-// The plain row that the unread bytes of a block start with, if they do.
+// Returns the plain row at the start of the unread bytes of a block, if there is one.
 #[inline(always)]
 fn take_plain<R: Read>(
     block: &mut Block<R>,
@@ -120,7 +120,7 @@ fn take_plain<R: Read>(
     Some(arrival)
 }
 
-// The plain row that a block goes on with, if it does. A block without a whole line is read on first.
+// Returns the next row of a block, if it is plain. Reads on if the block holds no whole line.
 #[inline(always)]
 fn next_plain<R: Read>(
     alloc: Global,
@@ -144,7 +144,7 @@ fn next_plain<R: Read>(
     Ok(take_plain(block, settings, row, last))
 }
 
-// The same rows, read by `csv`.
+// Returns the same rows, read by `csv`.
 fn by_records<R: Read + Drop>(alloc: Global, rows: Rows<R>) -> Result<Rows<R>, AllocError>
     requires { IsOpenAt rows }
     ensures opened { IfOk result IsByRecords }
@@ -167,12 +167,12 @@ impl<R: Read + Drop> Arrivals<R> {
     ghost use Rattle.machine_report.specs.declared.arrival.Arrival.{Arrival};
     ghost use Rattle.machine_report.specs.declared.fault.MachineFault.{MachineFault};
 
-    /// Reads the header of a text of arrivals for a machine of these settings.
+    /// Reads the header of a text of arrivals, for a machine with these settings.
     ///
     /// # Errors
     ///
-    /// `BadHeader` if the first record isn't `moment,device,bytes`, or with several queues `moment,device,bytes,flow`; `ReadFailed`,
-    /// `OutOfMemory`.
+    /// `BadHeader` if the first record isn't `moment,device,bytes`, or with several queues `moment,device,bytes,flow`;
+    /// `ReadFailed`, `OutOfMemory`.
     pub fn new(alloc: Global, source: R, settings: &Settings) -> Result<Arrivals<R>, MachineFault>
         ensures opened { IfOk result (λ arrivals. IsOpenAt arrivals.source) }
         ensures settings { IfOk result (λ arrivals. arrivals.settings ≡ settings.now) }
@@ -202,7 +202,7 @@ impl<R: Read + Drop> Arrivals<R> {
         self.last = arrival.moment;
     }
 
-    // From here on `csv` reads. It has a frame of its own: a reader takes some KB there, which are cleared at each call.
+    // Reads by `csv` from here on. It is a function of its own because the reader takes some KB of stack, cleared at each call.
     #[inline(never)]
     fn leave_plain(&mut self) -> Result<(), AllocError>
         requires { IsOpenAt self.old.source }
@@ -218,7 +218,7 @@ impl<R: Read + Drop> Arrivals<R> {
         Ok(())
     }
 
-    // The next arrival, if its row is plain. If it isn't, `csv` reads from here on.
+    // Returns the next arrival, if its row is plain; otherwise `csv` reads from here on.
     #[inline(always)]
     fn plain(&mut self, row: u64) -> Result<Option<Arrival>, MachineFault>
         requires opened { IsOpenAt self.old.source }
@@ -249,7 +249,7 @@ impl<R: Read + Drop> Arrivals<R> {
         Ok(Some(arrival))
     }
 
-    // The next arrival, read by `csv`.
+    // Returns the next arrival, read by `csv`.
     fn record(&mut self, row: u64) -> Result<Option<Arrival>, MachineFault>
         requires opened { IsByRecords self.old.source }
         requires row { row ≡ self.old.rows + 1 }
@@ -281,7 +281,7 @@ impl<R: Read + Drop> Arrivals<R> {
     ///
     /// # Errors
     ///
-    /// The fault of the row, `ReadFailed` or `OutOfMemory`. After a fault it isn't called again.
+    /// The error of the row, `ReadFailed` or `OutOfMemory`. It may not be called after an error.
     pub fn next(&mut self) -> Result<Option<Arrival>, MachineFault>
         requires { IsOpenAt self.old.source }
         ensures opened { IfOk result (λ next. IfSome next (λ _. IsOpenAt self.new.source)) }
@@ -294,7 +294,7 @@ impl<R: Read + Drop> Arrivals<R> {
             (all : Result (List Arrival) MachineFault) → HasGiven R.remaining self.old earlier all
             → IsReadFailure fault ⊎ (all ≡ Err fault)) }
     {
-        // No text has so many rows.
+        // No text has this many rows.
         let Some(row) = self.rows.checked_add(1) else {
             return Err(MachineFault::ReadFailed);
         };

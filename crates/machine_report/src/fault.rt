@@ -1,4 +1,4 @@
-//! Why arrivals gave no report.
+//! Why arrivals have no report.
 
 ghost use Rattle.std.specs.Prelude.{◌≡◌, ◌++◌, IfOk, codes, string_bytes};
 ghost use Rattle.machine_report.specs.Fault.{line_of, number_of, status_of};
@@ -9,14 +9,14 @@ use std::alloc::{AllocError, Global};
 use std::fmt;
 use thiserror::Error;
 
-/// Why arrivals gave no report. Nothing was written, except as `OutputFailed` says. Faults 2 to 8 name the first row that has one,
-/// and of its faults the one with the lowest number; the numbers are those of a replay's faults. Rows count from 1.
+/// Why arrivals have no report. Nothing was written, except as `OutputFailed` says. Errors 2 to 8 name the first row that has
+/// one, and of its errors the one with the lowest number; the numbers are those of a replay's errors. Rows count from 1.
 #[derive(Clone, Copy, Debug, PartialEq, Eq, Error)]
 pub enum MachineFault {
-    /// 1: the text has no first record, or another than `moment,device,bytes`.
+    /// 1: the text has no first record, or it isn't `moment,device,bytes`.
     #[error("the first record isn't `moment,device,bytes`")]
     BadHeader,
-    /// 2: the row hasn't three fields.
+    /// 2: the row doesn't have three fields.
     #[error("row {row} hasn't three fields")]
     BadFields { row: u64 },
     /// 3: a field of the row isn't one to twenty ASCII digits.
@@ -31,10 +31,10 @@ pub enum MachineFault {
     /// 10: the reader failed.
     #[error("the arrivals could not be read")]
     ReadFailed,
-    /// 11: memory was refused.
+    /// 11: out of memory.
     #[error("out of memory")]
     OutOfMemory,
-    /// 15: the writer failed. Less than the whole report went out.
+    /// 15: the writer failed. Less than the whole report was written.
     #[error("the report could not be written")]
     OutputFailed,
 }
@@ -64,7 +64,7 @@ impl From<ReadError> for MachineFault {
 }
 
 impl MachineFault {
-    /// The number of this fault.
+    /// Returns the number of this error.
     pub fn number(self) -> u8
         ensures { result ≡ number_of self }
     {
@@ -81,7 +81,7 @@ impl MachineFault {
     }
 }
 
-// A fault as its line on standard error tells it.
+// The message for an error.
 #[derive(Drop)]
 struct FaultLine<'a>(&'a MachineFault);
 
@@ -105,14 +105,14 @@ impl fmt::Display for FaultLine<'_> {
     }
 }
 
-/// The line of a fault for standard error, line feed included. The only error is want of memory.
+/// Returns the message of an error for standard error, including the line feed. Fails only if an allocation fails.
 pub fn fault_line(alloc: Global, fault: &MachineFault) -> Result<String, AllocError>
     ensures { IfOk result (λ line. string_bytes line ≡ line_of fault.now ++ codes "\n") }
 {
     format!(in alloc; "{}\n", FaultLine(fault))
 }
 
-/// The exit status of a fault: 4 where memory or the output failed, and else 2.
+/// Returns the exit status of an error: 4 if an allocation or the output failed, otherwise 2.
 pub fn status(fault: &MachineFault) -> u8
     ensures { result ≡ status_of fault.now }
 {

@@ -1,5 +1,5 @@
-//! Behind the door `machine`: from the bytes of arrivals to the bytes of the report of a receiving machine, or the line and the exit
-//! status of a fault.
+//! Internal crate of the facade `machine`: from the bytes of arrivals to the bytes of the report of a receiving machine, or the
+//! message and the exit status of an error.
 #![tactic(auto)]
 
 mod arrival;

@@ -8,7 +8,7 @@ use crate::arrival::{Arrival, Numbers, ranged};
 use device_rows::number;
 use machine_words::Settings;
 
-// The numbers of the row that a text starts with, and the text after it.
+// Returns the numbers of the row at the start of a text, and the text after it.
 #[inline(always)]
 fn plain_numbers(queues: u32, text: &[u8]) -> Option<(Numbers, &[u8])>
     ensures { IfSome result (λ found. StartsWithNumbers queues text.now found.0 found.1.now) }
@@ -36,8 +36,8 @@ fn plain_numbers(queues: u32, text: &[u8]) -> Option<(Numbers, &[u8])>
     Some((numbers, text))
 }
 
-/// The arrival of row `row` that a text starts with, after a row at `last`, and the text after it. `None` doesn't mean that there is no
-/// such row, only that it isn't plain or has a fault.
+/// Returns the arrival of row `row` at the start of a text, after a row at `last`, and the text after it. `None` doesn't mean
+/// that there is no such row, only that it isn't plain or has an error.
 #[inline(always)]
 pub(crate) fn plain_arrival<'t>(
     settings: &Settings,
@@ -54,7 +54,8 @@ pub(crate) fn plain_arrival<'t>(
     Some((arrival, rest))
 }
 
-/// The text after the header `moment,device,bytes`, or with several queues `moment,device,bytes,flow`, if a text starts with it.
+/// Returns the text after the header `moment,device,bytes`, or with several queues `moment,device,bytes,flow`, if a text starts
+/// with it.
 pub(crate) fn after_header(queues: u32, text: &[u8]) -> Option<&[u8]>
     ensures { IfSome result (λ rest. StartsWithHeader queues text.now rest.now) }
 {

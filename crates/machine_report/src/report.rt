@@ -13,17 +13,17 @@ use std::fmt;
 /// The sums of the last line.
 #[derive(Clone, Copy, Debug, PartialEq, Eq)]
 pub(crate) struct Totals {
-    /// Devices that a packet came for.
+    /// Devices for which a packet arrived.
     pub devices: u64,
     /// Their packets.
     pub arrived: u64,
-    /// Those that full rings dropped.
+    /// Packets that full rings dropped.
     pub dropped: u64,
-    /// Those that were delivered.
+    /// Packets that were delivered.
     pub polled: u64,
-    /// Those that full sockets refused.
+    /// Packets that full sockets dropped.
     pub refused: u64,
-    /// Those that were used.
+    /// Packets that were used.
     pub used: u64,
 }
 
@@ -42,7 +42,7 @@ impl fmt::Display for Totals {
     }
 }
 
-/// The numbers of the line of an application on a processor of its own.
+/// The numbers in the line of an application on its own processor.
 #[derive(Clone, Copy)]
 pub(crate) struct ApplicationLine {
     number: u32,
@@ -67,7 +67,7 @@ impl fmt::Display for ApplicationLine {
     }
 }
 
-// What is told of waits.
+// What is shown of waits.
 #[derive(Drop)]
 struct WaitsText<'a>(&'a WaitCounts);
 
@@ -87,7 +87,7 @@ impl fmt::Display for WaitsText<'_> {
     }
 }
 
-// What is told of a device's polls.
+// What is shown of a device's polls.
 #[derive(Drop)]
 struct PollsText<'a>(&'a DeviceReport);
 
@@ -111,7 +111,7 @@ impl fmt::Display for PollsText<'_> {
     }
 }
 
-// Adds the line of a device.
+// Appends the line of a device.
 fn add_device(text: &mut String, number: u32, device: &DeviceReport) -> Result<(), AllocError>
     ensures { OnOk result (string_bytes text.new
         ≡ string_bytes text.old ++ ended (device_line number device.now)) }
@@ -127,7 +127,7 @@ fn add_device(text: &mut String, number: u32, device: &DeviceReport) -> Result<(
     Ok(())
 }
 
-// Adds the line of what a processor did.
+// Appends the line of what a processor did.
 fn add_work(text: &mut String, number: u32, processor: &ProcessorReport) -> Result<(), AllocError>
     ensures { OnOk result (string_bytes text.new
         ≡ string_bytes text.old ++ ended (processor_line number processor.now)) }
@@ -150,7 +150,7 @@ fn add_work(text: &mut String, number: u32, processor: &ProcessorReport) -> Resu
     Ok(())
 }
 
-// Adds the line of what a processor's time went to.
+// Appends the line of how a processor's time was spent.
 fn add_time(text: &mut String, number: u32, processor: &ProcessorReport) -> Result<(), AllocError>
     ensures { OnOk result (string_bytes text.new
         ≡ string_bytes text.old ++ ended (time_line number processor.now)) }
@@ -173,7 +173,7 @@ fn add_time(text: &mut String, number: u32, processor: &ProcessorReport) -> Resu
     Ok(())
 }
 
-// The numbers of the line of an application on a processor of its own.
+// The numbers in the line of an application on its own processor.
 #[tactic(auto, unfolding(crate::specs::Report::application_of))]
 fn application_of(
     settings: &Settings,
@@ -199,7 +199,7 @@ fn application_of(
     }
 }
 
-// Adds the line of an application on a processor of its own.
+// Appends the line of an application on its own processor.
 fn add_application(text: &mut String, application: &ApplicationLine) -> Result<(), AllocError>
     ensures { OnOk result (string_bytes text.new
         ≡ string_bytes text.old ++ ended (application_line application.now)) }
@@ -208,7 +208,7 @@ fn add_application(text: &mut String, application: &ApplicationLine) -> Result<(
     Ok(())
 }
 
-// Adds the lines of a processor.
+// Appends the lines of a processor.
 fn add_processor(
     text: &mut String,
     settings: &Settings,
@@ -227,7 +227,7 @@ fn add_processor(
     Ok(())
 }
 
-// Adds the last line.
+// Appends the last line.
 fn add_totals(text: &mut String, totals: &Totals) -> Result<(), AllocError>
     ensures { OnOk result
         (string_bytes text.new ≡ string_bytes text.old ++ ended (total_line totals.now)) }
@@ -240,7 +240,7 @@ impl Totals {
     ghost use Rattle.std.specs.Prelude.{◌≡◌, Some};
     ghost use Rattle.machine_report.specs.Report.{none_counted, with_device, with_processor};
 
-    // No devices, no packets.
+    // Returns zero sums.
     fn none() -> Totals
         ensures { result ≡ none_counted }
     {
@@ -254,7 +254,7 @@ impl Totals {
         }
     }
 
-    // One device more.
+    // Adds one more device.
     fn count_device(&mut self, device: &DeviceReport)
         ensures { self.new ≡ with_device (Some device.now) self.old }
     {
@@ -264,7 +264,7 @@ impl Totals {
         self.polled = self.polled.saturating_add(device.counts.polled);
     }
 
-    // One processor more.
+    // Adds one more processor.
     fn count_processor(&mut self, processor: &ProcessorReport)
         ensures { self.new ≡ with_processor (Some processor.now) self.old }
     {
@@ -273,7 +273,7 @@ impl Totals {
     }
 }
 
-// Adds the line of a device, and to the sums its own, where a packet came for it.
+// Appends the line of a device, and adds its numbers to the sums, if a packet arrived for it.
 fn add_place(
     text: &mut String,
     totals: &mut Totals,
@@ -291,7 +291,7 @@ fn add_place(
     Ok(())
 }
 
-// Adds the lines of devices 1 to `devices`, and gives their sums.
+// Appends the lines of devices 1 to `devices`, and returns their sums.
 fn add_devices(text: &mut String, machine: &Machine, devices: u32) -> Result<Totals, AllocError>
     requires { devices ≤ 64 * length machine.now }
     ensures text { OnOk result (string_bytes text.new
@@ -307,7 +307,7 @@ fn add_devices(text: &mut String, machine: &Machine, devices: u32) -> Result<Tot
     Ok(totals)
 }
 
-// Adds the lines of the processors, and to the sums theirs.
+// Appends the lines of the processors, and adds their numbers to the sums.
 fn add_processors(
     text: &mut String,
     machine: &Machine,
@@ -328,7 +328,7 @@ fn add_processors(
     Ok(())
 }
 
-/// Returns the report of a machine of these settings. The only error is out of memory.
+/// Returns the report of a machine with these settings. Fails only if an allocation fails.
 pub(crate) fn report_of(
     alloc: Global,
     machine: &Machine,

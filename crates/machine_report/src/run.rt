@@ -18,7 +18,7 @@ use replay_text::write_text;
 use std::alloc::Global;
 use std::io::{Read, Write};
 
-// The machine takes all arrivals, one after the other.
+// Passes all arrivals to the machine, one by one.
 fn take_all<R: Read + Drop>(
     alloc: Global,
     arrivals: &mut Arrivals<R>,
@@ -40,11 +40,11 @@ fn take_all<R: Read + Drop>(
             None => return Ok(()),
         }
     }
-    // No text has so many rows.
+    // No text has this many rows.
     Err(MachineFault::ReadFailed)
 }
 
-// The text of the report of the arrivals that the reader gives.
+// Returns the text of the report of the arrivals in the reader.
 fn text_of_all<R: Read + Drop>(
     alloc: Global,
     reader: R,
@@ -63,11 +63,11 @@ fn text_of_all<R: Read + Drop>(
     Ok(text)
 }
 
-/// Runs the machine that the settings tell on the arrivals of the reader, and writes its report.
+/// Runs the machine with these settings on the arrivals of the reader, and writes its report.
 ///
-/// The arrivals are read one row at a time, and the memory taken doesn't grow with them. Nothing is written before all are read and
-/// nothing is left to do, so on every fault but `OutputFailed` nothing was. On that one a front of the report was, and not all of it.
-/// Want of memory may come before any other fault.
+/// The arrivals are read one row at a time, and the memory used doesn't grow with them. It writes nothing before all are read
+/// and nothing is left to do. So after every error but `OutputFailed` nothing was written; after that one, a proper prefix of
+/// the report. `OutOfMemory` may take precedence over any other error.
 pub fn run_machine<R: Read + Drop, W: Write>(
     alloc: Global,
     reader: R,
@@ -78,11 +78,11 @@ pub fn run_machine<R: Read + Drop, W: Write>(
     ensures written { OnOk result (Writes (IsReportOf settings.now)
         (R.remaining reader) (W.contents writer.old) (W.contents writer.new)) }
 
-    // Where the output failed the bytes read have a report, of which less than the whole was written.
+    // If the output failed, the bytes read have a report, of which less than the whole was written.
     ensures cut { result ≡ Err OutputFailed → WritesPart (IsReportOf settings.now)
         (R.remaining reader) (W.contents writer.old) (W.contents writer.new) }
 
-    // A fault is the first one of the bytes read, unless the reader, the memory or the writer failed.
+    // An error is the first one in the bytes read, unless the reader, an allocation or the writer failed.
     ensures fault { IfErr result
         (IsFaultBy IsOutside (IsFaultOf settings.now) (R.remaining reader)) }
     ensures untouched { IfErr result

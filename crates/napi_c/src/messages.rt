@@ -3,8 +3,8 @@ ghost use Rattle.std.specs.Prelude.{◌≡◌, ◌≤◌, length};
 
 use crate::names::write;
 
-/// What a status says, into an array: its length. Where there is no room for it and a 0 behind it the array stays. "?" of a number
-/// that is none.
+/// Writes the message of a status into an array, "?" for an unknown number, and returns its length. If there is no room for it and a 0
+/// after it, the array is unchanged.
 #[unsafe(no_mangle)]
 pub extern "C" fn fq_status_message(status: u32, to: &mut [u8]) -> usize
     ensures kept { length to.new ≤ result → to.new ≡ to.old }

@@ -1,4 +1,4 @@
--- One act more.
+-- One more act.
 use Rattle.std.proofs.{lemmas.Grind.common_steps, Common.{◌≡◌, ℕ, ◌+◌, ◌≤◌, length, List, ◌++◌, sym, arith, add-one, ap, subst, Bool}}
 use Rattle.{rx_ring.specs.{declared.{packet.Packet.Packet, ends.RxIn.RxIn}, Ends.SameIn}, poll_interrupts.specs.declared.acts.Act.Act}
 use Rattle.poll_interrupts.specs.{declared.worker.Access.Access, Acts.{after_acts, arrivals, brings}, Calls.{Acts, AllActs}}
@@ -19,7 +19,7 @@ acts-more thread answer after d n a m b first rx last before same one =
 
 pub ruleset steps = (after_acts-more, arrivals-more)
 
--- what one act more brings is put, where there is room for all
+-- the packets of one more act are put, if there is room for all
 pub put_more : (old arrived brought all now after : List Packet) (places : ℕ)
     → all ≡ arrived ++ brought
     → (length old + length arrived ≤ places → now ≡ old ++ arrived)

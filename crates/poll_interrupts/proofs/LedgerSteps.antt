@@ -1,4 +1,4 @@
--- What the calls at a worker's seats add to its ledger.
+-- What the calls by a worker's handles add to its ledger.
 use Rattle.std.proofs.Common.{arith, rules, ◌≡◌, ℕ, zero, suc, ◌≤◌, Bool, true, false, List, [], ◌∷◌, ◌++◌, length, inl, inr, ⊎_elim, refl}
 use Rattle.std.{proofs.{Common.{sym, ap, ◌∙◌, subst, append_assoc}, lemmas.Grind.common_steps}, specs.Prelude.{flat_map, if◌then◌else◌}}
 use Rattle.rx_ring.specs.{declared.{ends.RxIn.RxIn, packet.Packet.Packet}, Ends.{capacity_of, put_list}}

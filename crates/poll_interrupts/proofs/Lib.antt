@@ -1,4 +1,4 @@
 pub mod ActSteps
 pub mod LedgerSteps
-pub mod EndFacts
 pub mod Listings
+mod EndFacts

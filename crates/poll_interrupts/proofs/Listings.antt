@@ -9,7 +9,7 @@ listings-append : (number : ℕ) (es fs : List Event) → listings number (es ++
 listings-append number [] fs = refl
 listings-append number (e ∷ es) fs = grind (arith, common_steps, listings-append number es fs)
 
--- nothing is pushed for a try that was lost
+-- nothing is pushed for a try that lost
 pub tries_none : (number by : ℕ) (ts : List (Lost call.Schedule)) (os : List Operation)
     → listings number (events by (flat_map looks ts ++ os)) ≡ listings number (events by os)
 tries_none number by [] os = refl

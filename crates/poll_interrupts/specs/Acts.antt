@@ -1,4 +1,4 @@
--- What a device's acts come to.
+-- The effect of a device's acts.
 use Rattle.std.specs.Prelude.{ℕ, zero, suc, List, [], ◌∷◌, ◌++◌}
 use Rattle.rx_ring.specs.declared.packet.Packet.{Packet}
 use Rattle.poll_interrupts.specs.declared.acts.Act.{Act, TheVariants.Arrive}

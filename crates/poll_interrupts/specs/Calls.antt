@@ -1,4 +1,4 @@
--- What acts make of a worker's seats at its instance.
+-- The effect of acts on a worker's handles on its instance.
 use Rattle.std.specs.Prelude.{◌≡◌, ◌⊎◌, ◌≤◌, ℕ, zero, suc, Bool, true, false, List, [], ◌∷◌, ◌++◌, length, if◌then◌else◌}
 use Rattle.rx_ring.specs.{declared.{ends.RxIn.RxIn, packet.Packet.Packet}, Ends.{SameIn, capacity_of, put_list}}
 use Rattle.{napi_model.specs.declared.{state.Seen.Seen, event.{Event.Event, Operation.Operation}}, napi_word.specs.declared.table.Pass.Pass}
@@ -11,7 +11,8 @@ use Rattle.napi_model.specs.declared.event.Operation.TheVariants as operation
 use Rattle.napi_calls.specs.declared.answers.Sched.TheVariants as sched
 use Rattle.poll_list.specs.SharedList as list
 
--- Granted, the instance is handed over: where it has a thread of its own to whom a look says, else to the list.
+-- If granted, the instance is handed over: to its own thread if it has one and the state says so when read, otherwise to the
+-- list.
 abbrev pub HandsOver : Bool → Pass → Pass → Type 0
 HandsOver false p q = Made p (operation.Hand kind.List ∷ []) q
 HandsOver true p q =
@@ -23,7 +24,7 @@ GoesOn thread (sched.Granted granted) q = HandsOver thread granted.pass q
 GoesOn thread (sched.Missed caller) q = q ≡ caller.pass
 GoesOn thread (sched.Disabled caller) q = q ≡ caller.pass
 
--- an interrupt: a poll is asked for, and where it is granted the instance is handed over
+-- an interrupt: requests a poll, and if it is granted, hands the instance over
 abbrev pub Interrupts : Bool → Pass → Pass → Type 0
 Interrupts thread p q = (s : Sched) × Schedules p s × GoesOn thread s q
 
@@ -37,7 +38,7 @@ abbrev pub listings : ℕ → List Event → List ℕ
 listings number [] = []
 listings number (e ∷ es) = (if is_listing e.operation then number ∷ [] else []) ++ listings number es
 
--- Between p and q the seat handed its instance to the list so many times as its number was pushed there, and nothing else was.
+-- Between p and q the seat handed its instance to the list as many times as its number was pushed there, and nothing else was.
 pub record Lists {R : Type 0} (number : ℕ) (p q : Pass) (before after : ListIn R) : Type 0 where
   pub same : list.SameIn before after
   pub did : List Event
@@ -48,7 +49,7 @@ pub record Lists {R : Type 0} (number : ℕ) (p q : Pass) (before after : ListIn
 abbrev pub IsPutLast : Packet → RxIn → Type 0
 IsPutLast packet rx = (earlier : List Packet) × (put_list rx ≡ earlier ++ packet ∷ [])
 
--- a packet is put, and then interrupts; a full ring drops it, and nothing is asked for
+-- a packet is put, and then interrupts; a full ring drops it, and no poll is requested
 abbrev pub Arrives : Bool → Packet → Pass → Pass → RxIn → RxIn → Type 0
 Arrives thread packet p q before after =
     ((put_list after ≡ put_list before ++ packet ∷ []) × Interrupts thread p q)
@@ -79,7 +80,7 @@ Leaves (Off control) q = q ≡ control.pass
 abbrev pub TurnsOff : Power → Power → Type 0
 TurnsOff before after = (is_on after ≡ false) × Leaves before (pass_of after)
 
--- one act: what it makes of the seats and of the threaded setting
+-- one act: its effect on the seats and on the threaded setting
 abbrev pub Acts : Bool → Act → Access → Access → RxIn → RxIn → Type 0
 Acts thread (Arrive packet) a b before after =
     Arrives thread packet a.caller.pass b.caller.pass before after × (b.power ≡ a.power) × (b.threaded ≡ a.threaded)

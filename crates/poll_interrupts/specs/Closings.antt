@@ -1,4 +1,4 @@
--- Who made calls on an instance that was closed.
+-- The callers of a closed instance.
 use Rattle.std.specs.Prelude.{◌≡◌, List, [], ◌∷◌, ◌++◌}
 use Rattle.{rx_ring.specs.declared.ends.RxCtx.RxCtx, napi_word.specs.declared.table.Pass.Pass}
 use Rattle.napi_calls.specs.{declared.types.Caller.Caller, Closed.{IsClosed, seats_of}}
@@ -19,6 +19,6 @@ pub record IsCallersOf (seats : OwnSeats) (poller thread : Caller) (closed : Clo
   pub thread_is : closed.thread.value ≡ thread
   pub control_is : closed.control.value ≡ seats.control
 
--- it was closed, and handed out this context
+-- it was closed, and returned this context
 abbrev pub IsClosedAs : Closed → RxCtx → Type 0
 IsClosedAs closed ctx = IsClosed closed.napi.value (callers_in closed) closed.control.value.pass ctx

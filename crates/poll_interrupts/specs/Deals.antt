@@ -2,7 +2,7 @@
 use Rattle.std.specs.Prelude.{ℕ, ◌-◌, ◌%◌, ◌==◌, Bool}
 use Rattle.poll_interrupts.specs.declared.station.Station.{Station}
 
--- the poller of the station with this number: numbered from 0, it leaves the poller's number when divided by the count of pollers
+-- the poller of the station with this number: the number minus 1, modulo the count of pollers, is the poller's number
 abbrev pub poller_by : ℕ → ℕ → ℕ
 poller_by pollers number = (number - 1) % pollers
 

@@ -1,8 +1,8 @@
 -- The instances of stations.
 use Rattle.poll_interrupts.specs.{Runs.{controller_number, poller_number, thread_number}, declared.station.Station.Station}
 use Rattle.poll_interrupts.specs.{declared.opening.{Placed.Placed, Loose.Loose}, Seats.{AreSeatsOf, AreUnused, IsUnused}}
-use Rattle.std.specs.Prelude.{◌≡◌, ◌≤◌, [], Option, Some, is_some, vec_len, vec_capacity}
-use Rattle.poll_tasks.specs.{Wakers.Wakes, declared.signals.{Bell.Bell, Pause.Pause}}
+use Rattle.std.specs.Prelude.{◌≡◌, ◌≤◌, [], vec_len, vec_capacity}
+use Rattle.poll_tasks.specs.Wakers.{Wakes}
 use Rattle.napi_calls.specs.declared.{types.Napi.Napi, kept.Kept.Kept}
 use Rattle.napi_calls.specs.{Seats.number_of, Instance.{IsSeatOf, callers_of, first_of_instance, ring_of_instance}}
 use Rattle.rx_ring.specs.{Ends.{IsOneRing, capacity_of, put_list, received_list, ring_name}, declared.ends.{RxCtx.RxCtx, RxIn.RxIn}}
@@ -23,11 +23,6 @@ pub record IsHome (placed : Placed) : Type 0 where
   pub empty : vec_len placed.room ≡ 0
   pub room : 3 ≤ vec_capacity placed.room
 
--- what wakes the instance's own thread, where it has one, wakes who waits by this
-abbrev pub WakesOwn : Option Bell → Option Pause → Type 0
-WakesOwn (Some bell) (Some pause) = Wakes bell pause
-WakesOwn _ _ = Unit {0}
-
 module _ {D : Type 0} where
   -- what goes to the threads of a station
   pub record IsLoose (station : Station D) (loose : Loose D) : Type 0 where
@@ -35,27 +30,34 @@ module _ {D : Type 0} where
     pub same_device : loose.device ≡ station.device
     pub places : capacity_of loose.rx ≡ station.capacity
     pub nothing_put : put_list loose.rx ≡ []
-    pub thread : is_some loose.pause ≡ station.thread
+    pub thread : loose.has_thread ≡ station.thread
     pub unused : AreUnused loose.seats
     pub poller : IsUnused poller_number loose.poller
     pub own : IsUnused thread_number loose.thread
 
-  -- what goes to the threads and what stays behind are of one instance, and of one ring
-  pub record IsSideOf (loose : Loose D) (placed : Placed) : Type 0 where
+  -- what goes to the threads, or came back from them, and what stays with the caller belong to one instance, and to one ring
+  pub record IsPartOf (loose : Loose D) (placed : Placed) : Type 0 where
     pub number : placed.number ≡ loose.number
-    pub name : loose.number ≤ 16
     pub seats : AreSeatsOf placed.napi loose.seats
     pub controller : number_of loose.seats.control.pass ≡ controller_number
-    pub bell : is_some placed.bell ≡ is_some loose.pause
-    pub wakes : WakesOwn placed.bell loose.pause
     pub poller : IsSeatOf placed.napi loose.poller.pass
     pub thread : IsSeatOf placed.napi loose.thread.pass
     pub ring : IsInputOf loose.rx placed.napi
     pub home : IsHome placed
 
+  -- and so does the way in which its own thread waits, if it has one
+  pub record IsSideOf (loose : Loose D) (placed : Placed) : Type 0 where
+    pub part : IsPartOf loose placed
+    pub name : loose.number ≤ 16
+    pub has_thread : placed.has_thread ≡ loose.has_thread
+    pub wakes : Wakes placed.bell loose.pause
+
   module _ {R : Type 0} where
     abbrev pub IsKeptLoose : Station D → Kept R (Loose D) → Type 0
     IsKeptLoose station kept = IsLoose station kept.value
+
+    abbrev pub IsKeptPartOf : Kept R (Loose D) → Kept R Placed → Type 0
+    IsKeptPartOf loose placed = IsPartOf loose.value placed.value
 
     abbrev pub IsKeptSideOf : Kept R (Loose D) → Kept R Placed → Type 0
     IsKeptSideOf loose placed = IsSideOf loose.value placed.value

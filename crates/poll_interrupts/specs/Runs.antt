@@ -1,4 +1,4 @@
--- What a worker's run leaves behind: what each act adds to the events of its own, and the one history in which these stand.
+-- What a worker's run adds: what each act adds to its own events, and the one history that contains them.
 use Rattle.std.specs.Prelude.{◌≡◌, ◌⊎◌, ◌≤◌, ℕ, ◌<◌, zero, suc, Bool, true, false, List, [], ◌∷◌, ◌++◌, length, flat_map}
 use Rattle.std.specs.Prelude.{if◌then◌else◌, Option}
 use Rattle.rx_ring.specs.{declared.packet.{Packet.Packet, Totals.Totals}, ReceiveRing.totals_of}
@@ -14,9 +14,10 @@ use Rattle.napi_model.specs.declared.event.Prep.TheVariants as prep
 use Rattle.napi_model.specs.declared.event.Call.TheVariants as call
 use Rattle.poll_interrupts.specs.declared.acts.Act.TheVariants as act
 
--- ---- what a thread does of its own: the tries that were lost, and the one that decided
+-- ---- the own events of a thread: the tries that lost, and the one that decided
 
--- granted, it hands the instance over: where that has a thread of its own to whom a look says, else to the list
+-- if granted, it hands the instance over: to its own thread if it has one and the state says so when read, otherwise to the
+-- list
 abbrev pub IsHandingOver : Bool → List Operation → Type 0
 IsHandingOver false os = os ≡ Hand kind.List ∷ []
 IsHandingOver true os = (x : Seen) × (os ≡ Look x ∷ Hand (if x.flags.threaded then kind.Thread else kind.List) ∷ [])
@@ -43,8 +44,8 @@ IsDisabling os = (ts : List (Option (Lost call.TakeDisable))) × (x : Seen)
 
 -- ---- a worker's ledger
 
--- whose it is: the numbers of its caller and of its controller, how many packets its ring can hold, and whether the instance has
--- a thread of its own
+-- its owner: the numbers of its caller and of its controller, how many packets its ring can hold, and whether the instance has
+-- its own thread
 pub record Whose : Type 0 where
   pub caller : ℕ
   pub controller : ℕ
@@ -68,17 +69,17 @@ abbrev pub Puts : Whose → Packet → Ledger → Ledger → Type 0
 Puts w packet a b =
     (os : List Operation) × IsInterrupt w.thread os × (b ≡ record a { put = a.put ++ packet ∷ []; calls = a.calls ++ events w.caller os })
 
--- a full ring drops it, and nothing is asked for
+-- a full ring drops it, and no poll is requested
 abbrev pub Drops : Whose → Ledger → Ledger → Type 0
 Drops w a b = (w.places ≤ length a.put) × (b ≡ a)
 
--- an instance that is on stays so
+-- an instance that is on stays on
 abbrev pub SwitchesOn : Whose → Bool → Ledger → Ledger → Type 0
 SwitchesOn w true a b = b ≡ a
 SwitchesOn w false a b =
     (os : List Operation) × IsEnabling a.threaded os × (b ≡ record a { controls = a.controls ++ events w.controller os; on = true })
 
--- one that is off too
+-- one that is off stays off
 abbrev pub SwitchesOff : Whose → Bool → Ledger → Ledger → Type 0
 SwitchesOff w true a b =
     (os : List Operation) × IsDisabling os × (b ≡ record a { controls = a.controls ++ events w.controller os; on = false })
@@ -104,7 +105,7 @@ WorksBy w answer after d n a b =
 
 -- ---- the whole run of a station
 
--- its instance has three callers, of its worker, of its poller and of its own thread, and so its controller the last number
+-- its instance has three callers, of its worker, of its poller and of its own thread, and so its controller has the last number
 abbrev pub worker_number : ℕ
 worker_number = 0
 
@@ -120,14 +121,14 @@ controller_number = 3
 -- The instance was closed: what its seats did is its one history.
 pub record IsEnded (closed : Closed) (put : List Packet) (totals : Totals) : Type 0 where
   pub history : List Event
-  -- It is legal, each seat's own events in it are all that it made, and nobody else has one; it ends in the controller's hands, and
-  -- every accepted schedule is followed by a Released, with a poll start between it and the next one.
+  -- It is legal, each seat's own events in it are all that it made, and no other seat has one; in the end the controller owns
+  -- the instance, and every accepted schedule is followed by a Released, with a poll start between it and the next one.
   pub is : IsHistoryOf controller_number (seats_in closed) history
-  -- each owner who gave the context back delivered what it had polled: the first packets put, each once and in order
+  -- each owner who returned the context delivered what it had polled: the first packets put, each once and in order
   pub deliveries : List Delivery
   pub deliverers_are : deliverers deliveries ≡ givers (opening controller_number) history
   pub in_order : IsPrefix (packets_of deliveries) put
-  -- each seat's own are those that it made, and nobody else has one
+  -- each seat's own events are those that it made, and no other seat has one
   pub own_exact : Each (seats_in closed) (λ p. own_deliveries (number_of p) deliveries ≡ own_delivered p)
   pub own_only : (c : ℕ) → controller_number < c → own_deliveries c deliveries ≡ []
   -- the totals are those of what was put and of what was delivered
@@ -136,7 +137,7 @@ pub record IsEnded (closed : Closed) (put : List Packet) (totals : Totals) : Typ
 -- a station with so many places, with a thread or without, whose device made n acts, and whose instance was closed
 pub record HasRun {D : Type 0} (answer : D → ℕ → Act) (after : D → ℕ → D) (places : ℕ) (thread : Bool) (d : D) (n : ℕ)
     (closed : Closed) (totals : Totals) : Type 0 where
-  -- what its acts left is what its worker's caller and its controller did
+  -- the effects of its acts are those of its worker's caller and its controller
   pub left : Ledger
   pub works : WorksBy
       (record { caller = worker_number; controller = controller_number; places = places; thread = thread }) answer after d n blank left

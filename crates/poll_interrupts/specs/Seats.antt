@@ -1,4 +1,4 @@
--- Whose instance the seats are of that a thread has.
+-- Whose instance a thread's handles are on.
 use Rattle.std.specs.Prelude.{◌≡◌, ℕ, []}
 use Rattle.napi_calls.specs.{declared.types.{Caller.Caller, Napi.Napi}, Instance.IsSeatOf}
 use Rattle.{napi_calls.specs.Seats.{number_of, own_list}, poll_interrupts.specs.declared.worker.Power.{Power, TheVariants.{On, Off}}}
@@ -14,13 +14,12 @@ IsAccessOf napi access = IsSeatOf napi access.caller.pass × IsPowerOf napi acce
 abbrev pub AreSeatsOf : Napi → OwnSeats → Type 0
 AreSeatsOf napi seats = IsSeatOf napi seats.caller.pass × IsSeatOf napi seats.control.pass
 
--- a caller as it was made: it has this number, and did nothing
+-- a new caller: it has this number, and made no call
 pub record IsUnused (number : ℕ) (caller : Caller) : Type 0 where
   pub number_is : number_of caller.pass ≡ number
   pub nothing_done : own_list caller.pass ≡ []
 
--- a worker's seats as they were made: nothing was done by them, and the controller's number is that of an instance with three
--- callers
+-- a worker's new handles: no call was made by them, and the controller's number is that of an instance with three callers
 pub record AreUnused (seats : OwnSeats) : Type 0 where
   pub caller : IsUnused worker_number seats.caller
   pub control : own_list seats.control.pass ≡ []

@@ -1,8 +1,8 @@
--- What a worker promises of its own station.
-use Rattle.std.specs.Prelude.{◌≡◌, ℕ, ◌+◌, ◌≤◌, ◌++◌, Bool, false, None, IfSome, length}
+-- The contract of a worker, for its own station.
+use Rattle.std.specs.Prelude.{◌≡◌, ℕ, ◌+◌, ◌≤◌, ◌++◌, Bool, false, None, IfSome, is_some, length}
 use Rattle.{poll_tasks.specs.{Asks.WasLet, Stops.IsStop}, rx_ring.specs.{declared.ends.RxIn.RxIn, Ends.SameIn}}
 use Rattle.{rx_ring.specs.Ends.{capacity_of, put_list}, napi_calls.specs.{declared.types.Napi.Napi, Seats.{number_of, own_list}}}
-use Rattle.poll_interrupts.specs.declared.{acts.Act.Act, worker.{OwnSeats.OwnSeats, Work.Work, Done.Done}, job.Worked.Worked}
+use Rattle.poll_interrupts.specs.declared.{acts.Act.Act, worker.{OwnSeats.OwnSeats, InterruptWorker.InterruptWorker}}
 use Rattle.poll_interrupts.specs.Acts.{after_acts}
 use Rattle.poll_interrupts.specs.{Acts.arrivals, Calls.Lists, Runs.{Ledger, Whose, WorksBy}, Seats.AreSeatsOf}
 
@@ -16,7 +16,7 @@ ledger_of seats rx threaded = record {
   threaded = threaded;
 }
 
--- whose ledger that is
+-- the owner of that ledger
 abbrev pub whose : OwnSeats → RxIn → Bool → Whose
 whose seats rx thread =
     record { caller = number_of seats.caller.pass; controller = number_of seats.control.pass; places = capacity_of rx; thread = thread }
@@ -25,31 +25,34 @@ whose seats rx thread =
 abbrev pub AreSameSeats : OwnSeats → OwnSeats → Type 0
 AreSameSeats a b = (number_of b.caller.pass ≡ number_of a.caller.pass) × (number_of b.control.pass ≡ number_of a.control.pass)
 
--- `answers` is what a gate answers: to whom, before which act
-module _ {R D : Type 0} (acts : D → ℕ) (answer : D → ℕ → Act) (after : D → ℕ → D) (answers : ℕ → ℕ → Bool → Type 0) where
+-- `answers` is what a gate returns: to which thread, before which act
+module _ {R D G : Type 0} (acts : D → ℕ) (answer : D → ℕ → Act) (after : D → ℕ → D) (answers : ℕ → ℕ → Bool → Type 0) where
   -- what it did is the run of these acts, by the events that its seats had before and have afterwards
-  abbrev pub HasWorked : Bool → Work R D → Done R D → Type 0
-  HasWorked thread work done =
-      (threaded : Bool) × WorksBy (whose work.seats.value work.rx thread) answer after work.device (acts work.device)
-      (ledger_of work.seats.value work.rx false) (ledger_of done.seats.value done.rx threaded)
+  abbrev pub HasWorked : Bool → InterruptWorker R D G → InterruptWorker R D G → Type 0
+  HasWorked thread before done =
+      (threaded : Bool) × WorksBy (whose before.seats.value before.rx thread) answer after before.device (acts before.device)
+      (ledger_of before.seats.value before.rx false) (ledger_of done.seats.value done.rx threaded)
 
-  -- it made all acts of the device, each once and in order, and put what they brought, where there is room for all
-  pub record IsDoneBy (napi : Napi) (thread : Bool) (number : ℕ) (work : Work R D) (done : Done R D) : Type 0 where
+  -- it made all acts of the device, each once and in order, and put their packets, if there is room for all
+  pub record IsDoneBy (napi : Napi) (thread : Bool) (number : ℕ) (before done : InterruptWorker R D G) : Type 0 where
     pub seats : AreSeatsOf napi done.seats.value
-    pub same : AreSameSeats work.seats.value done.seats.value
+    pub same : AreSameSeats before.seats.value done.seats.value
     -- it pushed the station's number for each hand-over to the list, once, and nothing else
-    pub lists : Lists number work.seats.value.caller.pass done.seats.value.caller.pass work.list done.list
-    pub let_go : done.stop ≡ None → WasLet answers number (acts work.device)
-    pub run : done.stop ≡ None → HasWorked thread work done
-    pub made : done.stop ≡ None → done.device ≡ after_acts after work.device (acts work.device)
-    pub ring : SameIn work.rx done.rx
-    pub few : length (put_list done.rx) ≤ length (put_list work.rx) + 4294967295
+    pub lists : Lists number before.seats.value.caller.pass done.seats.value.caller.pass before.list done.list
+    pub let_go : done.stop ≡ None → WasLet answers number (acts before.device)
+    pub run : done.stop ≡ None → HasWorked thread before done
+    pub made : done.stop ≡ None → done.device ≡ after_acts after before.device (acts before.device)
+    pub ring : SameIn before.rx done.rx
+    pub few : length (put_list done.rx) ≤ length (put_list before.rx) + 4294967295
     pub put : done.stop ≡ None
-        → length (put_list work.rx) + length (arrivals answer after work.device (acts work.device)) ≤ capacity_of work.rx
-        → put_list done.rx ≡ put_list work.rx ++ arrivals answer after work.device (acts work.device)
+        → length (put_list before.rx) + length (arrivals answer after before.device (acts before.device)) ≤ capacity_of before.rx
+        → put_list done.rx ≡ put_list before.rx ++ arrivals answer after before.device (acts before.device)
 
-  -- `may_shut` is true of a gate that may answer false
-  pub record IsWorkOf (may_shut : Type 0) (napi : Napi) (thread : Bool) (number : ℕ) (work : Work R D) (worked : Worked R D) : Type 0 where
-    pub same_number : worked.number ≡ number
-    pub why : IfSome worked.done.stop (IsStop may_shut)
-    pub done : IsDoneBy napi thread number work worked.done
+module _ {R D G : Type 0} (acts : D → ℕ) (answer : D → ℕ → Act) (after : D → ℕ → D) (may_shut : Type 0)
+    (answers : G → ℕ → ℕ → Bool → Type 0) where
+  -- the worker as it was, and as it returned
+  pub record IsWorked (before done : InterruptWorker R D G) : Type 0 where
+    pub why : IfSome done.stop (IsStop may_shut)
+    pub same_handler : done.handler ≡ before.handler
+    pub is : IsDoneBy acts answer after (answers before.setting.now.gate.now) before.handler.napi.now (is_some before.handler.thread)
+        before.handler.number before done

@@ -6,7 +6,7 @@ ghost use Rattle.poll_interrupts.specs.declared.acts.Act.{Act};
 use crate::acts::{Act, Device};
 use std::marker::Model;
 
-/// A device that makes the acts of a list, in their order. Of a list of more than 4294967295 it makes so many.
+/// A device that makes the acts of a list, in order. It makes the first 4294967295 of a longer list.
 #[derive(Drop)]
 pub struct ActList {
     acts: Vec<Act>,
@@ -19,7 +19,7 @@ impl Model for ActList {
 }
 
 impl ActList {
-    /// The device of these acts.
+    /// Creates the device of these acts.
     pub fn new(acts: Vec<Act>) -> ActList
         ensures { result ≡ acts.items }
     {

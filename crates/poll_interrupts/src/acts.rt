@@ -7,20 +7,20 @@ use rx_ring::Packet;
 /// One act of a device.
 #[derive(Clone, Copy, Debug, PartialEq, Eq)]
 pub enum Act {
-    /// A packet arrives and interrupts (`napi_schedule`). A full ring drops it, and then nothing is asked for.
+    /// A packet arrives and raises an interrupt (`napi_schedule`). A full ring drops it, and then no poll is requested.
     Arrive(Packet),
-    /// The device is disabled, once its polls have ended (`napi_disable`). One that is disabled stays so.
+    /// The device is disabled, after its polls have ended (`napi_disable`). No effect on a disabled one.
     Disable,
-    /// The device is enabled with its threaded setting (`napi_enable`). One that is enabled stays so.
+    /// The device is enabled with its threaded setting (`napi_enable`). No effect on an enabled one.
     Enable,
-    /// The threaded setting, and THREADED at once (`dev_set_threaded`).
+    /// Changes the threaded setting, and THREADED at once (`dev_set_threaded`).
     SetThreaded(bool),
-    /// Nothing of the instance's.
+    /// Nothing for the instance.
     Nothing,
 }
 
-/// A device whose acts a worker makes, one after the other. It states what it answers and what it is afterwards as
-/// functions of itself and the act's number.
+/// A device whose acts a worker makes, one after the other. It states what it returns and what it is afterwards as functions of
+/// itself and the act's number.
 pub trait Device {
     ghost use Rattle.poll_interrupts.specs.declared.acts.Act.{Act};
 
@@ -30,11 +30,11 @@ pub trait Device {
 
     ghost after: { Self → ℕ → Self };
 
-    /// How many acts there are. They are numbered from 0.
+    /// Returns how many acts there are. They are numbered from 0.
     fn acts(&self) -> u32
         ensures { result ≡ acts self.now };
 
-    /// The next act. The acts are asked for in order, each once.
+    /// Returns the next act. Called for the acts in order, once each.
     fn act(&mut self, k: u32) -> Act
         requires { k < acts self.old }
         ensures answer { result ≡ answer self.old k }

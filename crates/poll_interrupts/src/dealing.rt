@@ -3,7 +3,7 @@
 ghost use Rattle.std.specs.Prelude.{◌<◌, ◌==◌, ◌≤◌, true, ◌≡◌};
 ghost use Rattle.poll_interrupts.specs.Deals.{is_own};
 
-/// The poller of the station with this number, of so many: numbered from 0, what is left of it when divided by their count.
+/// Returns the poller of the station with this number: the number minus 1, modulo the count of pollers.
 pub fn poller_of(number: u32, pollers: usize) -> usize
     requires { 1 ≤ pollers }
     ensures own { is_own result pollers number ≡ true }

@@ -1,11 +1,10 @@
-//! Behind the door `poll_engine`: interrupt workers, each the device of a station, its instance, and the thread that makes its acts.
+//! //! Internal crate of the facade `poll_engine`: interrupt workers, each with the device of a station and its instance, in
+//! its own thread.
 #![tactic(auto)]
 
 mod act_list;
 mod acts;
 mod dealing;
-mod gathering;
-mod job;
 mod opening;
 mod station;
 mod worker;
@@ -13,8 +12,6 @@ mod worker;
 pub use act_list::ActList;
 pub use acts::{Act, Device};
 pub use dealing::poller_of;
-pub use gathering::{gather, stop_of};
-pub use job::{Job, Worked};
-pub use opening::{Loose, Placed, open_all, shut_all};
+pub use opening::{Loose, Placed, end_all, open_all, shut_all};
 pub use station::{Closed, Finished, Station};
-pub use worker::{Done, InterruptHandler, OwnSeats, Work};
+pub use worker::{InterruptHandler, InterruptWorker, OwnSeats, worker_stop};

@@ -1,36 +1,40 @@
-//! How the instances of stations are made and closed.
+//! //! How the instances of stations are opened and closed.
 
-ghost use Rattle.std.specs.Prelude.{◌≡◌, ◌≤◌, ◌+◌, ℕ, [], ◌∷◌, IfOk, is_some, length, slice_get, Some, vec_items, vec_len, vec_capacity};
+ghost use Rattle.std.specs.Prelude.{◌≡◌, ◌≤◌, ◌+◌, ℕ, [], ◌∷◌, IfOk, length, slice_get, Some, vec_items, vec_len, vec_capacity};
 ghost use Rattle.std.specs.List.{All, AllZip};
 ghost use Rattle.napi_calls.specs.Instance.{IsNewSeat, IsSeatOf, callers_of};
 ghost use Rattle.napi_calls.specs.declared.types.Caller.{Caller};
-ghost use Rattle.poll_interrupts.specs.Opens.{IsHome, IsKeptLoose, IsKeptSideOf, IsLoose, IsSideOf, IsStation, WakesOwn};
+ghost use Rattle.poll_interrupts.specs.Ends.{IsFinishOf, IsKeptFinishOf};
+ghost use Rattle.poll_interrupts.specs.Opens.{IsHome, IsKeptLoose, IsKeptPartOf, IsKeptSideOf, IsLoose, IsPartOf, IsSideOf, IsStation};
+ghost use Rattle.poll_tasks.specs.Tasks.{HasRoom};
 ghost use Rattle.poll_interrupts.specs.Closings.{IsCallersOf, IsClosedAs};
 ghost use Rattle.poll_interrupts.specs.Seats.{AreSeatsOf};
 
-use crate::station::{Closed, Station};
+use crate::station::{Closed, Finished, Station};
 use crate::worker::OwnSeats;
 use napi_calls::{Caller, Kept, Napi, NewBack};
 use poll_tasks::{Bell, Pause};
-use rx_ring::{RxCtx, RxIn, ring};
+use rx_ring::{RxCtx, RxIn, finish, ring};
 use std::alloc::{AllocError, Global};
 use std::snapshot::Snapshot;
 use std::sync::Wait;
 
-/// What stays where it is of an instance while its threads run: the instance, the bell of its own thread, where it has one,
-/// and room for its three callers. It must be spent.
+/// The part of an instance that stays with the caller while its threads run: the instance, the waker of its own thread, if it
+/// has one, and room for its three callers. A linear value: it can't be dropped.
 pub struct Placed {
     /// The device's number.
     pub number: u32,
     /// The instance.
     pub napi: Napi,
-    /// The bell of its own thread, where it has one.
-    pub bell: Option<Bell>,
+    /// Whether it has its own thread.
+    pub has_thread: bool,
+    /// The waker of that thread.
+    pub bell: Bell,
     /// Room for its three callers.
     pub room: Vec<Caller>,
 }
 
-/// What goes to the threads of an instance. It must be spent.
+/// The parts of an instance that go to its threads. A linear value: it can't be dropped.
 pub struct Loose<D> {
     /// The device's number.
     pub number: u32,
@@ -40,17 +44,19 @@ pub struct Loose<D> {
     pub rx: RxIn,
     /// The worker's seats at the instance.
     pub seats: OwnSeats,
-    /// The caller of the poller of its list.
+    /// The caller that the poller of its list uses.
     pub poller: Caller,
-    /// The caller of its own thread.
+    /// The caller that its own thread uses.
     pub thread: Caller,
-    /// What its own thread sleeps on, where it has one.
-    pub pause: Option<Pause>,
+    /// Whether it has its own thread.
+    pub has_thread: bool,
+    /// How that thread waits.
+    pub pause: Pause,
 }
 
 impl Placed {
     /// Closes the instance, with its three callers (`netif_napi_del`).
-    pub(crate) fn close(self, seats: OwnSeats, poller: Caller, thread: Caller) -> (Closed, RxCtx)
+    fn close(self, seats: OwnSeats, poller: Caller, thread: Caller) -> (Closed, RxCtx)
         requires home { IsHome self }
         requires seats { AreSeatsOf self.napi seats }
         requires callers { IsSeatOf self.napi poller.pass × IsSeatOf self.napi thread.pass }
@@ -61,6 +67,7 @@ impl Placed {
         let Placed {
             number: _,
             napi,
+            has_thread: _,
             bell: _,
             room,
         } = self;
@@ -82,7 +89,7 @@ impl Placed {
     }
 }
 
-// The last one left of an instance's callers.
+// Returns the last remaining one of an instance's callers.
 fn next(napi: &Napi, callers: &mut Vec<Caller>) -> Caller
     requires some { 1 ≤ length callers.old.items }
     requires seats { (k : ℕ) (c : Caller) → slice_get callers.old.items k ≡ Some c
@@ -98,19 +105,7 @@ fn next(napi: &Napi, callers: &mut Vec<Caller>) -> Caller
     caller
 }
 
-// The bell of an instance's own thread, and what that sleeps on, where it is to have one.
-fn thread_bell(alloc: Global, thread: bool) -> Result<(Option<Bell>, Option<Pause>), AllocError>
-    ensures some { IfOk result (λ r. (is_some r.0 ≡ thread) × (is_some r.1 ≡ thread)) }
-    ensures wakes { IfOk result (λ r. WakesOwn r.0 r.1) }
-{
-    if !thread {
-        return Ok((None, None));
-    }
-    let (bell, pause) = Bell::new(alloc)?;
-    Ok((Some(bell), Some(pause)))
-}
-
-// The instance of a station.
+// Returns the instance of a station.
 fn open<D: Drop>(alloc: Global, station: Station<D>) -> Result<(Placed, Loose<D>), AllocError>
     requires { IsStation station }
     ensures loose { IfOk result (λ r. IsLoose station r.1) }
@@ -119,10 +114,10 @@ fn open<D: Drop>(alloc: Global, station: Station<D>) -> Result<(Placed, Loose<D>
     let Station {
         number,
         capacity,
-        thread,
+        thread: has_thread,
         device,
     } = station;
-    let (bell, pause) = thread_bell(alloc, thread)?;
+    let (bell, pause) = Bell::new(alloc)?;
     let Ok((rx, ctx)) = ring(alloc, capacity) else {
         return Err(AllocError);
     };
@@ -136,6 +131,7 @@ fn open<D: Drop>(alloc: Global, station: Station<D>) -> Result<(Placed, Loose<D>
     let placed = Placed {
         number,
         napi,
+        has_thread,
         bell,
         room: callers,
     };
@@ -146,25 +142,34 @@ fn open<D: Drop>(alloc: Global, station: Station<D>) -> Result<(Placed, Loose<D>
         seats: OwnSeats { caller, control },
         poller,
         thread,
+        has_thread,
         pause,
     };
     Ok((placed, loose))
 }
 
-// Closes an instance that no thread has used.
-fn shut<D: Drop>(placed: Placed, loose: Loose<D>)
-    requires { IsSideOf loose placed }
+// Closes the instance of a station (`netif_napi_del`), and counts what is in its ring.
+fn end<D: Drop>(placed: Placed, loose: Loose<D>) -> Finished<D>
+    requires { IsPartOf loose placed }
+    ensures { IsFinishOf loose result }
 {
     let Loose {
-        number: _,
-        device: _,
-        rx: _,
+        number,
+        device,
+        rx,
         seats,
         poller,
         thread,
+        has_thread: _,
         pause: _,
     } = loose;
-    let (_closed, _ctx) = placed.close(seats, poller, thread);
+    let (closed, ctx) = placed.close(seats, poller, thread);
+    Finished {
+        number,
+        device,
+        totals: finish(rx, ctx),
+        closed,
+    }
 }
 
 /// Closes instances that no thread has used.
@@ -172,7 +177,7 @@ pub fn shut_all<R: Wait + Drop, D: Drop>(
     placed: Vec<Kept<R, Placed>>,
     loose: Vec<Kept<R, Loose<D>>>,
 )
-    requires { AllZip IsKeptSideOf (vec_items loose) (vec_items placed) }
+    requires { AllZip IsKeptPartOf (vec_items loose) (vec_items placed) }
 {
     let mut others = loose.into_iter();
     let mut all = placed.into_iter();
@@ -180,11 +185,33 @@ pub fn shut_all<R: Wait + Drop, D: Drop>(
         let Some(one) = all.next() else {
             unreachable!()
         };
-        shut(one.open(), other.open());
+        let _finished = end(one.open(), other.open());
     }
 }
 
-/// Makes the instances of all stations. With no memory for all of them those that were made are closed.
+/// Closes all instances, in order, after their threads have ended. Requires room for the results.
+pub fn end_all<R: Wait + Drop, D: Drop>(
+    placed: Vec<Kept<R, Placed>>,
+    loose: Vec<Kept<R, Loose<D>>>,
+    room: Vec<Finished<D>>,
+) -> Vec<Finished<D>>
+    requires parts { AllZip IsKeptPartOf (vec_items loose) (vec_items placed) }
+    requires room { HasRoom (vec_len loose) room }
+    ensures { AllZip IsKeptFinishOf (vec_items loose) (vec_items result) }
+{
+    let mut finished = room;
+    let mut others = loose.into_iter();
+    let mut all = placed.into_iter();
+    while let Some(other) = others.next() {
+        let Some(one) = all.next() else {
+            unreachable!()
+        };
+        finished.push_reserved(end(one.open(), other.open()));
+    }
+    finished
+}
+
+/// Opens the instances of all stations. If an allocation fails, those already opened are closed.
 pub fn open_all<R: Wait + Drop + Copy, D: Drop>(
     rt: R,
     alloc: Global,
@@ -193,6 +220,7 @@ pub fn open_all<R: Wait + Drop + Copy, D: Drop>(
     requires stations { All IsStation (vec_items stations) }
     ensures loose { IfOk result (λ r. AllZip IsKeptLoose (vec_items stations) (vec_items r.1)) }
     ensures sides { IfOk result (λ r. AllZip IsKeptSideOf (vec_items r.1) (vec_items r.0)) }
+    ensures parts { IfOk result (λ r. AllZip IsKeptPartOf (vec_items r.1) (vec_items r.0)) }
     ensures len { IfOk result
         (λ r. (vec_len r.0 ≡ vec_len stations) × (vec_len r.1 ≡ vec_len stations)) }
 {

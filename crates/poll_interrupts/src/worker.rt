@@ -1,12 +1,12 @@
-//! An interrupt worker: it makes its device's acts, and hands the instance to its poller.
+//! //! An interrupt worker: makes its device's acts, and hands the instance to its poller.
 
 ghost use Rattle.std.specs.Prelude.{◌≡◌, ℕ, ◌+◌, ◌≤◌, ◌<◌, ◌++◌, true, false, None, IfSome, is_some, length};
+ghost use Rattle.std.specs.List.{All};
 ghost use Rattle.rx_ring.specs.Ends.{SameIn, capacity_of, put_list};
 ghost use Rattle.napi_calls.specs.Instance.{IsSeatOf};
 ghost use Rattle.poll_interrupts.specs.Acts.{after_acts, arrivals, brings};
 ghost use Rattle.poll_interrupts.specs.Calls.{Acts, AllActs, HandsOver, Interrupts, IsPutLast, IsSameAccess, Leaves, Lists, TurnsOn};
 ghost use Rattle.poll_interrupts.specs.Seats.{AreSeatsOf, IsAccessOf, IsPowerOf};
-ghost use Rattle.poll_interrupts.specs.Works.{IsDoneBy};
 ghost use Rattle.poll_tasks.specs.Asks.{WasLet};
 ghost use Rattle.poll_tasks.specs.Stops.{IsStop};
 
@@ -14,12 +14,12 @@ use crate::acts::{Act, Device};
 use napi_calls::{Between, Caller, Control, Granted, Kept, Napi, Off, On, Sched};
 use napi_model::Kind;
 use poll_list::ListIn;
-use poll_tasks::{Bell, Gate, Setting, Stop};
+use poll_tasks::{Bell, Gate, Setting, Stop, Task};
 use rx_ring::{Packet, RxIn};
 use std::sync::Wait;
 use std::thread;
 
-// Leaves the processor to others, so that whoever has an instance can go on.
+// Yields the processor, so that the thread that owns an instance can continue.
 #[derive(Drop)]
 struct Yields;
 
@@ -29,73 +29,45 @@ impl Between for Yields {
     }
 }
 
-/// The controller, by whether the instance is on.
+/// The controller, in its state: the instance is on or off.
 pub(crate) enum Power {
     On(Control<On>),
     Off(Control<Off>),
 }
 
-/// What a worker holds of its instance. It must be spent.
+/// A worker's handles on its instance. A linear value: it can't be dropped.
 pub(crate) struct Access {
     pub(crate) caller: Caller,
     pub(crate) power: Power,
-    /// The device's threaded setting, which an enable writes again (`dev_set_threaded`).
+    /// The device's threaded setting, which an enable writes (`dev_set_threaded`).
     pub(crate) threaded: bool,
 }
 
-/// The worker's seats at its instance, which is off. They must be spent.
+/// The worker's handles on its instance, which is off. A linear value: they can't be dropped.
 pub struct OwnSeats {
-    /// The caller that asks for polls.
+    /// The caller that requests polls.
     pub caller: Caller,
     /// The controller of the instance.
     pub control: Control<Off>,
 }
 
-/// What a worker begins with.
-#[derive(Drop)]
-pub struct Work<R: Wait + Drop, D> {
-    /// The worker's end of its poller's list.
-    pub list: ListIn<R>,
-    /// The device, before its acts.
-    pub device: D,
-    /// The input of its receive ring.
-    pub rx: RxIn,
-    /// The worker's seats at the instance.
-    pub seats: Kept<R, OwnSeats>,
-}
-
-/// What a worker ends with.
-#[derive(Drop)]
-pub struct Done<R: Wait + Drop, D> {
-    /// The worker's end of its poller's list.
-    pub list: ListIn<R>,
-    /// The device, after its acts.
-    pub device: D,
-    /// The input of its receive ring.
-    pub rx: RxIn,
-    /// The worker's seats at the instance, which is off again.
-    pub seats: Kept<R, OwnSeats>,
-    /// Why not all acts were made, if so.
-    pub stop: Option<Stop>,
-}
-
 /// Where a worker's interrupts go.
 #[derive(Drop)]
 pub struct InterruptHandler<'p, 'n, R> {
-    /// What waits.
+    /// The runtime, which waits.
     pub rt: R,
     /// The device's number.
     pub number: u32,
     /// The instance.
     pub napi: &'n Napi,
-    /// The bell of its thread, where it has one.
+    /// The waker of its thread, if it has one.
     pub thread: Option<&'n Bell>,
-    /// The bell of the poller of its list.
+    /// The waker of the poller of its list.
     pub poller: &'p Bell,
 }
 
 impl<'p, 'n, R: Wait> InterruptHandler<'p, 'n, R> {
-    // Hands the instance to the list, and wakes who polls it.
+    // Hands the instance to the list, and wakes the poller of the list.
     fn hand_to_list(&self, list: &mut ListIn<R>, granted: Granted) -> Caller
         requires { IsSeatOf self.now.napi.now granted.pass }
         ensures of { IsSeatOf self.now.napi.now result.pass }
@@ -108,7 +80,7 @@ impl<'p, 'n, R: Wait> InterruptHandler<'p, 'n, R> {
         caller
     }
 
-    // Hands the instance to its thread, where it has one and THREADED is set, else to the list, and wakes who polls it
+    // Hands the instance to its thread, if it has one and THREADED is set, otherwise to the list, and wakes the poller
     // (`____napi_schedule`).
     fn hand_over(&self, list: &mut ListIn<R>, mut granted: Granted) -> Caller
         requires { IsSeatOf self.now.napi.now granted.pass }
@@ -127,8 +99,7 @@ impl<'p, 'n, R: Wait> InterruptHandler<'p, 'n, R> {
         caller
     }
 
-    // The interrupt of a packet that was put: it asks for a poll, and where that is granted it hands the instance over
-    // (`napi_schedule`).
+    // The interrupt of a packet that was put: requests a poll, and if it is granted, hands the instance over (`napi_schedule`).
     fn interrupt(&self, list: &mut ListIn<R>, caller: Caller, rx: &RxIn, packet: Packet) -> Caller
         requires of { IsSeatOf self.now.napi.now caller.pass }
         requires put { IsPutLast packet rx.now }
@@ -166,7 +137,7 @@ impl<'p, 'n, R: Wait> InterruptHandler<'p, 'n, R> {
         }
     }
 
-    // One act: the device is asked for it, and it is made.
+    // Makes one act: the device returns it, and the worker makes it.
     #[inline(always)]
     fn make_act<D: Device>(
         &self,
@@ -217,7 +188,7 @@ impl<'p, 'n, R: Wait> InterruptHandler<'p, 'n, R> {
         }
     }
 
-    // Why the worker may not make its next act, if so. If the gate says no, the run is shut.
+    // Returns why the worker may not make its next act, if so. If the gate returns false, the run stops.
     fn stop_before<G: Gate>(&self, setting: &Setting<R, G>, k: u32) -> Option<Stop>
         ensures open { result ≡ None → G.answers setting.now.gate.now self.now.number k true }
         ensures why { IfSome result (IsStop G.may_shut) }
@@ -228,7 +199,7 @@ impl<'p, 'n, R: Wait> InterruptHandler<'p, 'n, R> {
         }
     }
 
-    // The device's acts in order, and why not all were made, if so.
+    // Makes the device's acts in order. Returns why not all were made, if so.
     #[tactic(auto, using(crate::proofs::ActSteps::steps))]
     fn make_acts<D: Device, G: Gate>(
         &self,
@@ -270,43 +241,87 @@ impl<'p, 'n, R: Wait> InterruptHandler<'p, 'n, R> {
     }
 }
 
-impl<'p, 'n, R: Wait + Drop + Copy> InterruptHandler<'p, 'n, R> {
-    /// Makes the device's acts over an instance that is enabled before, and disabled after.
-    pub(crate) fn work<D: Device, G: Gate>(
-        &self,
-        setting: &Setting<R, G>,
-        work: Work<R, D>,
-    ) -> Done<R, D>
-        requires { AreSeatsOf self.now.napi.now work.seats.value }
-        ensures done { IsDoneBy D.acts D.answer D.after (G.answers setting.now.gate.now)
-            self.now.napi.now (is_some self.now.thread) self.now.number work result }
-        ensures why { IfSome result.stop (IsStop G.may_shut) }
-    {
-        let Work {
+/// An interrupt worker, run in its own thread. It makes its device's acts over an instance that is enabled before and disabled
+/// after, also if the run was stopped.
+#[derive(Drop)]
+pub struct InterruptWorker<'t, 'p, 'n, R: Wait + Drop, D, G: Gate> {
+    /// What all threads of the run share.
+    pub setting: &'t Setting<'t, R, G>,
+    /// Where its interrupts go.
+    pub handler: InterruptHandler<'p, 'n, R>,
+    /// Its end of the list of its poller.
+    pub list: ListIn<R>,
+    /// The device.
+    pub device: D,
+    /// The input of the device's receive ring.
+    pub rx: RxIn,
+    /// Its handles on the instance, which is off.
+    pub seats: Kept<R, OwnSeats>,
+    /// Why not all acts were made, if so.
+    pub stop: Option<Stop>,
+    ghost of: { AreSeatsOf handler.napi.now seats.value },
+}
+
+impl<'t, 'p, 'n, R: Wait + Copy + Drop, D: Device + Drop, G: Gate> Task
+    for InterruptWorker<'t, 'p, 'n, R, D, G> {
+    ghost use Rattle.poll_interrupts.specs.Works.{IsWorked};
+
+    ghost gives = { IsWorked D.acts D.answer D.after G.may_shut G.answers };
+
+    fn is_idle(&self) -> bool {
+        false
+    }
+
+    fn run(self) -> InterruptWorker<'t, 'p, 'n, R, D, G> {
+        let InterruptWorker {
+            setting,
+            handler,
             mut list,
             mut device,
             mut rx,
             seats,
-        } = work;
+            stop: _,
+        } = self;
         let OwnSeats { caller, control } = seats.open();
         let access = Access {
             caller,
-            power: self.turn_on(Power::Off(control), false),
+            power: handler.turn_on(Power::Off(control), false),
             threaded: false,
         };
-        let (access, stop) = self.make_acts(&mut list, &mut device, access, &mut rx, setting);
+        let (access, stop) = handler.make_acts(&mut list, &mut device, access, &mut rx, setting);
         let Access {
             caller,
             power,
             threaded: _threaded,
         } = access;
-        let control = self.turn_off(power);
-        Done {
+        let control = handler.turn_off(power);
+        if let Some(bell) = handler.thread {
+            bell.tell();
+        }
+        InterruptWorker {
+            setting,
+            handler,
             list,
             device,
             rx,
-            seats: Kept::new(self.rt, OwnSeats { caller, control }),
+            seats: Kept::new(setting.rt, OwnSeats { caller, control }),
             stop,
         }
     }
+}
+
+/// Returns why the first worker that didn't make all its acts didn't.
+pub fn worker_stop<'t, 'p, 'n, R: Wait + Drop, D, G: Gate>(
+    all: &[InterruptWorker<'t, 'p, 'n, R, D, G>],
+) -> Option<Stop>
+    requires { All (λ w. IfSome w.stop (IsStop G.may_shut)) all.now }
+    ensures none { result ≡ None → All (λ w. w.stop ≡ None) all.now }
+    ensures some { IfSome result (IsStop G.may_shut) }
+{
+    for one in all {
+        if let Some(stop) = one.stop {
+            return Some(stop);
+        }
+    }
+    None
 }

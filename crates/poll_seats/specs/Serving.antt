@@ -1,7 +1,7 @@
--- Turns of what is polled until nothing comes any more.
+-- Turns of a poller until nothing will be handed over any more.
 use Rattle.{std.specs.Prelude.{Bool, false, List}, poll_runs.specs.Polls.Chain}
 
--- turns one after the other, each of which found something or nothing; the last one found nothing
+-- turns one after the other, each of which polled something or nothing; the last one polled nothing
 pub record IsServed {S : Type 0} (turns : S → Bool → S → Type 0) (before after : S) : Type 0 where
   pub found : List Bool
   pub last : S

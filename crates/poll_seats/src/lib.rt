@@ -1,12 +1,13 @@
-//! Behind the door `poll_engine`: pollers, one of many instances, and the threads of single ones.
+//! //! Internal crate of the facade `poll_engine`: pollers, each in its own thread, of the instances on a list or of a single
+//! one.
 #![tactic(auto)]
 
+mod list_poller;
 mod poller;
 mod seat;
-mod serving;
 mod thread_poller;
-mod unseating;
 
-pub use poller::PollTask;
+pub use list_poller::{ListPoller, SeatBench};
+pub use poller::{Poller, Serves, first_stop};
 pub use seat::Seat;
-pub use thread_poller::{Own, ThreadSide};
+pub use thread_poller::ThreadPoller;

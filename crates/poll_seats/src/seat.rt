@@ -1,4 +1,4 @@
-//! A poller's seat at one instance.
+//! //! A poller's handle on one instance.
 
 ghost use Rattle.std.specs.Prelude.{◌≡◌, ◌≤◌, IsSome, None};
 ghost use Rattle.std.specs.Option.{ForSome};
@@ -13,15 +13,15 @@ use rx_ring::Batch;
 use std::mem;
 use std::sync::Wait;
 
-/// A poller's seat at one instance. It must be spent.
+/// A poller's handle on one instance. A linear value: it can't be dropped.
 pub struct Seat<'n> {
     /// The device's number.
     pub number: u32,
     /// The instance.
     pub napi: &'n Napi,
-    /// The bell of the instance's own thread, where it has one.
+    /// The waker of the instance's own thread, if it has one.
     pub thread: Option<&'n Bell>,
-    /// Away only while it polls.
+    /// The caller that polls, absent only during a poll.
     pub caller: Option<Caller>,
     ghost of: { ForSome caller (λ c. IsSeatOf napi.now c.pass) },
 }
@@ -46,8 +46,8 @@ impl<'n> Seat<'n> {
         }
     }
 
-    /// Gives the caller back.
-    pub(crate) fn leave(self) -> Caller
+    /// Returns the caller.
+    pub fn leave(self) -> Caller
         requires { IsSome self.caller }
         ensures of { IsSeatOf self.entry.napi.now result.pass }
         ensures caller { self.entry.caller ≡ Some result }
@@ -62,7 +62,7 @@ impl<'n> Seat<'n> {
         caller
     }
 
-    /// Polls the instance once, if it is on the list. Where that hands it to its thread, the thread is woken.
+    /// Polls the instance once, if it is on the list. If that hands it to its thread, the thread is woken.
     pub(crate) fn poll<R: Wait>(&mut self, rt: &R, weight: u32, batch: &mut Batch) -> Once
         requires weight { (1 ≤ weight) × (weight ≤ 64) }
         ensures same { IsSameSeat self.old self.new }
@@ -93,7 +93,7 @@ impl<'n> Seat<'n> {
         once
     }
 
-    /// Polls the instance as its thread, if it was handed to it, at most so many times.
+    /// Polls the instance as its thread, if it was handed to the thread, at most so many times.
     pub(crate) fn poll_thread<R: Wait>(
         &mut self,
         rt: &R,

@@ -2,7 +2,7 @@
 use Rattle.std.proofs.Common.{◌≡◌, ◌≢◌, ◌<◌, ◌≤◌, ℕ, zero, suc, Bool, true, false, cond}
 use Rattle.std.proofs.Common.{List, [], ◌∷◌, ◌++◌, length, sym, refl, ap, ◌∙◌, subst}
 use Rattle.std.{proofs.Common.{append-nil, arith, All, eqb, get_or, get_or-set_other, get_or-set_same, set}, specs.Prelude.{filter, map}}
-use Rattle.std.{proofs.lemmas.Bool.{eqb-true, eqb-false}, specs.List.{AllByRecursion, AllZip}}
+use Rattle.std.{proofs.lemmas.{Bool.{eqb-true, eqb-false}, Grind.common_steps}, specs.List.{AllByRecursion, AllZip, remove}}
 use Rattle.poll_tasks.specs.Tasks.{EachAt, IsAt}
 
 pub none_left : {A : Type 0} (all xs rest : List A) → xs ++ rest ≡ all → rest ≡ [] → xs ≡ all
@@ -135,3 +135,8 @@ each_more P [] x each here (suc k) d low = absurd (omega (arith, low))
 each_more P (y ∷ xs) x each here zero d low = each 0 d (omega arith)
 each_more P (y ∷ xs) x each here (suc k) d low =
     each_more (λ n a. P (suc n) a) xs x (λ n a b. each (suc n) a (omega (arith, b))) here k d (omega (arith, low))
+
+-- the first one was taken
+pub first_of : {A : Type 0} (xs ys : List A) (x : A) → 1 ≤ length xs → x ≡ get_or xs 0 x → ys ≡ remove xs 0 → xs ≡ x ∷ ys
+first_of [] ys x some first rest = absurd (omega (arith, some))
+first_of (z ∷ xs) ys x some first rest = grind (arith, common_steps)

@@ -1,24 +1,25 @@
-//! Who is asked before acts.
+//! //! What is asked before each act.
 
 ghost use Rattle.std.specs.Prelude.{◌≡◌, ℕ, Bool, true, false};
 
-/// Who lets a run go on: asked before each act of a worker, which has its device's number, and as a poller starts, which
-/// has 100 and its own number from 0, or 200 and its device's number where it polls that one alone, with act 0.
+/// A check that can stop a run. It is asked before each act of a worker, with its device's number; and with act 0 when a poller
+/// starts: with 100 plus the number of a poller of lists, counted from 0, or with 200 plus its device's number for the thread
+/// of an instance.
 pub trait Gate {
-    /// What is true of a gate that may answer false: nothing where it always answers true.
+    /// What is true of a gate that may return false; not provable for a gate that always returns true.
     ghost may_shut: { Type 0 } = { Unit {0} };
 
-    /// `answers self worker act answer`: it was asked this, and answered so. Of a gate that states nothing nothing is known.
+    /// `answers self worker act answer`: it was asked this and returned `answer`. If a gate states nothing here, nothing is
+    /// known.
     ghost answers: { Self → ℕ → ℕ → Bool → Type 0 } = { λ gate worker act answer. Unit {0} };
 
-    /// False shuts the run: no further act is made, pollers go on until all that is begun has ended, and the run is
-    /// refused.
+    /// False stops the run: no further act is made, pollers continue until everything begun has ended, and the run fails.
     fn pass(&self, worker: u32, act: u32) -> bool
         ensures shut { result ≡ false → may_shut }
         ensures answers { answers self.now worker act result };
 }
 
-/// A gate that is always open.
+/// A gate that always returns true.
 #[derive(Drop)]
 pub struct OpenGate;
 

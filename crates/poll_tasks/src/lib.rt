@@ -1,4 +1,4 @@
-//! Behind the door `poll_engine`: tasks in threads of their own, and what the threads of a run have in common.
+//! //! Internal crate of the facade `poll_engine`: tasks, each in its own thread, and what the threads of a run share.
 #![tactic(auto)]
 
 mod driving;
@@ -7,8 +7,8 @@ mod pace;
 mod signals;
 mod tasks;
 
-pub use driving::{Driven, Room, Rooms, Tasks, drive, task_room};
+pub use driving::{Tasks, drive};
 pub use gate::{Gate, OpenGate};
 pub use pace::{Pace, Setting};
 pub use signals::{Bell, Pause, Refusal, Stop, StopFlags};
-pub use tasks::{Begun, Gives, Task, Turned, begin, begin_all, end, end_all, first_stop};
+pub use tasks::{Gives, Spawned, Task, join_all, spawn, spawn_all};

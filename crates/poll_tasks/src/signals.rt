@@ -1,5 +1,5 @@
-//! What the threads of a run tell each other. Proofs rest on three things: a stop has its reason, and a waker wakes the thread that
-//! it was made for.
+//! //! The signals between the threads of a run. Proofs rest on three facts: a stop has its reason, and a waker wakes the
+//! thread that it was created for.
 
 ghost use Rattle.std.specs.Prelude.{◌≡◌, true, IfOk, IfSome};
 ghost use Rattle.poll_tasks.specs.Refusals.{IsRefused};
@@ -14,7 +14,7 @@ use std::marker::PhantomData;
 use std::sync::Wait;
 use std::sync::atomic::{AtomicBool, AtomicIn, Ordering, Rule};
 
-// A word that isn't 0 only where a thread could not be started.
+// A word that isn't 0 only if a thread could not be started.
 struct Refused;
 
 impl Rule for Refused {
@@ -24,28 +24,28 @@ impl Rule for Refused {
     ghost invariant = { λ n. (n ≡ 0) ⊎ IsRefused };
 }
 
-/// Whether one of some threads could not be started.
+/// A flag: whether one of some threads could not be started.
 #[derive(Drop)]
 pub struct Refusal {
     told: AtomicIn<Refused>,
 }
 
 impl Refusal {
-    /// None was refused.
+    /// Creates a flag that isn't set.
     pub fn new() -> Refusal {
         Refusal {
             told: AtomicIn::new(0),
         }
     }
 
-    /// One was refused.
+    /// Sets the flag: a thread could not be started.
     pub fn tell(&self)
         requires { IsRefused }
     {
         self.told.store(1, Ordering::SeqCst);
     }
 
-    /// Whether one was refused.
+    /// Returns whether a thread could not be started.
     pub fn is_told(&self) -> bool
         ensures { result ≡ true → IsRefused }
     {
@@ -53,16 +53,16 @@ impl Refusal {
     }
 }
 
-/// Why a thread's work was cut short.
+/// Why a thread's work ended early.
 #[derive(Clone, Copy, Debug, PartialEq, Eq)]
 pub enum Stop {
     /// A thread could not be started.
     Refused,
-    /// The gate answered false.
+    /// The gate returned false.
     Shut,
 }
 
-// A word that isn't 0 only where the gate may answer false.
+// A word that isn't 0 only if the gate may return false.
 struct Shut<G>(PhantomData<G>);
 
 impl<G: Gate> Rule for Shut<G> {
@@ -71,19 +71,19 @@ impl<G: Gate> Rule for Shut<G> {
     ghost invariant = { λ n. (n ≡ 0) ⊎ G.may_shut };
 }
 
-/// Why no further acts are made.
+/// The flags that say why no further acts are made.
 #[derive(Drop)]
 pub struct StopFlags<G: Gate> {
-    /// The thread of one who polls could not be started: this is told before any worker begins.
+    /// The thread of a poller could not be started. This is set before any worker begins.
     pub unpolled: Refusal,
     /// A thread could not be started.
     pub refused: Refusal,
-    // 1 once the gate has answered false.
+    // 1 after the gate has returned false.
     shut: AtomicIn<Shut<G>>,
 }
 
 impl<G: Gate> StopFlags<G> {
-    /// Flags of a run that goes on.
+    /// Creates the flags of a run that isn't stopped.
     pub fn new() -> StopFlags<G> {
         StopFlags {
             unpolled: Refusal::new(),
@@ -92,14 +92,14 @@ impl<G: Gate> StopFlags<G> {
         }
     }
 
-    /// The gate answered false: no further acts are made.
+    /// The gate returned false: no further acts are made.
     pub fn shut(&self)
         requires { G.may_shut }
     {
         self.shut.store(1, Ordering::SeqCst);
     }
 
-    /// Why no further acts are made, if so.
+    /// Returns why no further acts are made, if so.
     pub fn stop(&self) -> Option<Stop>
         ensures { IfSome result (IsStop G.may_shut) }
     {
@@ -113,7 +113,7 @@ impl<G: Gate> StopFlags<G> {
     }
 }
 
-/// What wakes a poller, and tells it that nobody comes any more.
+/// Wakes a poller, and signals it that nothing will be handed over any more.
 #[derive(Drop)]
 pub struct Bell {
     unparker: Unparker,
@@ -121,7 +121,7 @@ pub struct Bell {
 }
 
 impl Bell {
-    /// A bell, and how its poller waits.
+    /// Creates a waker, and the wait of its poller.
     pub fn new(alloc: Global) -> Result<(Bell, Pause), AllocError>
         ensures { IfOk result (λ r. Wakes r.0 r.1) }
     {
@@ -135,25 +135,25 @@ impl Bell {
         Ok((Bell { unparker, told }, pause))
     }
 
-    /// Wakes the poller, or keeps it awake where it is about to sleep. Whoever hands something over does that first.
+    /// Wakes the poller, or keeps it awake if it is about to sleep. Called after an instance was handed over.
     pub fn wake(&self) {
         self.unparker.unpark();
     }
 
-    /// Tells the poller that nothing is handed over any more.
+    /// Signals the poller that nothing will be handed over any more.
     pub fn tell(&self) {
         self.told.store(true, Ordering::SeqCst);
         self.unparker.unpark();
     }
 
-    /// Whether the poller was told that nothing is handed over any more.
+    /// Returns whether that was signalled.
     pub fn is_told(&self) -> bool {
         self.told.load(Ordering::SeqCst)
     }
 }
 
-/// How a poller waits while there is nothing to poll: it spins and yields for a while, and then it sleeps. A wake-up that
-/// comes before the sleep is kept until then, so none is lost.
+/// How a poller waits while there is nothing to poll: it spins and yields for a while, then it sleeps. A wake-up before the
+/// sleep is kept, so none is lost.
 #[derive(Drop)]
 pub struct Pause {
     parker: Parker,

@@ -1,3 +1,4 @@
 pub mod RunFacts
 pub mod NumberFacts
 pub mod PollerFacts
+mod EndFacts

@@ -1,29 +1,28 @@
--- Pollers that get their seats.
+-- Pollers receive their seats.
 use Rattle.std.proofs.Common.{◌≡◌, ◌≢◌, ◌∙◌, ℕ, ◌+◌, ◌<◌, ◌≤◌, Bool, true, List, [], ◌∷◌, ◌++◌}
 use Rattle.std.proofs.Common.{length, ap, sym, subst, get_or, arith, append-nil}
 use Rattle.std.{proofs.{Common.{cond, vec_items}, lemmas.List.length-set}, specs.{Global.Vec, Prelude.{filter, vec_capacity}}}
 use Rattle.poll_tasks.proofs.ListFacts.{each_set, filter_fewer, filter_more}
-use Rattle.poll_interrupts.{specs.Deals.is_own, proofs.EndFacts.not_other}
+use Rattle.{poll_interrupts.specs.Deals.is_own, poll_workers.proofs.EndFacts.not_other}
 use Rattle.{napi_calls.specs.declared.kept.Kept.Kept, poll_seats.specs.declared.seat.Seat.Seat}
 use Rattle.poll_workers.specs.Spreads.{AreEndsOf, HaveOwn, IsEndOf, TakesSeat}
 use Rattle.std.proofs.Common.{All, set, zero, suc}
 use Rattle.poll_list.specs.declared.{list_in.ListIn.ListIn, shared.SharedList.SharedList}
 use Rattle.poll_tasks.specs.{Tasks.IsAt, declared.signals.Bell.Bell}
-use Rattle.poll_seats.specs.declared.thread_poller.Own.{Own as ThreadOwn}
 use Rattle.poll_interrupts.specs.Deals.{poller_by}
-use Rattle.std.{specs.Prelude.{IfSome, Option, Some, None}, proofs.lemmas.Bool.eqb-true}
+use Rattle.std.proofs.lemmas.Bool.{eqb-true}
 
-module _ {R : Type 0} (count pollers : ℕ) (sat : List Seat) (seats : List (Kept R (Vec Seat))) (k : ℕ)
+module _ {R : Type 0} (count pollers : ℕ) (sat : List (Kept R Seat)) (seats : List (Vec (Kept R Seat))) (k : ℕ)
     (have : HaveOwn count pollers sat seats) (within : k < length seats) where
-  abbrev by : ℕ → Seat → Bool
-  by n s = is_own n pollers s.number
+  abbrev by : ℕ → Kept R Seat → Bool
+  by n s = is_own n pollers s.value.number
 
-  abbrev Own : List Seat → ℕ → Kept R (Vec Seat) → Type 0
-  Own l n own = (vec_items own.value ≡ filter (by n) l) × (count ≤ vec_capacity own.value)
+  abbrev Own : List (Kept R Seat) → ℕ → Vec (Kept R Seat) → Type 0
+  Own l n own = (vec_items own ≡ filter (by n) l) × (count ≤ vec_capacity own)
 
   -- there is room for one more
-  pub has_room : (own : Kept R (Vec Seat)) → get_or seats k own ≡ own → length sat < count
-      → length (vec_items own.value) < vec_capacity own.value
+  pub has_room : (own : Vec (Kept R Seat)) → get_or seats k own ≡ own → length sat < count
+      → length (vec_items own) < vec_capacity own
   has_room own there few =
       let p = subst (λ t. Own sat k t) there (have k own within) in
       let long = ap (λ l. length l) p.0 in
@@ -31,7 +30,8 @@ module _ {R : Type 0} (count pollers : ℕ) (sat : List Seat) (seats : List (Kep
       omega (arith, long, fewer, few, p.1)
 
   -- one more was given to its poller
-  pub one_more : (seat : Seat) (after : List (Kept R (Vec Seat))) → is_own k pollers seat.number ≡ true → TakesSeat seats k seat after
+  pub one_more : (seat : Kept R Seat) (after : List (Vec (Kept R Seat))) → is_own k pollers seat.value.number ≡ true
+      → TakesSeat seats k seat after
       → HaveOwn count pollers (sat ++ seat ∷ []) after
   one_more seat after own t =
       subst (λ l. HaveOwn count pollers (sat ++ seat ∷ []) l) (sym t.rest)
@@ -47,10 +47,10 @@ module _ {R : Type 0} (count pollers : ℕ) (sat : List Seat) (seats : List (Kep
         (let c = t.capacity in omega (arith, c, p.1)),
       )
 
-      other : (n : ℕ) (x : Kept R (Vec Seat)) → n ≢ k → Own sat n x → Own (sat ++ seat ∷ []) n x
+      other : (n : ℕ) (x : Vec (Kept R Seat)) → n ≢ k → Own sat n x → Own (sat ++ seat ∷ []) n x
       other n x ne q = (
         q.0 ∙ sym (filter_more (by n) sat seat
-            ∙ ap (λ b. filter (by n) sat ++ cond b (seat ∷ []) []) (not_other pollers seat.number k n own ne)
+            ∙ ap (λ b. filter (by n) sat ++ cond b (seat ∷ []) []) (not_other pollers seat.value.number k n own ne)
             ∙ append-nil (filter (by n) sat)),
         q.1,
       )
@@ -67,7 +67,7 @@ all_cut P (x ∷ xs) y h =
     let rest = all_cut P xs y (λ k d low. h (suc k) d (omega (arith, low))) in
     (all_cons P x xs (h 0 x (omega arith)) rest.0, rest.1)
 
--- two ends of a poller's list are ends of it, and so are those that are left
+-- two ends of a poller's list are ends of it, and so are the remaining ones
 pub ends_cut : {R : Type 0} (lists : List (SharedList R)) (ends : List (Vec (ListIn R))) (k : ℕ) (was now : Vec (ListIn R))
     (mid : List (ListIn R)) (one other : ListIn R)
     → k < length ends → get_or ends k was ≡ was → vec_items was ≡ mid ++ one ∷ [] → mid ≡ vec_items now ++ other ∷ []
@@ -80,7 +80,7 @@ ends_cut {R} lists ends k was now mid one other within there whole rest each =
     let second = all_cut (IsEndOf lists k) (vec_items now) other (subst (λ l. All (IsEndOf lists k) l) rest first.0) in
     (first.1, second.1, each_set P P ends k now within each second.0 (λ n x ne h. h) (length-set ends k now))
 
--- ---- the list and the bell of a station's poller
+-- ---- the list and the waker of a station's poller
 
 pub by_station : (pollers number k n : ℕ) → is_own k pollers number ≡ true → n ≡ number → poller_by pollers n ≡ k
 by_station pollers number k n own e = ap (λ m. poller_by pollers m) e ∙ eqb-true (poller_by pollers number) k own
@@ -90,15 +90,10 @@ pub wired_end : {R : Type 0} (lists : List (SharedList R)) (k n : ℕ) (given en
 wired_end lists k n given end is same e =
     subst (λ m. IsEndOf lists m end) (sym e) (subst (λ x. IsEndOf lists k x) (sym same) is)
 
-pub wired_own : {R : Type 0} (lists : List (SharedList R)) (k n : ℕ) (given : ListIn R) (own : Option (ThreadOwn R)) → IsEndOf lists k given
-    → IfSome own (λ o. o.list ≡ given) → n ≡ k → IfSome own (λ o. IsEndOf lists n o.list)
-wired_own lists k n given None is same e = tt
-wired_own lists k n given (Some o) is same e = wired_end lists k n given o.list is same e
-
 pub wired_bell : (bells : List Bell) (k n : ℕ) (here bell : Bell) → IsAt bells k here → bell ≡ here → n ≡ k → IsAt bells n bell
 wired_bell bells k n here bell is same e = subst (λ m. IsAt bells m bell) (sym e) (subst (λ b. IsAt bells k b) (sym same) is)
 
--- ---- what is counted while one more is given out
+-- ---- the counts while one more is given out
 
 pub within_of : (k n l m : ℕ) → l ≡ m → k < n → n ≡ m → k < l
 within_of k n l m e h f = omega (arith, e, h, f)

@@ -1,30 +1,44 @@
--- What the parts of a run come to for its stations.
-use Rattle.std.proofs.lemmas.{Grind.{common_steps}, List.get_or_default}
-use Rattle.std.proofs.Common.{◌≡◌, ◌≢◌, ℕ, zero, suc, ◌≤◌, ◌<◌, Bool, true, false, Option, None, is_some, List, [], ◌∷◌, ◌++◌, sym}
-use Rattle.std.{proofs.Common.{ap, ◌∙◌, refl, subst, IsSome, Some, All, arith, rules, get_or, length}, specs.Prelude.{IfSome, filter, map}}
-use Rattle.std.specs.{Prelude.{Result, Ok, Err, IfOk, vec_items, MatchOption}, List.{AllByRecursion, AllZip}, Global.Vec}
-use Rattle.poll_interrupts.specs.Ends.{AreCallersAt, AreFinishesOf, IsCallerAt, IsDoneAt, IsFinishOf, IsTurnedAt, Outcome}
+-- What follows from the parts of a run for its stations.
+use Rattle.std.proofs.lemmas.{Bool.ne_eqb, Grind.common_steps, List.{get_or_default, length-map, nil_from_length}}
+use Rattle.std.proofs.Common.{◌≡◌, ◌≢◌, ℕ, zero, suc, ◌≤◌, ◌<◌, Bool, true, false, None, is_some, List, [], ◌∷◌, ◌++◌, sym}
+use Rattle.std.{proofs.Common.{ap, inl, inr, ◌∙◌, refl, subst, Some, All, arith, rules, get_or, length}, specs.Prelude.{filter, map}}
+use Rattle.std.specs.{Prelude.{◌⊎◌, IfSome, not, unwrap_or, vec_items, vec_len}, List.{AllByRecursion, AllZip}, Global.Vec}
 use Rattle.{poll_tasks.specs.Asks.WasLet, poll_interrupts.specs.Acts.{after_acts, arrivals}}
-use Rattle.poll_interrupts.specs.{Runs.HasRun, Deals.{is_dealt, is_own, poller_by}, Calls.listings}
-use Rattle.poll_interrupts.specs.{Runs.{Ledger, Whose, WorksBy, blank, controller_number, worker_number}, declared.station.Station.Station}
-use Rattle.poll_interrupts.specs.declared.{station.Finished.Finished, worker.OwnSeats.OwnSeats, opening.{Loose.Loose, Placed.Placed}}
-use Rattle.poll_interrupts.specs.{declared.{job.{Worked.Worked, Job.Job}, acts.Act.Act}, Works.{IsWorkOf, ledger_of, whose}}
-use Rattle.poll_interrupts.specs.{Seats.AreSeatsOf, Opens.{IsInputOf, IsKeptLoose, IsKeptSideOf, IsLoose}}
+use Rattle.poll_interrupts.specs.{Runs.HasRun, Deals.{is_dealt, is_own, poller_by}, Calls.listings, Ends.{IsFinishOf, IsKeptFinishOf}}
+use Rattle.poll_interrupts.specs.{Runs.{Ledger, Whose, WorksBy, IsEnded, blank, controller_number, worker_number}}
+use Rattle.poll_interrupts.specs.{declared.station.Station.Station}
+use Rattle.poll_interrupts.specs.declared.{station.Finished.Finished}
+use Rattle.poll_interrupts.specs.declared.{worker.{InterruptWorker.InterruptWorker, InterruptHandler.InterruptHandler, OwnSeats.OwnSeats}}
+use Rattle.poll_interrupts.specs.{declared.{opening.{Loose.Loose, Placed.Placed}, acts.Act.Act}}
+use Rattle.poll_interrupts.specs.{Works.{IsDoneBy, IsWorked, ledger_of, whose}}
+use Rattle.poll_interrupts.specs.{Seats.AreSeatsOf, Opens.{IsHome, IsInputOf, IsKeptLoose, IsKeptPartOf, IsKeptSideOf, IsLoose}}
 use Rattle.poll_list.specs.declared.{list_in.ListIn.ListIn, shared.SharedList.SharedList}
-use Rattle.poll_tasks.proofs.ListFacts.{at_mapped, at_place, each_index, each_zip, filter_fewer, zip_and}
-use Rattle.poll_tasks.proofs.ListFacts.{zip_both, zip_each, zip_empty, zip_filtered, zip_flip, zip_right, zip_same}
-use Rattle.poll_tasks.specs.{Paces.IsLawful, Stops.IsStop, Tasks.{EachAt, IsAt}, declared.signals.{Bell.Bell, Stop.Stop}}
-use Rattle.{poll_tasks.specs.{Asks.IsAsked, declared.{tasks.Turned.Turned, pace.{Setting.Setting, Pace.Pace}}}, rx_ring.specs.Ends.SameIn}
-use Rattle.rx_ring.specs.{Ends.{capacity_of, put_list}, ReceiveRing.{bytes_of, capped}, declared.{ends.RxIn.RxIn, packet.Packet.Packet}}
-use Rattle.{poll_seats.specs.SeatKeeping.{IsCallerOf, AreSameSeats, IsSameSeat}}
-use Rattle.poll_seats.specs.declared.{seat.Seat.Seat, poller.PollTask.PollTask, thread_poller.{ThreadSide.ThreadSide, Own.Own}}
-use Rattle.poll_seats.specs.Gives.{CanPoll, CanPollAlone, GivesCaller, GivesCallers, IsPolledAlone, IsPolledBy}
+use Rattle.poll_tasks.proofs.ListFacts.{at_mapped, at_place, each_index, each_zip, zip_and}
+use Rattle.poll_tasks.proofs.ListFacts.{zip_both, zip_each, zip_empty, zip_filtered, zip_flip}
+use Rattle.poll_tasks.proofs.ListFacts.{zip_right, zip_same}
+use Rattle.poll_tasks.specs.{Tasks.{EachAt, IsAt}, Asks.IsAsked}
+use Rattle.poll_tasks.specs.{Stops.IsStop, declared.{signals.Bell.Bell, pace.{Setting.Setting, Pace.Pace}}}
+use Rattle.rx_ring.specs.{Ends.{SameIn, capacity_of, put_list}}
+use Rattle.rx_ring.specs.{ReceiveRing.{bytes_of, capped}, declared.{ends.RxIn.RxIn, packet.Packet.Packet}}
+use Rattle.poll_seats.specs.{SeatKeeping.{AreSameSeats, IsSameSeat}}
+use Rattle.poll_seats.specs.{Serving.IsServed, Turns.{TurnsAlone, TurnsByRun, has_no_seat, has_no_thread}}
+use Rattle.poll_seats.specs.declared.{seat.Seat.Seat, poller.Poller.Poller, list_poller.ListPoller.ListPoller}
+use Rattle.poll_seats.specs.declared.thread_poller.ThreadPoller.{ThreadPoller}
+use Rattle.poll_seats.{specs.Gives.{IsPolled}, proofs.SeatFacts.{seats_stay, seat_stays, served_alone, served_keeps}}
 use Rattle.napi_calls.specs.declared.{kept.Kept.Kept, types.{Caller.Caller, Napi.Napi}}
 use Rattle.napi_calls.specs.{Instance.IsSeatOf, Seats.{number_of, own_list}}
-use Rattle.poll_workers.specs.Courses.{ArePolled, Course, HasPolled, HasTurned, IsCourse, IsCrew, IsFreshSeat, Pushes, TakesTurns}
+use Rattle.poll_workers.specs.Courses.{ArePolled, Course, HasPolled, HasTurned, HaveRun, IsCourse, IsCrew, IsFreshSeat, Pushes, TakesTurns}
 use Rattle.poll_workers.specs.{Courses.TurnsIfThread, Finishes.{IsFinished, IsWorkedOf}, Spreads.{AreEndsOf, ArePollers, IsEndOf}}
 use Rattle.poll_workers.specs.Spreads.{IsJobAt, IsKeptJobOf, IsKeptSeatFor, IsKeptThreadFor, IsNewEnd, IsPoller, IsSeatAt, IsThreadAt}
 use Rattle.poll_workers.specs.{Spreads.{IsWiredJob, IsWiredSide}, declared.pollers.Begin.Begin}
+use Rattle.poll_workers.specs.Outcomes.{AreLeftBy, AreSeatsAt, IsLeftBy, IsSeatWith, IsThreadWith, Outcome}
+
+-- the pollers with a list, and the threads of instances
+abbrev OwnPoller : Type 0 → Type 0 → Type 0
+OwnPoller R G = Poller R G (ListPoller R)
+
+abbrev OwnThread : Type 0 → Type 0 → Type 0
+OwnThread R G = Poller R G (ThreadPoller R)
 
 same_ring : (a b c : RxIn) (napi : Napi) → b ≡ a → SameIn b c → IsInputOf a napi → IsInputOf c napi
 same_ring a b c napi e s h = let whole : IsInputOf b napi = subst (λ (r : RxIn). IsInputOf r napi) (sym e) h in
@@ -33,27 +47,27 @@ same_ring a b c napi e s h = let whole : IsInputOf b napi = subst (λ (r : RxIn)
 capped_small : (n : ℕ) → n ≤ 4294967295 → capped n ≡ n
 capped_small n h = omega arith
 
--- what the worker of a station gave back, where it made all its acts
-module _ {R D : Type 0} (acts : D → ℕ) (answer : D → ℕ → Act) (after : D → ℕ → D) (answers : ℕ → ℕ → Bool → Type 0) (may_shut : Type 0)
-    (lists : List (SharedList R)) (pollers : ℕ) (station : Station D) (loose : Kept R (Loose D)) (worked : Worked R D)
-    (poller thread : Kept R Caller) (end : Finished D) (opened : IsLoose station loose.value)
-    (made : IsWorkedOf acts answer after answers may_shut lists pollers loose worked) (whole : worked.done.stop ≡ None)
-    (ended : IsFinishOf worked poller thread end) where
+-- the state of a station's worker after all its acts
+module _ {R D G : Type 0} (acts : D → ℕ) (answer : D → ℕ → Act) (after : D → ℕ → D) (answers : ℕ → ℕ → Bool → Type 0)
+    (lists : List (SharedList R)) (pollers : ℕ) (station : Station D) (loose : Kept R (Loose D)) (worked : InterruptWorker R D G)
+    (poller : Kept R Seat) (thread : OwnThread R G) (left : Loose D) (end : Finished D) (opened : IsLoose station loose.value)
+    (made : IsWorkedOf acts answer after answers lists pollers loose worked) (whole : worked.stop ≡ None)
+    (taken : IsLeftBy worked poller thread left) (ended : IsFinishOf left end) where
   run_of : HasRun answer after station.capacity station.thread station.device (acts station.device) end.closed end.totals
   run_of =
-      let work = made.work in
-      let done = made.is.done in
+      let work = made.before in
+      let done = made.is in
       let new = opened.unused in
       let device : work.device ≡ station.device = made.device ∙ opened.same_device in
-      let seats = worked.done.seats.value in
-      let left = ledger_of seats worked.done.rx (done.run whole).0 in
+      let seats = worked.seats.value in
+      let left = ledger_of seats worked.rx (done.run whole).0 in
       let w : Whose =
       record { caller = worker_number; controller = controller_number; places = station.capacity; thread = station.thread } in
       let number : number_of work.seats.value.caller.pass ≡ worker_number =
       ap (λ (s : OwnSeats). number_of s.caller.pass) made.seats ∙ new.caller.number_is in
       let controller : number_of work.seats.value.control.pass ≡ controller_number =
       ap (λ (s : OwnSeats). number_of s.control.pass) made.seats ∙ new.number in
-      let same_whose : whose work.seats.value work.rx (is_some loose.value.pause) ≡ w = λ i. record {
+      let same_whose : whose work.seats.value work.rx (loose.value.has_thread) ≡ w = λ i. record {
         caller = number i;
         controller = controller i;
         places = (ap (λ (r : RxIn). capacity_of r) made.rx ∙ opened.places) i;
@@ -71,8 +85,8 @@ module _ {R D : Type 0} (acts : D → ℕ) (answer : D → ℕ → Act) (after :
       same_whose (done.run whole).1 in
       let by_device =
       subst (λ (d : D). WorksBy w answer after d (acts d) (ledger_of work.seats.value work.rx false) left) device by_whose in
-      let as_worker = ap (λ (c : Caller). c.pass) ended.of.worker_is in
-      let as_control = ap (λ c. c.pass) ended.of.control_is in
+      let as_worker = ap (λ (c : Caller). c.pass) (ended.of.worker_is ∙ ap (λ (s : OwnSeats). s.caller) taken.seats) in
+      let as_control = ap (λ c. c.pass) (ended.of.control_is ∙ ap (λ (s : OwnSeats). s.control) taken.seats) in
       record {
         left = left;
         works = subst (λ (l : Ledger). WorksBy w answer after station.device (acts station.device) l left) nothing by_device;
@@ -82,118 +96,134 @@ module _ {R D : Type 0} (acts : D → ℕ) (answer : D → ℕ → Act) (after :
         );
         calls_are = ap (λ p. own_list p) as_worker;
         controls_are = ap (λ p. own_list p) as_control;
-        ended = ended.ended;
+        ended = subst (λ (r : RxIn). IsEnded end.closed (put_list r) end.totals) taken.rx ended.ended;
       }
 
   pushes_of : Pushes lists pollers station.number end.closed.worker.value
   pushes_of =
       let new = made.list in
-      let pushed = made.is.done.lists in
-      let none : own_list made.work.seats.value.caller.pass ≡ [] =
+      let pushed = made.is.lists in
+      let none : own_list made.before.seats.value.caller.pass ≡ [] =
       ap (λ (s : OwnSeats). own_list s.caller.pass) made.seats ∙ opened.unused.caller.nothing_done in
-      let did : own_list worked.done.seats.value.caller.pass ≡ pushed.did = pushed.grown ∙ ap (λ l. l ++ pushed.did) none in
+      let did : own_list worked.seats.value.caller.pass ≡ pushed.did = pushed.grown ∙ ap (λ l. l ++ pushed.did) none in
       record {
         list = new.0;
         there = subst (λ n. IsAt lists (poller_by pollers n) new.0) opened.same_number new.1;
-        end = worked.done.list;
+        end = worked.list;
         of = pushed.same.0 ∙ new.2.0;
         pushed = pushed.pushed ∙ ap (λ l. l ++ listings loose.value.number pushed.did) new.2.1
             ∙ ap (λ n. listings n pushed.did) opened.same_number
-            ∙ ap (λ l. listings station.number l) (sym did ∙ sym (ap (λ (c : Caller). own_list c.pass) ended.of.worker_is));
+            ∙ ap (λ l. listings station.number l) (sym did ∙ sym (ap (λ (c : Caller). own_list c.pass) (ended.of.worker_is
+            ∙ ap (λ (s : OwnSeats). s.caller) taken.seats)));
       }
 
-  -- a station whose worker made all its acts, and which was ended, is finished
+  -- a station whose worker made all its acts, and which was closed, is finished
   finished_of : IsFinished acts answer after answers station end
   finished_of =
-      let work = made.work in
-      let done = made.is.done in
+      let work = made.before in
+      let done = made.is in
       let device : work.device ≡ station.device = made.device ∙ opened.same_device in
       let none : put_list work.rx ≡ [] = ap (λ (r : RxIn). put_list r) made.rx ∙ opened.nothing_put in
       let some_put = ap (λ l. length l) none in
-      let few : length (put_list worked.done.rx) ≤ 4294967295 = (let h = done.few in omega (arith, h, some_put)) in
+      let few : length (put_list worked.rx) ≤ 4294967295 = (let h = done.few in omega (arith, h, some_put)) in
       let brought : List Packet = arrivals answer after station.device (acts station.device) in
       let brings : arrivals answer after work.device (acts work.device) ≡ brought =
       ap (λ (d : D). arrivals answer after d (acts d)) device in
       let places : capacity_of work.rx ≡ station.capacity = ap (λ (r : RxIn). capacity_of r) made.rx ∙ opened.places in
-      let all : length brought ≤ station.capacity → put_list worked.done.rx ≡ brought = λ room.
+      let all : length brought ≤ station.capacity → put_list worked.rx ≡ brought = λ room.
       let long = ap (λ l. length l) brings in
       done.put whole (omega (arith, some_put, long, places, room))
       ∙ ap (λ l. l ++ arrivals answer after work.device (acts work.device)) none ∙ brings in
       record {
-        same_number = ended.same_number ∙ made.is.same_number ∙ opened.same_number;
+        same_number = ended.same_number ∙ taken.number ∙ made.same_number ∙ opened.same_number;
         let_go = subst (λ n. WasLet answers n (acts station.device)) opened.same_number
             (subst (λ (d : D). WasLet answers loose.value.number (acts d)) device (done.let_go whole));
-        made = ended.same_device ∙ done.made whole ∙ ap (λ (d : D). after_acts after d (acts d)) device;
-        sum = ended.sum (omega (arith, few));
+        made = ended.same_device ∙ taken.device ∙ done.made whole ∙ ap (λ (d : D). after_acts after d (acts d)) device;
+        sum = ended.sum (let same = ap (λ (r : RxIn). length (put_list r)) taken.rx in omega (arith, few, same));
         put = λ room. (
-          ended.put ∙ capped_small _ few ∙ ap (λ l. length l) (all room),
-          ended.bytes ∙ ap (λ l. capped (bytes_of l)) (all room),
+          ended.put ∙ ap (λ (r : RxIn). capped (length (put_list r))) taken.rx ∙ capped_small _ few ∙ ap (λ l. length l) (all room),
+          ended.bytes ∙ ap (λ (r : RxIn). capped (bytes_of (put_list r))) taken.rx ∙ ap (λ l. capped (bytes_of l)) (all room),
         );
         run = run_of;
       }
 
 -- ---- the stations of a run, how they ended, and what polled them
 
-module _ {R D : Type 0} (acts : D → ℕ) (answer : D → ℕ → Act) (after : D → ℕ → D) (answers : ℕ → ℕ → Bool → Type 0) (may_shut : Type 0)
+module _ {R D G : Type 0} (acts : D → ℕ) (answer : D → ℕ → Act) (after : D → ℕ → D) (answers : ℕ → ℕ → Bool → Type 0)
     (asked : ℕ → Type 0) (pace : Pace) (lists : List (SharedList R)) (pollers : ℕ) where
-  -- the worker of this station gave this back, and so did its thread
-  abbrev Works : Station D → Worked R D → Type 0
+  -- the worker of this station ended in this state, and so did its thread
+  abbrev Works : Station D → InterruptWorker R D G → Type 0
   Works station worked = (loose : Kept R (Loose D)) × IsKeptLoose station loose
-      × IsWorkedOf acts answer after answers may_shut lists pollers loose worked
+      × IsWorkedOf acts answer after answers lists pollers loose worked
 
-  abbrev Turns : Station D → Turned (Kept R Caller) → Type 0
-  Turns station given = (loose : Kept R (Loose D)) × IsKeptLoose station loose × HasTurned asked pace lists pollers loose given
+  abbrev Turns : Station D → OwnThread R G → Type 0
+  Turns station thread = (loose : Kept R (Loose D)) × IsKeptLoose station loose × HasTurned asked pace lists pollers loose thread
 
-  course_of : (station : Station D) (outcome : Outcome R D) → Works station outcome.worked → Turns station outcome.thread
-      → outcome.worked.done.stop ≡ None → outcome.thread.stop ≡ None
-      → IsFinishOf outcome.worked outcome.poller outcome.thread.back outcome.end
-      → IsCourse R asked pace lists pollers acts answer after (record { station = station; end = outcome.end })
-  course_of station outcome works turns whole polled finish =
+  abbrev IsLeft : Outcome R D G → Type 0
+  IsLeft o = IsLeftBy o.worker o.poller o.thread o.loose.value
+
+  course_of : (station : Station D) (o : Outcome R D G) (end : Finished D) → Works station o.worker → Turns station o.thread
+      → o.worker.stop ≡ None → o.thread.stop ≡ None → IsLeft o → IsKeptFinishOf o.loose end
+      → IsCourse R asked pace lists pollers acts answer after (record { station = station; end = end })
+  course_of station o end works turns whole polled taken finish =
       let loose = turns.0.value in
       let TurnsIf : Bool → ℕ → Caller → Type 0 = λ b n after. TurnsIfThread R asked pace lists pollers b n loose.thread after in
-      let back = outcome.thread.back.value in
-      let by_number = subst (λ n. TurnsIf (is_some loose.pause) n back) turns.1.same_number (turns.2 polled) in
+      let back = o.loose.value.thread in
+      let by_number = subst (λ n. TurnsIf loose.has_thread n back) turns.1.same_number (turns.2 back taken.thread_is polled) in
       let by_thread = subst (λ b. TurnsIf b station.number back) turns.1.thread by_number in
       record {
-        run = run_of acts answer after answers may_shut lists pollers station works.0 outcome.worked outcome.poller outcome.thread.back
-            outcome.end works.1 works.2 whole finish;
-        pushes = pushes_of acts answer after answers may_shut lists pollers station works.0 outcome.worked outcome.poller
-            outcome.thread.back outcome.end works.1 works.2 whole finish;
+        run = run_of acts answer after answers lists pollers station works.0 o.worker o.poller o.thread o.loose.value end works.1 works.2
+            whole taken finish;
+        pushes = pushes_of acts answer after answers lists pollers station works.0 o.worker o.poller o.thread o.loose.value end works.1
+            works.2 whole taken finish;
         thread = loose.thread;
         unused = turns.1.own;
         turns = subst (λ c. TurnsIf station.thread station.number c) (sym finish.of.thread_is) by_thread;
       }
 
   -- the courses of these stations, and how they ended
-  record Courses (stations : List (Station D)) (outcomes : List (Outcome R D)) : Type 0 where
+  record Courses (stations : List (Station D)) (outcomes : List (Outcome R D G)) (ends : List (Finished D)) : Type 0 where
     pub all : List (Course D)
     pub stations_are : map (λ c. c.station) all ≡ stations
-    pub ends_are : map (λ c. c.end) all ≡ map (λ p. p.end) outcomes
-    pub beside : AllZip (λ c p. (c.end.closed.poller.value ≡ p.poller.value) × (p.end.number ≡ c.station.number)) all outcomes
+    pub ends_are : map (λ c. c.end) all ≡ ends
+    pub beside : AllZip (λ c o. (o.poller.value.caller ≡ Some c.end.closed.poller.value)
+        × (o.worker.handler.number ≡ c.station.number)) all outcomes
     pub each : AllByRecursion (IsCourse R asked pace lists pollers acts answer after) all
-    pub finished : AllZip (IsFinished acts answer after answers) stations (map (λ p. p.end) outcomes)
+    pub finished : AllZip (IsFinished acts answer after answers) stations ends
 
-  courses_of : (stations : List (Station D)) (outcomes : List (Outcome R D)) → AllZip Works stations (map (λ p. p.worked) outcomes)
-      → AllZip Turns stations (map (λ p. p.thread) outcomes)
-      → AllByRecursion (λ (w : Worked R D). w.done.stop ≡ None) (map (λ p. p.worked) outcomes)
-      → AllByRecursion (λ (t : Turned (Kept R Caller)). t.stop ≡ None) (map (λ p. p.thread) outcomes)
-      → AllByRecursion (λ (p : Outcome R D). IsFinishOf p.worked p.poller p.thread.back p.end) outcomes → Courses stations outcomes
-  courses_of [] [] works turns whole polled finish =
+  courses_of : (stations : List (Station D)) (outcomes : List (Outcome R D G)) (ends : List (Finished D))
+      → AllZip Works stations (map (λ o. o.worker) outcomes) → AllZip Turns stations (map (λ o. o.thread) outcomes)
+      → AllByRecursion (λ (w : InterruptWorker R D G). w.stop ≡ None) (map (λ o. o.worker) outcomes)
+      → AllByRecursion (λ (t : OwnThread R G). t.stop ≡ None) (map (λ o. o.thread) outcomes)
+      → AllByRecursion IsLeft outcomes → AllZip IsKeptFinishOf (map (λ o. o.loose) outcomes) ends → Courses stations outcomes ends
+  courses_of [] [] [] works turns whole polled taken finish =
       record { all = []; stations_are = refl; ends_are = refl; beside = tt; each = tt; finished = tt }
-  courses_of [] (p ∷ ps) works turns whole polled finish = absurd works
-  courses_of (s ∷ ss) [] works turns whole polled finish = absurd works
-  courses_of (s ∷ ss) (p ∷ ps) works turns whole polled finish =
-      let more = courses_of ss ps works.1 turns.1 whole.1 polled.1 finish.1 in
-      let done = finished_of acts answer after answers may_shut lists pollers s works.0.0 p.worked p.poller p.thread.back p.end works.0.1
-      works.0.2 whole.0 finish.0 in
+  courses_of [] [] (e ∷ es) works turns whole polled taken finish = absurd finish
+  courses_of [] (o ∷ os) es works turns whole polled taken finish = absurd works
+  courses_of (s ∷ ss) [] es works turns whole polled taken finish = absurd works
+  courses_of (s ∷ ss) (o ∷ os) [] works turns whole polled taken finish = absurd finish
+  courses_of (s ∷ ss) (o ∷ os) (e ∷ es) works turns whole polled taken finish =
+      let more = courses_of ss os es works.1 turns.1 whole.1 polled.1 taken.1 finish.1 in
+      let done = finished_of acts answer after answers lists pollers s works.0.0 o.worker o.poller o.thread o.loose.value e works.0.1
+      works.0.2 whole.0 taken.0 finish.0 in
       record {
-        all = record { station = s; end = p.end } ∷ more.all;
+        all = record { station = s; end = e } ∷ more.all;
         stations_are = ap (λ l. s ∷ l) more.stations_are;
-        ends_are = ap (λ l. p.end ∷ l) more.ends_are;
-        beside = ((finish.0.of.poller_is, done.same_number), more.beside);
-        each = (course_of s p works.0 turns.0 whole.0 polled.0 finish.0, more.each);
+        ends_are = ap (λ l. e ∷ l) more.ends_are;
+        beside = (
+          (taken.0.poller_is ∙ ap (λ c. Some c) (sym finish.0.of.poller_is), works.0.2.same_number ∙ works.0.1.same_number),
+          more.beside,
+        );
+        each = (course_of s o e works.0 turns.0 whole.0 polled.0 taken.0 finish.0, more.each);
         finished = (done, more.finished);
       }
+
+-- of what is mapped
+zip_to_mapped : {A B C : Type 0} (f : B → C) (Q : A → C → Type 0) (xs : List A) (ys : List B) → AllZip (λ x y. Q x (f y)) xs ys
+    → AllZip Q xs (map f ys)
+zip_to_mapped f Q [] [] h = tt
+zip_to_mapped f Q (x ∷ xs) (y ∷ ys) h = (h.0, zip_to_mapped f Q xs ys h.1)
+zip_to_mapped f Q xs ys h = absurd h
 
 -- of what was mapped
 zip_mapped : {A B C : Type 0} (f : A → B) (Q : B → C → Type 0) (xs : List A) (ys : List C) → AllZip Q (map f xs) ys
@@ -206,136 +236,114 @@ pub each_of : {A : Type 0} (P : A → Type 0) (xs : List A) → All P xs → All
 each_of P [] h = tt
 each_of P (x ∷ xs) h = (h 0 x (omega arith), each_of P xs (λ k d b. h (suc k) d (omega arith)))
 
-fresh_of : {R D : Type 0} (station : Station D) (seat : Seat)
+fresh_of : {R D : Type 0} (station : Station D) (seat : Kept R Seat)
     → (loose : Kept R (Loose D)) × IsKeptLoose station loose × IsKeptSeatFor loose seat → IsFreshSeat station seat
 fresh_of station seat (loose, opened, for) =
     record {
       number = for.number ∙ opened.same_number;
       thread = for.thread ∙ opened.thread;
       caller = loose.value.poller;
-      there = for.caller;
+      there = for.caller_is;
       unused = opened.poller;
     }
 
--- a poller without stations isn't there
+-- a poller without stations doesn't exist
 crew_is : {D : Type 0} (R : Type 0) (asked : ℕ → Type 0) (pace : Pace) (lists : List (SharedList R)) (pollers : ℕ) (number : ℕ)
     (courses : List (Course D))
     → (courses ≢ [] → TakesTurns R asked pace lists pollers number courses) → IsCrew R asked pace lists pollers number courses
 crew_is R asked pace lists pollers number [] turns = tt
 crew_is R asked pace lists pollers number (c ∷ cs) turns = turns (λ e. absurd (let n = ap (λ l. length l) e in omega (arith, n)))
 
--- what the threads of a run came to, where all went well
-module _ {R D : Type 0} (acts : D → ℕ) (answer : D → ℕ → Act) (after : D → ℕ → D) (answers : ℕ → ℕ → Bool → Type 0) (may_shut : Type 0)
-    (asked : ℕ → Type 0) (pace : Pace) (lists : List (SharedList R)) (pollers : ℕ) (stations : List (Station D))
-    (loose : List (Kept R (Loose D))) (worked : List (Worked R D))
-    (polled : List (Turned (Vec (Kept R Caller)))) (threads : List (Turned (Kept R Caller))) (same : length polled ≡ pollers)
-    (opened : AllZip IsKeptLoose stations loose)
-    (made : AllZip (IsWorkedOf acts answer after answers may_shut lists pollers) loose worked)
-    (ran : EachAt (HasPolled asked pace lists pollers loose) polled) (turned : AllZip (HasTurned asked pace lists pollers) loose threads)
-    (whole : All (λ w. w.done.stop ≡ None) worked) (whole_polls : All (λ t. t.stop ≡ None) polled)
-    (whole_turns : All (λ t. t.stop ≡ None) threads) where
-  run_courses : (ends : List (Finished D)) (finish : AreFinishesOf worked polled threads ends)
-      → Courses acts answer after answers may_shut asked pace lists pollers stations finish.all
-  run_courses ends finish =
-      courses_of acts answer after answers may_shut asked pace lists pollers stations finish.all
-      (subst (λ l. AllZip (Works acts answer after answers may_shut asked pace lists pollers) stations l) (sym finish.worked_are)
-      (zip_both _ _ _ _ _ opened made))
-      (subst (λ l. AllZip (Turns acts answer after answers may_shut asked pace lists pollers) stations l) (sym finish.threads_are)
-      (zip_both _ _ _ _ _ opened turned))
-      (subst (λ l. AllByRecursion (λ (w : Worked R D). w.done.stop ≡ None) l) (sym finish.worked_are) (each_of _ _ whole))
-      (subst (λ l. AllByRecursion (λ (t : Turned (Kept R Caller)). t.stop ≡ None) l) (sym finish.threads_are) (each_of _ _ whole_turns))
-      finish.each
+-- what the threads of a run return if none failed
+module _ {R D G : Type 0} (acts : D → ℕ) (answer : D → ℕ → Act) (after : D → ℕ → D) (answers : G → ℕ → ℕ → Bool → Type 0)
+    (setting : Setting R G) (lists : List (SharedList R)) (pollers : ℕ) (stations : List (Station D)) (loose left : List (Kept R (Loose D)))
+    (opened : AllZip IsKeptLoose stations loose) (ran : HaveRun acts answer after answers setting lists pollers loose left)
+    (ends : List (Finished D)) (finish : AllZip IsKeptFinishOf left ends) where
+  abbrev asked : ℕ → Type 0
+  asked = IsAsked answers setting.gate.now
 
-  all_finished : (ends : List (Finished D)) → AreFinishesOf worked polled threads ends
-      → AllZip (IsFinished acts answer after answers) stations ends
-  all_finished ends finish =
-      subst (λ l. AllZip (IsFinished acts answer after answers) stations l) finish.ends_are (run_courses ends finish).finished
+  run_courses : Courses acts answer after (answers setting.gate.now) asked setting.pace lists pollers stations ran.left_by.all ends
+  run_courses =
+      let by = ran.left_by in
+      courses_of acts answer after (answers setting.gate.now) asked setting.pace lists pollers stations by.all ends
+      (subst (λ l. AllZip (Works acts answer after (answers setting.gate.now) asked setting.pace lists pollers) stations l)
+      (sym by.workers_are)
+      (zip_both _ _ _ _ _ opened ran.made))
+      (subst (λ l. AllZip (Turns acts answer after (answers setting.gate.now) asked setting.pace lists pollers) stations l)
+      (sym by.threads_are)
+      (zip_both _ _ _ _ _ opened ran.turned))
+      (subst (λ l. AllByRecursion (λ (w : InterruptWorker R D G). w.stop ≡ None) l) (sym by.workers_are) (each_of _ _ ran.whole))
+      (subst (λ l. AllByRecursion (λ (t : OwnThread R G). t.stop ≡ None) l) (sym by.threads_are) (each_of _ _ ran.whole_turns))
+      by.each (subst (λ l. AllZip IsKeptFinishOf l ends) (sym by.loose_are) finish)
+
+  pub all_finished : AllZip (IsFinished acts answer after (answers setting.gate.now)) stations ends
+  all_finished = run_courses.finished
 
   -- the poller's own courses are those that it polled
-  crew_of : (ends : List (Finished D)) (finish : AreFinishesOf worked polled threads ends) (number : ℕ) (t : Turned (Vec (Kept R Caller)))
-      → HasPolled asked pace lists pollers loose number t
-      → map (λ o. o.poller) (filter (λ o. is_own number pollers o.end.number) finish.all) ≡ vec_items t.back → t.stop ≡ None
-      → IsCrew R asked pace lists pollers number (filter (λ c. is_dealt number pollers c.station) (run_courses ends finish).all)
-  crew_of ends finish number t has back did = crew_is R asked pace lists pollers number own (λ some. record {
+  crew_of : (number : ℕ) (p : OwnPoller R G) → HasPolled asked setting.pace lists pollers loose number p
+      → map (λ o. o.poller) (filter (λ o. is_own number pollers o.worker.handler.number) ran.left_by.all)
+      ≡ vec_items p.served.seat_bench.seats → p.stop ≡ None
+      → IsCrew R asked setting.pace lists pollers number (filter (λ c. is_dealt number pollers c.station) run_courses.all)
+  crew_of number p has back did = crew_is R asked setting.pace lists pollers number own (λ some. record {
     list = has.list;
     there = has.there;
     ends = has.ends;
     new = has.new;
     before = has.before;
-    after = has.after;
+    after = vec_items p.served.seat_bench.seats;
     from = fresh;
     turns = has.turns did (λ none. some (zip_empty _ _ _ (zip_flip _ _ _ fresh) none));
-    to = zip_same _ _ _ _ (λ c a h. h.2.1 ∙ ap (λ k. Some k) (sym h.1.0)) (zip_both _ _ _ _ _ beside spent);
+    to = subst (λ l. AllZip (λ (c : Course D) (seat : Kept R Seat). seat.value.caller ≡ Some c.end.closed.poller.value) own l) back
+        (zip_to_mapped (λ o. o.poller) _ own _ (zip_same _ _ _ _ (λ c o h. h.0) beside));
   })
     where
       all : List (Course D)
-      all = (run_courses ends finish).all
+      all = run_courses.all
 
       own : List (Course D)
       own = filter (λ c. is_dealt number pollers c.station) all
 
-      beside : AllZip (λ (c : Course D) (o : Outcome R D). (c.end.closed.poller.value ≡ o.poller.value)
-          × (o.end.number ≡ c.station.number)) own (filter (λ o. is_own number pollers o.end.number) finish.all)
-      beside = zip_filtered _ _ _ _ _ (λ c o h. ap (λ n. is_own number pollers n) (sym h.1)) (run_courses ends finish).beside
+      beside : AllZip (λ (c : Course D) (o : Outcome R D G). (o.poller.value.caller ≡ Some c.end.closed.poller.value)
+          × (o.worker.handler.number ≡ c.station.number)) own (filter (λ o. is_own number pollers o.worker.handler.number) ran.left_by.all)
+      beside = zip_filtered _ _ _ _ _ (λ c o h. ap (λ n. is_own number pollers n) (sym h.1)) run_courses.beside
 
       opens : AllZip (λ (c : Course D) l. IsKeptLoose c.station l) all loose
       opens = zip_mapped (λ c. c.station) IsKeptLoose all loose
-          (subst (λ l. AllZip IsKeptLoose l loose) (sym (run_courses ends finish).stations_are) opened)
+          (subst (λ l. AllZip IsKeptLoose l loose) (sym run_courses.stations_are) opened)
 
       fresh : AllZip (λ (c : Course D) seat. IsFreshSeat c.station seat) own has.before
       fresh = zip_same _ _ _ _ (λ c b h. fresh_of c.station b h) (zip_both _ _ _ _ _
           (zip_filtered _ _ _ _ _ (λ c l h. ap (λ n. is_own number pollers n) (sym h.same_number)) opens) has.from)
 
-      spent : AllZip (λ (o : Outcome R D) seat. IsCallerOf seat o.poller)
-          (filter (λ o. is_own number pollers o.end.number) finish.all) has.after
-      spent = zip_mapped (λ o. o.poller) (λ kept seat. IsCallerOf seat kept) _ has.after
-          (subst (λ l. AllZip (λ kept seat. IsCallerOf seat kept) l has.after) (sym back) (zip_flip _ _ _ has.to))
-
-  all_polled : (ends : List (Finished D)) → AreFinishesOf worked polled threads ends
-      → ArePolled R asked pace acts answer after pollers stations ends
-  all_polled ends finish = record {
+  pub all_polled : ArePolled R asked setting.pace acts answer after pollers stations ends
+  all_polled = record {
     lists = lists;
-    courses = (run_courses ends finish).all;
-    stations_are = (run_courses ends finish).stations_are;
-    ends_are = (run_courses ends finish).ends_are ∙ finish.ends_are;
-    each = (run_courses ends finish).each;
+    courses = run_courses.all;
+    stations_are = run_courses.stations_are;
+    ends_are = run_courses.ends_are;
+    each = run_courses.each;
     crews = λ number below.
-        let Polled : ℕ → Turned (Vec (Kept R Caller)) → Type 0 = λ k t. HasPolled asked pace lists pollers loose k t
-        × (map (λ o. o.poller) (filter (λ o. is_own k (length polled) o.end.number) finish.all) ≡ vec_items t.back)
-        × (t.stop ≡ None) in
-        let low : number < length polled = omega (arith, same, below) in
-        let t = at_place Polled polled (λ k d low. (ran k d low, finish.callers k d low, whole_polls k d low)) number low in
-        crew_of ends finish number t.0 t.1.0
-        (subst (λ n. map (λ o. o.poller) (filter (λ o. is_own number n o.end.number) finish.all) ≡ vec_items t.0.back) same t.1.1) t.1.2;
+        let by = ran.left_by in
+        let polled = ran.polled in
+        let Polled : ℕ → OwnPoller R G → Type 0 = λ k p. IsAt polled k p × HasPolled asked setting.pace lists pollers loose k p
+        × (p.stop ≡ None) in
+        let low : number < length polled = (let same = ran.same in omega (arith, same, below)) in
+        let t = at_place Polled polled (λ k d low. (
+          (low, sym (get_or_default polled k d (get_or polled k d) low)),
+          ran.ran k d low,
+          ran.whole_polls k d low,
+        )) number low in
+        let seats = map (λ p. p.served.seat_bench.seats) polled in
+        let own = t.0.served.seat_bench.seats in
+        let here = at_mapped (λ p. p.served.seat_bench.seats) polled number t.0 t.1.0 in
+        let by_poller : map (λ o. o.poller) (filter (λ o. is_own number (length seats) o.worker.handler.number) by.all)
+        ≡ vec_items (get_or seats number own) = by.callers number own here.0 in
+        crew_of number t.0 t.1.1
+        (subst (λ n. map (λ o. o.poller) (filter (λ o. is_own number n o.worker.handler.number) by.all) ≡ vec_items own)
+        (length-map polled (λ p. p.served.seat_bench.seats) ∙ ran.same) (by_poller ∙ ap (λ v. vec_items v) here.1)) t.1.2;
   }
 
-module _ {R D : Type 0} (acts : D → ℕ) (answer : D → ℕ → Act) (after : D → ℕ → D) (answers : ℕ → ℕ → Bool → Type 0) (may_shut : Type 0)
-    (asked : ℕ → Type 0) (pace : Pace) (lists : List (SharedList R)) (pollers : ℕ) (stations : List (Station D))
-    (loose : List (Kept R (Loose D))) (worked : List (Worked R D))
-    (polled : List (Turned (Vec (Kept R Caller)))) (threads : List (Turned (Kept R Caller)))
-    (same : length polled ≡ pollers) (opened : AllZip IsKeptLoose stations loose)
-    (made : AllZip (IsWorkedOf acts answer after answers may_shut lists pollers) loose worked)
-    (ran : EachAt (HasPolled asked pace lists pollers loose) polled)
-    (turned : AllZip (HasTurned asked pace lists pollers) loose threads) where
-  pub answer_finished : (ends : Result (Vec (Finished D)) Stop) → IfOk ends (λ _. All (λ w. w.done.stop ≡ None) worked)
-      → IfOk ends (λ _. All (λ t. t.stop ≡ None) polled) → IfOk ends (λ _. All (λ t. t.stop ≡ None) threads)
-      → IfOk ends (λ all. AreFinishesOf worked polled threads (vec_items all))
-      → IfOk ends (λ all. AllZip (IsFinished acts answer after answers) stations (vec_items all))
-  answer_finished (Err stop) whole polls turns finish = tt
-  answer_finished (Ok all) whole polls turns finish =
-      all_finished acts answer after answers may_shut asked pace lists pollers stations loose worked polled threads same opened made ran
-      turned whole polls turns (vec_items all) finish
-
-  pub answer_polled : (ends : Result (Vec (Finished D)) Stop) → IfOk ends (λ _. All (λ w. w.done.stop ≡ None) worked)
-      → IfOk ends (λ _. All (λ t. t.stop ≡ None) polled) → IfOk ends (λ _. All (λ t. t.stop ≡ None) threads)
-      → IfOk ends (λ all. AreFinishesOf worked polled threads (vec_items all))
-      → IfOk ends (λ all. ArePolled R asked pace acts answer after pollers stations (vec_items all))
-  answer_polled (Err stop) whole polls turns finish = tt
-  answer_polled (Ok all) whole polls turns finish =
-      all_polled acts answer after answers may_shut asked pace lists pollers stations loose worked polled threads same opened made ran
-      turned whole polls turns (vec_items all) finish
-
--- no station is polled by nobody
+-- each station has a poller
 pub none_polled : {D : Type 0} (R : Type 0) (asked : ℕ → Type 0) (pace : Pace) (acts : D → ℕ) (answer : D → ℕ → Act) (after : D → ℕ → D)
     (pollers : ℕ) → ArePolled R asked pace acts answer after pollers [] []
 none_polled R asked pace acts answer after pollers =
@@ -352,227 +360,249 @@ ends_of_lists {R} (b ∷ bs) (e ∷ es) own (suc k) d low = λ n x within.
     (h.0, (let m = h.1.0 in omega (arith, m), h.1.1), h.2)
 ends_of_lists bs es own k d low = absurd own
 
--- what the workers of the jobs gave back is of the stations
-worked_of : {R D G : Type 0} (acts : D → ℕ) (answer : D → ℕ → Act) (after : D → ℕ → D) (answers : G → ℕ → ℕ → Bool → Type 0)
-    (may_shut : Type 0) (setting : Setting R G) (lists : List (SharedList R)) (bells : List Bell) (loose : Kept R (Loose D))
-    (job : Job R D G) (worked : Worked R D)
-    → IsKeptJobOf setting loose job → IsWiredJob lists bells job
-    → IsWorkOf acts answer after (answers job.setting.now.gate.now) may_shut job.handler.napi.now (is_some job.handler.thread)
-    job.handler.number job.work worked
-    → IsWorkedOf acts answer after (answers setting.gate.now) may_shut lists (length bells) loose worked
-worked_of {R} {D} {G} acts answer after answers may_shut setting lists bells loose job worked given wired made = record {
-  napi = job.handler.napi.now;
-  work = job.work;
-  device = given.same_device;
-  rx = given.same_rx;
-  seats = given.same_seats;
-  list = subst (λ n. IsEndOf lists (poller_by (length bells) n) job.work.list) given.same_number wired.list;
-  is = subst (λ (s : Setting R G). IsWorkOf acts answer after (answers s.gate.now) may_shut job.handler.napi.now
-      (is_some loose.value.pause) loose.value.number job.work worked) given.has
-      (subst (λ b. IsWorkOf acts answer after (answers job.setting.now.gate.now) may_shut job.handler.napi.now b loose.value.number
-      job.work worked) given.thread
-      (subst (λ n. IsWorkOf acts answer after (answers job.setting.now.gate.now) may_shut job.handler.napi.now
-      (is_some job.handler.thread) n job.work worked) given.same_number made));
-}
+pub each_mapped : {A B : Type 0} (f : A → B) (P : ℕ → B → Type 0) (xs : List A) → EachAt (λ k x. P k (f x)) xs → EachAt P (map f xs)
+each_mapped f P [] h k d low = absurd (omega (arith, low))
+each_mapped f P (x ∷ xs) h zero d low = h 0 x (omega arith)
+each_mapped f P (x ∷ xs) h (suc k) d low =
+    each_mapped f (λ n y. P (suc n) y) xs (λ n a b. h (suc n) a (omega (arith, b))) k d (omega (arith, low))
 
-pub all_worked : {R D G : Type 0} (acts : D → ℕ) (answer : D → ℕ → Act) (after : D → ℕ → D) (answers : G → ℕ → ℕ → Bool → Type 0)
-    (may_shut : Type 0) (setting : Setting R G) (lists : List (SharedList R)) (bells : List Bell) (loose : List (Kept R (Loose D)))
-    (jobs : List (Job R D G)) (worked : List (Worked R D))
-    → AllZip (IsKeptJobOf setting) loose jobs → AllByRecursion (IsWiredJob lists bells) jobs
-    → AllZip (λ (j : Job R D G) w. IsWorkOf acts answer after (answers j.setting.now.gate.now) may_shut j.handler.napi.now
-    (is_some j.handler.thread) j.handler.number j.work w) jobs worked
-    → AllZip (IsWorkedOf acts answer after (answers setting.gate.now) may_shut lists (length bells)) loose worked
-all_worked acts answer after answers may_shut setting lists bells loose jobs worked given wired made =
-    zip_same _ _ _ _ (λ k w h. worked_of acts answer after answers may_shut setting lists bells k h.0 w h.1.0 h.1.1 h.2)
-    (zip_both _ _ _ _ _ (zip_right _ _ _ _ given wired) made)
+-- a poller with seats isn't idle
+some_seat : {R : Type 0} (served : ListPoller R) → vec_items served.seat_bench.seats ≢ [] → has_no_seat served ≡ false
+some_seat served some =
+    let seats = served.seat_bench.seats in
+    ne_eqb (vec_len seats) 0 (λ e. some (nil_from_length (vec_items seats) (grind (arith, common_steps, e))))
 
-done_at : {R D G : Type 0} (acts : D → ℕ) (answer : D → ℕ → Act) (after : D → ℕ → D) (answers : G → ℕ → ℕ → Bool → Type 0)
-    (may_shut : Type 0) (setting : Setting R G) (placed : Kept R Placed) (loose : Kept R (Loose D)) (job : Job R D G) (worked : Worked R D)
-    → IsKeptSideOf loose placed → IsKeptJobOf setting loose job → IsJobAt placed job
-    → IsWorkOf acts answer after (answers job.setting.now.gate.now) may_shut job.handler.napi.now (is_some job.handler.thread)
-    job.handler.number job.work worked
-    → IsDoneAt worked placed
-done_at acts answer after answers may_shut setting placed loose job worked side given at made = search (rules, same_ring)
+some_is : {A : Type 0} {x y : A} → Some x ≡ Some y → x ≡ y
+some_is {x = x} e = ap (λ o. unwrap_or o x) e
 
--- what the workers gave back is of the instances that stayed behind
-pub all_done_at : {R D G : Type 0} (acts : D → ℕ) (answer : D → ℕ → Act) (after : D → ℕ → D) (answers : G → ℕ → ℕ → Bool → Type 0)
-    (may_shut : Type 0) (setting : Setting R G) (placed : List (Kept R Placed)) (loose : List (Kept R (Loose D))) (jobs : List (Job R D G))
-    (worked : List (Worked R D))
-    → AllZip IsKeptSideOf loose placed → AllZip (IsKeptJobOf setting) loose jobs → AllZip IsJobAt placed jobs
-    → AllZip (λ (j : Job R D G) w. IsWorkOf acts answer after (answers j.setting.now.gate.now) may_shut j.handler.napi.now
-    (is_some j.handler.thread) j.handler.number j.work w) jobs worked
-    → AllZip IsDoneAt worked placed
-all_done_at acts answer after answers may_shut setting placed loose jobs worked sides given at made =
-    let a = zip_both _ _ _ _ _ (zip_flip _ _ _ sides) given in
-    let b = zip_both _ _ _ _ _ (zip_and _ _ _ _ a at) made in
-    zip_flip _ _ _ (zip_same _ _ _ _ (λ p w h.
-    let j = h.0 in
-    let k = h.1.0.0 in
-    done_at acts answer after answers may_shut setting p k j w h.1.0.1 h.1.0.2 h.1.1 h.2) b)
+-- ---- what came back of the distributed parts
 
-seat_at : {R : Type 0} (placed : Kept R Placed) (seat after : Seat) (caller : Kept R Caller) → IsSeatAt placed seat → IsSameSeat seat after
-    → IsCallerOf after caller → IsCallerAt caller placed
-seat_at placed seat after caller at same of = subst (λ (n : Napi). IsSeatOf n caller.value.pass) (ap (λ b. b.now) same.napi ∙ at.napi) of.0
+module _ {R D G : Type 0} (acts : D → ℕ) (answer : D → ℕ → Act) (after : D → ℕ → D) (may_shut : Type 0)
+    (answers : G → ℕ → ℕ → Bool → Type 0) (setting : Setting R G) (lists : List (SharedList R)) (bells : List Bell) where
+  worked_of : (loose : Kept R (Loose D)) (job done : InterruptWorker R D G) → IsKeptJobOf setting loose job → IsWiredJob lists bells job
+      → IsWorked acts answer after may_shut answers job done
+      → IsWorkedOf acts answer after (answers setting.gate.now) lists (length bells) loose done
+  worked_of loose job done given wired made = record {
+    napi = job.handler.napi.now;
+    before = job;
+    device = given.same_device;
+    rx = given.same_rx;
+    seats = given.same_seats;
+    list = subst (λ n. IsEndOf lists (poller_by (length bells) n) job.list) given.same_number wired.list;
+    same_number = ap (λ (h : InterruptHandler R). h.number) made.same_handler ∙ given.same_number;
+    is = subst (λ (s : Setting R G). IsDone (answers s.gate.now) loose.value.has_thread loose.value.number) given.has
+        (subst (λ b. IsDone (answers job.setting.now.gate.now) b loose.value.number) given.thread
+        (subst (λ n. IsDone (answers job.setting.now.gate.now) (is_some job.handler.thread) n) given.same_number made.is));
+  }
+    where
+      IsDone : (ℕ → ℕ → Bool → Type 0) → Bool → ℕ → Type 0
+      IsDone asks thread number = IsDoneBy acts answer after asks job.handler.napi.now thread number job done
 
--- the callers of the poller's seats are of the instances that stayed behind
-pub all_pollers_at : {R : Type 0} (placed : List (Kept R Placed)) (seats afters : List Seat) (callers : List (Kept R Caller))
-    → AllZip IsSeatAt placed seats → AreSameSeats seats afters → AllZip IsCallerOf afters callers
-    → AllZip (λ place kept. IsCallerAt kept place) placed callers
-all_pollers_at placed seats afters callers at same of =
-    let a = zip_both _ _ _ _ _ at same in
-    let b = zip_both _ _ _ _ _ a of in
-    zip_same _ _ _ _ (λ p k h. seat_at p h.1.0 h.0 k h.1.1 h.1.2 h.2) b
+  pub all_worked : (loose : List (Kept R (Loose D))) (jobs done : List (InterruptWorker R D G)) → AllZip (IsKeptJobOf setting) loose jobs
+      → AllByRecursion (IsWiredJob lists bells) jobs → AllZip (IsWorked acts answer after may_shut answers) jobs done
+      → AllZip (IsWorkedOf acts answer after (answers setting.gate.now) lists (length bells)) loose done
+  all_worked loose jobs done given wired made =
+      zip_same _ _ _ _ (λ l d h. worked_of l h.0 d h.1.0 h.1.1 h.2) (zip_both _ _ _ _ _ (zip_right _ _ _ _ given wired) made)
 
--- what the pollers gave back
-module _ {R D G : Type 0} (may_shut : Type 0) (answers : G → ℕ → ℕ → Bool → Type 0) (setting : Setting R G) (lists : List (SharedList R))
-    (bells : List Bell) (count n : ℕ) (placed : List (Kept R Placed))
-    (loose : List (Kept R (Loose D))) (seats : List Seat) (pollers : List (PollTask R G)) (polled : List (Turned (Vec (Kept R Caller))))
-    (at : AllZip IsSeatAt placed seats) (for : AllZip IsKeptSeatFor loose seats)
-    (have : ArePollers setting bells count n seats pollers) (gives : AllZip (GivesCallers may_shut answers) pollers polled)
-    (are : map (λ t. t.list) pollers ≡ lists) where
-  record GaveOwn (k : ℕ) (turned : Turned (Vec (Kept R Caller))) : Type 0 where
-    pub callers : AreCallersAt n placed k turned
-    pub has : HasPolled (IsAsked answers setting.gate.now) setting.pace lists n loose k turned
+  -- the worker came back at the instance that stayed with the caller
+  pub record IsBackAt (placed : Kept R Placed) (done : InterruptWorker R D G) : Type 0 where
+    pub number : done.handler.number ≡ placed.value.number
+    pub napi : done.handler.napi.now ≡ placed.value.napi
+    pub seats : AreSeatsOf placed.value.napi done.seats.value
+    pub controller : number_of done.seats.value.control.pass ≡ controller_number
+    pub ring : IsInputOf done.rx placed.value.napi
+    pub home : IsHome placed.value
 
-  gave_own : (k : ℕ) (turned : Turned (Vec (Kept R Caller))) (task : PollTask R G) → IsAt pollers k task
-      → IsPoller setting bells count (filter (λ (s : Seat). is_own k n s.number) seats) k task → GivesCallers may_shut answers task turned
-      → GaveOwn k turned
-  gave_own k turned task at_k p g =
-      let by : ℕ → Bool = λ m. is_own k n m in
-      let own : List Seat = filter (λ (s : Seat). by s.number) seats in
-      let same : AreSameSeats own g.seats = subst (λ l. AreSameSeats l g.seats) p.seats_are g.same in
-      let places : AllZip IsSeatAt (filter (λ (p : Kept R Placed). by p.value.number) placed) own =
-      zip_filtered IsSeatAt _ _ placed seats (λ p s h. ap by (sym h.number)) at in
-      record {
-        callers = all_pollers_at _ own g.seats (vec_items turned.back) places same g.callers;
-        has = record {
-          before = own;
-          after = g.seats;
-          list = task.list;
-          there = subst (λ l. IsAt l k task.list) are (at_mapped (λ t. t.list) pollers k task at_k);
-          ends = p.ends;
-          new = p.new;
-          from = zip_filtered IsKeptSeatFor _ _ loose seats (λ l s h. ap by (sym h.number)) for;
-          turns = λ did some.
-              subst (λ l. IsPolledBy (IsAsked answers setting.gate.now) setting.pace k task.list l g.seats) p.seats_are
-              (subst (λ n. IsPolledBy (IsAsked answers setting.gate.now) setting.pace n task.list (vec_items task.seats.value) g.seats)
-              p.same_number
-              (subst (λ (s : Setting R G). IsPolledBy (IsAsked answers s.gate.now) s.pace task.number task.list
-              (vec_items task.seats.value) g.seats) p.has (g.turns did (λ none. some (sym p.seats_are ∙ none)))));
-          to = g.callers;
-        };
-      }
+  back_at : (placed : Kept R Placed) (loose : Kept R (Loose D)) (job done : InterruptWorker R D G) → IsKeptSideOf loose placed
+      → IsKeptJobOf setting loose job → IsJobAt placed job → IsWorked acts answer after may_shut answers job done → IsBackAt placed done
+  back_at placed loose job done side given at made = record {
+    number = ap (λ (h : InterruptHandler R). h.number) made.same_handler ∙ given.same_number ∙ sym side.part.number;
+    napi = ap (λ (h : InterruptHandler R). h.napi.now) made.same_handler ∙ at;
+    seats = subst (λ (n : Napi). AreSeatsOf n done.seats.value) at made.is.seats;
+    controller = made.is.same.1 ∙ ap (λ (s : OwnSeats). number_of s.control.pass) given.same_seats ∙ side.part.controller;
+    ring = same_ring loose.value.rx job.rx done.rx placed.value.napi given.same_rx made.is.ring side.part.ring;
+    home = side.part.home;
+  }
 
-  all_gave : (k : ℕ) (d : Turned (Vec (Kept R Caller))) → k < length polled → GaveOwn k (get_or polled k d)
-  all_gave k d low =
-      let Poller : ℕ → PollTask R G → Type 0 =
-      λ k task. IsAt pollers k task × IsPoller setting bells count (filter (λ (s : Seat). is_own k n s.number) seats) k task in
-      let h = each_zip Poller (GivesCallers may_shut answers) pollers polled gives
-      (λ k d low. ((low, sym (get_or_default pollers k d (get_or pollers k d) low)), have k d low)) k d low in
-      gave_own k (get_or polled k d) h.0 h.1.0 h.1.1 h.2
+  pub all_back_at : (placed : List (Kept R Placed)) (loose : List (Kept R (Loose D))) (jobs done : List (InterruptWorker R D G))
+      → AllZip IsKeptSideOf loose placed → AllZip (IsKeptJobOf setting) loose jobs → AllZip IsJobAt placed jobs
+      → AllZip (IsWorked acts answer after may_shut answers) jobs done → AllZip IsBackAt placed done
+  all_back_at placed loose jobs done sides given at made =
+      let a = zip_both _ _ _ _ _ (zip_flip _ _ _ sides) given in
+      let b = zip_both _ _ _ _ _ (zip_and _ _ _ _ a at) made in
+      zip_same _ _ _ _ (λ p d h. back_at p h.1.0.0 h.0 d h.1.0.1 h.1.0.2 h.1.1 h.2) b
 
-  -- each poller gave back the callers of its own instances
-  pub all_callers_at : EachAt (AreCallersAt n placed) polled
-  all_callers_at k d low = (all_gave k d low).callers
+  pub all_worker_stops : (jobs done : List (InterruptWorker R D G)) → AllZip (IsWorked acts answer after may_shut answers) jobs done
+      → All (λ w. IfSome w.stop (IsStop may_shut)) done
+  all_worker_stops jobs done made = each_index _ _ (zip_each _ _ _ _ (λ j d h. h.why) made)
 
-  -- and polled them
-  pub all_have_polled : EachAt (HasPolled (IsAsked answers setting.gate.now) setting.pace lists n loose) polled
-  all_have_polled k d low = (all_gave k d low).has
+  -- ---- the parts after the threads have ended
 
--- why the runs of pollers were cut short
-pub all_poller_stops : {R G : Type 0} (may_shut : Type 0) (answers : G → ℕ → ℕ → Bool → Type 0) (pollers : List (PollTask R G))
-    (polled : List (Turned (Vec (Kept R Caller)))) → AllZip (GivesCallers may_shut answers) pollers polled
-    → All (λ t. IfSome t.stop (IsStop may_shut)) polled
-all_poller_stops may_shut answers pollers polled gives = each_index _ _ (zip_each _ _ _ _ (λ p t h. h.why) gives)
+  part_of : (placed : Kept R Placed) (o : Outcome R D G) → IsBackAt placed o.worker
+      → IsLeftBy o.worker o.poller o.thread o.loose.value → IsKeptPartOf o.loose placed
+  part_of placed o back taken = record {
+    number = sym (taken.number ∙ back.number);
+    seats = subst (λ (s : OwnSeats). AreSeatsOf placed.value.napi s) (sym taken.seats) back.seats;
+    controller = ap (λ (s : OwnSeats). number_of s.control.pass) taken.seats ∙ back.controller;
+    poller = subst (λ (n : Napi). IsSeatOf n o.loose.value.poller.pass) back.napi taken.poller_of;
+    thread = subst (λ (n : Napi). IsSeatOf n o.loose.value.thread.pass) back.napi taken.thread_of;
+    ring = subst (λ (r : RxIn). IsInputOf r placed.value.napi) (sym taken.rx) back.ring;
+    home = back.home;
+  }
 
--- those of the instances' threads
-pub all_thread_stops : {R G : Type 0} (may_shut : Type 0) (answers : G → ℕ → ℕ → Bool → Type 0) (sides : List (ThreadSide R G))
-    (given : List (Turned (Kept R Caller))) → AllZip (GivesCaller may_shut answers) sides given
-    → All (λ t. IfSome t.stop (IsStop may_shut)) given
-all_thread_stops may_shut answers sides given gives = each_index _ _ (zip_each _ _ _ _ (λ p t h. h.why) gives)
+  parts_of : (placed : List (Kept R Placed)) (all : List (Outcome R D G)) → AllZip IsBackAt placed (map (λ o. o.worker) all)
+      → AllByRecursion (λ (o : Outcome R D G). IsLeftBy o.worker o.poller o.thread o.loose.value) all
+      → AllZip IsKeptPartOf (map (λ o. o.loose) all) placed
+  parts_of [] [] back taken = tt
+  parts_of [] (o ∷ os) back taken = absurd back
+  parts_of (p ∷ ps) [] back taken = absurd back
+  parts_of (p ∷ ps) (o ∷ os) back taken = (part_of p o back.0 taken.0, parts_of ps os back.1 taken.1)
 
--- and those of the workers
-pub all_worker_stops : {R D : Type 0} (acts : D → ℕ) (answer : D → ℕ → Act) (after : D → ℕ → D) (answers : ℕ → ℕ → Bool → Type 0)
-    (may_shut : Type 0) (lists : List (SharedList R)) (pollers : ℕ) (loose : List (Kept R (Loose D))) (worked : List (Worked R D))
-    → AllZip (IsWorkedOf acts answer after answers may_shut lists pollers) loose worked
-    → All (λ w. IfSome w.done.stop (IsStop may_shut)) worked
-all_worker_stops acts answer after answers may_shut lists pollers loose worked made =
-    each_index _ _ (zip_each _ _ _ _ (λ l w h. h.is.why) made)
+  pub all_parts : (placed : List (Kept R Placed)) (workers : List (InterruptWorker R D G)) (seats : List (Vec (Kept R Seat)))
+      (threads : List (OwnThread R G)) (left : List (Kept R (Loose D))) → AllZip IsBackAt placed workers
+      → AreLeftBy workers seats threads left → AllZip IsKeptPartOf left placed
+  all_parts placed workers seats threads left back by =
+      subst (λ l. AllZip IsKeptPartOf l placed) by.loose_are
+      (parts_of placed by.all (subst (λ l. AllZip IsBackAt placed l) (sym by.workers_are) back) by.each)
 
--- all pollers may poll
-pub all_can_run : {R G : Type 0} (setting : Setting R G) (bells : List Bell) (count n : ℕ) (placed : List (Kept R Placed))
-    (seats : List Seat) (pollers : List (PollTask R G))
-    → AllZip IsSeatAt placed seats → ArePollers setting bells count n seats pollers → length pollers ≤ 8
-    → length seats ≤ count → IsLawful setting.pace → All CanPoll pollers
-all_can_run {R} {G} setting bells count n placed seats pollers at have few room lawful k d low =
-    let p = have k d low in
-    let there : AllByRecursion (λ (s : Seat). IsSome s.caller) (filter (λ (s : Seat). is_own k n s.number) seats) =
-    zip_each _ _ _ _ (λ x s h. h.caller) (zip_filtered IsSeatAt _ _ placed seats (λ p s h. ap (λ m. is_own k n m) (sym h.number)) at) in
-    let fewer = filter_fewer (λ (s : Seat). is_own k n s.number) seats in
-    let long = ap (λ l. length l) p.seats_are in
-    record {
-      number = (let m = p.same_number in omega (arith, m, low, few));
-      pace = subst (λ (s : Setting R G). IsLawful s.pace) (sym p.has) lawful;
-      wakes = p.wakes;
-      there = subst (λ l. AllByRecursion (λ (s : Seat). IsSome s.caller) l) (sym p.seats_are) there;
-      empty = p.room.0;
-      room = grind (arith, common_steps, fewer, long, room, p.room.1);
-    }
+  -- ---- the pollers
 
--- so are those of the instances' threads
-pub all_threads_at : {R G : Type 0} (may_shut : Type 0) (answers : G → ℕ → ℕ → Bool → Type 0) (placed : List (Kept R Placed))
-    (sides : List (ThreadSide R G))
-    (given : List (Turned (Kept R Caller)))
-    → AllZip IsThreadAt placed sides → AllZip (GivesCaller may_shut answers) sides given → AllZip IsTurnedAt given placed
-all_threads_at may_shut answers placed sides given at of =
-    zip_flip _ _ _
-    (zip_same _ _ _ _ (λ p k h. subst (λ (n : Napi). IsSeatOf n k.back.value.pass) h.1.napi h.2.of) (zip_both _ _ _ _ _ at of))
+  seat_with : (placed : Kept R Placed) (done : InterruptWorker R D G) (seat after : Kept R Seat) → IsBackAt placed done
+      → IsSeatAt placed seat → IsSameSeat seat.value after.value → IsSeatWith done after
+  seat_with placed done seat after back at same = record {
+    napi = ap (λ b. b.now) same.napi ∙ at.napi ∙ sym back.napi;
+    caller = same.caller at.caller;
+  }
 
--- and these took their turns
-module _ {R G : Type 0} (may_shut : Type 0) (answers : G → ℕ → ℕ → Bool → Type 0) (setting : Setting R G) (lists : List (SharedList R))
-    (bells : List Bell) where
-  abbrev ByThread : Bool → ℕ → Caller → Caller → Type 0
-  ByThread = TurnsIfThread R (IsAsked answers setting.gate.now) setting.pace lists (length bells)
+  polled_keeps : (before after : OwnPoller R G) → IsPolled has_no_seat TurnsByRun may_shut answers before after
+      → AreSameSeats (vec_items before.served.seat_bench.seats) (vec_items after.served.seat_bench.seats)
+  polled_keeps before after p = keeps before.served after.served p.kept
+    where
+      keeps : (b a : ListPoller R) → (a ≡ b) ⊎ IsServed TurnsByRun b a
+          → AreSameSeats (vec_items b.seat_bench.seats) (vec_items a.seat_bench.seats)
+      keeps b a (inl same) = subst (λ (x : ListPoller R). AreSameSeats (vec_items b.seat_bench.seats) (vec_items x.seat_bench.seats))
+          (sym same) (seats_stay _)
+      keeps b a (inr served) = served_keeps b a served
 
-  turned_by : {D : Type 0} (loose : Kept R (Loose D)) (side : ThreadSide R G) (given : Turned (Kept R Caller)) (own : Option (Own R))
-      → side.own ≡ own → IsKeptThreadFor setting loose side → IsWiredSide lists bells side
-      → MatchOption own (given.back ≡ side.caller)
-      (λ o. IsPolledAlone R (IsAsked answers side.setting.now.gate.now) side.setting.now.pace side.number o.list side.caller.value
-      given.back.value)
-      → ByThread (is_some loose.value.pause) loose.value.number loose.value.thread given.back.value
-  turned_by loose side given None is for wired same =
-      let none : is_some loose.value.pause ≡ false = sym for.own ∙ ap (λ o. is_some o) is in
-      rw none (ap (λ (k : Kept R Caller). k.value) same ∙ for.caller)
-  turned_by loose side given (Some o) is for wired turns =
-      let some : is_some loose.value.pause ≡ true = sym for.own ∙ ap (λ o. is_some o) is in
-      let list : IsEndOf lists (poller_by (length bells) side.number) o.list =
-      subst (λ own. IfSome own (λ own. IsEndOf lists (poller_by (length bells) side.number) own.list)) is wired.list in
-      let by_setting = subst (λ (s : Setting R G). IsPolledAlone R (IsAsked answers s.gate.now) s.pace side.number o.list
-      side.caller.value given.back.value) for.has turns in
-      let by_caller = subst (λ c. IsPolledAlone R (IsAsked answers setting.gate.now) setting.pace side.number o.list c given.back.value)
-      for.caller by_setting in
-      let both = subst (λ n. (end : ListIn R) × IsEndOf lists (poller_by (length bells) n) end
-      × IsPolledAlone R (IsAsked answers setting.gate.now) setting.pace n end loose.value.thread given.back.value) for.number
-      (o.list, list, by_caller) in
-      rw some both
+  module _ (n : ℕ) (placed : List (Kept R Placed)) (loose : List (Kept R (Loose D))) (workers : List (InterruptWorker R D G))
+      (sat : List (Kept R Seat)) (pollers polled : List (OwnPoller R G))
+      (back : AllZip IsBackAt placed workers) (at : AllZip IsSeatAt placed sat) (for : AllZip IsKeptSeatFor loose sat)
+      (have : ArePollers setting bells n sat pollers)
+      (did : AllZip (IsPolled has_no_seat TurnsByRun may_shut answers) pollers polled)
+      (are : map (λ p. p.served.list) pollers ≡ lists) where
+    record CameBack (k : ℕ) (poller : OwnPoller R G) : Type 0 where
+      pub seats : AreSeatsAt n workers k poller.served.seat_bench.seats
+      pub has : HasPolled (IsAsked answers setting.gate.now) setting.pace lists n loose k poller
 
-  pub all_turned : {D : Type 0} (loose : List (Kept R (Loose D))) (sides : List (ThreadSide R G)) (given : List (Turned (Kept R Caller)))
-      → AllZip (IsKeptThreadFor setting) loose sides → AllByRecursion (IsWiredSide lists bells) sides
-      → AllZip (GivesCaller may_shut answers) sides given
-      → AllZip (HasTurned (IsAsked answers setting.gate.now) setting.pace lists (length bells)) loose given
-  all_turned loose sides given for wired gives =
-      zip_same _ _ _ _ (λ k g h polled. turned_by k h.0 g h.0.own refl h.1.0 h.1.1 (h.2.turns polled))
-      (zip_both _ _ _ _ _ (zip_right _ _ _ _ for wired) gives)
+    came_back : (k : ℕ) (after before : OwnPoller R G) → IsAt pollers k before
+        → IsPoller setting bells (filter (λ (s : Kept R Seat). is_own k n s.value.number) sat) k before
+        → IsPolled has_no_seat TurnsByRun may_shut answers before after → CameBack k after
+    came_back k after before at_k p did =
+        let by : ℕ → Bool = λ m. is_own k n m in
+        let own : List (Kept R Seat) = filter (λ (s : Kept R Seat). by s.value.number) sat in
+        let ends = vec_items after.served.seat_bench.seats in
+        let same : AreSameSeats own ends = subst (λ l. AreSameSeats l ends) p.seats_are (polled_keeps before after did) in
+        let Beside : InterruptWorker R D G → Kept R Seat → Type 0 = λ w s. (place : Kept R Placed) × IsBackAt place w × IsSeatAt place s in
+        let both : AllZip Beside workers sat = zip_both _ _ _ _ _ (zip_flip _ _ _ back) at in
+        let places : AllZip Beside (filter (λ (w : InterruptWorker R D G). by w.handler.number) workers) own =
+        zip_filtered Beside _ _ workers sat (λ w s h. ap by (h.1.number ∙ sym h.2.number)) both in
+        record {
+          seats = zip_same _ _ _ _ (λ w s h. seat_with h.1.0 w h.0 s h.1.1 h.1.2 h.2) (zip_both _ _ _ _ _ places same);
+          has = record {
+            before = own;
+            list = before.served.list;
+            there = subst (λ l. IsAt l k before.served.list) are (at_mapped (λ p. p.served.list) pollers k before at_k);
+            ends = p.new.0;
+            new = p.new.1;
+            from = zip_filtered IsKeptSeatFor _ _ loose sat (λ l s h. ap by (sym h.number)) for;
+            turns = λ whole some.
+                let busy = some_seat before.served (λ none. some (sym p.seats_are ∙ none)) in record {
+                  first = before.served;
+                  last = after.served;
+                  started = subst (λ m. IsAsked answers setting.gate.now m) p.named
+                      (subst (λ (s : Setting R G). IsAsked answers s.gate.now before.name) p.has (did.started whole busy));
+                  paced = p.paced;
+                  over = refl;
+                  from = p.seats_are;
+                  turns = did.turned whole busy;
+                  to = refl;
+                };
+          };
+        }
 
--- all jobs may be done, and all sides may be run
-pub all_can_work : {R D G : Type 0} (setting : Setting R G) (loose : List (Kept R (Loose D))) (jobs : List (Job R D G))
-    → AllZip (IsKeptJobOf setting) loose jobs
-    → All (λ (j : Job R D G). AreSeatsOf j.handler.napi.now j.work.seats.value) jobs
-all_can_work setting loose jobs given = each_index _ _ (zip_each _ _ _ _ (λ k j h. h.seats) given)
+    all_came : (k : ℕ) (d : OwnPoller R G) → k < length polled → CameBack k (get_or polled k d)
+    all_came k d low =
+        let Mine : ℕ → OwnPoller R G → Type 0 =
+        λ k p. IsAt pollers k p × IsPoller setting bells (filter (λ (s : Kept R Seat). is_own k n s.value.number) sat) k p in
+        let h = each_zip Mine (IsPolled has_no_seat TurnsByRun may_shut answers) pollers polled did
+        (λ k d low. ((low, sym (get_or_default pollers k d (get_or pollers k d) low)), have k d low)) k d low in
+        came_back k (get_or polled k d) h.0 h.1.0 h.1.1 h.2
 
-pub all_can_poll : {R G : Type 0} (placed : List (Kept R Placed)) (sides : List (ThreadSide R G)) → AllZip IsThreadAt placed sides
-    → All (λ (s : ThreadSide R G). CanPollAlone s) sides
-all_can_poll {R} {G} placed sides at =
-    each_index _ _
-    (zip_each IsThreadAt (λ (s : ThreadSide R G). CanPollAlone s) _ _
-    (λ p s h. record { seat = h.seat; name = h.name; pace = h.lawful; wakes = h.wakes }) at)
+    -- each poller came back with its seats at its own instances
+    pub all_seats_at : EachAt (λ k p. AreSeatsAt n workers k p.served.seat_bench.seats) polled
+    all_seats_at k d low = (all_came k d low).seats
+
+    -- and polled them
+    pub all_have_polled : EachAt (HasPolled (IsAsked answers setting.gate.now) setting.pace lists n loose) polled
+    all_have_polled k d low = (all_came k d low).has
+
+  -- ---- the threads of instances
+
+  thread_with : (placed : Kept R Placed) (done : InterruptWorker R D G) (before after : OwnThread R G) → IsBackAt placed done
+      → IsThreadAt placed before → IsPolled has_no_thread TurnsAlone may_shut answers before after → IsThreadWith done after
+  thread_with placed done before after back at p = seat_with placed done before.served.seat after.served.seat back at.seat
+      (keeps before.served after.served p.kept)
+    where
+      keeps : (b a : ThreadPoller R) → (a ≡ b) ⊎ IsServed TurnsAlone b a → IsSameSeat b.seat.value a.seat.value
+      keeps b a (inl same) = subst (λ (x : ThreadPoller R). IsSameSeat b.seat.value x.seat.value) (sym same) (seat_stays b.seat.value)
+      keeps b a (inr served) = served_alone b a served
+
+  pub all_threads_with : (placed : List (Kept R Placed)) (workers : List (InterruptWorker R D G)) (sides threads : List (OwnThread R G))
+      → AllZip IsBackAt placed workers → AllZip IsThreadAt placed sides
+      → AllZip (IsPolled has_no_thread TurnsAlone may_shut answers) sides threads → AllZip IsThreadWith workers threads
+  all_threads_with placed workers sides threads back at did =
+      zip_same _ _ _ _ (λ w t h. thread_with h.1.0 w h.0 t h.1.1 h.1.2 h.2)
+      (zip_both _ _ _ _ _ (zip_both _ _ _ _ _ (zip_flip _ _ _ back) at) did)
+
+  -- and these took their turns
+  turned_by : (loose : Kept R (Loose D)) (side thread : OwnThread R G) (has : Bool) → is_some side.served.seat.value.thread ≡ has
+      → IsKeptThreadFor setting loose side → IsWiredSide lists bells side
+      → IsPolled has_no_thread TurnsAlone may_shut answers side thread → thread.stop ≡ None
+      → (after : Caller) → thread.served.seat.value.caller ≡ Some after
+      → TurnsIfThread R (IsAsked answers setting.gate.now) setting.pace lists (length bells) has loose.value.number loose.value.thread after
+  turned_by loose side thread false has for wired p whole after is =
+      some_is (sym is ∙ ap (λ (s : ThreadPoller R). s.seat.value.caller) (p.none (ap (λ b. not b) has)) ∙ for.seat.caller_is)
+  turned_by loose side thread true has for wired p whole after is =
+      let busy = ap (λ b. not b) has in (
+        side.served.list,
+        subst (λ n. IsEndOf lists (poller_by (length bells) n) side.served.list) for.seat.number wired.list,
+        record {
+          first = side.served;
+          last = thread.served;
+          started = subst (λ m. IsAsked answers setting.gate.now m) for.named
+              (subst (λ (s : Setting R G). IsAsked answers s.gate.now side.name) for.has (p.started whole busy));
+          paced = for.paced;
+          at = for.seat.number;
+          bell = has;
+          over = refl;
+          from = for.seat.caller_is;
+          turns = p.turned whole busy;
+          to = is;
+        },
+      )
+
+  pub all_turned : (loose : List (Kept R (Loose D))) (sides threads : List (OwnThread R G)) → AllZip (IsKeptThreadFor setting) loose sides
+      → AllByRecursion (IsWiredSide lists bells) sides → AllZip (IsPolled has_no_thread TurnsAlone may_shut answers) sides threads
+      → AllZip (HasTurned (IsAsked answers setting.gate.now) setting.pace lists (length bells)) loose threads
+  all_turned loose sides threads for wired did =
+      zip_same _ _ _ _ (λ l t h after is whole.
+      subst (λ b. TurnsIfThread R (IsAsked answers setting.gate.now) setting.pace lists
+      (length bells) b l.value.number l.value.thread after)
+      h.1.0.seat.thread (turned_by l h.0 t _ refl h.1.0 h.1.1 h.2 whole after is))
+      (zip_both _ _ _ _ _ (zip_right _ _ _ _ for wired) did)
+
+-- why the runs of pollers ended early
+pub all_stops : {R G S : Type 0} (idle : S → Bool) (turns : S → Bool → S → Type 0) (may_shut : Type 0) (answers : G → ℕ → ℕ → Bool → Type 0)
+    (before after : List (Poller R G S)) → AllZip (IsPolled idle turns may_shut answers) before after
+    → All (λ p. IfSome p.stop (IsStop may_shut)) after
+all_stops idle turns may_shut answers before after did = each_index _ _ (zip_each _ _ _ _ (λ p q h. h.why) did)

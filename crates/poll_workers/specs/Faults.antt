@@ -1,4 +1,4 @@
--- Why a run gave nothing, by number, and which fault is told.
+-- Why a run failed, by number, and which error is returned.
 use Rattle.{poll_tasks.specs.declared.signals.Stop.Stop, poll_workers.specs.declared.fault.WorkFault.WorkFault}
 use Rattle.poll_workers.specs.declared.fault.WorkFault.TheVariants.{OutOfMemory, GateShut, SpawnFailed}
 use Rattle.{std.specs.Prelude.{ℕ, Bool, true, false, Result, Ok, Err}, std.specs.declared.alloc.AllocError.AllocError}
@@ -9,8 +9,8 @@ number_of OutOfMemory = 1
 number_of GateShut = 2
 number_of SpawnFailed = 3
 
--- What is told of what a run came to, or of why it was cut short, by whether a thread could not be started: want of memory before all
--- else, then the thread, then the gate.
+-- The result of a run, or the error of one that ended early, by whether a thread could not be started: out of memory takes
+-- precedence over the thread, and the thread over the gate.
 abbrev pub told : {A : Type 0} → Result (Result A Stop) AllocError → Bool → Result A WorkFault
 told (Err e) refused = Err OutOfMemory
 told (Ok came) true = Err SpawnFailed
@@ -18,7 +18,7 @@ told (Ok (Err stop.Refused)) false = Err SpawnFailed
 told (Ok (Err stop.Shut)) false = Err GateShut
 told (Ok (Ok all)) false = Ok all
 
--- Memory was refused. Who is refused it knows it by the error; none else can prove it.
+-- An allocation failed. Only the error of the allocation proves it.
 pub IsWantOfMemory : Type 0
 IsWantOfMemory = Unit {0}
 

@@ -2,6 +2,7 @@ pub mod Faults
 pub mod Numbers
 pub mod Spreads
 pub mod Finishes
+pub mod Outcomes
 pub mod Courses
 pub use Rattle.poll_interrupts.specs.Acts
 pub use Rattle.poll_interrupts.specs.Runs

@@ -1,8 +1,8 @@
--- Stations each of which has a number of its own.
+-- Stations with distinct numbers.
 use Rattle.std.specs.{Prelude.{◌==◌, ◌&&◌, ℕ, not, Bool, true, List, [], ◌∷◌, map}, List.list_any}
 use Rattle.poll_interrupts.specs.declared.station.Station.{Station}
 
--- no number stands twice
+-- no number occurs twice
 abbrev pub are_distinct : List ℕ → Bool
 are_distinct [] = true
 are_distinct (n ∷ ns) = not (list_any (λ m. m == n) ns) && are_distinct ns

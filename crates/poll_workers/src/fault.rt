@@ -1,17 +1,17 @@
-//! Why a run gave nothing.
+//! //! Why a run failed.
 
 ghost use Rattle.std.specs.Prelude.{◌≡◌};
 ghost use Rattle.poll_workers.specs.Faults.{number_of};
 
 use thiserror::Error;
 
-/// Why a run gave nothing. All threads that were started have ended.
+/// Why a run failed. All threads that were started have ended.
 #[derive(Clone, Copy, Debug, PartialEq, Eq, Error)]
 pub enum WorkFault {
-    /// Memory was refused.
+    /// Out of memory.
     #[error("work fault 1 OutOfMemory")]
     OutOfMemory,
-    /// The gate answered false.
+    /// The gate returned false.
     #[error("work fault 2 GateShut")]
     GateShut,
     /// A thread could not be started.
@@ -20,7 +20,7 @@ pub enum WorkFault {
 }
 
 impl WorkFault {
-    /// Its number: 1 `OutOfMemory`, 2 `GateShut`, 3 `SpawnFailed`.
+    /// Returns its number: 1 `OutOfMemory`, 2 `GateShut`, 3 `SpawnFailed`.
     pub fn number(&self) -> u32
         ensures { result ≡ number_of self.now }
     {

@@ -1,7 +1,9 @@
-//! Behind the door `poll_engine`: interrupt workers, pollers and thread pollers, each in a thread of its own, over shared instances.
+//! //! Internal crate of the facade `poll_engine`: interrupt workers, pollers and thread pollers, each in its own thread, over
+//! shared instances.
 #![tactic(auto)]
 
 mod fault;
+mod gathering;
 mod numbers;
 mod pollers;
 mod run;

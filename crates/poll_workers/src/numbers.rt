@@ -6,7 +6,7 @@ ghost use Rattle.poll_workers.specs.Numbers.{have_distinct_numbers, numbers_of};
 
 use poll_interrupts::Station;
 
-// Whether one of the stations has the number.
+// Returns whether one of the stations has the number.
 fn is_among<D: Drop>(number: u32, stations: &[Station<D>]) -> bool
     ensures { result ≡ list_any (λ other. other == number) (numbers_of stations.now) }
 {
@@ -16,7 +16,8 @@ fn is_among<D: Drop>(number: u32, stations: &[Station<D>]) -> bool
         .any(|other| other == number)
 }
 
-/// Whether no two stations have one number, as `run_workers` asks. None, and one alone, have distinct numbers.
+/// Returns whether no two stations have the same number, as `run_workers` requires. The numbers of none, and of one alone, are
+/// distinct.
 pub fn have_distinct_numbers<D: Drop>(stations: &[Station<D>]) -> bool
     ensures { result ≡ have_distinct_numbers stations.now }
 {

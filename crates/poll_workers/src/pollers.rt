@@ -1,37 +1,44 @@
-//! The pollers of a run, each with its bell, its list and its seats.
+//! //! The pollers of a run, each with its waker, its list and its seats.
 
 ghost use Rattle.std.specs.Prelude.{◌≡◌, ◌≤◌, ◌<◌, ◌+◌, ℕ, [], List, IfOk, length, map, slice_index_or, vec_items, vec_len, vec_capacity};
+ghost use Rattle.std.specs.Global.{Vec};
 ghost use Rattle.std.specs.List.{All, AllByRecursion, AllZip};
 ghost use Rattle.napi_calls.specs.declared.kept.Kept.{Kept};
 ghost use Rattle.poll_seats.specs.declared.seat.Seat.{Seat};
 ghost use Rattle.poll_tasks.specs.Tasks.{HasRoom};
 ghost use Rattle.poll_list.specs.declared.shared.SharedList.{SharedList};
 ghost use Rattle.poll_tasks.specs.Wakers.{Wakes};
+ghost use Rattle.poll_tasks.specs.Paces.{IsLawful};
 ghost use Rattle.poll_workers.specs.Spreads.{AreEndsOf, ArePollers, HaveOwn, IsBegin, IsEndOf, IsNewEnd, TakesSeat};
 
-use napi_calls::{Caller, Kept};
+use napi_calls::Kept;
 use poll_list::{ListIn, SharedList, shared_list};
-use poll_seats::{PollTask, Seat};
+use poll_seats::{ListPoller, Poller, Seat};
 use poll_tasks::{Bell, Gate, Pause, Setting};
 use std::alloc::{AllocError, Global};
 use std::sync::Wait;
 
-/// What a poller begins with beside its bell and its seats: its list, what it sleeps on, and room for its seats' callers.
+// The name of a poller is 100 plus its number, counted from 0 (`poller_name`).
+const FIRST_POLLER: u32 = 100;
+
+/// A poller with a list.
+pub(crate) type OwnPoller<'t, 'p, 'n, R, G> = Poller<'t, 'p, R, G, ListPoller<'n, R>>;
+
+/// What a poller starts with, apart from its waker and its seats: its list, and how it waits.
 #[derive(Drop)]
 pub(crate) struct Begin<R: Wait + Drop> {
     list: SharedList<R>,
     pause: Pause,
-    room: Vec<Kept<R, Caller>>,
 }
 
-/// What all pollers begin with, and the ends of their lists.
+/// What all pollers start with, and the ends of their lists.
 #[derive(Drop)]
 pub(crate) struct Begins<R: Wait + Drop> {
     pub(crate) pollers: Vec<Begin<R>>,
     pub(crate) ends: Vec<Vec<ListIn<R>>>,
 }
 
-// What a poller of so many stations at most begins with, and two ends of its list for each.
+// Returns what a poller of at most so many stations starts with, and two ends of its list for each.
 fn begin_of<R: Wait + Drop + Copy>(
     rt: R,
     alloc: Global,
@@ -39,7 +46,7 @@ fn begin_of<R: Wait + Drop + Copy>(
     pause: Pause,
 ) -> Result<(Begin<R>, Vec<ListIn<R>>), AllocError>
     requires { count ≤ 16 }
-    ensures begin { IfOk result (λ r. IsBegin count r.0) }
+    ensures begin { IfOk result (λ r. IsBegin r.0) }
     ensures ends { IfOk result (λ r. count + count ≤ vec_len r.1) }
     ensures own { IfOk result (λ r. All (IsNewEnd r.0.list) (vec_items r.1)) }
     ensures pause { IfOk result (λ r. r.0.pause ≡ pause) }
@@ -47,11 +54,10 @@ fn begin_of<R: Wait + Drop + Copy>(
     let Ok((list, ends)) = shared_list(rt, alloc, 2 * count as u32) else {
         return Err(AllocError);
     };
-    let room = Vec::with_capacity(alloc, count)?;
-    Ok((Begin { list, pause, room }, ends))
+    Ok((Begin { list, pause }, ends))
 }
 
-/// The bells of so many pollers, and what these begin with, each with room for so many stations.
+/// Returns the wakers of so many pollers, and what these start with, each with room for so many stations.
 pub(crate) fn begins_of<R: Wait + Drop + Copy>(
     rt: R,
     alloc: Global,
@@ -63,7 +69,7 @@ pub(crate) fn begins_of<R: Wait + Drop + Copy>(
         (λ r. (length (vec_items r.0) ≡ pollers) × (length (vec_items r.1.pollers) ≡ pollers)
         × (length (vec_items r.1.ends) ≡ pollers)) }
     ensures begins { IfOk result
-        (λ r. AllByRecursion (IsBegin count) (vec_items r.1.pollers)) }
+        (λ r. AllByRecursion IsBegin (vec_items r.1.pollers)) }
     ensures ends { IfOk result (λ r. All (λ e. count + count ≤ vec_len e) (vec_items r.1.ends)) }
     ensures wakes { IfOk result (λ r. AllZip (λ bell begin. Wakes bell begin.pause) (vec_items r.0)
         (vec_items r.1.pollers)) }
@@ -87,53 +93,37 @@ pub(crate) fn begins_of<R: Wait + Drop + Copy>(
     Ok((bells, begins))
 }
 
-// Drops vectors without a seat.
-fn drop_all<'n, R: Wait + Drop>(seats: Vec<Kept<R, Vec<Seat<'n>>>>)
-    requires { All (λ own. vec_len own.value ≡ 0) (vec_items seats) }
-{
-    for own in seats {
-        own.open().destroy_empty();
-    }
-}
-
-/// Room for the seats of so many pollers, for so many of each. It must be spent.
+/// Returns room for the seats of so many pollers, for so many of each.
 pub(crate) fn seats_of<'n, R: Wait + Drop + Copy>(
-    rt: R,
     alloc: Global,
     pollers: usize,
     count: usize,
-) -> Result<Vec<Kept<R, Vec<Seat<'n>>>>, AllocError>
+) -> Result<Vec<Vec<Kept<R, Seat<'n>>>>, AllocError>
     ensures seats { IfOk result (λ r. (n : ℕ) → HaveOwn count n [] (vec_items r)) }
     ensures len { IfOk result (λ r. length (vec_items r) ≡ pollers) }
 {
     let mut seats = Vec::with_capacity(alloc, pollers)?;
     for _ in 0..pollers {
-        match Vec::with_capacity(alloc, count) {
-            Ok(own) => seats.push_reserved(Kept::new(rt, own)),
-            Err(error) => {
-                drop_all(seats);
-                return Err(error);
-            }
-        }
+        seats.push_reserved(Vec::with_capacity(alloc, count)?);
     }
     Ok(seats)
 }
 
-/// Gives a poller one seat more. It has room for it.
+/// Gives a poller one more seat. Requires room for it.
 pub(crate) fn seat_at<'n, R: Wait + Drop>(
-    seats: &mut Vec<Kept<R, Vec<Seat<'n>>>>,
+    seats: &mut Vec<Vec<Kept<R, Seat<'n>>>>,
     poller: usize,
-    seat: Seat<'n>,
+    seat: Kept<R, Seat<'n>>,
 )
     requires within { poller < length (vec_items seats.old) }
-    requires room { (own : Kept _ _) → slice_index_or (vec_items seats.old) poller own ≡ own
-        → vec_len own.value < vec_capacity own.value }
+    requires room { (own : Vec (Kept _ _)) → slice_index_or (vec_items seats.old) poller own ≡ own
+        → vec_len own < vec_capacity own }
     ensures { TakesSeat (vec_items seats.old) poller seat.entry (vec_items seats.new) }
 {
-    seats[poller].value.push_reserved(seat);
+    seats[poller].push_reserved(seat);
 }
 
-/// Two ends of a poller's list. Each poller has two.
+/// Returns two ends of a poller's list. Each poller has two.
 pub(crate) fn two_ends<R: Wait + Drop>(
     ends: &mut Vec<Vec<ListIn<R>>>,
     poller: usize,
@@ -155,24 +145,26 @@ pub(crate) fn two_ends<R: Wait + Drop>(
     (one, other)
 }
 
-/// The pollers with these bells, what they begin with, and their seats. There is room for them.
-pub(crate) fn pollers_of<'t, 'p, 'n, R: Wait + Drop, G: Gate>(
+/// Returns the pollers with these wakers, what they start with, and their seats. Requires room for them.
+pub(crate) fn pollers_of<'t, 'p, 'n, R: Wait + Drop + Copy, G: Gate>(
     setting: &'t Setting<'t, R, G>,
     bells: &'p [Bell],
     begins: Vec<Begin<R>>,
-    seats: Vec<Kept<R, Vec<Seat<'n>>>>,
-    room: Vec<PollTask<'t, 'p, 'n, R, G>>,
-) -> Vec<PollTask<'t, 'p, 'n, R, G>>
+    seats: Vec<Vec<Kept<R, Seat<'n>>>>,
+    room: Vec<OwnPoller<'t, 'p, 'n, R, G>>,
+) -> Vec<OwnPoller<'t, 'p, 'n, R, G>>
     requires bells { length (vec_items begins) ≡ length bells.now }
     requires seats { length (vec_items seats) ≡ length bells.now }
     requires few { length bells.now ≤ 8 }
     requires room { HasRoom (length bells.now) room }
-    ensures pollers { (count n : ℕ) (sat : List Seat)
-        → AllByRecursion (IsBegin count) (vec_items begins)
-        → AllZip (λ bell begin. Wakes bell begin.pause) bells.now (vec_items begins)
+    requires begins { AllByRecursion IsBegin (vec_items begins) }
+    requires wakes { AllZip (λ bell begin. Wakes bell begin.pause) bells.now (vec_items begins) }
+    requires pace { IsLawful setting.now.pace }
+    ensures pollers { (count n : ℕ) (sat : List (Kept _ Seat))
         → HaveOwn count n sat (vec_items seats.entry)
-        → ArePollers setting.now bells.now count n sat (vec_items result) }
-    ensures lists { map (λ t. t.list) (vec_items result) ≡ map (λ b. b.list) (vec_items begins) }
+        → ArePollers setting.now bells.now n sat (vec_items result) }
+    ensures lists { map (λ p. p.served.list) (vec_items result)
+        ≡ map (λ b. b.list) (vec_items begins) }
     ensures len { length (vec_items result) ≡ length bells.now }
 {
     let mut pollers = room;
@@ -187,16 +179,15 @@ pub(crate) fn pollers_of<'t, 'p, 'n, R: Wait + Drop, G: Gate>(
             unreachable!()
         };
         rest = more;
-        let Begin { list, pause, room } = begin;
-        let number = pollers.len() as u32;
-        pollers.push_reserved(PollTask {
+        let Begin { list, pause } = begin;
+        let name = FIRST_POLLER + pollers.len() as u32;
+        pollers.push_reserved(Poller {
             setting,
+            name,
             bell,
-            number,
-            list,
             pause,
-            seats: own,
-            room,
+            served: ListPoller::new(setting.rt, list, own, setting.pace),
+            stop: None,
         });
     }
     pollers

@@ -1,145 +1,107 @@
 //! A run of all stations.
 
-ghost use Rattle.std.specs.Prelude.{◌≡◌, ◌≤◌, ◌+◌, ℕ, [], IfErr, IfOk, IfSome, IsErrOf, IsTrue, None, length, map, vec_items, vec_len, vec_capacity};
+ghost use Rattle.std.specs.Prelude.{◌≡◌, ◌≤◌, ◌+◌, ℕ, [], IfErr, IfOk, IfSome, IsErrOf, IsTrue, None, length, map, vec_items, vec_len};
 ghost use Rattle.std.specs.List.{All, AllByRecursion, AllZip};
 ghost use Rattle.std.specs.Borrow.{Bor};
 ghost use Rattle.poll_tasks.specs.Asks.{IsAsked};
-ghost use Rattle.poll_tasks.specs.Tasks.{EachAt, HasRoom};
-ghost use Rattle.poll_workers.specs.Courses.{ArePolled, HasPolled, HasTurned, pace_of};
-ghost use Rattle.poll_workers.specs.Finishes.{IsFinished, IsWorkedOf};
+ghost use Rattle.poll_tasks.specs.Tasks.{HasRoom};
+ghost use Rattle.poll_workers.specs.Courses.{ArePolled, HaveRun, pace_of};
+ghost use Rattle.poll_workers.specs.Finishes.{IsFinished};
 ghost use Rattle.poll_workers.specs.declared.fault.WorkFault.TheVariants.{GateShut, OutOfMemory, SpawnFailed};
 ghost use Rattle.poll_workers.specs.Faults.{IsWantOfMemory, told};
 ghost use Rattle.poll_workers.specs.Numbers.{have_distinct_numbers};
 ghost use Rattle.poll_workers.specs.Spreads.{HaveOwn, IsBegin, IsNewEnd};
-ghost use Rattle.poll_interrupts.specs.Ends.{AreCallersAt, AreFinishesOf, IsDoneAt, IsTurnedAt};
-ghost use Rattle.poll_interrupts.specs.Opens.{IsKeptSideOf, IsStation};
+ghost use Rattle.poll_interrupts.specs.Opens.{IsKeptPartOf, IsKeptSideOf, IsStation};
 ghost use Rattle.poll_tasks.specs.Paces.{IsLawful};
 ghost use Rattle.poll_tasks.specs.Refusals.{IsRefused};
 ghost use Rattle.poll_tasks.specs.Stops.{IsStop};
 ghost use Rattle.poll_tasks.specs.Wakers.{Wakes};
 
 use crate::fault::WorkFault;
+use crate::gathering::{RunTasks, gather, seats_left};
 use crate::pollers::{Begins, begins_of, pollers_of, seats_of};
 use crate::spreading::{Parts, spread};
-use napi_calls::{Caller, Kept};
+use napi_calls::Kept;
 use poll_interrupts::{
-    Device, Finished, Loose, Placed, Station, Worked, gather, open_all, shut_all, stop_of,
+    Device, Finished, Loose, Placed, Station, end_all, open_all, shut_all, worker_stop,
 };
-use poll_tasks::{
-    Bell, Driven, Gate, Pace, Rooms, Setting, Stop, StopFlags, Task, Tasks, Turned, drive,
-    first_stop, task_room,
-};
+use poll_seats::{Seat, first_stop};
+use poll_tasks::{Bell, Gate, Pace, Setting, Spawned, Stop, StopFlags, Task, Tasks, drive};
 use std::alloc::{AllocError, Global};
 use std::sync::Wait;
 use std::thread::Threads;
 
-// What all threads gave back.
-type Ended<R, D> = Driven<Turned<Vec<Kept<R, Caller>>>, Worked<R, D>, Turned<Kept<R, Caller>>>;
+// The parts of the instances after the threads have ended, and why the run ended early, if so.
+type Ended<R, D> = (Vec<Kept<R, Loose<D>>>, Option<Stop>);
 
-// Room for what goes to the threads of so many pollers and stations, and for what they give. The seats are made last, since they
-// must be spent: where memory is refused there are none.
-fn rooms_of<'n, R, P, A, W, B, S, C>(
-    rt: R,
+// Room for what goes to the threads of so many pollers and stations, for the threads, and for their results.
+struct Rooms<'n, R: Wait + Drop, P: Task, W: Task, S: Task, D> {
+    pollers: Vec<P>,
+    parts: Parts<'n, R, W, S>,
+    spawned: Tasks<Spawned<P>, Spawned<W>, Spawned<S>>,
+    seats: Vec<Vec<Kept<R, Seat<'n>>>>,
+    left: Vec<Kept<R, Loose<D>>>,
+}
+
+fn rooms_of<'n, R, P, W, S, D>(
     alloc: Global,
     pollers: usize,
     count: usize,
-) -> Result<(Rooms<P, A, W, B, S, C>, Vec<P>, Parts<'n, R, W, S>), AllocError>
+) -> Result<Rooms<'n, R, P, W, S, D>, AllocError>
 where
     R: Wait + Drop + Copy,
-    P: Task<A> + Drop,
-    A: Drop,
-    W: Task<B> + Drop,
-    B: Drop,
-    S: Task<C> + Drop,
-    C: Drop,
-    ensures pollers { IfOk result
-        (λ r. HasRoom pollers r.0.pollers.begun × HasRoom pollers r.0.pollers.given
-        × HasRoom pollers r.1) }
-    ensures workers { IfOk result
-        (λ r. HasRoom count r.0.workers.begun × HasRoom count r.0.workers.given
-        × HasRoom count r.2.workers) }
-    ensures threads { IfOk result
-        (λ r. HasRoom count r.0.threads.begun × HasRoom count r.0.threads.given
-        × HasRoom count r.2.threads) }
-    ensures seats { IfOk result (λ r. (n : ℕ) → HaveOwn count n [] (vec_items r.2.seats)) }
-    ensures len { IfOk result (λ r. length (vec_items r.2.seats) ≡ pollers) }
+    P: Task + Drop,
+    W: Task + Drop,
+    S: Task + Drop,
+    D: Drop,
+    ensures tasks { IfOk result (λ r. HasRoom pollers r.pollers × HasRoom count r.parts.workers
+        × HasRoom count r.parts.threads) }
+    ensures spawned { IfOk result (λ r. HasRoom pollers r.spawned.pollers
+        × HasRoom count r.spawned.workers × HasRoom count r.spawned.threads) }
+    ensures seats { IfOk result (λ r. (n : ℕ) → HaveOwn count n [] (vec_items r.parts.seats)) }
+    ensures len { IfOk result (λ r. length (vec_items r.parts.seats) ≡ pollers) }
+    ensures left { IfOk result (λ r. HasRoom pollers r.seats × HasRoom count r.left) }
 {
-    let rooms = Rooms {
-        pollers: task_room(alloc, pollers)?,
-        workers: task_room(alloc, count)?,
-        threads: task_room(alloc, count)?,
-    };
-    let tasks = Vec::with_capacity(alloc, pollers)?;
-    let workers = Vec::with_capacity(alloc, count)?;
-    let threads = Vec::with_capacity(alloc, count)?;
-    let seats = seats_of(rt, alloc, pollers, count)?;
-    let parts = Parts {
-        seats,
-        workers,
-        threads,
-    };
-    Ok((rooms, tasks, parts))
+    Ok(Rooms {
+        pollers: Vec::with_capacity(alloc, pollers)?,
+        parts: Parts {
+            seats: seats_of(alloc, pollers, count)?,
+            workers: Vec::with_capacity(alloc, count)?,
+            threads: Vec::with_capacity(alloc, count)?,
+        },
+        spawned: Tasks {
+            pollers: Vec::with_capacity(alloc, pollers)?,
+            workers: Vec::with_capacity(alloc, count)?,
+            threads: Vec::with_capacity(alloc, count)?,
+        },
+        seats: Vec::with_capacity(alloc, pollers)?,
+        left: Vec::with_capacity(alloc, count)?,
+    })
 }
 
-// Why a run was cut short, if so.
-fn stop_of_run<R: Wait + Drop, D: Drop, G: Gate>(ended: &Ended<R, D>) -> Option<Stop>
-    requires polled { All (λ t. IfSome t.stop (IsStop G.may_shut)) (vec_items ended.now.polled) }
-    requires worked { All (λ w. IfSome w.done.stop (IsStop G.may_shut))
-        (vec_items ended.now.worked) }
-    requires threads { All (λ t. IfSome t.stop (IsStop G.may_shut)) (vec_items ended.now.threads) }
-    ensures whole { result ≡ None → All (λ w. w.done.stop ≡ None) (vec_items ended.now.worked) }
-    ensures polled { result ≡ None → All (λ t. t.stop ≡ None) (vec_items ended.now.polled) }
-    ensures turned { result ≡ None → All (λ t. t.stop ≡ None) (vec_items ended.now.threads) }
+// Returns why a run ended early, if so.
+fn stop_of_run<'t, 'p, 'n, R: Wait + Drop, D: Drop, G: Gate>(
+    tasks: &RunTasks<'t, 'p, 'n, R, D, G>,
+) -> Option<Stop>
+    requires workers { All (λ w. IfSome w.stop (IsStop G.may_shut)) (vec_items tasks.now.workers) }
+    requires pollers { All (λ p. IfSome p.stop (IsStop G.may_shut)) (vec_items tasks.now.pollers) }
+    requires threads { All (λ p. IfSome p.stop (IsStop G.may_shut)) (vec_items tasks.now.threads) }
+    ensures workers { result ≡ None → All (λ w. w.stop ≡ None) (vec_items tasks.now.workers) }
+    ensures pollers { result ≡ None → All (λ p. p.stop ≡ None) (vec_items tasks.now.pollers) }
+    ensures threads { result ≡ None → All (λ p. p.stop ≡ None) (vec_items tasks.now.threads) }
     ensures why { IfSome result (IsStop G.may_shut) }
 {
-    if let Some(stop) = first_stop::<G, _>(ended.polled.as_slice()) {
+    if let Some(stop) = first_stop(tasks.pollers.as_slice()) {
         return Some(stop);
     }
-    if let Some(stop) = first_stop::<G, _>(ended.threads.as_slice()) {
+    if let Some(stop) = first_stop(tasks.threads.as_slice()) {
         return Some(stop);
     }
-    stop_of::<G, _, _>(ended.worked.as_slice())
+    worker_stop(tasks.workers.as_slice())
 }
 
-// Ends the stations. There is room for them.
-fn end_run<R: Wait + Drop, D: Drop, G: Gate>(
-    ended: Ended<R, D>,
-    placed: Vec<Kept<R, Placed>>,
-    room: Vec<Finished<D>>,
-) -> Result<Vec<Finished<D>>, Stop>
-    requires some { 1 ≤ vec_len ended.polled }
-    requires dones { AllZip IsDoneAt (vec_items ended.worked) (vec_items placed) }
-    requires callers { EachAt (AreCallersAt (length (vec_items ended.polled)) (vec_items placed))
-        (vec_items ended.polled) }
-    requires threads { AllZip IsTurnedAt (vec_items ended.threads) (vec_items placed) }
-    requires empty { vec_len room ≡ 0 }
-    requires room { vec_len ended.worked ≤ vec_capacity room }
-    requires polled { All (λ t. IfSome t.stop (IsStop G.may_shut)) (vec_items ended.polled) }
-    requires worked { All (λ w. IfSome w.done.stop (IsStop G.may_shut)) (vec_items ended.worked) }
-    requires turned { All (λ t. IfSome t.stop (IsStop G.may_shut)) (vec_items ended.threads) }
-    ensures finished { IfOk result
-        (λ all. AreFinishesOf (vec_items ended.worked) (vec_items ended.polled)
-        (vec_items ended.threads) (vec_items all)) }
-    ensures whole { IfOk result
-        (λ all. All (λ w. w.done.stop ≡ None) (vec_items ended.worked)) }
-    ensures polled { IfOk result (λ all. All (λ t. t.stop ≡ None) (vec_items ended.polled)) }
-    ensures turned { IfOk result (λ all. All (λ t. t.stop ≡ None) (vec_items ended.threads)) }
-    ensures why { IfErr result (IsStop G.may_shut) }
-{
-    let stop = stop_of_run::<R, D, G>(&ended);
-    let Driven {
-        polled,
-        worked,
-        threads,
-    } = ended;
-    let finished = gather(worked, polled, threads, placed, room);
-    match stop {
-        Some(stop) => Err(stop),
-        None => Ok(finished),
-    }
-}
-
-// Runs all threads, in one scope. With no memory for what they need none is started, and what was to go to them is handed back.
+// Runs all threads, in one scope. If an allocation fails, no thread starts, and the parts that would have gone to them are
+// returned.
 fn run_threads<'t, 'p, 'n, R, D, G>(
     setting: &'t Setting<'t, R, G>,
     alloc: Global,
@@ -153,7 +115,7 @@ where
     D: Device + Drop + Send,
     G: Gate + Sync,
     requires pollers { (1 ≤ length bells.now) × (length bells.now ≤ 8) }
-    requires begins { AllByRecursion (IsBegin (vec_len loose)) (vec_items begins.pollers)
+    requires begins { AllByRecursion IsBegin (vec_items begins.pollers)
         × (length (vec_items begins.pollers) ≡ length bells.now) }
     requires ends { All (λ e. vec_len loose + vec_len loose ≤ vec_len e) (vec_items begins.ends)
         × (length (vec_items begins.ends) ≡ length bells.now) }
@@ -164,57 +126,56 @@ where
     requires pace { IsLawful setting.now.pace }
     requires sides { AllZip IsKeptSideOf (vec_items loose) placed.now }
     requires count { vec_len loose ≤ 16 }
-    ensures pollers { IfOk result (λ e. length (vec_items e.polled) ≡ length bells.now) }
-    ensures worked { IfOk result (λ e. AllZip (IsWorkedOf D.acts D.answer D.after
-        (G.answers setting.now.gate.now) G.may_shut
-        (map (λ b. b.list) (vec_items begins.pollers)) (length bells.now))
-        (vec_items loose) (vec_items e.worked)) }
-    ensures dones { IfOk result (λ e. AllZip IsDoneAt (vec_items e.worked) placed.now) }
-    ensures callers { IfOk result
-        (λ e. EachAt (AreCallersAt (length bells.now) placed.now) (vec_items e.polled)) }
-    ensures polled { IfOk result
-        (λ e. EachAt (HasPolled (IsAsked G.answers setting.now.gate.now) setting.now.pace
-        (map (λ b. b.list) (vec_items begins.pollers)) (length bells.now) (vec_items loose))
-        (vec_items e.polled)) }
-    ensures stops { IfOk result
-        (λ e. All (λ t. IfSome t.stop (IsStop G.may_shut)) (vec_items e.polled)) }
-    ensures threads { IfOk result (λ e. AllZip IsTurnedAt (vec_items e.threads) placed.now) }
-    ensures turned { IfOk result
-        (λ e. AllZip (HasTurned (IsAsked G.answers setting.now.gate.now) setting.now.pace
-        (map (λ b. b.list) (vec_items begins.pollers)) (length bells.now))
-        (vec_items loose) (vec_items e.threads)) }
-    ensures thread_stops { IfOk result
-        (λ e. All (λ t. IfSome t.stop (IsStop G.may_shut)) (vec_items e.threads)) }
-    ensures len { IfOk result (λ e. vec_len e.worked ≡ vec_len loose) }
+    ensures parts { IfOk result (λ e. AllZip IsKeptPartOf (vec_items e.0) placed.now) }
+    ensures len { IfOk result (λ e. vec_len e.0 ≡ vec_len loose) }
+    ensures why { IfOk result (λ e. IfSome e.1 (IsStop G.may_shut)) }
+    ensures ran { IfOk result (λ e. e.1 ≡ None
+        → HaveRun D.acts D.answer D.after G.answers setting.now
+        (map (λ b. b.list) (vec_items begins.pollers)) (length bells.now)
+        (vec_items loose) (vec_items e.0)) }
     ensures back { IfErr result (λ b. vec_items b ≡ vec_items loose) }
 {
-    let Ok((rooms, room, parts)) = rooms_of(setting.rt, alloc, bells.len(), loose.len()) else {
+    let Ok(rooms) = rooms_of(alloc, bells.len(), loose.len()) else {
         return Err(loose);
     };
+    let Rooms {
+        pollers: room,
+        parts,
+        spawned,
+        seats: seat_room,
+        left,
+    } = rooms;
     let Begins { pollers, ends } = begins;
-    let parts = spread(setting, bells, placed, loose, ends, parts);
     let Parts {
         seats,
         workers,
         threads,
-    } = parts;
+    } = spread(setting, bells, placed, loose, ends, parts);
     let tasks = Tasks {
         pollers: pollers_of(setting, bells, pollers, seats, room),
         workers,
         threads,
     };
     let flags = setting.flags;
-    Ok(drive(
+    let tasks = drive(
         &setting.rt,
         tasks,
-        rooms,
+        spawned,
         bells,
         &flags.unpolled,
         &flags.refused,
-    ))
+    );
+    let stop = stop_of_run(&tasks);
+    let Tasks {
+        pollers,
+        workers,
+        threads,
+    } = tasks;
+    let seats = seats_left(pollers, seat_room);
+    Ok((gather(setting.rt, workers, seats, threads, left), stop))
 }
 
-// Opens all stations, and runs them. Where memory is refused nothing was begun; a run that was cut short answers why.
+// Opens all stations, and runs them. If an allocation fails, no thread starts; if a run ended early, it returns why.
 fn run_all<'t, R, D, G>(
     setting: &'t Setting<'t, R, G>,
     alloc: Global,
@@ -248,7 +209,13 @@ where
     let (placed, loose) = open_all(setting.rt, alloc, stations)?;
     let here = placed.as_slice();
     match run_threads(setting, alloc, bells.as_slice(), begins, here, loose) {
-        Ok(ended) => Ok(end_run::<R, D, G>(ended, placed, finished)),
+        Ok((left, stop)) => {
+            let finished = end_all(placed, left, finished);
+            match stop {
+                Some(stop) => Ok(Err(stop)),
+                None => Ok(Ok(finished)),
+            }
+        }
         Err(loose) => {
             shut_all(placed, loose);
             Err(AllocError)
@@ -256,7 +223,7 @@ where
     }
 }
 
-// What is told of a run.
+// Returns the result of a run.
 fn tell<T: Drop>(came: Result<Result<T, Stop>, AllocError>, refused: bool) -> Result<T, WorkFault>
     ensures { result ≡ told came refused }
 {
@@ -269,19 +236,19 @@ fn tell<T: Drop>(came: Result<Result<T, Stop>, AllocError>, refused: bool) -> Re
     }
 }
 
-/// Runs the devices of the stations side by side, each in a thread of its own, which makes its acts in order as interrupts of
-/// an instance of its own. Station `number` is polled by poller `(number - 1) mod pollers`, in runs over that one's list
-/// (`net_rx_action`), and by its own thread while THREADED is set, where it has one (`napi_threaded_poll`). At the end each
-/// device is disabled, its instance closed, and its ring read off. The answer has the devices in the order of the stations, each
-/// with what is counted of its ring and with its instance as it was closed; of no stations it is empty.
+/// Runs the devices of the stations concurrently, each in its own thread, which makes its acts in order as interrupts of its
+/// own instance. Station `number` is polled by poller `(number - 1) mod pollers`, in runs over that poller's list
+/// (`net_rx_action`), and while THREADED is set, by its own thread, if it has one (`napi_threaded_poll`). At the end each
+/// device is disabled, its instance closed, and its ring counted. Returns the devices in the order of the stations, each with
+/// the counts of its ring and with its closed instance; for no stations the result is empty.
 ///
-/// `pollers` is 1 to 8. A run stops behind `budget` packets, 1 to 65535 (`netdev_budget`), or `window` polls, 1 to 65535; a
-/// thread's turn is at most `window` polls too. One poll gives at most `weight` packets, 1 to 64. Each station has a number
-/// of its own in 1 to 16 ([`have_distinct_numbers`](crate::have_distinct_numbers) tells) and 1 to 65536 places.
+/// `pollers` is 1 to 8. A run ends after `budget` packets, 1 to 65535 (`netdev_budget`), or `window` polls, 1 to 65535; a
+/// thread's turn also has at most `window` polls. One poll returns at most `weight` packets, 1 to 64. Each station has its own
+/// number in 1 to 16 ([`have_distinct_numbers`](crate::have_distinct_numbers) checks that) and 1 to 65536 places.
 ///
-/// Refused by `OutOfMemory` (1) where memory is, by `SpawnFailed` (3) where a thread can't be started, and by `GateShut` (2)
-/// where the gate answers false, the first two before the third. All threads that were started have then been joined, all
-/// instances are closed, and the stations are dropped.
+/// Fails with `OutOfMemory` (1) if an allocation fails, with `SpawnFailed` (3) if a thread can't be started, and with
+/// `GateShut` (2) if the gate returns false; the first two take precedence over the third. All threads that were started have
+/// then been joined, all instances are closed, and the stations are dropped.
 pub fn run_workers<R, D, G>(
     rt: &R,
     alloc: Global,
@@ -302,20 +269,21 @@ where
     requires budget { (1 ≤ budget) × (budget ≤ 65535) }
     requires weight { (1 ≤ weight) × (weight ≤ 64) }
     requires window { (1 ≤ window) × (window ≤ 65535) }
-    // Each device made all its acts, each once and in order, and each let by the gate; what was put was polled or is left.
+    // Each device made all its acts, each once and in order, and each allowed by the gate; every packet put was polled or is
+    // still in the ring.
     ensures finished { IfOk result
         (λ all. AllZip (IsFinished D.acts D.answer D.after (G.answers gate.now))
         (vec_items stations) (vec_items all)) }
-    // The one history of each instance has the polls of its poller, in runs by these numbers, and of its thread exactly if it has
-    // one; its worker pushed to the list of that poller. The gate let each of them start.
+    // The one history of each instance has the polls of its poller, in runs by these numbers, and of its thread exactly if it
+    // has one; its worker pushed to the list of that poller. The gate allowed each of them to start.
     ensures polled { IfOk result
         (λ all. ArePolled (Bor R) (IsAsked G.answers gate.now) (pace_of budget weight window)
         D.acts D.answer D.after pollers (vec_items stations) (vec_items all)) }
-    // Only where memory was refused.
+    // Only if an allocation failed.
     ensures memory { IsErrOf result OutOfMemory → IsWantOfMemory }
-    // So never with a gate that is always open.
+    // So never with a gate that always returns true.
     ensures gate { IsErrOf result GateShut → G.may_shut }
-    // Only where a thread could not be started, so for no gate that was shut.
+    // Only if a thread could not be started, so not because of the gate.
     ensures spawn { IsErrOf result SpawnFailed → IsRefused }
 {
     let flags = StopFlags::new();

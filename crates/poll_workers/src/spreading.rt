@@ -1,39 +1,60 @@
 //! What goes to the threads of a run.
 
-ghost use Rattle.std.specs.Prelude.{◌≡◌, ◌+◌, ◌≤◌, [], List, IfSome, is_some, length, option_copied, option_map, vec_items, vec_len};
+ghost use Rattle.std.specs.Prelude.{◌≡◌, ◌+◌, ◌≤◌, [], List, IfSome, Some, is_some, length, vec_items, vec_len};
 ghost use Rattle.std.specs.List.{All, AllByRecursion, AllZip};
+ghost use Rattle.napi_calls.specs.Instance.{IsSeatOf};
 ghost use Rattle.poll_list.specs.declared.shared.SharedList.{SharedList};
 ghost use Rattle.poll_seats.specs.declared.seat.Seat.{Seat};
-ghost use Rattle.poll_interrupts.specs.Opens.{IsKeptSideOf, IsSideOf, WakesOwn};
+ghost use Rattle.napi_calls.specs.declared.kept.Kept.{Kept};
+ghost use Rattle.poll_interrupts.specs.Opens.{IsKeptSideOf, IsSideOf};
 ghost use Rattle.poll_tasks.specs.Paces.{IsLawful};
 ghost use Rattle.poll_workers.specs.Spreads.{AreEndsOf, HaveOwn, IsJobAt, IsJobOf, IsKeptJobOf, IsKeptSeatFor, IsKeptThreadFor, IsSeatAt, IsSeatFor, IsThreadAt, IsThreadFor, IsWiredJob, IsWiredSide};
 ghost use Rattle.poll_tasks.specs.Tasks.{HasRoom};
-ghost use Rattle.poll_tasks.specs.Wakers.{Wakes};
 
 use crate::pollers::{seat_at, two_ends};
-use napi_calls::Kept;
-use poll_interrupts::{InterruptHandler, Job, Loose, Placed, Work, poller_of};
+use napi_calls::{Caller, Kept};
+use poll_interrupts::{InterruptHandler, InterruptWorker, Loose, Placed, poller_of};
 use poll_list::ListIn;
-use poll_seats::{Own, Seat, ThreadSide};
-use poll_tasks::{Bell, Gate, Pause, Setting};
+use poll_seats::{Poller, Seat, ThreadPoller};
+use poll_tasks::{Bell, Gate, Setting};
+use rx_ring::Batch;
 use std::sync::Wait;
 
-/// What goes to the threads of a run, the seats for its pollers. It must be spent.
+/// What goes to the threads of a run: the seats for its pollers, its workers, and the threads of its instances.
+#[derive(Drop)]
 pub(crate) struct Parts<'n, R: Wait + Drop, W, S> {
-    pub(crate) seats: Vec<Kept<R, Vec<Seat<'n>>>>,
+    pub(crate) seats: Vec<Vec<Kept<R, Seat<'n>>>>,
     pub(crate) workers: Vec<W>,
     pub(crate) threads: Vec<S>,
 }
 
-/// Those of a run.
+/// The parts of an instance's thread.
+pub(crate) type OwnThread<'t, 'p, 'n, R, G> = Poller<'t, 'n, R, G, ThreadPoller<'p, 'n, R>>;
+
+/// Those of all threads of a run.
 pub(crate) type RunParts<'t, 'p, 'n, R, D, G> = Parts<
     'n,
     R,
-    Job<'t, 'p, 'n, R, D, G>,
-    ThreadSide<'t, 'p, 'n, R, G>,
+    InterruptWorker<'t, 'p, 'n, R, D, G>,
+    OwnThread<'t, 'p, 'n, R, G>,
 >;
 
-// Where the interrupts of an instance's worker go.
+// The name of a thread poller is 200 plus its device's number (`thread_name`).
+const FIRST_THREAD: u32 = 200;
+
+// Returns the waker of an instance's own thread, if it has one.
+fn thread_bell<'n>(placed: &'n Placed) -> Option<&'n Bell>
+    ensures thread { is_some result ≡ placed.now.has_thread }
+    ensures bell { IfSome result (λ b. b.now ≡ placed.now.bell) }
+{
+    if placed.has_thread {
+        Some(&placed.bell)
+    } else {
+        None
+    }
+}
+
+// Returns where the interrupts of an instance's worker go.
 fn handler_at<'t, 'p, 'n, R: Copy, G: Gate>(
     setting: &Setting<'t, R, G>,
     bell: &'p Bell,
@@ -42,40 +63,45 @@ fn handler_at<'t, 'p, 'n, R: Copy, G: Gate>(
 ) -> InterruptHandler<'p, 'n, R>
     ensures number { result.number ≡ number }
     ensures napi { result.napi.now ≡ placed.now.napi }
-    ensures thread { is_some result.thread ≡ is_some placed.now.bell }
+    ensures thread { is_some result.thread ≡ placed.now.has_thread }
     ensures poller { result.poller.now ≡ bell.now }
 {
+    let thread = thread_bell(placed);
     InterruptHandler {
         rt: setting.rt,
         number,
         napi: &placed.napi,
-        thread: placed.bell.as_ref(),
+        thread,
         poller: bell,
     }
 }
 
-// What the thread of an instance needs, where it has one.
-fn own_of<'n, R: Wait + Drop>(
-    bell: Option<&'n Bell>,
-    pause: Option<Pause>,
-    list: ListIn<R>,
-) -> Option<Own<'n, R>>
-    requires some { is_some bell ≡ is_some pause }
-    requires wakes { WakesOwn (option_copied bell) pause }
-    ensures bell { option_map (λ own. own.bell.now) result
-        ≡ option_copied bell.entry }
-    ensures some { is_some result ≡ is_some pause }
-    ensures wakes { IfSome result (λ own. Wakes own.bell.now own.pause) }
-    ensures list { IfSome result (λ own. own.list ≡ list) }
+// Returns the seat that polls an instance by this caller.
+fn seat_of<'n, R: Wait + Drop + Copy>(
+    rt: R,
+    placed: &'n Placed,
+    number: u32,
+    caller: Caller,
+) -> Kept<R, Seat<'n>>
+    requires { IsSeatOf placed.now.napi caller.pass }
+    ensures number { result.value.number ≡ number }
+    ensures napi { result.value.napi.now ≡ placed.now.napi }
+    ensures thread { is_some result.value.thread ≡ placed.now.has_thread }
+    ensures bell { IfSome result.value.thread (λ b. b.now ≡ placed.now.bell) }
+    ensures caller { result.value.caller ≡ Some caller }
 {
-    Some(Own {
-        bell: bell?,
-        pause: pause?,
-        list,
-    })
+    Kept::new(
+        rt,
+        Seat {
+            number,
+            napi: &placed.napi,
+            thread: thread_bell(placed),
+            caller: Some(caller),
+        },
+    )
 }
 
-// The parts of one instance.
+// Returns the parts of one instance: its worker, the seat of the poller of its list, and its thread.
 fn split<'t, 'p, 'n, R: Wait + Drop + Copy, D: Drop, G: Gate>(
     setting: &'t Setting<'t, R, G>,
     bell: &'p Bell,
@@ -83,18 +109,18 @@ fn split<'t, 'p, 'n, R: Wait + Drop + Copy, D: Drop, G: Gate>(
     loose: Loose<D>,
     ends: (ListIn<R>, ListIn<R>),
 ) -> (
-    Job<'t, 'p, 'n, R, D, G>,
-    Seat<'n>,
-    ThreadSide<'t, 'p, 'n, R, G>,
+    InterruptWorker<'t, 'p, 'n, R, D, G>,
+    Kept<R, Seat<'n>>,
+    OwnThread<'t, 'p, 'n, R, G>,
 )
     requires side { IsSideOf loose placed.now.value }
     requires pace { IsLawful setting.now.pace }
     ensures job { IsJobOf setting.now loose result.0 × IsJobAt placed.now result.0 }
-    ensures seat { IsSeatAt placed.now result.1 × IsSeatFor loose result.1 }
+    ensures seat { IsSeatAt placed.now result.1 × IsSeatFor loose loose.poller result.1 }
     ensures thread { IsThreadAt placed.now result.2 × IsThreadFor setting.now loose result.2 }
-    ensures lists { (result.0.work.list ≡ ends.0)
-        × IfSome result.2.own (λ own. own.list ≡ ends.1) }
-    ensures bells { (result.0.handler.poller.now ≡ bell.now) × (result.2.poller.now ≡ bell.now) }
+    ensures lists { (result.0.list ≡ ends.0) × (result.2.served.list ≡ ends.1) }
+    ensures bells { (result.0.handler.poller.now ≡ bell.now)
+        × (result.2.served.poller.now ≡ bell.now) }
 {
     let Loose {
         number,
@@ -103,40 +129,41 @@ fn split<'t, 'p, 'n, R: Wait + Drop + Copy, D: Drop, G: Gate>(
         seats,
         poller,
         thread,
+        has_thread: _,
         pause,
     } = loose;
     let (list, own_list) = ends;
-    let napi = &placed.value.napi;
-    let own_bell = placed.value.bell.as_ref();
-    let job = Job {
+    let rt = setting.rt;
+    let worker = InterruptWorker {
         setting,
         handler: handler_at(setting, bell, &placed.value, number),
-        work: Work {
-            list,
-            device,
-            rx,
-            seats: Kept::new(setting.rt, seats),
-        },
+        list,
+        device,
+        rx,
+        seats: Kept::new(rt, seats),
+        stop: None,
     };
-    let seat = Seat {
-        number,
-        napi,
-        thread: own_bell,
-        caller: Some(poller),
-    };
-    let side = ThreadSide {
+    let seat = seat_of(rt, &placed.value, number, poller);
+    let side = Poller {
         setting,
-        poller: bell,
-        napi,
-        number,
-        own: own_of(own_bell, pause, own_list),
-        caller: Kept::new(setting.rt, thread),
+        name: FIRST_THREAD + number,
+        bell: &placed.value.bell,
+        pause,
+        served: ThreadPoller {
+            rt,
+            seat: seat_of(rt, &placed.value, number, thread),
+            list: own_list,
+            poller: bell,
+            pace: setting.pace,
+            batch: Batch::new(),
+        },
+        stop: None,
     };
-    (job, seat, side)
+    (worker, seat, side)
 }
 
-/// Gives each worker its job, each poller its seats, and each instance's thread its side. There is room for them, and there
-/// are two ends of its poller's list for each instance.
+/// Distributes the opened instances over the threads of the run. Requires room for them, and two ends of its poller's list for
+/// each instance.
 pub(crate) fn spread<'t, 'p, 'n, R: Wait + Drop + Copy, D: Drop, G: Gate>(
     setting: &'t Setting<'t, R, G>,
     bells: &'p [Bell],
@@ -163,7 +190,7 @@ pub(crate) fn spread<'t, 'p, 'n, R: Wait + Drop + Copy, D: Drop, G: Gate>(
         → AllByRecursion (IsWiredJob lists bells.now) (vec_items result.workers) }
     ensures wired_threads { (lists : List (SharedList _)) → AreEndsOf lists (vec_items ends)
         → AllByRecursion (IsWiredSide lists bells.now) (vec_items result.threads) }
-    ensures seats { (sat : List Seat) × AllZip IsSeatAt placed.now sat
+    ensures seats { (sat : List (Kept _ Seat)) × AllZip IsSeatAt placed.now sat
         × AllZip IsKeptSeatFor (vec_items loose) sat
         × HaveOwn (vec_len loose) (length bells.now) sat (vec_items result.seats) }
     ensures len { length (vec_items result.seats) ≡ length bells.now }

@@ -1,4 +1,4 @@
-//! A user of `driver_core`: the loop of a driver, over any cards. It passes on what a sleep promises.
+//! A program that uses only `driver_core`: the loop of a driver, over any cards. It passes on what a sleep promises.
 
 ghost use Rattle.std.specs.Prelude.{◌≡◌, ◌≤◌, IfOk, true, length};
 ghost use Rattle.driver_core.specs.Driver.{IsDue, devices_of};

@@ -2,7 +2,7 @@ use Rattle.std.proofs.Common.{◌≡◌, ℕ, List, [], ◌∷◌, ◌++◌, Som
 use Rattle.napi_calls.specs.{declared.types.{Caller.Caller, Napi.Napi}, Instance.IsNewSeat}
 use Rattle.calls_tests.proofs.threads.seat_three.Goals as goal
 
--- of a list of three nothing is left behind three pops
+-- after three pops, a list of three is empty
 none_left : (xs : List Caller) (a b d : Caller) → length (((xs ++ a ∷ []) ++ b ∷ []) ++ d ∷ []) ≡ 3 → xs ≡ []
 none_left [] a b d e = refl
 none_left (x ∷ xs) a b d e =

@@ -5,22 +5,25 @@ use Rattle.poll_interrupts.proofs.opening.open.Goals as goal
 pub returns-clause-side : goal.returns-clause-side
 returns-clause-side g c =
     let new = c.in-Ok-new.ensures in record {
-      number = refl;
-      name = c.requires.number.1;
-      seats = (c.next-caller.ensures.caller.instance, new.control.instance);
-      controller = new.control.number_is;
-      bell = search rules;
-      wakes = c.in_ok-bell.ensures.wakes;
-      poller = c.next-poller.ensures.caller.instance;
-      thread = c.next-thread.ensures.caller.instance;
-      ring = (c.in-Ok.ctx, search rules, c.in-Ok.ensures.one);
-      home = record {
-        callers = new.count.1;
-        nothing_received = ap (λ (x : RxCtx). received_list x) new.first ∙ c.in-Ok.ensures.empty.1;
-        empty =
-            grind (arith, common_steps, new.count.2, c.next-thread.ensures.left, c.next-poller.ensures.left, c.next-caller.ensures.left);
-        room = grind (arith, common_steps, new.count.2, c.next-thread.ensures.room, c.next-poller.ensures.room, c.next-caller.ensures.room);
+      part = record {
+        number = refl;
+        seats = (c.next-caller.ensures.caller.instance, new.control.instance);
+        controller = new.control.number_is;
+        poller = c.next-poller.ensures.caller.instance;
+        thread = c.next-thread.ensures.caller.instance;
+        ring = (c.in-Ok.ctx, search rules, c.in-Ok.ensures.one);
+        home = record {
+          callers = new.count.1;
+          nothing_received = ap (λ (x : RxCtx). received_list x) new.first ∙ c.in-Ok.ensures.empty.1;
+          empty =
+              grind (arith, common_steps, new.count.2, c.next-thread.ensures.left, c.next-poller.ensures.left, c.next-caller.ensures.left);
+          room =
+              grind (arith, common_steps, new.count.2, c.next-thread.ensures.room, c.next-poller.ensures.room, c.next-caller.ensures.room);
+        };
       };
+      name = c.requires.number.1;
+      has_thread = refl;
+      wakes = c.in_ok-bell.ensures;
     }
 
 pub returns-clause-loose : goal.returns-clause-loose

@@ -1,5 +1,5 @@
 use Rattle.std.proofs.{Common.{◌≡◌, length, ◌<◌, get_or, vec_items, rules, arith}, lemmas.Grind.common_steps}
-use Rattle.{poll_tasks.proofs.Zips.{zip_push, before_more, all_done}, poll_interrupts.specs.Opens.{IsLoose, IsSideOf}}
+use Rattle.{poll_tasks.proofs.{Zips.{zip_push, before_more, all_done}, ListFacts.zip_same}, poll_interrupts.specs.Opens.{IsLoose, IsSideOf}}
 use Rattle.poll_interrupts.proofs.opening.open_all.Goals as goal
 
 pub open-requires : goal.open-requires
@@ -32,3 +32,9 @@ pub returns-clause-loose : goal.returns-clause-loose
 returns-clause-loose g c =
     let now = c.loop-station.invariant in
     let whole = all_done _ _ _ now.all now.left c.in-None.ensures.steps.0 in rw (← whole) now.made
+
+pub shut_all-requires : goal.shut_all-requires
+shut_all-requires g c = zip_same _ _ _ _ (λ l p h. h.part) c.loop-station.invariant.sides
+
+pub returns-clause-parts : goal.returns-clause-parts
+returns-clause-parts g c = zip_same _ _ _ _ (λ l p h. h.part) c.loop-station.invariant.sides

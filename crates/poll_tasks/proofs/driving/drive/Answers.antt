@@ -8,6 +8,6 @@ scoped-requires g c =
     record {
       at = λ s. (
         r.pollers,
-        (r.workers, (r.threads, (search rules, search rules, search rules, search rules, search rules, search rules, search rules))),
+        (r.workers, (r.threads, (search rules, search rules, search rules, search rules))),
       );
     }

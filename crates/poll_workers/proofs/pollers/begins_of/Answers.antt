@@ -1,6 +1,6 @@
 use Rattle.std.proofs.Common.{◌+◌, ◌≤◌, ◌∷◌, [], ◌∙◌, ap, subst, sym, length, length-append, vec_len, vec_items}
 use Rattle.poll_tasks.{proofs.Zips.zip_push, specs.Wakers.Wakes}
-use Rattle.{poll_tasks.proofs.ListFacts.each_more, poll_interrupts.proofs.EndFacts.each_push, poll_workers.proofs.PollerFacts.same_next}
+use Rattle.{poll_tasks.proofs.ListFacts.each_more, poll_workers.proofs.EndFacts.each_push, poll_workers.proofs.PollerFacts.same_next}
 use Rattle.poll_workers.specs.Spreads.{IsBegin}
 use Rattle.poll_workers.proofs.pollers.begins_of.Goals as goal
 
@@ -18,7 +18,7 @@ loop-preserved g c =
       begin_room = c.push_reserved-in-loop.ensures.capacity ∙ now.begin_room;
       end_room = c.push_reserved-in-loop-2.ensures.capacity ∙ now.end_room;
       each = rw c.push_reserved-in-loop.ensures.items
-          (each_push (IsBegin c.args.count) (vec_items c.loop.begins) c.in_ok-begin.begin now.each c.in_ok-begin.ensures.begin);
+          (each_push IsBegin (vec_items c.loop.begins) c.in_ok-begin.begin now.each c.in_ok-begin.ensures.begin);
       own = rw c.push_reserved-in-loop-2.ensures.items
           (each_more (λ k e. c.args.count + c.args.count ≤ vec_len e) (vec_items c.loop.ends) c.in_ok-begin.own_ends now.own
           c.in_ok-begin.ensures.ends);

@@ -10,7 +10,7 @@ invariant-loop g l = record {
   bell_room : vec_capacity l.bells ≡ l.pollers;
   begin_room : vec_capacity l.begins ≡ l.pollers;
   end_room : vec_capacity l.ends ≡ l.pollers;
-  each : AllByRecursion (IsBegin l.count) (vec_items l.begins);
+  each : AllByRecursion IsBegin (vec_items l.begins);
   own : All (λ e. l.count + l.count ≤ vec_len e) (vec_items l.ends);
   wakes : AllZip (λ bell begin. Wakes bell begin.pause) (vec_items l.bells) (vec_items l.begins);
   joined : AllZip (λ begin e. All (IsNewEnd begin.list) (vec_items e)) (vec_items l.begins) (vec_items l.ends);

@@ -3,7 +3,8 @@ use Rattle.std.proofs.{Common.{append_assoc, map, rules}, lemmas.{Grind.common_s
 use Rattle.poll_tasks.specs.Tasks.{IsAt}
 use Rattle.std.specs.{Vec.Iter.{into_iter_items, into_iter_len}, Prelude.filter}
 use Rattle.poll_tasks.proofs.{Zips.before_more, ListFacts.{each_more, none_left}}
-use Rattle.{poll_interrupts.specs.Deals.is_own, poll_seats.specs.declared.{seat.Seat.Seat}, poll_workers.specs.Spreads.IsPoller}
+use Rattle.{poll_interrupts.specs.Deals.is_own, poll_seats.specs.declared.seat.Seat.Seat}
+use Rattle.{napi_calls.specs.declared.kept.Kept.Kept, poll_workers.specs.Spreads.IsPoller}
 use Rattle.poll_workers.proofs.PollerFacts.{count_of}
 use Rattle.poll_workers.proofs.pollers.pollers_of.Goals as goal
 
@@ -17,7 +18,9 @@ loop-begin-init g c =
         bell_count = sym none;
         rest_count = grind (arith, common_steps);
         lists = rw (nil_from_length _ none, c.into_iter-begins.ensures.rest) refl;
-        wakes = λ h. rw c.into_iter-begins.ensures.rest h;
+        wakes = rw c.into_iter-begins.ensures.rest c.requires.wakes;
+        begins = rw c.into_iter-begins.ensures.rest c.requires.begins;
+        lawful = c.requires.pace;
         whole = c.into_iter-seats.ensures.rest;
         count = sym none;
         left = grind (arith, common_steps);
@@ -25,8 +28,7 @@ loop-begin-init g c =
         long = grind (arith, common_steps);
         few = c.requires.few;
         room = c.requires.room.1;
-        begins = λ count h. rw c.into_iter-begins.ensures.rest h;
-        pollers = λ count n sat h wakes have k d low. absurd (omega (arith, low, none));
+        pollers = λ count n sat have k d low. absurd (omega (arith, low, none));
       },
     )
 
@@ -36,11 +38,13 @@ loop-begin-preserved g c =
     grind (arith, common_steps, c.in-Some.ensures.len) in
     let less : into_iter_len c.next-in-Some.new.self + 1 ≡ into_iter_len c.loop-begin.seats =
     grind (arith, common_steps, c.in-Some-next.ensures.len) in
-    let here : c.len-number.result ≡ length (vec_items c.loop-begin.pollers) = grind (arith, common_steps) in
+    let here : c.len.result ≡ length (vec_items c.loop-begin.pollers) = grind (arith, common_steps) in
     let now = c.loop-begin.invariant.2 in
     let more = before_more _ _ _ _ _ now.whole c.in-Some-next.ensures.items in
     let cut : c.loop-begin.rest.now ≡ c.in-Some-split_first.bell.now ∷ c.in-Some-split_first.more.now = search rules in
     let rung = before_more _ _ _ _ _ now.bells cut in
+    let wakes = rw (cut, c.in-Some.ensures.items) at now.wakes in
+    let begin = rw c.in-Some.ensures.items at now.begins in
     let longer = ap (λ l. length l) c.push_reserved.ensures.items ∙ length-append (vec_items c.loop-begin.pollers) _ in (
       c.loop-begin.invariant.0 ++ c.in-Some-next.own ∷ [],
       c.loop-begin.invariant.1 ++ c.in-Some-split_first.bell.now ∷ [],
@@ -49,13 +53,17 @@ loop-begin-preserved g c =
         bell_count = length-append c.loop-begin.invariant.1 (c.in-Some-split_first.bell.now ∷ []) ∙ ap (λ n. n + 1) now.bell_count
             ∙ sym longer;
         rest_count = (let a = now.rest_count in let b = ap (λ l. length l) cut in omega (arith, a, b, fewer));
-        lists = ap (λ l. map (λ t. t.list) l ++ map (λ b. b.list) (into_iter_items c.next.new.self)) c.push_reserved.ensures.items
+        lists = ap (λ l. map (λ p. p.served.list) l ++ map (λ b. b.list) (into_iter_items c.next.new.self)) c.push_reserved.ensures.items
             ∙ ap (λ l. l ++ map (λ b. b.list) (into_iter_items c.next.new.self))
-            (map-append (λ t. t.list) (vec_items c.loop-begin.pollers) _)
-            ∙ append_assoc (map (λ t. t.list) (vec_items c.loop-begin.pollers)) _ _
-            ∙ ap (λ l. map (λ t. t.list) (vec_items c.loop-begin.pollers) ++ map (λ b. b.list) l) (sym c.in-Some.ensures.items)
+            (map-append (λ p. p.served.list) (vec_items c.loop-begin.pollers) _)
+            ∙ append_assoc (map (λ p. p.served.list) (vec_items c.loop-begin.pollers)) _ _
+            ∙ ap (λ x. map (λ p. p.served.list) (vec_items c.loop-begin.pollers) ++ x ∷ map (λ b. b.list) (into_iter_items c.next.new.self))
+            c.new.ensures.list
+            ∙ ap (λ l. map (λ p. p.served.list) (vec_items c.loop-begin.pollers) ++ map (λ b. b.list) l) (sym c.in-Some.ensures.items)
             ∙ now.lists;
-        wakes = λ h. (rw (cut, c.in-Some.ensures.items) at (now.wakes h)).1;
+        wakes = wakes.1;
+        begins = begin.1;
+        lawful = now.lawful;
         whole = more.2;
         count = length-append c.loop-begin.invariant.0 (c.in-Some-next.own ∷ []) ∙ ap (λ n. n + 1) now.count ∙ sym longer;
         left = count_of _ _ _ _ _ now.left fewer longer;
@@ -64,23 +72,23 @@ loop-begin-preserved g c =
         as_many = (let same = now.as_many in omega (arith, fewer, less, same));
         few = now.few;
         room = grind (arith, now.room, c.push_reserved.ensures.capacity);
-        begins = λ count h. (rw c.in-Some.ensures.items at (now.begins count h)).1;
-        pollers = λ count n sat h wakes have.
-            let begin = (rw c.in-Some.ensures.items at (now.begins count h)).0 in
-            let own = subst (λ o. vec_items o.value ≡ filter (λ (s : Seat). is_own (length c.loop-begin.invariant.0) n s.number) sat) more.1
-            (have (length c.loop-begin.invariant.0) c.in-Some-next.own more.0).0 in
+        pollers = λ count n sat have.
+            let own = subst (λ o. vec_items o ≡ filter (λ (s : Kept g.row.R.Denot Seat). is_own
+            (length c.loop-begin.invariant.0) n s.value.number)
+            sat) more.1 (have (length c.loop-begin.invariant.0) c.in-Some-next.own more.0).0 in
             rw c.push_reserved.ensures.items
             (each_more
-            (λ k task. IsPoller c.args.setting.now c.args.bells.now count (filter (λ (s : Seat). is_own k n s.number) sat) k task)
-            (vec_items c.loop-begin.pollers) _ (now.pollers count n sat h wakes have) (record {
+            (λ k poller. IsPoller c.args.setting.now c.args.bells.now
+            (filter (λ (s : Kept g.row.R.Denot Seat). is_own k n s.value.number) sat) k poller)
+            (vec_items c.loop-begin.pollers) _ (now.pollers count n sat have) (record {
               has = refl;
+              paced = c.new.ensures.pace;
+              named = grind (arith, common_steps, here);
               bell = subst (λ k. IsAt c.args.bells.now k c.in-Some-split_first.bell.now) now.bell_count (rung.0, rung.1);
-              wakes = (rw (cut, c.in-Some.ensures.items) at (now.wakes wakes)).0;
-              same_number = here;
-              ends = begin.ends;
-              new = begin.new;
-              seats_are = own ∙ ap (λ k. filter (λ (s : Seat). is_own k n s.number) sat) now.count;
-              room = begin.room;
+              wakes = wakes.0;
+              new = rw c.new.ensures.list begin.0;
+              seats_are = c.new.ensures.seats ∙ own
+                  ∙ ap (λ k. filter (λ (s : Kept g.row.R.Denot Seat). is_own k n s.value.number) sat) now.count;
             }));
       },
     )

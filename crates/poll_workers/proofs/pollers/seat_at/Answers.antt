@@ -6,7 +6,7 @@ returns g c =
     let was = c.index_mut.result.now in
     record {
       was = was;
-      now = record was { value = c.push_reserved.new.self };
+      now = c.push_reserved.new.self;
       there = sym c.index_mut.ensures.value;
       more = c.push_reserved.ensures.items;
       capacity = c.push_reserved.ensures.capacity;

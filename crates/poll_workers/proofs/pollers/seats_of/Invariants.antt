@@ -5,5 +5,5 @@ abbrev pub invariant-loop : goal.invariant-loop
 invariant-loop g l = record {
   seats : length (vec_items l.seats) ≡ l.counter;
   room : vec_capacity l.seats ≡ l.pollers;
-  each : All (λ own. (vec_items own.value ≡ []) × (l.count ≤ vec_capacity own.value)) (vec_items l.seats);
+  each : All (λ own. (vec_items own ≡ []) × (l.count ≤ vec_capacity own)) (vec_items l.seats);
 }

@@ -1,91 +1,126 @@
-use Rattle.std.proofs.{Common.{◌≤◌, ◌∙◌, [], length, subst, sym, vec_items, vec_len, rules, arith}, lemmas.Grind.common_steps}
-use Rattle.poll_tasks.proofs.Zips.{zip_long}
-use Rattle.poll_workers.proofs.RunFacts.{all_callers_at, all_can_poll, all_can_run, all_can_work, all_done_at, all_have_polled}
-use Rattle.poll_workers.proofs.RunFacts.{all_poller_stops, all_thread_stops, all_threads_at, all_turned, all_worked, ends_of_lists}
-use Rattle.poll_workers.specs.Spreads.{HaveOwn}
+use Rattle.std.proofs.Common.{◌≡◌, ◌∙◌, [], ap, length, map, subst, sym, vec_items, arith}
+use Rattle.{std.proofs.lemmas.{Grind.common_steps, List.length-map}, poll_tasks.{proofs.Zips.zip_long, specs.Tasks.EachAt}}
+use Rattle.poll_workers.proofs.RunFacts.{all_back_at, all_have_polled, all_parts, all_seats_at, all_stops, all_threads_with, all_turned}
+use Rattle.poll_workers.proofs.RunFacts.{each_mapped, all_worked, all_worker_stops, ends_of_lists}
+use Rattle.poll_workers.specs.{Outcomes.{AreLeftBy, AreSeatsAt}, Spreads.HaveOwn}
 use Rattle.poll_workers.proofs.run.run_threads.Goals as goal
 
-pub spread-parts-requires-clause-seats : goal.spread-parts-requires-clause-seats
-spread-parts-requires-clause-seats g c =
-    subst (λ n. HaveOwn n (length c.args.bells.now) [] (vec_items c.in-Ok.parts.seats)) c.len.ensures
+pub spread-seats-requires-clause-seats : goal.spread-seats-requires-clause-seats
+spread-seats-requires-clause-seats g c =
+    subst (λ n. HaveOwn n (length c.args.bells.now) [] (vec_items c.in-Ok.rooms.parts.seats)) c.len.ensures
     (c.in-Ok.ensures.seats (length c.args.bells.now))
 
-pub drive-requires-clause-pollers : goal.drive-requires-clause-pollers
-drive-requires-clause-pollers g c κs within =
-    let s = c.spread-parts.ensures.seats in
-    let are = c.pollers_of.ensures.pollers _ _ s.0 c.requires.begins.0 c.requires.wakes s.3 in
-    let few : length (vec_items c.pollers_of.result) ≤ 8 = grind (arith, c.pollers_of.ensures.len, c.requires.pollers.1) in
-    let a = zip_long _ _ _ s.2 in
-    let room : length s.0 ≤ vec_len c.args.loose = grind (arith, common_steps, a) in record {
-      can = all_can_run _ _ _ _ _ _ _ s.1 are few room c.requires.pace;
-      begun_empty = search rules;
-      begun_room = grind (arith, common_steps, c.pollers_of.ensures.len);
-      given_empty = search rules;
-      given_room = grind (arith, common_steps, c.pollers_of.ensures.len);
-    }
+pub drive-tasks-requires-clause-workers : goal.drive-tasks-requires-clause-workers
+drive-tasks-requires-clause-workers g c κs within =
+    let a = zip_long _ _ _ c.spread-seats.ensures.jobs in
+    (c.in-Ok.ensures.spawned.1.0, grind (arith, common_steps, a, c.len.ensures, c.in-Ok.ensures.spawned.1.1))
 
-pub drive-requires-clause-workers : goal.drive-requires-clause-workers
-drive-requires-clause-workers g c κs within =
-    let a = zip_long _ _ _ c.spread-parts.ensures.jobs in record {
-      can = all_can_work _ _ _ c.spread-parts.ensures.jobs;
-      begun_empty = search rules;
-      begun_room = grind (arith, common_steps, a);
-      given_empty = search rules;
-      given_room = grind (arith, common_steps, a);
-    }
+pub drive-tasks-requires-clause-threads : goal.drive-tasks-requires-clause-threads
+drive-tasks-requires-clause-threads g c κs within =
+    let a = zip_long _ _ _ c.spread-seats.ensures.threads in
+    (c.in-Ok.ensures.spawned.2.0, grind (arith, common_steps, a, c.len.ensures, c.in-Ok.ensures.spawned.2.1))
 
-pub drive-requires-clause-threads : goal.drive-requires-clause-threads
-drive-requires-clause-threads g c κs within =
-    let a = zip_long _ _ _ c.spread-parts.ensures.thread_places in
-    let b = zip_long _ _ _ c.requires.sides in record {
-      can = all_can_poll _ _ c.spread-parts.ensures.thread_places;
-      begun_empty = search rules;
-      begun_room = grind (arith, common_steps, a, b);
-      given_empty = search rules;
-      given_room = grind (arith, common_steps, a, b);
-    }
+pub stop_of_run-stop-requires-clause-workers : goal.stop_of_run-stop-requires-clause-workers
+stop_of_run-stop-requires-clause-workers g c =
+    all_worker_stops g.D.Device.acts g.D.Device.answer g.D.Device.after g.G.Gate.may_shut g.G.Gate.answers c.args.setting.now
+    (map (λ b. b.list) (vec_items c.args.begins.pollers)) c.args.bells.now _ _ c.drive-tasks.ensures.workers
 
-pub returns-clause-pollers : goal.returns-clause-pollers
-returns-clause-pollers g c = sym (zip_long _ _ _ c.drive.ensures.polled) ∙ c.pollers_of.ensures.len
+pub stop_of_run-stop-requires-clause-pollers : goal.stop_of_run-stop-requires-clause-pollers
+stop_of_run-stop-requires-clause-pollers g c = all_stops _ _ _ _ _ _ c.drive-tasks.ensures.pollers
 
-pub returns-clause-worked : goal.returns-clause-worked
-returns-clause-worked g c =
-    all_worked _ _ _ _ _ _ _ _ _ _ _ c.spread-parts.ensures.jobs
-    (c.spread-parts.ensures.wired_jobs _ (ends_of_lists _ _ c.requires.own)) c.drive.ensures.worked
+pub stop_of_run-stop-requires-clause-threads : goal.stop_of_run-stop-requires-clause-threads
+stop_of_run-stop-requires-clause-threads g c = all_stops _ _ _ _ _ _ c.drive-tasks.ensures.threads
 
-pub returns-clause-dones : goal.returns-clause-dones
-returns-clause-dones g c =
-    all_done_at _ _ _ _ _ _ _ _ _ _ c.requires.sides c.spread-parts.ensures.jobs c.spread-parts.ensures.job_places c.drive.ensures.worked
+pub seats_left-seats-requires : goal.seats_left-seats-requires
+seats_left-seats-requires g c =
+    let a = zip_long _ _ _ c.drive-tasks.ensures.pollers in
+    (c.in-Ok.ensures.left.0.0, grind (arith, common_steps, a, c.pollers_of.ensures.len, c.in-Ok.ensures.left.0.1))
 
-pub returns-clause-callers : goal.returns-clause-callers
-returns-clause-callers g c =
-    let s = c.spread-parts.ensures.seats in
-    all_callers_at _ _ _ _ _ _ _ _ _ _ _ _ s.1 s.2 (c.pollers_of.ensures.pollers _ _ s.0 c.requires.begins.0 c.requires.wakes s.3)
-    c.drive.ensures.polled c.pollers_of.ensures.lists
+pub gather-requires-clause-some : goal.gather-requires-clause-some
+gather-requires-clause-some g c =
+    let a = zip_long _ _ _ c.drive-tasks.ensures.pollers in
+    let b = sym (ap (λ l. length l) c.seats_left-seats.ensures)
+    ∙ length-map (vec_items c.drive-tasks.result.pollers) (λ p. p.served.seat_bench.seats) in
+    grind (arith, common_steps, a, b, c.pollers_of.ensures.len, c.requires.pollers.0)
 
-pub returns-clause-polled : goal.returns-clause-polled
-returns-clause-polled g c =
-    let s = c.spread-parts.ensures.seats in
-    all_have_polled _ _ _ _ _ _ _ _ _ _ _ _ s.1 s.2 (c.pollers_of.ensures.pollers _ _ s.0 c.requires.begins.0 c.requires.wakes s.3)
-    c.drive.ensures.polled c.pollers_of.ensures.lists
+pub gather-requires-clause-seats : goal.gather-requires-clause-seats
+gather-requires-clause-seats g c =
+    let s = c.spread-seats.ensures in
+    let polled = vec_items c.drive-tasks.result.pollers in
+    let workers = vec_items c.drive-tasks.result.workers in
+    let same : length (vec_items c.seats_left-seats.result) ≡ length c.args.bells.now = sym (ap (λ l. length l) c.seats_left-seats.ensures)
+    ∙ length-map polled (λ p. p.served.seat_bench.seats) ∙ sym (zip_long _ _ _ c.drive-tasks.ensures.pollers) ∙ c.pollers_of.ensures.len in
+    let back = all_back_at g.D.Device.acts g.D.Device.answer g.D.Device.after g.G.Gate.may_shut g.G.Gate.answers c.args.setting.now
+    (map (λ b. b.list) (vec_items c.args.begins.pollers)) c.args.bells.now _ _ _ _ c.requires.sides s.jobs s.job_places
+    c.drive-tasks.ensures.workers in
+    let at = all_seats_at g.D.Device.acts g.D.Device.answer g.D.Device.after g.G.Gate.may_shut g.G.Gate.answers c.args.setting.now
+    (map (λ b. b.list) (vec_items c.args.begins.pollers)) c.args.bells.now _ _ _ _ s.seats.0 _ _ back s.seats.1 s.seats.2
+    (c.pollers_of.ensures.pollers _ _ s.seats.0 s.seats.3)
+    c.drive-tasks.ensures.pollers c.pollers_of.ensures.lists in
+    subst (λ n. EachAt (AreSeatsAt n workers) (vec_items c.seats_left-seats.result)) (sym same)
+    (subst (λ l. EachAt (AreSeatsAt (length c.args.bells.now) workers) l) c.seats_left-seats.ensures
+    (each_mapped (λ p. p.served.seat_bench.seats) (AreSeatsAt (length c.args.bells.now) workers) polled at))
 
-pub returns-clause-stops : goal.returns-clause-stops
-returns-clause-stops g c = all_poller_stops _ _ _ _ c.drive.ensures.polled
+pub gather-requires-clause-threads : goal.gather-requires-clause-threads
+gather-requires-clause-threads g c =
+    let s = c.spread-seats.ensures in
+    let back = all_back_at g.D.Device.acts g.D.Device.answer g.D.Device.after g.G.Gate.may_shut g.G.Gate.answers c.args.setting.now
+    (map (λ b. b.list) (vec_items c.args.begins.pollers)) c.args.bells.now _ _ _ _ c.requires.sides s.jobs s.job_places
+    c.drive-tasks.ensures.workers in
+    all_threads_with g.D.Device.acts g.D.Device.answer g.D.Device.after g.G.Gate.may_shut g.G.Gate.answers c.args.setting.now
+    (map (λ b. b.list) (vec_items c.args.begins.pollers)) c.args.bells.now _ _ _ _ back s.thread_places c.drive-tasks.ensures.threads
 
-pub returns-clause-thread_stops : goal.returns-clause-thread_stops
-returns-clause-thread_stops g c = all_thread_stops _ _ _ _ c.drive.ensures.threads
+pub gather-requires-clause-room : goal.gather-requires-clause-room
+gather-requires-clause-room g c =
+    let a = zip_long _ _ _ c.spread-seats.ensures.jobs in
+    let b = zip_long _ _ _ c.drive-tasks.ensures.workers in
+    (c.in-Ok.ensures.left.1.0, grind (arith, common_steps, a, b, c.len.ensures, c.in-Ok.ensures.left.1.1))
 
-pub returns-clause-threads : goal.returns-clause-threads
-returns-clause-threads g c = all_threads_at _ _ _ _ _ c.spread-parts.ensures.thread_places c.drive.ensures.threads
-
-pub returns-clause-turned : goal.returns-clause-turned
-returns-clause-turned g c =
-    all_turned _ _ _ _ _ _ _ _ c.spread-parts.ensures.threads
-    (c.spread-parts.ensures.wired_threads _ (ends_of_lists _ _ c.requires.own)) c.drive.ensures.threads
+pub returns-clause-parts : goal.returns-clause-parts
+returns-clause-parts g c =
+    let s = c.spread-seats.ensures in
+    let back = all_back_at g.D.Device.acts g.D.Device.answer g.D.Device.after g.G.Gate.may_shut g.G.Gate.answers c.args.setting.now
+    (map (λ b. b.list) (vec_items c.args.begins.pollers)) c.args.bells.now _ _ _ _ c.requires.sides s.jobs s.job_places
+    c.drive-tasks.ensures.workers in
+    all_parts g.D.Device.acts g.D.Device.answer g.D.Device.after g.G.Gate.may_shut g.G.Gate.answers c.args.setting.now
+    (map (λ b. b.list) (vec_items c.args.begins.pollers)) c.args.bells.now _ _ _ _ _ back c.gather.ensures
 
 pub returns-clause-len : goal.returns-clause-len
 returns-clause-len g c =
-    let a = zip_long _ _ _ c.spread-parts.ensures.jobs in
-    let b = zip_long _ _ _ c.drive.ensures.worked in
-    let both = a ∙ b in
-    first_of (grind (arith, common_steps, both) steps 10000000, grind (arith, both) steps 10000000)
+    let s = c.spread-seats.ensures in
+    let back = all_back_at g.D.Device.acts g.D.Device.answer g.D.Device.after g.G.Gate.may_shut g.G.Gate.answers c.args.setting.now
+    (map (λ b. b.list) (vec_items c.args.begins.pollers)) c.args.bells.now _ _ _ _ c.requires.sides s.jobs s.job_places
+    c.drive-tasks.ensures.workers in
+    let a = zip_long _ _ _ (all_parts g.D.Device.acts g.D.Device.answer g.D.Device.after g.G.Gate.may_shut g.G.Gate.answers
+    c.args.setting.now
+    (map (λ b. b.list) (vec_items c.args.begins.pollers)) c.args.bells.now _ _ _ _ _ back c.gather.ensures) in
+    let b = zip_long _ _ _ c.requires.sides in
+    grind (arith, common_steps, a, b)
+
+pub returns-clause-ran : goal.returns-clause-ran
+returns-clause-ran g c none =
+    let s = c.spread-seats.ensures in
+    let back = all_back_at g.D.Device.acts g.D.Device.answer g.D.Device.after g.G.Gate.may_shut g.G.Gate.answers c.args.setting.now
+    (map (λ b. b.list) (vec_items c.args.begins.pollers)) c.args.bells.now _ _ _ _ c.requires.sides s.jobs s.job_places
+    c.drive-tasks.ensures.workers in
+    let ends = ends_of_lists _ _ c.requires.own in
+    record {
+      workers = vec_items c.drive-tasks.result.workers;
+      polled = vec_items c.drive-tasks.result.pollers;
+      threads = vec_items c.drive-tasks.result.threads;
+      same = sym (zip_long _ _ _ c.drive-tasks.ensures.pollers) ∙ c.pollers_of.ensures.len;
+      made = all_worked g.D.Device.acts g.D.Device.answer g.D.Device.after g.G.Gate.may_shut g.G.Gate.answers c.args.setting.now
+          (map (λ b. b.list) (vec_items c.args.begins.pollers)) c.args.bells.now _ _ _ s.jobs
+          (s.wired_jobs _ ends) c.drive-tasks.ensures.workers;
+      ran = all_have_polled g.D.Device.acts g.D.Device.answer g.D.Device.after g.G.Gate.may_shut g.G.Gate.answers c.args.setting.now
+          (map (λ b. b.list) (vec_items c.args.begins.pollers)) c.args.bells.now _ _ _ _ s.seats.0 _ _ back s.seats.1 s.seats.2
+          (c.pollers_of.ensures.pollers _ _ s.seats.0 s.seats.3) c.drive-tasks.ensures.pollers c.pollers_of.ensures.lists;
+      turned = all_turned g.D.Device.acts g.D.Device.answer g.D.Device.after g.G.Gate.may_shut g.G.Gate.answers c.args.setting.now
+          (map (λ b. b.list) (vec_items c.args.begins.pollers)) c.args.bells.now _ _ _ s.threads
+          (s.wired_threads _ ends) c.drive-tasks.ensures.threads;
+      left_by = subst (λ l. AreLeftBy (vec_items c.drive-tasks.result.workers) l (vec_items c.drive-tasks.result.threads)
+          (vec_items c.gather.result)) (sym c.seats_left-seats.ensures) c.gather.ensures;
+      whole = c.stop_of_run-stop.ensures.workers none;
+      whole_polls = c.stop_of_run-stop.ensures.pollers none;
+      whole_turns = c.stop_of_run-stop.ensures.threads none;
+    }

@@ -13,7 +13,7 @@ pub run_all-came-requires-clause-count : goal.run_all-came-requires-clause-count
 run_all-came-requires-clause-count g c = let few = few_stations _ c.requires.stations c.requires.numbers in
     grind (arith, common_steps, few)
 
--- what is told of an answer is the answer, or a fault
+-- the result of an answer is the answer, or an error
 told_ok : {A : Type 0} (P : A → Type 0) (came : Result (Result A Stop) AllocError) (refused : Bool) → IfOk came (λ o. IfOk o P)
     → IfOk (told came refused) P
 told_ok P (Err e) refused h = tt
@@ -22,7 +22,7 @@ told_ok P (Ok (Err stop.Refused)) false h = tt
 told_ok P (Ok (Err stop.Shut)) false h = tt
 told_ok P (Ok (Ok a)) false h = h
 
--- a fault is told only with its reason
+-- an error is returned only with its reason
 told_memory : {A : Type 0} (came : Result (Result A Stop) AllocError) (refused : Bool) → IsErrOf (told came refused) OutOfMemory
     → IsWantOfMemory
 told_memory (Err e) refused h = wanted_by e

@@ -3,8 +3,8 @@ use Rattle.std.proofs.lemmas.{Grind.common_steps, List.nil_from_length}
 use Rattle.std.{specs.Vec.Iter.{into_iter_items, into_iter_len}, proofs.lemmas.List.length-set}
 use Rattle.poll_tasks.proofs.{Zips.{zip_push, before_more}, ListFacts.{none_left, zip_empty}}
 use Rattle.poll_interrupts.specs.Deals.{is_own}
-use Rattle.{poll_tasks.specs.Tasks.IsAt, poll_interrupts.proofs.EndFacts.each_push}
-use Rattle.poll_workers.proofs.PollerFacts.{by_station, count_of, ends_of, has_room, one_more, same_count, wired_bell, wired_end, wired_own}
+use Rattle.{poll_tasks.specs.Tasks.IsAt, poll_workers.proofs.EndFacts.each_push}
+use Rattle.poll_workers.proofs.PollerFacts.{by_station, count_of, ends_of, has_room, one_more, same_count, wired_bell, wired_end}
 use Rattle.poll_workers.proofs.PollerFacts.{within_of}
 use Rattle.poll_workers.proofs.spreading.spread.Goals as goal
 
@@ -67,8 +67,8 @@ loop-rest-preserved g c =
     let made = rw c.open.ensures at c.split-job.ensures.job.0 in
     let seat = rw c.open.ensures at c.split-job.ensures.seat.1 in
     let thread = rw c.open.ensures at c.split-job.ensures.thread.1 in
-    let by_job = by_station _ _ _ _ c.poller_of-poller.ensures.own (made.same_number ∙ sym side.0.number) in
-    let by_side = by_station _ _ _ _ c.poller_of-poller.ensures.own (thread.number ∙ sym side.0.number) in
+    let by_job = by_station _ _ _ _ c.poller_of-poller.ensures.own (made.same_number ∙ sym side.0.part.number) in
+    let by_side = by_station _ _ _ _ c.poller_of-poller.ensures.own (thread.seat.number ∙ sym side.0.part.number) in
     let bell : IsAt c.args.bells.now c.poller_of-poller.result c.index-bells-poller.result =
     (c.poller_of-poller.ensures.within, sym c.index-bells-poller.is) in (
       i.0 ++ c.in-Some.rest ∷ [],
@@ -87,7 +87,7 @@ loop-rest-preserved g c =
             }));
         wired_threads = λ lists are. rw c.push_reserved-in-Some.ensures.items
             (each_push _ _ _ (now.wired_threads lists are) (record {
-              list = wired_own _ _ _ _ _ (c.two_ends-both.ensures.own lists (now.are_ends lists are)).1 c.split-job.ensures.lists.1 by_side;
+              list = wired_end _ _ _ _ _ (c.two_ends-both.ensures.own lists (now.are_ends lists are)).1 c.split-job.ensures.lists.1 by_side;
               bell = wired_bell _ _ _ _ _ bell c.split-job.ensures.bells.1 by_side;
             }));
         are_ends = λ lists are. (c.two_ends-both.ensures.own lists (now.are_ends lists are)).2;

@@ -8,7 +8,7 @@ use Rattle.poll_workers.proofs.spreading.spread.Given as goal
 
 abbrev pub invariant-loop-rest : goal.invariant-loop-rest
 invariant-loop-rest g l = (did : List (Kept g.row.R.Denot (Loose g.row.D.Denot))) × (here : List (Kept g.row.R.Denot Placed))
-    × (sat : List Seat) × record {
+    × (sat : List (Kept g.row.R.Denot Seat)) × record {
       whole : did ++ into_iter_items l.rests ≡ vec_items l.fn.loose;
       all_places : here ++ l.places ≡ l.fn.placed;
       sides : AllZip IsKeptSideOf (into_iter_items l.rests) l.places;
