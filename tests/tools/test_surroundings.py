@@ -18,7 +18,7 @@ TRACE = TOP / "examples/bursts.csv"
 REPORT = "list\ntotal devices 0 runs 0 polls 0 work 0 squeezed 0\n"
 # Each tool with words by which it writes to standard output, and its input.
 WRITERS = {"raise": [TRACE], "report2json": ["-"], "traffic": [], "compare-runs": [TRACE, "--budget", "1", "--"],
-           "plot": [TRACE, "--script"], "compare-recording": [TOP / "examples/linux-veth-small-budget", "--budget", "64"],
+           "plot": [TRACE, "--json"], "compare-recording": [TOP / "examples/linux-veth-small-budget", "--budget", "64"],
            "from-ftrace": [HERE / "soft-tcp.txt", "made", *(f"--pair=va{number}:vb{number}" for number in range(1, 7))],
            "from-pcap": ["captured", "made"], "costs": [HERE / "soft-gso-23.txt"], "what-if": ["arrivals"],
            "advise": [HERE / "recorded-apart.rec"], "completion": ["bash"]}
@@ -103,7 +103,7 @@ class Surroundings(InFolder):
     def test_want_of_memory(self):
         """60 MB can be read in 100 MB, and not be read as text as well."""
         text = self.write("text", "softirq 4 polls 2 work 3 squeezed 1\n" * 1700000)
-        for tool, words in (("report2json", [text]), ("plot", ["--series", text, "--script"])):
+        for tool, words in (("report2json", [text]), ("plot", ["--series", text, "--json"])):
             done = self.within(100000, tool, *words)
             self.assertEqual((done.stdout, done.stderr, done.returncode), (b"", f"{tool}: there isn't enough memory\n".encode(), 1))
         self.assertEqual(self.names(), ["text"])
@@ -356,7 +356,7 @@ class Surroundings(InFolder):
 
     def test_a_fifo_is_read_once(self):
         os.mkfifo(self.folder / "fifo")
-        for tool, words in (("raise", []), ("compare-runs", ["--"]), ("plot", ["--raise", "--script"])):
+        for tool, words in (("raise", []), ("compare-runs", ["--"]), ("plot", ["--raise", "--json"])):
             process = self.start(tool, ["fifo", *words], stdout=subprocess.PIPE)
             (self.folder / "fifo").write_bytes(TRACE.read_bytes())
             process.communicate(timeout=300)
