@@ -109,7 +109,7 @@ FQ_NONNULL size_t fq_fault_text(uint32_t fault, char *to, size_t room);
 
 /* The structs that calls read and write, but for those of fq_replay, and the bytes of each, for bindings to check theirs: 0 of any other
  * number. */
-enum fq_struct {
+enum fq_struct FQ_NUMBER {
     FQ_STRUCT_HANDLE = 0, FQ_STRUCT_DQL = 1, FQ_STRUCT_DQL_MADE = 2, FQ_STRUCT_NAPI = 3, FQ_STRUCT_PACKET = 4, FQ_STRUCT_COUNTS = 5,
     FQ_STRUCT_TOTALS = 6, FQ_STRUCT_RING_SHOWN = 7, FQ_STRUCT_TX_SHOWN = 8, FQ_STRUCT_ANSWERS = 9, FQ_STRUCT_RUN_REPORT = 10
 };
@@ -155,11 +155,11 @@ static inline const char *fq_status_name(uint32_t status) {
 }
 
 /* To whom an instance is handed: a poll list, or a thread of its own. Where calls read it from the state word they say so. */
-enum fq_kind { FQ_LIST = 0, FQ_THREAD = 1 };
+enum fq_kind FQ_NUMBER { FQ_LIST = 0, FQ_THREAD = 1 };
 
 /* How a poll ended: its device isn't on the list any more, is to be listed again, or handed to its thread; gave its whole weight,
  * and is polled again behind all others; wasn't there. */
-enum fq_next { FQ_NEXT_GONE = 0, FQ_NEXT_AGAIN = 1, FQ_NEXT_AGAIN_THREAD = 2, FQ_NEXT_REPOLL = 3, FQ_NEXT_ABSENT = 4 };
+enum fq_next FQ_NUMBER { FQ_NEXT_GONE = 0, FQ_NEXT_AGAIN = 1, FQ_NEXT_AGAIN_THREAD = 2, FQ_NEXT_REPOLL = 3, FQ_NEXT_ABSENT = 4 };
 
 /* The bits of a state word: those of the kernel's NAPI_STATE_.., and two of this library, whether the instance is on a poll list or was
  * handed to its thread, and wasn't taken yet. docs/FORMATS.md and reports as JSON call these two QUEUED and TO_THREAD. FQ_BIT_LISTED is

@@ -78,12 +78,12 @@ proctype Scheduler(bit me) {
 proctype Poller() {
     byte seen, repolls; bool won, is_last, has_taken;
     do
-    :: is_last = told;                                                          /* poll_seats/serving serve */
+    :: is_last = told;                                                          /* poll_seats/poller serve */
        atomic { has_taken = (word & QUEUED) != 0; word = word & ~QUEUED;        /* napi_calls/caller take */
                 if :: has_taken -> assert(!is_polled && !is_controlled); begin_poll() :: else fi };
        if
-       :: !has_taken && is_last -> break                                        /* poll_seats/serving serve */
-       :: !has_taken && !is_last                                                /* poll_seats/serving serve */
+       :: !has_taken && is_last -> break                                        /* poll_seats/poller serve */
+       :: !has_taken && !is_last                                                /* poll_seats/poller serve */
        :: has_taken ->
           if
           :: (ENDLESS || repolls < REPOLLS) && (!(word & DISABLE) || FAULT == 2) ->     /* poll_shared/shared_instance poll_instance */

@@ -108,7 +108,7 @@ inline turn_on(number) {
 }
 proctype Worker(byte number) {
     byte act, at; bool was_parked, granted, is_on, setting;
-    turn_on(number);                                                            /* poll_interrupts/worker work */
+    turn_on(number);                                                            /* poll_interrupts/worker run */
     do
     :: act < (number == 0 -> ACTS : OTHER_ACTS) ->                              /* poll_interrupts/worker make_acts */
        if :: refused || stopped -> break :: else fi;                            /* poll_tasks/signals stop */
@@ -132,8 +132,8 @@ proctype Worker(byte number) {
        act++
     :: else -> break
     od;
-    turn_off(number);                                                           /* poll_interrupts/worker work */
-    if :: number < THREADS && FAULT != 3 -> tell(THREAD(number)) :: else fi;    /* poll_interrupts/job run */
+    turn_off(number);                                                           /* poll_interrupts/worker run */
+    if :: number < THREADS && FAULT != 3 -> tell(THREAD(number)) :: else fi;    /* poll_interrupts/worker run */
     workers_ended++
 }
 
@@ -151,9 +151,9 @@ inline complete(number) {
 proctype Poller(byte list) {
     byte at, number, in_hand = NOBODY; bool was_parked, is_last, again, whole, snoozed;
     if :: unpolled -> goto ended :: else fi;                                    /* poll_seats/poller run */
-    if :: true :: stopped = true fi;                                            /* poll_seats/poller poll */
+    if :: true :: stopped = true fi;                                            /* poll_seats/poller run */
     do
-    :: atomic { is_last = told[list]; number = NOBODY; again = false; whole = false };    /* poll_seats/serving serve */
+    :: atomic { is_last = told[list]; number = NOBODY; again = false; whole = false };    /* poll_seats/poller serve */
        if
        :: in_hand != NOBODY -> number = in_hand; in_hand = NOBODY               /* poll_list/shared splice */
        :: in_hand == NOBODY && head[list] == tail[list]                         /* poll_list/pops pop */
@@ -161,7 +161,7 @@ proctype Poller(byte list) {
           d_step { at = AT(list, head[list]); number = slot[at]; slot[at] = 0; published[at] = false; head[list] = (head[list] + 1) % (2 * PLACES); at = 0 }  /* kit crossbeam_queue/array_queue/ruled pop_as */
        fi;
        if
-       :: atomic { number != NOBODY ->                                          /* poll_seats/poller turn */
+       :: atomic { number != NOBODY ->                                          /* poll_seats/list_poller turn */
              assert(mark[number] == LISTED); mark[number] = AWAY };             /* poll_seats/seat poll */
           d_step { take_packets(number) };                                      /* poll_shared/shared_instance poll_instance */
           if
@@ -175,9 +175,9 @@ proctype Poller(byte list) {
              fi
           fi;
           snoozed = false                                                       /* poll_tasks/signals is_over */
-       :: number == NOBODY && is_last -> break                                  /* poll_seats/serving serve */
+       :: number == NOBODY && is_last -> break                                  /* poll_seats/poller serve */
        :: atomic { number == NOBODY && !is_last && !snoozed -> snoozed = true } /* poll_tasks/signals wait */
-       :: number == NOBODY && !is_last && snoozed -> wait(list); snoozed = false        /* poll_seats/serving serve */
+       :: number == NOBODY && !is_last && snoozed -> wait(list); snoozed = false        /* poll_seats/poller serve */
        fi
     od;
     assert(in_hand == NOBODY && head[list] == tail[list]);
@@ -186,10 +186,10 @@ ended:
 }
 proctype Thread(byte number) {
     byte at, polls; bool was_parked, is_last, again, found, has, repoll, whole, snoozed;
-    if :: unpolled -> goto ended :: else fi;                                    /* poll_seats/thread_poller run */
-    if :: true :: stopped = true fi;                                            /* poll_seats/thread_poller poll */
+    if :: unpolled -> goto ended :: else fi;                                    /* poll_seats/poller run */
+    if :: true :: stopped = true fi;                                            /* poll_seats/poller run */
     do
-    :: atomic { is_last = told[THREAD(number)]; found = false; repoll = false; has = false; again = false; whole = false; polls = 0 };  /* poll_seats/serving serve */
+    :: atomic { is_last = told[THREAD(number)]; found = false; repoll = false; has = false; again = false; whole = false; polls = 0 };  /* poll_seats/poller serve */
        do
        :: atomic { polls < WINDOW ->
              has = repoll || mark[number] == TO_THREAD;                         /* poll_shared/shared_instance poll_instance_by_thread */
@@ -220,9 +220,9 @@ proctype Thread(byte number) {
        fi;                                                                      /* poll_seats/thread_poller hand_on */
        if
        :: found -> snoozed = false                                              /* poll_tasks/signals is_over */
-       :: !found && is_last -> break                                            /* poll_seats/serving serve */
+       :: !found && is_last -> break                                            /* poll_seats/poller serve */
        :: atomic { !found && !is_last && !snoozed -> snoozed = true }           /* poll_tasks/signals wait */
-       :: !found && !is_last && snoozed -> wait(THREAD(number)); snoozed = false        /* poll_seats/serving serve */
+       :: !found && !is_last && snoozed -> wait(THREAD(number)); snoozed = false        /* poll_seats/poller serve */
        fi
     od;
 ended:
@@ -236,29 +236,29 @@ init {
     d_step { number = 0; do :: number < WORKERS -> sched[number] = true; npsvc[number] = true; number++ :: else -> break od; number = 0 };  /* poll_interrupts/opening open_all */
     do
     :: number < THREADS ->
-       if :: run Thread(number) :: unpolled = true; threads_ended++ fi;         /* poll_tasks/tasks begin */
+       if :: run Thread(number) :: unpolled = true; threads_ended++ fi;         /* poll_tasks/tasks spawn */
        number++
-    :: else -> break                                                            /* poll_seats/thread_poller is_idle */
+    :: else -> break                                                            /* poll_seats/poller is_idle */
     od;
     number = 0;
     do
     :: number < POLLERS ->
-       if :: run Poller(number) :: unpolled = true; pollers_ended = pollers_ended + (FAULT != 6) fi;    /* poll_tasks/tasks begin */
+       if :: run Poller(number) :: unpolled = true; pollers_ended = pollers_ended + (FAULT != 6) fi;    /* poll_tasks/tasks spawn */
        number++
     :: else -> break
     od;
     if :: unpolled && FAULT != 5 -> refused = true :: else fi;                  /* poll_tasks/driving drive */
     number = 0;
     do
-    :: number < WORKERS ->                                                      /* poll_tasks/tasks begin_all */
-       if :: run Worker(number) :: refused = true; run Worker(number); workers_ended == number + 1 fi; /* poll_tasks/tasks begin */
+    :: number < WORKERS ->                                                      /* poll_tasks/tasks spawn_all */
+       if :: run Worker(number) :: refused = true; run Worker(number); workers_ended == number + 1 fi; /* poll_tasks/tasks spawn */
        number++
     :: else -> break
     od;
-    workers_ended == WORKERS;                                                   /* poll_tasks/tasks end_all */
+    workers_ended == WORKERS;                                                   /* poll_tasks/tasks join_all */
     number = 0;
     do :: number < POLLERS -> tell(number); number++ :: else -> break od;       /* poll_tasks/driving drive */
-    pollers_ended == POLLERS && threads_ended == THREADS;                       /* poll_tasks/tasks end_all */
+    pollers_ended == POLLERS && threads_ended == THREADS;                       /* poll_tasks/tasks join_all */
     number = 0;
     do
     :: number < WORKERS -> assert(mark[number] == AWAY && sched[number] && npsvc[number] && !asked[number]); number++

@@ -37,7 +37,7 @@ echo 'release.sh: the packages are made' >&2
 DESTDIR=$scratch/stage "$top/scripts/install.sh" --python /usr/local > /dev/null || stop 70 "the files of the tarball couldn't be made"
 mv "$scratch/stage/usr/local" "$scratch/$name"
 if command -v pandoc > /dev/null; then
-    "$top/scripts/site.sh" "$scratch/$name/share/doc/fintaqush" || stop 70 "the HTML pages couldn't be made"
+    "$top/scripts/site.sh" "$scratch/$name/share/doc/fintaqush/html" || stop 70 "the HTML pages couldn't be made"
 else
     echo 'release.sh: there is no pandoc, so the tarball has no HTML pages' >&2
 fi

@@ -1,7 +1,7 @@
 #!/usr/bin/env bash
 # tests/house.sh: the measures of the house, by scripts/house.sh --check; each crate is a test, and so is a line of 140 columns that
-# passes, and one of 141 that fails. Where the sources return "out of memory", by tests/out_of_memory.py: each file that does is a test,
-# and so are planted ones. And by tests/plain_words.py: comments and pages use no word that only this repository knows. The last line is
+# passes, and one of 141 that fails. And the places where the sources return out of memory, by tests/out_of_memory.py:
+# each file that has one is a test, and so are planted ones. And by tests/plain_words.py: comments and pages use no word that only this repository knows. The last line is
 # `N passed, M failed, K skipped`. Needs git and python3.
 set -uo pipefail
 top=$(dirname "$(dirname "$(readlink -f "$0")")")
@@ -16,14 +16,14 @@ for columns in 140 141; do
     told=$("$scratch/scripts/house.sh" --check)
     check "$columns columns: $told" [ "${told##*$'\n'}" = "$((141 - columns)) passed, $((columns - 140)) failed" ]
 done
-# planted NUMBER LINE: a file with this line answers so often that there is no memory.
+# planted NUMBER LINE: a file with this line returns out of memory in this many places.
 planted() {
     printf '//! AllocError\nuse std::alloc::AllocError;\nfn f() -> Result<(), AllocError>\n    ensures { result ≡ OutOfMemory }\n{\n    %s\n}\n' \
         "$2" > "$scratch/crates/wide/src/lib.rt"
     git -C "$scratch" add crates
     python3 -B "$scratch/tests/out_of_memory.py" > "$scratch/told"
-    grep -o 'crates/wide/src/lib.rt: it answers [0-9]' "$scratch/told"
-    [ "$(sed -n 's,^crates/wide/src/lib.rt: it answers \([0-9]\) .*,\1,p' "$scratch/told")" = "$1" ]
+    grep -o 'crates/wide/src/lib.rt: [0-9]' "$scratch/told"
+    [ "$(sed -n 's,^crates/wide/src/lib.rt: \([0-9]\) places .*,\1,p' "$scratch/told")" = "$1" ]
 }
 mkdir -p "$scratch/tests" "$scratch/crates/wide/src"
 cp "$top/tests/out_of_memory.py" "$scratch/tests"

@@ -144,7 +144,7 @@ subcommands_work() {
     local trace=$top/examples/linux-veth-bursts.csv words='--budget 16 --weight 8' f=$1/fintaqush
     # shellcheck disable=SC2086 # words
     "$f" raise "$trace" $words > raised.csv && "$1/napi_serial" $words < raised.csv | grep '^total .* work 15245 ' &&
-        "$f" compare "$trace" --raise $words -- --budget 300 > table && "$f" plot "$trace" --script | grep -q '^plot ' &&
+        "$f" compare "$trace" --raise $words -- --budget 300 > table && "$f" plot "$trace" --json | grep -q '^{' &&
         "$f" steps "$top/examples/two-packets.csv" --out page.html && "$f" sweep "$top/examples/bursts.csv" --out rows.csv &&
         "$1/napi_replay" < "$trace" | "$f" json > report.json && "$f" compare-recording "${trace%.csv}" > compared &&
         "$f" from-ftrace "$top/tests/tools/soft-tcp.txt" made $(printf -- '--pair va%d:vb%d ' 1 1 2 2 3 3 4 4 5 5 6 6) &&
@@ -177,7 +177,7 @@ tries() {
         [ "$(ls)" = "$(printf '%s\n' few fintaqush-try.html tour)" ]
 }
 
-# python_replays FOLDER: like napi_serial, by the package there.
+# python_replays FOLDER: like napi_serial, by the package there and the installed library.
 python_replays() {
     local program='import fintaqush, sys; print(end=fintaqush.replay(sys.stdin.buffer.read()).text)'
     PYTHONDONTWRITEBYTECODE='' PYTHONPATH=$1/lib/python3/dist-packages python3 -c "$program" < "$top/crates/napi_serial/stdin" |

@@ -1,8 +1,8 @@
-"""Where the sources answer that there is no memory: each place passes on an allocation that was refused, and PLACES lists them all.
+"""Where the sources return out of memory: each place passes on an allocation that failed, and PLACES lists them all.
 
-A body can write `Err(AllocError)` without any allocation, and no clause refuses that. So the places are counted, file by file: one that is
-new fails here until it is listed, and one that is gone until it is taken off the list. Types, patterns, comparisons, texts and the crates of
-tests don't count. Each file is a test; the last line is `N passed, M failed`.
+A body can write `Err(AllocError)` without any allocation, and no clause rejects that. So the places are counted in each file: a new place
+fails this test until it is listed, and a removed one until it is taken off the list. Types, patterns, comparisons, texts and the test crates
+don't count. Each file is a test; the last line is `N passed, M failed`.
 """
 import pathlib
 import re
@@ -10,15 +10,15 @@ import subprocess
 import sys
 
 TOP = pathlib.Path(__file__).resolve().parent.parent
-# How many answers a file makes, and what was refused.
+# How many places a file has, and which allocation failed.
 PLACES = {
-    "device_rows/src/fault.rt": (1, "`From<AllocError>`: the growth that an `?` passes on"),
-    "device_rows/src/source.rt": (1, "a read that has `ErrorKind::OutOfMemory`, of the reader's own buffer"),
+    "device_rows/src/fault.rt": (2, "`From<AllocError>`: the growth that `?` passes on; `ReadError::OutOfMemory` of the reader"),
+    "device_rows/src/source.rt": (2, "`From<AllocError>`; a read with `ErrorKind::OutOfMemory`, of the reader's own buffer"),
     "device_rows/src/trace.rt": (2, "the next record: `Next::OutOfMemory`"),
     "device_shared/src/opening.rt": (2, "the ring, the instance"),
     "device_transmit/src/transmit.rt": (1, "the transmit ring"),
     "machine_report/src/arrivals.rt": (2, "the next record: `Next::OutOfMemory`"),
-    "machine_report/src/fault.rt": (1, "`From<AllocError>`"),
+    "machine_report/src/fault.rt": (2, "`From<AllocError>`; `ReadError::OutOfMemory` of the reader"),
     "napi_c/src/ends.rt": (1, "a box"),
     "napi_c/src/list.rt": (2, "a box, the list"),
     "napi_c/src/ring.rt": (2, "a box, the ring"),
@@ -59,7 +59,7 @@ def code(text):
 
 
 def is_value(text, found):
-    """Whether an answer is made of the name: it is no declaration, no type, no pattern, and is compared with nothing."""
+    """Whether the name is a value that is returned: not a declaration, a type, a pattern or part of a comparison."""
     before, behind = text[: found.start()].rstrip(), text[found.end() :].lstrip()
     if "::" not in found[0] and found[0] == "OutOfMemory":
         return False  # the variant where it is declared
@@ -80,7 +80,7 @@ def main():
         wanted, found = PLACES.get(name, (0, ""))[0], counts.get(name, 0)
         passed, failed = passed + (wanted == found), failed + (wanted != found)
         if wanted != found:
-            print(f"crates/{name}: it answers {found} times that there is no memory, and tests/out_of_memory.py lists {wanted}")
+            print(f"crates/{name}: {found} places return out of memory, and tests/out_of_memory.py lists {wanted}")
     print(f"{passed} passed, {failed} failed")
     return failed != 0
 

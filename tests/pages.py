@@ -121,7 +121,7 @@ def door_of():
     found = {}
     for name in needs_of_crates():
         first = TOP / "crates" / name / "src/lib.rt"
-        if first.exists() and (door := re.match(r"//! (?:Behind the door|Internal crate of the facade) `(\w+)`", first.read_text())):
+        if first.exists() and (door := re.match(r"//! Internal crate of the facade `(\w+)`", first.read_text())):
             found[name] = door[1]
     return found
 

@@ -53,5 +53,5 @@ for home in "$scratch/root/usr" "$scratch/$name"; do
     done
     check "${home##*/}: a program over the library" links "$home"
 done
-check 'the release has HTML pages if pandoc is there' [ "$(command -v pandoc > /dev/null && echo yes)" = "$([ -e "$scratch/$name/share/doc/fintaqush/index.html" ] && echo yes)" ]
+check 'the release has HTML pages if pandoc is there' [ "$(command -v pandoc > /dev/null && echo yes)" = "$([ -e "$scratch/$name/share/doc/fintaqush/html/index.html" ] && echo yes)" ]
 sum_up

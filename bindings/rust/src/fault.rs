@@ -60,9 +60,9 @@ impl Fault {
     /// What it says in words, as `"a weight is 1 to 64 packets"`.
     pub fn message(self) -> String {
         let mut text = vec![0; sys::FQ_MESSAGE_ROOM];
+        let (to, room) = (text.as_mut_ptr().cast(), text.len());
         // SAFETY: the array has so many bytes, and is this call's alone.
-        let length =
-            unsafe { sys::fq_status_message(self.0, text.as_mut_ptr().cast(), text.len()) };
+        let length = unsafe { sys::fq_status_message(self.0, to, room) };
         text.truncate(length);
         String::from_utf8_lossy(&text).into_owned()
     }

@@ -13,6 +13,7 @@ pub struct Card {
     pub to_come: u32,
     /// The packets that it has.
     pub packets: u32,
+    /// Its interrupt is masked.
     pub masked: bool,
     /// It has an interrupt that isn't reported to the driver yet.
     pub interrupting: bool,
@@ -21,13 +22,19 @@ pub struct Card {
 /// What the thread is about: what the driver said, done or not.
 #[derive(Clone, Copy, PartialEq, Eq, PartialOrd, Ord, Debug)]
 pub enum Hand {
+    /// Nothing: the driver is to be asked.
     Free,
+    /// It is to mask the card.
     ToMask,
+    /// It is to unmask the card.
     ToUnmask,
+    /// It is to look at the card.
     ToLook,
     /// It is to take so many packets at most.
     ToFetch(u32),
+    /// It masked the card.
     Masked,
+    /// It unmasked the card.
     Unmasked,
     /// It looked, and saw packets or none.
     Saw(bool),
@@ -38,12 +45,19 @@ pub enum Hand {
 /// One step of the card, of the thread, or an open or stop of the device.
 #[derive(Clone, Copy, PartialEq, Eq, Debug)]
 pub enum Step {
+    /// A packet arrives at the card.
     Arrive,
+    /// The card's interrupt is reported to the driver.
     Interrupt,
+    /// The driver says what is to be done next.
     Say,
+    /// The thread does it at the card.
     Act,
+    /// The thread reports that it is done.
     Report,
+    /// The device is opened.
     Open,
+    /// The device is stopped.
     Stop,
 }
 
@@ -61,7 +75,9 @@ pub const STEPS: [Step; 7] = [
 /// What a run did so far.
 #[derive(Clone, Copy, PartialEq, Eq, PartialOrd, Ord, Debug)]
 pub struct RunSoFar {
+    /// Its polls.
     pub polls: u32,
+    /// Their packets.
     pub packets: u32,
     /// A poll used its whole weight, and the device is to be polled again.
     pub repolled: bool,
@@ -90,8 +106,11 @@ pub struct State {
 /// A driver of one device, its card, and its thread.
 #[derive(Drop)]
 pub struct Bench {
+    /// The driver under test.
     pub driver: Driver,
+    /// Its card.
     pub card: Card,
+    /// What its thread is about.
     pub hand: Hand,
     /// How often the device may still be stopped.
     pub stops: u32,

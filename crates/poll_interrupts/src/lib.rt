@@ -1,4 +1,4 @@
-//! //! Internal crate of the facade `poll_engine`: interrupt workers, each with the device of a station and its instance, in
+//! Internal crate of the facade `poll_engine`: interrupt workers, each with the device of a station and its instance, in
 //! its own thread.
 #![tactic(auto)]
 

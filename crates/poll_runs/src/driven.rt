@@ -243,7 +243,7 @@ impl PollingRun {
         give_back(&self, list)
     }
 
-    /// Like [`end`](PollingRun::end), for a run held by reference, which holds nothing afterwards.
+    /// Like [`end`](PollingRun::end), for a run behind a reference, which holds nothing afterwards.
     pub fn finish<L: PollList>(&mut self, list: &mut L) -> RunReport
         requires rests { self.old.asked ≡ None }
         requires room { L.has_room list.old (held self.old) }

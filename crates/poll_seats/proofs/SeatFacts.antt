@@ -55,8 +55,10 @@ poll_keeps_at (Some place) weight once before after p =
     (seats_set (vec_items before.seats) place p.was p.now p.within p.there p.same)
 
 -- the poll of an instance at which there is a seat, and of one at which there is none
-pub polls_there : {R : Type 0} (seen : List (Kept R Seat)) (before : SeatBench R) (id weight : ℕ) (once : Once) (after : SeatBench R) (place : ℕ)
-    → seen ≡ vec_items before.seats → Some place ≡ position (λ seat. seat.value.number == id) seen → IsPolledAt before weight once after place
+pub polls_there : {R : Type 0} (seen : List (Kept R Seat)) (before : SeatBench R) (id weight : ℕ) (once : Once)
+    (after : SeatBench R) (place : ℕ)
+    → seen ≡ vec_items before.seats → Some place ≡ position (λ seat. seat.value.number == id) seen
+    → IsPolledAt before weight once after place
     → PollsSeat before id weight once after
 polls_there {R} seen before id weight once after place s e p =
     subst (λ at. MatchOption at (IsNowhere before once after) (IsPolledAt before weight once after))
@@ -75,7 +77,8 @@ pub run_keeps : {R : Type 0} (weight : ℕ) (polls : List Poll) (before after : 
 run_keeps {R} weight [] before after c =
     subst (λ (x : SeatBench R). AreSameSeats (vec_items before.seats) (vec_items x.seats)) (sym c) (seats_stay (vec_items before.seats))
 run_keeps {R} weight (p ∷ polls) before after c =
-    let one = poll_keeps_at (position (λ (seat : Kept R Seat). seat.value.number == p.id) (vec_items before.seats)) weight p.once before c.0 c.1 in
+    let one = poll_keeps_at (position (λ (seat : Kept R Seat). seat.value.number == p.id)
+    (vec_items before.seats)) weight p.once before c.0 c.1 in
     seats_join (vec_items before.seats) (vec_items c.0.seats) (vec_items after.seats) one (run_keeps weight polls c.0 after c.2)
 
 -- a poller's turn preserves them
@@ -102,8 +105,12 @@ served_keeps before after s =
 -- so do the turns of an instance's thread
 alone_keep : {R : Type 0} (found : List Bool) (before after : ThreadPoller R) → Chain TurnsAlone before found after
     → IsSameSeat before.seat.value after.seat.value
-alone_keep {R} [] before after c = subst (λ (x : ThreadPoller R). IsSameSeat before.seat.value x.seat.value) (sym c) (seat_stays before.seat.value)
-alone_keep {R} (one ∷ more) before after c = seat_joins before.seat.value c.0.seat.value after.seat.value c.1.same (alone_keep more c.0 after c.2)
+alone_keep {R} [] before after c = subst (λ (x : ThreadPoller R). IsSameSeat before.seat.value x.seat.value) (sym c)
+    (seat_stays before.seat.value)
+alone_keep {R} (one ∷ more) before after c = seat_joins before.seat.value c.0.seat.value after.seat.value c.1.same
+    (alone_keep more c.0 after c.2)
 
-pub served_alone : {R : Type 0} (before after : ThreadPoller R) → IsServed TurnsAlone before after → IsSameSeat before.seat.value after.seat.value
-served_alone before after s = seat_joins before.seat.value s.last.seat.value after.seat.value (alone_keep s.found before s.last s.earlier) s.empty.same
+pub served_alone : {R : Type 0} (before after : ThreadPoller R) → IsServed TurnsAlone before after
+    → IsSameSeat before.seat.value after.seat.value
+served_alone before after s = seat_joins before.seat.value s.last.seat.value after.seat.value
+    (alone_keep s.found before s.last s.earlier) s.empty.same

@@ -17,7 +17,8 @@ thread_name number = 200 + number
 module _ {R : Type 0} where
   -- The poller with this number started, which its gate allowed, and took its turns, one after the other, each a run by this
   -- pace: over this list, and from its seats as they were to these.
-  pub record IsPolledBy (asked : ℕ → Type 0) (pace : Pace) (number : ℕ) (list : SharedList R) (before after : List (Kept R Seat)) : Type 0 where
+  pub record IsPolledBy (asked : ℕ → Type 0) (pace : Pace) (number : ℕ) (list : SharedList R) (before after : List
+      (Kept R Seat)) : Type 0 where
     pub first : ListPoller R
     pub last : ListPoller R
     pub started : asked (poller_name number)

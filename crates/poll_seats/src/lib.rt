@@ -1,4 +1,4 @@
-//! //! Internal crate of the facade `poll_engine`: pollers, each in its own thread, of the instances on a list or of a single
+//! Internal crate of the facade `poll_engine`: pollers, each in its own thread, of the instances on a list or of a single
 //! one.
 #![tactic(auto)]
 

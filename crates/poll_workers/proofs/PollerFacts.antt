@@ -30,7 +30,8 @@ module _ {R : Type 0} (count pollers : ℕ) (sat : List (Kept R Seat)) (seats : 
       omega (arith, long, fewer, few, p.1)
 
   -- one more was given to its poller
-  pub one_more : (seat : Kept R Seat) (after : List (Vec (Kept R Seat))) → is_own k pollers seat.value.number ≡ true → TakesSeat seats k seat after
+  pub one_more : (seat : Kept R Seat) (after : List (Vec (Kept R Seat))) → is_own k pollers seat.value.number ≡ true
+      → TakesSeat seats k seat after
       → HaveOwn count pollers (sat ++ seat ∷ []) after
   one_more seat after own t =
       subst (λ l. HaveOwn count pollers (sat ++ seat ∷ []) l) (sym t.rest)

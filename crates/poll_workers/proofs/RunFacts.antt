@@ -5,16 +5,23 @@ use Rattle.std.{proofs.Common.{ap, inl, inr, ◌∙◌, refl, subst, Some, All, 
 use Rattle.std.specs.{Prelude.{◌⊎◌, IfSome, not, unwrap_or, vec_items, vec_len}, List.{AllByRecursion, AllZip}, Global.Vec}
 use Rattle.{poll_tasks.specs.Asks.WasLet, poll_interrupts.specs.Acts.{after_acts, arrivals}}
 use Rattle.poll_interrupts.specs.{Runs.HasRun, Deals.{is_dealt, is_own, poller_by}, Calls.listings, Ends.{IsFinishOf, IsKeptFinishOf}}
-use Rattle.poll_interrupts.specs.{Runs.{Ledger, Whose, WorksBy, IsEnded, blank, controller_number, worker_number}, declared.station.Station.Station}
-use Rattle.poll_interrupts.specs.declared.{station.Finished.Finished, worker.{InterruptWorker.InterruptWorker, InterruptHandler.InterruptHandler, OwnSeats.OwnSeats}}
-use Rattle.poll_interrupts.specs.{declared.{opening.{Loose.Loose, Placed.Placed}, acts.Act.Act}, Works.{IsDoneBy, IsWorked, ledger_of, whose}}
+use Rattle.poll_interrupts.specs.{Runs.{Ledger, Whose, WorksBy, IsEnded, blank, controller_number, worker_number}}
+use Rattle.poll_interrupts.specs.{declared.station.Station.Station}
+use Rattle.poll_interrupts.specs.declared.{station.Finished.Finished}
+use Rattle.poll_interrupts.specs.declared.{worker.{InterruptWorker.InterruptWorker, InterruptHandler.InterruptHandler, OwnSeats.OwnSeats}}
+use Rattle.poll_interrupts.specs.{declared.{opening.{Loose.Loose, Placed.Placed}, acts.Act.Act}}
+use Rattle.poll_interrupts.specs.{Works.{IsDoneBy, IsWorked, ledger_of, whose}}
 use Rattle.poll_interrupts.specs.{Seats.AreSeatsOf, Opens.{IsHome, IsInputOf, IsKeptLoose, IsKeptPartOf, IsKeptSideOf, IsLoose}}
 use Rattle.poll_list.specs.declared.{list_in.ListIn.ListIn, shared.SharedList.SharedList}
-use Rattle.poll_tasks.proofs.ListFacts.{at_mapped, at_place, each_index, each_zip, zip_and, zip_both, zip_each, zip_empty, zip_filtered, zip_flip}
+use Rattle.poll_tasks.proofs.ListFacts.{at_mapped, at_place, each_index, each_zip, zip_and}
+use Rattle.poll_tasks.proofs.ListFacts.{zip_both, zip_each, zip_empty, zip_filtered, zip_flip}
 use Rattle.poll_tasks.proofs.ListFacts.{zip_right, zip_same}
-use Rattle.poll_tasks.specs.{Tasks.{EachAt, IsAt}, Asks.IsAsked, Stops.IsStop, declared.{signals.Bell.Bell, pace.{Setting.Setting, Pace.Pace}}}
-use Rattle.rx_ring.specs.{Ends.{SameIn, capacity_of, put_list}, ReceiveRing.{bytes_of, capped}, declared.{ends.RxIn.RxIn, packet.Packet.Packet}}
-use Rattle.poll_seats.specs.{SeatKeeping.{AreSameSeats, IsSameSeat}, Serving.IsServed, Turns.{TurnsAlone, TurnsByRun, has_no_seat, has_no_thread}}
+use Rattle.poll_tasks.specs.{Tasks.{EachAt, IsAt}, Asks.IsAsked}
+use Rattle.poll_tasks.specs.{Stops.IsStop, declared.{signals.Bell.Bell, pace.{Setting.Setting, Pace.Pace}}}
+use Rattle.rx_ring.specs.{Ends.{SameIn, capacity_of, put_list}}
+use Rattle.rx_ring.specs.{ReceiveRing.{bytes_of, capped}, declared.{ends.RxIn.RxIn, packet.Packet.Packet}}
+use Rattle.poll_seats.specs.{SeatKeeping.{AreSameSeats, IsSameSeat}}
+use Rattle.poll_seats.specs.{Serving.IsServed, Turns.{TurnsAlone, TurnsByRun, has_no_seat, has_no_thread}}
 use Rattle.poll_seats.specs.declared.{seat.Seat.Seat, poller.Poller.Poller, list_poller.ListPoller.ListPoller}
 use Rattle.poll_seats.specs.declared.thread_poller.ThreadPoller.{ThreadPoller}
 use Rattle.poll_seats.{specs.Gives.{IsPolled}, proofs.SeatFacts.{seats_stay, seat_stays, served_alone, served_keeps}}
@@ -259,9 +266,11 @@ module _ {R D G : Type 0} (acts : D → ℕ) (answer : D → ℕ → Act) (after
   run_courses =
       let by = ran.left_by in
       courses_of acts answer after (answers setting.gate.now) asked setting.pace lists pollers stations by.all ends
-      (subst (λ l. AllZip (Works acts answer after (answers setting.gate.now) asked setting.pace lists pollers) stations l) (sym by.workers_are)
+      (subst (λ l. AllZip (Works acts answer after (answers setting.gate.now) asked setting.pace lists pollers) stations l)
+      (sym by.workers_are)
       (zip_both _ _ _ _ _ opened ran.made))
-      (subst (λ l. AllZip (Turns acts answer after (answers setting.gate.now) asked setting.pace lists pollers) stations l) (sym by.threads_are)
+      (subst (λ l. AllZip (Turns acts answer after (answers setting.gate.now) asked setting.pace lists pollers) stations l)
+      (sym by.threads_are)
       (zip_both _ _ _ _ _ opened ran.turned))
       (subst (λ l. AllByRecursion (λ (w : InterruptWorker R D G). w.stop ≡ None) l) (sym by.workers_are) (each_of _ _ ran.whole))
       (subst (λ l. AllByRecursion (λ (t : OwnThread R G). t.stop ≡ None) l) (sym by.threads_are) (each_of _ _ ran.whole_turns))
@@ -587,7 +596,8 @@ module _ {R D G : Type 0} (acts : D → ℕ) (answer : D → ℕ → Act) (after
       → AllZip (HasTurned (IsAsked answers setting.gate.now) setting.pace lists (length bells)) loose threads
   all_turned loose sides threads for wired did =
       zip_same _ _ _ _ (λ l t h after is whole.
-      subst (λ b. TurnsIfThread R (IsAsked answers setting.gate.now) setting.pace lists (length bells) b l.value.number l.value.thread after)
+      subst (λ b. TurnsIfThread R (IsAsked answers setting.gate.now) setting.pace lists
+      (length bells) b l.value.number l.value.thread after)
       h.1.0.seat.thread (turned_by l h.0 t _ refl h.1.0 h.1.1 h.2 whole after is))
       (zip_both _ _ _ _ _ (zip_right _ _ _ _ for wired) did)
 

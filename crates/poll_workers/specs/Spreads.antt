@@ -3,7 +3,8 @@ use Rattle.std.specs.Prelude.{◌≡◌, ℕ, ◌++◌, ◌≤◌, List, [], ◌
 use Rattle.std.specs.Prelude.{slice_index_or, slice_set}
 use Rattle.std.specs.{Prelude.{vec_items, vec_capacity}, Global.Vec}
 use Rattle.poll_list.specs.{SharedList.{IsInOf, IsNewList, pushed_by}, declared.{list_in.ListIn.ListIn, shared.SharedList.SharedList}}
-use Rattle.{std.specs.List.All, poll_tasks.specs.{Wakers.Wakes, declared.signals.Bell.Bell}, poll_interrupts.specs.Deals.{is_own, poller_by}}
+use Rattle.{std.specs.List.All}
+use Rattle.{poll_tasks.specs.{Wakers.Wakes, declared.signals.Bell.Bell}, poll_interrupts.specs.Deals.{is_own, poller_by}}
 use Rattle.{poll_tasks.specs.Tasks.{EachAt, IsAt}, poll_workers.specs.declared.pollers.Begin.Begin}
 use Rattle.{napi_calls.specs.declared.{kept.Kept.Kept, types.Caller.Caller}, poll_tasks.specs.declared.pace.Setting.Setting}
 use Rattle.poll_interrupts.specs.declared.{opening.{Placed.Placed, Loose.Loose}, worker.InterruptWorker.InterruptWorker}
@@ -97,7 +98,8 @@ module _ {R : Type 0} where
       EachAt (λ k own. (vec_items own ≡ filter (λ (s : Kept R Seat). is_own k pollers s.value.number) seats) × (count ≤ vec_capacity own))
 
   -- a poller has one more seat
-  pub record TakesSeat (before : List (Vec (Kept R Seat))) (poller : ℕ) (seat : Kept R Seat) (after : List (Vec (Kept R Seat))) : Type 0 where
+  pub record TakesSeat (before : List (Vec (Kept R Seat))) (poller : ℕ) (seat : Kept R Seat) (after : List (Vec
+      (Kept R Seat))) : Type 0 where
     pub was : Vec (Kept R Seat)
     pub now : Vec (Kept R Seat)
     pub there : slice_index_or before poller was ≡ was

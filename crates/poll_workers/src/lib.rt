@@ -1,4 +1,4 @@
-//! //! Internal crate of the facade `poll_engine`: interrupt workers, pollers and thread pollers, each in its own thread, over
+//! Internal crate of the facade `poll_engine`: interrupt workers, pollers and thread pollers, each in its own thread, over
 //! shared instances.
 #![tactic(auto)]
 

@@ -12,7 +12,8 @@ returns-in-Some-clause-some g c =
 pub loop-one-preserved : goal.loop-one-preserved
 loop-one-preserved g c k d low =
     let none : c.one-item.result.stop ≡ None = search rules in
-    let here : (e : InterruptWorker g.row.R.Denot g.row.D.Denot g.row.G.Denot) → (get_or c.args.all.now c.loop-one.one-index e).stop ≡ None =
+    let here : (e : InterruptWorker g.row.R.Denot g.row.D.Denot g.row.G.Denot)
+    → (get_or c.args.all.now c.loop-one.one-index e).stop ≡ None =
     λ e. ap (λ (w : InterruptWorker g.row.R.Denot g.row.D.Denot g.row.G.Denot). w.stop)
     (get_or_default c.args.all.now c.loop-one.one-index e c.one-item.result c.loop-one-test.true ∙ sym c.one-item.is) ∙ none in
     below_more (λ n. (e : InterruptWorker g.row.R.Denot g.row.D.Denot g.row.G.Denot) → (get_or c.args.all.now n e).stop ≡ None) _

@@ -1,4 +1,5 @@
-use Rattle.std.proofs.{Common.{◌≡◌, ◌≤◌, ◌∷◌, ◌++◌, ◌∙◌, [], length, vec_items, rules, refl, arith, sym, append-nil, ap}, lemmas.{Grind.common_steps, List.nil_from_length}}
+use Rattle.std.proofs.{Common.{◌≡◌, ◌≤◌, ◌∷◌, ◌++◌, ◌∙◌, [], length, vec_items, rules, refl, arith, sym, append-nil, ap}}
+use Rattle.std.proofs.{lemmas.{Grind.common_steps, List.nil_from_length}}
 use Rattle.poll_tasks.proofs.{Zips.{zip_push, before_more}, ListFacts.first_of}
 use Rattle.poll_tasks.proofs.tasks.spawn_all.Goals as goal
 

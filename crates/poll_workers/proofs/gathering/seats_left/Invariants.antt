@@ -1,5 +1,6 @@
 use Rattle.std.proofs.Common.{◌≡◌, ◌+◌, ◌≤◌, ◌++◌, vec_len, vec_capacity, vec_items, length, List, map}
-use Rattle.{std.specs.Vec.Iter.{into_iter_items, into_iter_len}, poll_seats.specs.declared.{poller.Poller.Poller, list_poller.ListPoller.ListPoller}}
+use Rattle.{std.specs.Vec.Iter.{into_iter_items, into_iter_len}}
+use Rattle.{poll_seats.specs.declared.{poller.Poller.Poller, list_poller.ListPoller.ListPoller}}
 use Rattle.poll_workers.proofs.gathering.seats_left.Given as goal
 
 abbrev pub invariant-loop-poller : goal.invariant-loop-poller

@@ -3,7 +3,8 @@ use Rattle.std.proofs.{Common.{append_assoc, map, rules}, lemmas.{Grind.common_s
 use Rattle.poll_tasks.specs.Tasks.{IsAt}
 use Rattle.std.specs.{Vec.Iter.{into_iter_items, into_iter_len}, Prelude.filter}
 use Rattle.poll_tasks.proofs.{Zips.before_more, ListFacts.{each_more, none_left}}
-use Rattle.{poll_interrupts.specs.Deals.is_own, poll_seats.specs.declared.seat.Seat.Seat, napi_calls.specs.declared.kept.Kept.Kept, poll_workers.specs.Spreads.IsPoller}
+use Rattle.{poll_interrupts.specs.Deals.is_own, poll_seats.specs.declared.seat.Seat.Seat}
+use Rattle.{napi_calls.specs.declared.kept.Kept.Kept, poll_workers.specs.Spreads.IsPoller}
 use Rattle.poll_workers.proofs.PollerFacts.{count_of}
 use Rattle.poll_workers.proofs.pollers.pollers_of.Goals as goal
 
@@ -72,7 +73,8 @@ loop-begin-preserved g c =
         few = now.few;
         room = grind (arith, now.room, c.push_reserved.ensures.capacity);
         pollers = λ count n sat have.
-            let own = subst (λ o. vec_items o ≡ filter (λ (s : Kept g.row.R.Denot Seat). is_own (length c.loop-begin.invariant.0) n s.value.number)
+            let own = subst (λ o. vec_items o ≡ filter (λ (s : Kept g.row.R.Denot Seat). is_own
+            (length c.loop-begin.invariant.0) n s.value.number)
             sat) more.1 (have (length c.loop-begin.invariant.0) c.in-Some-next.own more.0).0 in
             rw c.push_reserved.ensures.items
             (each_more

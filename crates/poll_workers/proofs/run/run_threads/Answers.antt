@@ -39,7 +39,8 @@ seats_left-seats-requires g c =
 pub gather-requires-clause-some : goal.gather-requires-clause-some
 gather-requires-clause-some g c =
     let a = zip_long _ _ _ c.drive-tasks.ensures.pollers in
-    let b = sym (ap (λ l. length l) c.seats_left-seats.ensures) ∙ length-map (vec_items c.drive-tasks.result.pollers) (λ p. p.served.seat_bench.seats) in
+    let b = sym (ap (λ l. length l) c.seats_left-seats.ensures)
+    ∙ length-map (vec_items c.drive-tasks.result.pollers) (λ p. p.served.seat_bench.seats) in
     grind (arith, common_steps, a, b, c.pollers_of.ensures.len, c.requires.pollers.0)
 
 pub gather-requires-clause-seats : goal.gather-requires-clause-seats
@@ -50,9 +51,11 @@ gather-requires-clause-seats g c =
     let same : length (vec_items c.seats_left-seats.result) ≡ length c.args.bells.now = sym (ap (λ l. length l) c.seats_left-seats.ensures)
     ∙ length-map polled (λ p. p.served.seat_bench.seats) ∙ sym (zip_long _ _ _ c.drive-tasks.ensures.pollers) ∙ c.pollers_of.ensures.len in
     let back = all_back_at g.D.Device.acts g.D.Device.answer g.D.Device.after g.G.Gate.may_shut g.G.Gate.answers c.args.setting.now
-    (map (λ b. b.list) (vec_items c.args.begins.pollers)) c.args.bells.now _ _ _ _ c.requires.sides s.jobs s.job_places c.drive-tasks.ensures.workers in
+    (map (λ b. b.list) (vec_items c.args.begins.pollers)) c.args.bells.now _ _ _ _ c.requires.sides s.jobs s.job_places
+    c.drive-tasks.ensures.workers in
     let at = all_seats_at g.D.Device.acts g.D.Device.answer g.D.Device.after g.G.Gate.may_shut g.G.Gate.answers c.args.setting.now
-    (map (λ b. b.list) (vec_items c.args.begins.pollers)) c.args.bells.now _ _ _ _ s.seats.0 _ _ back s.seats.1 s.seats.2 (c.pollers_of.ensures.pollers _ _ s.seats.0 s.seats.3)
+    (map (λ b. b.list) (vec_items c.args.begins.pollers)) c.args.bells.now _ _ _ _ s.seats.0 _ _ back s.seats.1 s.seats.2
+    (c.pollers_of.ensures.pollers _ _ s.seats.0 s.seats.3)
     c.drive-tasks.ensures.pollers c.pollers_of.ensures.lists in
     subst (λ n. EachAt (AreSeatsAt n workers) (vec_items c.seats_left-seats.result)) (sym same)
     (subst (λ l. EachAt (AreSeatsAt (length c.args.bells.now) workers) l) c.seats_left-seats.ensures
@@ -62,7 +65,8 @@ pub gather-requires-clause-threads : goal.gather-requires-clause-threads
 gather-requires-clause-threads g c =
     let s = c.spread-seats.ensures in
     let back = all_back_at g.D.Device.acts g.D.Device.answer g.D.Device.after g.G.Gate.may_shut g.G.Gate.answers c.args.setting.now
-    (map (λ b. b.list) (vec_items c.args.begins.pollers)) c.args.bells.now _ _ _ _ c.requires.sides s.jobs s.job_places c.drive-tasks.ensures.workers in
+    (map (λ b. b.list) (vec_items c.args.begins.pollers)) c.args.bells.now _ _ _ _ c.requires.sides s.jobs s.job_places
+    c.drive-tasks.ensures.workers in
     all_threads_with g.D.Device.acts g.D.Device.answer g.D.Device.after g.G.Gate.may_shut g.G.Gate.answers c.args.setting.now
     (map (λ b. b.list) (vec_items c.args.begins.pollers)) c.args.bells.now _ _ _ _ back s.thread_places c.drive-tasks.ensures.threads
 
@@ -76,7 +80,8 @@ pub returns-clause-parts : goal.returns-clause-parts
 returns-clause-parts g c =
     let s = c.spread-seats.ensures in
     let back = all_back_at g.D.Device.acts g.D.Device.answer g.D.Device.after g.G.Gate.may_shut g.G.Gate.answers c.args.setting.now
-    (map (λ b. b.list) (vec_items c.args.begins.pollers)) c.args.bells.now _ _ _ _ c.requires.sides s.jobs s.job_places c.drive-tasks.ensures.workers in
+    (map (λ b. b.list) (vec_items c.args.begins.pollers)) c.args.bells.now _ _ _ _ c.requires.sides s.jobs s.job_places
+    c.drive-tasks.ensures.workers in
     all_parts g.D.Device.acts g.D.Device.answer g.D.Device.after g.G.Gate.may_shut g.G.Gate.answers c.args.setting.now
     (map (λ b. b.list) (vec_items c.args.begins.pollers)) c.args.bells.now _ _ _ _ _ back c.gather.ensures
 
@@ -84,8 +89,10 @@ pub returns-clause-len : goal.returns-clause-len
 returns-clause-len g c =
     let s = c.spread-seats.ensures in
     let back = all_back_at g.D.Device.acts g.D.Device.answer g.D.Device.after g.G.Gate.may_shut g.G.Gate.answers c.args.setting.now
-    (map (λ b. b.list) (vec_items c.args.begins.pollers)) c.args.bells.now _ _ _ _ c.requires.sides s.jobs s.job_places c.drive-tasks.ensures.workers in
-    let a = zip_long _ _ _ (all_parts g.D.Device.acts g.D.Device.answer g.D.Device.after g.G.Gate.may_shut g.G.Gate.answers c.args.setting.now
+    (map (λ b. b.list) (vec_items c.args.begins.pollers)) c.args.bells.now _ _ _ _ c.requires.sides s.jobs s.job_places
+    c.drive-tasks.ensures.workers in
+    let a = zip_long _ _ _ (all_parts g.D.Device.acts g.D.Device.answer g.D.Device.after g.G.Gate.may_shut g.G.Gate.answers
+    c.args.setting.now
     (map (λ b. b.list) (vec_items c.args.begins.pollers)) c.args.bells.now _ _ _ _ _ back c.gather.ensures) in
     let b = zip_long _ _ _ c.requires.sides in
     grind (arith, common_steps, a, b)
@@ -94,7 +101,8 @@ pub returns-clause-ran : goal.returns-clause-ran
 returns-clause-ran g c none =
     let s = c.spread-seats.ensures in
     let back = all_back_at g.D.Device.acts g.D.Device.answer g.D.Device.after g.G.Gate.may_shut g.G.Gate.answers c.args.setting.now
-    (map (λ b. b.list) (vec_items c.args.begins.pollers)) c.args.bells.now _ _ _ _ c.requires.sides s.jobs s.job_places c.drive-tasks.ensures.workers in
+    (map (λ b. b.list) (vec_items c.args.begins.pollers)) c.args.bells.now _ _ _ _ c.requires.sides s.jobs s.job_places
+    c.drive-tasks.ensures.workers in
     let ends = ends_of_lists _ _ c.requires.own in
     record {
       workers = vec_items c.drive-tasks.result.workers;
@@ -102,12 +110,14 @@ returns-clause-ran g c none =
       threads = vec_items c.drive-tasks.result.threads;
       same = sym (zip_long _ _ _ c.drive-tasks.ensures.pollers) ∙ c.pollers_of.ensures.len;
       made = all_worked g.D.Device.acts g.D.Device.answer g.D.Device.after g.G.Gate.may_shut g.G.Gate.answers c.args.setting.now
-          (map (λ b. b.list) (vec_items c.args.begins.pollers)) c.args.bells.now _ _ _ s.jobs (s.wired_jobs _ ends) c.drive-tasks.ensures.workers;
+          (map (λ b. b.list) (vec_items c.args.begins.pollers)) c.args.bells.now _ _ _ s.jobs
+          (s.wired_jobs _ ends) c.drive-tasks.ensures.workers;
       ran = all_have_polled g.D.Device.acts g.D.Device.answer g.D.Device.after g.G.Gate.may_shut g.G.Gate.answers c.args.setting.now
           (map (λ b. b.list) (vec_items c.args.begins.pollers)) c.args.bells.now _ _ _ _ s.seats.0 _ _ back s.seats.1 s.seats.2
           (c.pollers_of.ensures.pollers _ _ s.seats.0 s.seats.3) c.drive-tasks.ensures.pollers c.pollers_of.ensures.lists;
       turned = all_turned g.D.Device.acts g.D.Device.answer g.D.Device.after g.G.Gate.may_shut g.G.Gate.answers c.args.setting.now
-          (map (λ b. b.list) (vec_items c.args.begins.pollers)) c.args.bells.now _ _ _ s.threads (s.wired_threads _ ends) c.drive-tasks.ensures.threads;
+          (map (λ b. b.list) (vec_items c.args.begins.pollers)) c.args.bells.now _ _ _ s.threads
+          (s.wired_threads _ ends) c.drive-tasks.ensures.threads;
       left_by = subst (λ l. AreLeftBy (vec_items c.drive-tasks.result.workers) l (vec_items c.drive-tasks.result.threads)
           (vec_items c.gather.result)) (sym c.seats_left-seats.ensures) c.gather.ensures;
       whole = c.stop_of_run-stop.ensures.workers none;
