@@ -1,8 +1,8 @@
 #!/usr/bin/env bash
 # tests/house.sh: the measures of the house, by scripts/house.sh --check; each crate is a test, and so is a line of 140 columns that
-# passes, and one of 141 that fails. And the places where the sources return out of memory, by tests/out_of_memory.py:
-# each file that has one is a test, and so are planted ones. And by tests/plain_words.py: comments and pages use no word that only this repository knows. The last line is
-# `N passed, M failed, K skipped`. Needs git and python3.
+# passes, and one of 141 that fails. And the places where the sources return out of memory, by tests/out_of_memory.py: each file that has
+# one is a test, and so are planted ones. And by tests/plain_words.py: comments and pages use no word that only this repository knows. The
+# last line is `N passed, M failed, K skipped`. Needs git and python3.
 set -uo pipefail
 top=$(dirname "$(dirname "$(readlink -f "$0")")")
 scratch=$(mktemp -d)
