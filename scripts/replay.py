@@ -49,7 +49,7 @@ CAUSES = {  # by the error's number and the line after it: the first that fits
     "5 ": "its moment, device or value is out of range",
     "6 ": "the device has to be opened by an open row before this one",
     "7 ": "the device was opened by a row before this one",
-    "8 ": "a disable stands behind an open or an enable of its device, and an enable behind a disable",
+    "8 ": "a disable follows an open or an enable of its device, and an enable follows a disable",
     "9 ": "a trace has at most 100000 rows: replay the first ones alone",
     "12 ": "the disable is pending still: a softirq or kthread row has to finish the polling before the enable",
 }

@@ -1,7 +1,8 @@
 #!/usr/bin/env bash
 # tests/house.sh: the measures of the house, by scripts/house.sh --check; each crate is a test, and so is a line of 140 columns that
-# passes, and one of 141 that is refused. And the places where the sources return out of memory, by tests/out_of_memory.py: each file that has
-# one is a test, and so are planted ones. The last line is `N passed, M failed, K skipped`. Needs git and python3.
+# passes, and one of 141 that fails. And the places where the sources return out of memory, by tests/out_of_memory.py: each file that has
+# one is a test, and so are planted ones. And by tests/plain_words.py: comments and pages use no word that only this repository knows. The
+# last line is `N passed, M failed, K skipped`. Needs git and python3.
 set -uo pipefail
 top=$(dirname "$(dirname "$(readlink -f "$0")")")
 scratch=$(mktemp -d)
@@ -33,10 +34,12 @@ check 'and a fault' planted 2 'made.map_err(|_| Fault::OutOfMemory).or(Err(Fault
 check 'and a status' planted 1 'status::OUT_OF_MEMORY'
 check 'a pattern, a comparison and a text are none' planted '' \
     'match e { Err(AllocError) => 1, E::A(F::OutOfMemory) | E::OutOfMemory => 2, _ => e == F::OutOfMemory || told("F::OutOfMemory") }'
-python3 -B "$top/tests/out_of_memory.py" > "$scratch/told"
-sed '$d' "$scratch/told"
-read -r well _ wrong _ < <(tail -n 1 "$scratch/told")
-passed=$((passed + well)) failed=$((failed + wrong))
+for script in out_of_memory plain_words; do
+    python3 -B "$top/tests/$script.py" > "$scratch/told"
+    sed '$d' "$scratch/told"
+    read -r well _ wrong _ < <(tail -n 1 "$scratch/told")
+    passed=$((passed + well)) failed=$((failed + wrong))
+done
 "$top/scripts/house.sh" --check > "$scratch/told"
 sed '$d' "$scratch/told"
 read -r well _ wrong _ < <(tail -n 1 "$scratch/told")

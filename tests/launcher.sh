@@ -150,7 +150,7 @@ busy has a device of 1..=16 and a value of 1..=65535 rounds
 ${h}0,1,open,4\n1,17,open,4\n% 5 OutOfRange row 2| line 3, '1,17,open,4': open has a device of 1..=16 and a value of 1..=65536, its places
 ${h}0,1,open,4\n1,1,kthread,1\n% 5 OutOfRange row 2| line 3, '1,1,kthread,1': it has a device of 1..=16 and the value 0
 ${h}0,1,open,4\n1,1,open,4\n% 7 OpenTwice row 2| line 3, '1,1,open,4': the device was opened by a row before this one
-${h}0,1,open,4\n1,1,enable,0\n% 8 WrongState row 2| line 3, '1,1,enable,0': a disable stands behind an open or an enable of its device*
+${h}0,1,open,4\n1,1,enable,0\n% 8 WrongState row 2| line 3, '1,1,enable,0': a disable follows an open or an enable of its device*
 ${h}0\t1\topen\t4\n% 2 BadFields row 1| line 2, '0?1?open?4': a row has four fields with commas between them, not tabs
 ${h}0,1,open,4\n1,1,rx,9\n1,1,disable,0\n1,1,enable,0\n% 12 Pending row 4| line 5, '1,1,enable,0': \
 the disable is pending still: a softirq or kthread row has to finish the polling before the enable

@@ -26,7 +26,7 @@ static void *receive(void *none) {
     return none;
 }
 
-/* A run over what was handed over: it polls at most a weight of each device, and ends each poll with a look behind the unmask. */
+/* A run over what was handed over: it polls at most a weight of each device, and ends each poll by a look after the unmask. */
 static void *poll_all(void *none) {
     struct fq_run_report report;
     for (uint32_t id, next, work; !done; sched_yield()) {

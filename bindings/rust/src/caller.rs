@@ -119,9 +119,9 @@ impl Caller {
         prep
     }
 
-    /// A request for a poll (`napi_schedule`), of an interrupt, a timer, a driver's open, which hands
-    /// over to where the state word tells: of [`Prep::Granted`], [`Next::Again`] tells where, and the
-    /// number is to be listed, or the thread to be woken; else it is [`Next::Gone`].
+    /// Requests a poll (`napi_schedule`), for an interrupt, a timer or a driver's open, and hands the
+    /// instance over as the state word says. With [`Prep::Granted`], [`Next::Again`] says where to:
+    /// the number must be listed, or the thread woken. Otherwise it is [`Next::Gone`].
     pub fn request(&mut self) -> (Prep, Next) {
         self.request_and(|| {})
     }

@@ -57,7 +57,7 @@ statuses! {
     FQ_BAD_TRACE = 120,
 }
 
-/// Room for each text of the library, with the 0 behind it.
+/// Room for each text of the library, with the 0 after it.
 pub const FQ_MESSAGE_ROOM: usize = 96;
 
 /// The number of `struct fq_handle` for [`fq_struct_size`].

@@ -59,7 +59,7 @@ numeral-starts (c ∷ cs) rest h =
     let digit = (and_parts (is_ascii_digit c) (all_ascii_digits cs) digits).0 in
     record-same [] [] c (cs ++ rest) (grind (arith, nat_tests)) (grind (arith, nat_tests))
 
--- behind these fields csv goes on with the rest
+-- after these fields csv reads the rest
 pub record Begins (text : List ℕ) (fields : List (List ℕ)) (rest : List ℕ) : Type 0 where
   pub used : List ℕ
   pub splits : text ≡ used ++ rest

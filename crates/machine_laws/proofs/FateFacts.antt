@@ -292,7 +292,7 @@ plain-next d = refl
 
 -- ---- what ends
 
--- what a device has: in a poll's hand, taken, and in its ring
+-- what a device has: held by a poll, taken, and in its ring
 abbrev pub holds : ℕ → Devices → Work → List ℕ
 holds n ds w = hand_of n w ++ queued (at n ds)
 
@@ -565,7 +565,7 @@ plain-on s n (next ∷ earlier) plain =
     part-happens s taken_in taken-blind (λ xs. xs ≡ []) n (upcoming p) p (goes-on s earlier) (plain-on s n earlier plain)
     (ends-plain s n p (goes-on s earlier) plain (plain-on s n earlier plain))
 
--- what is in a poll's hand, taken or in the ring
+-- what is held by a poll, taken or in the ring
 happens-hold : (s : Settings) (n : ℕ) (u : Upcoming) (p : ProcessorView) → Goes s p → IsPlain p.settings n p.devices
     → packet_for n (delivery_by u p) ++ holds n (happens u p).devices (happens u p).work ≡ holds n p.devices p.work
 happens-hold s n Never p goes plain = refl

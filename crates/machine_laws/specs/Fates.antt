@@ -63,7 +63,7 @@ abbrev pub hand_of : ℕ → Work → List ℕ
 hand_of n (Packet hand) = if hand.device == n then hand.came ∷ [] else []
 hand_of n _ = []
 
--- Law: a packet for which there was room is delivered once and in order, or it is in a poll's hand, in the queue that was
+-- Law: a packet for which there was room is delivered once and in order, or it is held by a poll, in the queue that was
 -- taken, or in the ring.
 abbrev pub DeliversInOrder : Type 0
 DeliversInOrder = (s : Settings) (n : ℕ) (events : List Event)
