@@ -164,10 +164,11 @@ fn end<D: Drop>(placed: Placed, loose: Loose<D>) -> Finished<D>
         pause: _,
     } = loose;
     let (closed, ctx) = placed.close(seats, poller, thread);
+    let totals = finish(rx, ctx);
     Finished {
         number,
         device,
-        totals: finish(rx, ctx),
+        totals,
         closed,
     }
 }

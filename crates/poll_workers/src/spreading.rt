@@ -1,6 +1,6 @@
 //! What goes to the threads of a run.
 
-ghost use Rattle.std.specs.Prelude.{◌≡◌, ◌+◌, ◌≤◌, [], List, IfSome, Some, is_some, length, vec_items, vec_len};
+ghost use Rattle.std.specs.Prelude.{◌≡◌, ◌+◌, ◌<◌, ◌≤◌, [], List, IfSome, Some, is_some, length, vec_items, vec_len};
 ghost use Rattle.std.specs.List.{All, AllByRecursion, AllZip};
 ghost use Rattle.napi_calls.specs.Instance.{IsSeatOf};
 ghost use Rattle.poll_list.specs.declared.shared.SharedList.{SharedList};
@@ -9,7 +9,7 @@ ghost use Rattle.napi_calls.specs.declared.kept.Kept.{Kept};
 ghost use Rattle.poll_interrupts.specs.Opens.{IsKeptSideOf, IsSideOf};
 ghost use Rattle.poll_tasks.specs.Paces.{IsLawful};
 ghost use Rattle.poll_workers.specs.Spreads.{AreEndsOf, HaveOwn, IsJobAt, IsJobOf, IsKeptJobOf, IsKeptSeatFor, IsKeptThreadFor, IsSeatAt, IsSeatFor, IsThreadAt, IsThreadFor, IsWiredJob, IsWiredSide};
-ghost use Rattle.poll_tasks.specs.Tasks.{HasRoom};
+ghost use Rattle.poll_tasks.specs.Tasks.{HasRoom, IsAt};
 
 use crate::pollers::{seat_at, two_ends};
 use napi_calls::{Caller, Kept};
@@ -52,6 +52,14 @@ fn thread_bell<'n>(placed: &'n Placed) -> Option<&'n Bell>
     } else {
         None
     }
+}
+
+// Returns the bell of the poller with this number.
+fn bell_at(bells: &[Bell], poller: usize) -> &Bell
+    requires { poller < length bells.now }
+    ensures { IsAt bells.now poller result.now }
+{
+    &bells[poller]
 }
 
 // Returns where the interrupts of an instance's worker go.
@@ -210,7 +218,7 @@ pub(crate) fn spread<'t, 'p, 'n, R: Wait + Drop + Copy, D: Drop, G: Gate>(
         places = more;
         let poller = poller_of(place.value.number, bells.len());
         let both = two_ends(&mut lists, poller);
-        let (job, seat, side) = split(setting, &bells[poller], place, rest.open(), both);
+        let (job, seat, side) = split(setting, bell_at(bells, poller), place, rest.open(), both);
         seat_at(&mut seats, poller, seat);
         workers.push_reserved(job);
         threads.push_reserved(side);

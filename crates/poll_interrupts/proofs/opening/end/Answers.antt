@@ -9,7 +9,7 @@ pub returns : goal.returns
 returns g c =
     let home = c.requires.home in
     let made = c.close-closed.ensures in
-    let all = c.finish.ensures in
+    let all = c.finish-totals.ensures in
     record {
       same_number = refl;
       same_device = refl;
@@ -17,7 +17,7 @@ returns g c =
       bytes = ap (λ (t : Totals). t.bytes) all.totals;
       sum = all.sum;
       of = made.of;
-      ended = ended_of c.close-closed.result.0 c.args.loose.rx c.close-closed.result.1 c.finish.result
+      ended = ended_of c.close-closed.result.0 c.args.loose.rx c.close-closed.result.1 c.finish-totals.result
           (ap (λ (n : Napi). callers_of n) made.napi ∙ home.callers)
           (ap (λ (n : Napi). received_list (first_of_instance n)) made.napi ∙ home.nothing_received) made.closed all.totals all.order;
     }

@@ -69,8 +69,7 @@ loop-rest-preserved g c =
     let thread = rw c.open.ensures at c.split-job.ensures.thread.1 in
     let by_job = by_station _ _ _ _ c.poller_of-poller.ensures.own (made.same_number ∙ sym side.0.part.number) in
     let by_side = by_station _ _ _ _ c.poller_of-poller.ensures.own (thread.seat.number ∙ sym side.0.part.number) in
-    let bell : IsAt c.args.bells.now c.poller_of-poller.result c.index-bells-poller.result =
-    (c.poller_of-poller.ensures.within, sym c.index-bells-poller.is) in (
+    let bell = c.bell_at.ensures in (
       i.0 ++ c.in-Some.rest ∷ [],
       i.1 ++ c.in-Some-split_first.place.now ∷ [],
       i.2 ++ c.split-job.result.1 ∷ [],
