@@ -19,7 +19,7 @@ is_rx _ = false
 abbrev pub opens : ℕ → Row → Bool
 opens device row = is_open row.event && (row.device == device)
 
--- the row is another row of the device
+-- the row is one of the device that doesn't open it
 abbrev pub is_act_of : ℕ → Row → Bool
 is_act_of device row = not (is_open row.event) && (row.device == device)
 

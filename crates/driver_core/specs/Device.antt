@@ -1,5 +1,5 @@
--- The rule of one device of a driver: an instance (`struct napi_struct`), the mask of its card's interrupt, and what each call
--- makes of them. A card interrupts when a packet arrives, and loses that interrupt while it is masked.
+-- The rule of one device of a driver: an instance (`struct napi_struct`), the mask of its card's interrupt, and the effect of
+-- each call on them. A card interrupts when a packet arrives, and loses that interrupt while it is masked.
 use Rattle.std.specs.Prelude.{◌≡◌, Bool, true, false, Option, Some, None}
 use Rattle.driver_core.specs.declared.device.{Chore.{Chore, TheVariants.{Mask, Unmask, Look}}, Device.Device}
 use Rattle.driver_core.specs.declared.device.Stage.{Stage, TheVariants.{Closed, Masking, Closing, Listed, Unmasking, Looking, Armed}}

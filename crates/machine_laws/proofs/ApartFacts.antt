@@ -115,7 +115,7 @@ alone-walk s a apart = record {
 alone-takes : (s : Settings) (a : ApplicationView) (p : ProcessorView) → s.apart ≡ true → Goes s p → Alone s a p → Alone s a (takes_up p)
 alone-takes s a p apart goes h = walk-any (Alone s a) (Alone s a) (alone-walk s a apart) p (goes-unasked s p goes) (λ busy. h) (λ idle. h)
 
--- ---- what ends
+-- ---- work that ends
 
 pub not-wakes : (t a h : Bool) → a ≡ true → (t && not a && h) ≡ false
 not-wakes false a h is = refl

@@ -71,7 +71,7 @@ positive x is = grind (arith, common_steps)
 later : (given : ℕ) → (given + 1 == 0) ≡ false
 later given = grind (arith, common_steps)
 
--- none so far
+-- no poll was empty so far
 few-none : (s : Settings) (o : Option DeviceView) → defer_in o + 1 ≤ most s → Few s 0 o
 unfolding rest_at defer_in
 few-none s None low = record { sum = omega arith; low = low }

@@ -12,7 +12,7 @@ use Rattle.machine_model.specs.Machine.{Arrives, Finishes, Machine, number_of, o
 use Rattle.machine_model.specs.Processor.{Advances, ProcessorView, after, arrives, is_by, is_due, opened_processor, step, upcoming}
 use Rattle.machine_model.specs.declared.processor.Upcoming.{Upcoming, TheVariants.{Never, Ends, Expires}}
 
--- the one doesn't stop before the other
+-- of two runs up to the same moment, neither has fewer steps than the other
 never-less : (moment : ℕ) (p q r : ProcessorView) → (f : Advances moment p q) → (g : Advances moment p r) → f.count < g.count → ⊥
 never-less moment p q r f g less = grind (arith, common_steps)
 

@@ -97,7 +97,7 @@ base-of s t p q b settings clock devices application rest = record {
   rest = rw rest b.rest;
 }
 
--- work begins that is neither a packet of a poll nor, unless it says so, a use
+-- work other than a packet of a poll begins; if it is a use, its begin and its time are given
 timed-begins : (s : Settings) (t : ℕ) (w : Work) (time : ℕ) (p : ProcessorView) → Base s t p → is_busy w ≡ true
     → ((hand : InHand) → w ≡ Packet hand → ⊥)
     → ((came : ℕ) → w ≡ Use came → (p.clock ≡ t) × (IsFair s → held (came + use_cost s) ≤ held (p.clock + time)))

@@ -32,7 +32,7 @@ InTurn s until [] = Unit {0}
 InTurn s until (packet moment number ∷ earlier) = (moment ≤ until) × (is_due moment (behind s earlier) ≡ false) × InTurn s moment earlier
 InTurn s until (next ∷ earlier) = (is_due until (behind s earlier) ≡ true) × InTurn s until earlier
 
--- the packets among events: when, and the device's number
+-- the packets among events, each as its moment and its device's number
 unfoldable pub packets_in : List Event → List (ℕ × ℕ)
 packets_in [] = []
 packets_in (packet moment number ∷ earlier) = (moment, number) ∷ packets_in earlier

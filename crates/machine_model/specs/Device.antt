@@ -54,7 +54,7 @@ timer_of (Coalescing until) = Some until
 timer_of (Deferred until) = Some until
 timer_of _ = None
 
--- its timer expires: the card's timer raises the interrupt (`napi_watchdog` is the other's)
+-- its timer expires: the timer of the card, which raises the interrupt, or that of `napi_watchdog`
 abbrev pub expired_phase : Phase → Phase
 expired_phase (Coalescing until) = Raised
 expired_phase (Deferred until) = Fired

@@ -1,4 +1,4 @@
-//! //! How the instances of stations are opened and closed.
+//! How the instances of stations are opened and closed.
 
 ghost use Rattle.std.specs.Prelude.{◌≡◌, ◌≤◌, ◌+◌, ℕ, [], ◌∷◌, IfOk, length, slice_get, Some, vec_items, vec_len, vec_capacity};
 ghost use Rattle.std.specs.List.{All, AllZip};

@@ -1,4 +1,4 @@
-//! //! What a run takes, and what it returns.
+//! What a run takes, and what it returns.
 
 use napi_calls::{Caller, Control, Napi, Off};
 use rx_ring::Totals;

@@ -1,4 +1,4 @@
-//! //! An interrupt worker: makes its device's acts, and hands the instance to its poller.
+//! An interrupt worker: makes its device's acts, and hands the instance to its poller.
 
 ghost use Rattle.std.specs.Prelude.{◌≡◌, ℕ, ◌+◌, ◌≤◌, ◌<◌, ◌++◌, true, false, None, IfSome, is_some, length};
 ghost use Rattle.std.specs.List.{All};

@@ -1,4 +1,4 @@
-//! //! What a poller with a list polls: its seats are a bench, over which it runs while there is an instance on the list.
+//! What a poller with a list polls: its seats are a bench, over which it runs while there is an instance on the list.
 
 ghost use Rattle.std.specs.Prelude.{◌≡◌, ◌==◌, position, vec_items};
 ghost use Rattle.poll_tasks.specs.Paces.{IsLawful};

@@ -1,4 +1,4 @@
-//! //! The thread of a poller: it takes turns until nothing will be handed over any more.
+//! The thread of a poller: it takes turns until nothing will be handed over any more.
 
 ghost use Rattle.std.specs.Prelude.{◌≡◌, None, IfSome};
 ghost use Rattle.std.specs.List.{All};

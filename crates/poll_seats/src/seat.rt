@@ -1,4 +1,4 @@
-//! //! A poller's handle on one instance.
+//! A poller's handle on one instance.
 
 ghost use Rattle.std.specs.Prelude.{◌≡◌, ◌≤◌, IsSome, None};
 ghost use Rattle.std.specs.Option.{ForSome};

@@ -1,4 +1,4 @@
-//! //! What the thread of an instance polls: only that instance.
+//! What the thread of an instance polls: only that instance.
 
 ghost use Rattle.std.specs.Prelude.{◌≡◌, ◌++◌, not, is_some};
 ghost use Rattle.poll_list.specs.SharedList.{pushed_by};

@@ -1,4 +1,4 @@
--- Lists side by side.
+-- Lists compared item by item.
 use Rattle.std.proofs.Common.{◌≡◌, ◌≢◌, ◌<◌, ◌≤◌, ℕ, zero, suc, Bool, true, false, cond}
 use Rattle.std.proofs.Common.{List, [], ◌∷◌, ◌++◌, length, sym, refl, ap, ◌∙◌, subst}
 use Rattle.std.{proofs.Common.{append-nil, arith, All, eqb, get_or, get_or-set_other, get_or-set_same, set}, specs.Prelude.{filter, map}}

@@ -1,4 +1,4 @@
--- Lists side by side.
+-- Two lists, read item by item together.
 use Rattle.std.proofs.Common.{◌≡◌, ℕ, ◌+◌, ◌<◌, length, List, [], ◌∷◌, ◌++◌, refl, arith, length-append, ap, ◌∙◌, sym, get_or, suc}
 use Rattle.std.{proofs.Common.{append_assoc, append-nil}, specs.List.AllZip}
 

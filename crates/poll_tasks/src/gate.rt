@@ -1,4 +1,4 @@
-//! //! What is asked before each act.
+//! What is asked before each act.
 
 ghost use Rattle.std.specs.Prelude.{◌≡◌, ℕ, Bool, true, false};
 

@@ -1,4 +1,4 @@
-//! //! What all threads of a run share.
+//! What all threads of a run share.
 
 ghost use Rattle.std.specs.Prelude.{◌≡◌, true, None, IfSome};
 ghost use Rattle.poll_tasks.specs.Stops.{IsStop};

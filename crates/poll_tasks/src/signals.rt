@@ -1,4 +1,4 @@
-//! //! The signals between the threads of a run. Proofs rest on three facts: a stop has its reason, and a waker wakes the
+//! The signals between the threads of a run. Proofs rest on three facts: a stop has its reason, and a waker wakes the
 //! thread that it was created for.
 
 ghost use Rattle.std.specs.Prelude.{◌≡◌, true, IfOk, IfSome};

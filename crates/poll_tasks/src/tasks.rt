@@ -1,4 +1,4 @@
-//! //! Tasks, each in its own thread.
+//! Tasks, each in its own thread.
 
 ghost use Rattle.std.specs.Prelude.{◌≤◌, ◌≡◌, List, vec_len, vec_capacity};
 ghost use Rattle.std.specs.List.{AllZip};

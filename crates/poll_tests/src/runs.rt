@@ -1,4 +1,4 @@
-//! Runs over a bench, by each kind of list; and the acts of a list of acts.
+//! Tests of runs over a bench, with each kind of list, and of a device that makes the acts of a list.
 
 use poll_engine::{
     Act, ActList, Bench, BusyReport, Device, Next, Once, PlainList, PollList, RunReport, SoftList,

@@ -1,4 +1,4 @@
--- Stations with distinct numbers: there are few, and one more may have a higher number.
+-- Stations with distinct numbers: there are at most 16, and their bound may be raised.
 use Rattle.std.proofs.lemmas.{Grind.common_steps, Map.{Steps.length-le_from_distinct_below, Keys.IsDistinct-cons}, Bool.{eqb-true, ne_eqb}}
 use Rattle.std.{proofs.Common.{◌≡◌, ℕ, ◌<◌, ◌≤◌, Bool, true, false, List, [], ◌∷◌, refl, arith, length, All, eqb}, specs.Prelude.◌==◌}
 use Rattle.{poll_interrupts.specs.{Opens.IsStation, declared.station.Station.Station}, std.proofs.lemmas.List.Elements.{All-head, All-tail}}

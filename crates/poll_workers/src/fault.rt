@@ -1,4 +1,4 @@
-//! //! Why a run failed.
+//! Why a run failed.
 
 ghost use Rattle.std.specs.Prelude.{◌≡◌};
 ghost use Rattle.poll_workers.specs.Faults.{number_of};

@@ -1,4 +1,4 @@
-//! //! Takes the parts of each instance out of the threads of a run.
+//! Takes the parts of each instance out of the threads of a run.
 
 ghost use Rattle.std.specs.Prelude.{◌≡◌, ◌≤◌, ◌<◌, length, map, slice_index_or, vec_items, vec_len};
 ghost use Rattle.std.specs.List.{AllZip};

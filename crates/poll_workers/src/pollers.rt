@@ -1,4 +1,4 @@
-//! //! The pollers of a run, each with its waker, its list and its seats.
+//! The pollers of a run, each with its waker, its list and its seats.
 
 ghost use Rattle.std.specs.Prelude.{◌≡◌, ◌≤◌, ◌<◌, ◌+◌, ℕ, [], List, IfOk, length, map, slice_index_or, vec_items, vec_len, vec_capacity};
 ghost use Rattle.std.specs.Global.{Vec};
