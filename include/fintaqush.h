@@ -162,8 +162,8 @@ enum fq_kind FQ_NUMBER { FQ_LIST = 0, FQ_THREAD = 1 };
 enum fq_next FQ_NUMBER { FQ_NEXT_GONE = 0, FQ_NEXT_AGAIN = 1, FQ_NEXT_AGAIN_THREAD = 2, FQ_NEXT_REPOLL = 3, FQ_NEXT_ABSENT = 4 };
 
 /* The bits of a state word: those of the kernel's NAPI_STATE_.., and two of this library, whether the instance is on a poll list or was
- * handed to its thread, and wasn't taken yet. docs/FORMATS.md and reports as JSON call these two QUEUED and TO_THREAD. FQ_BIT_LISTED is
- * not the kernel's NAPI_STATE_LISTED, which is bit 4 and isn't here. */
+ * handed to its thread, and wasn't taken yet. FQ_BIT_LISTED and FQ_BIT_WITH_THREAD are deprecated names of these two, for programs that
+ * use them; the kernel's NAPI_STATE_LISTED is another flag, bit 4, which isn't here. */
 #define FQ_BIT_SCHED (UINT64_C(1) << 0)
 #define FQ_BIT_MISSED (UINT64_C(1) << 1)
 #define FQ_BIT_DISABLE (UINT64_C(1) << 2)
@@ -171,8 +171,10 @@ enum fq_next FQ_NUMBER { FQ_NEXT_GONE = 0, FQ_NEXT_AGAIN = 1, FQ_NEXT_AGAIN_THRE
 #define FQ_BIT_IN_BUSY_POLL (UINT64_C(1) << 6)
 #define FQ_BIT_THREADED (UINT64_C(1) << 8)
 #define FQ_BIT_SCHED_THREADED (UINT64_C(1) << 9)
-#define FQ_BIT_LISTED (UINT64_C(1) << 32)
-#define FQ_BIT_WITH_THREAD (UINT64_C(1) << 33)
+#define FQ_BIT_QUEUED (UINT64_C(1) << 32)
+#define FQ_BIT_TO_THREAD (UINT64_C(1) << 33)
+#define FQ_BIT_LISTED FQ_BIT_QUEUED
+#define FQ_BIT_WITH_THREAD FQ_BIT_TO_THREAD
 
 /* ---- Byte queue limits (lib/dynamic_queue_limits.c), in the caller's memory. Moments are milliseconds of the caller's clock. */
 

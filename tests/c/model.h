@@ -177,7 +177,7 @@ static inline uint32_t model_enable(struct model_napi *n, uint32_t who, bool thr
 static inline uint64_t model_word(const struct model_napi *n) {
     return (n->sched ? FQ_BIT_SCHED : 0) | (n->missed ? FQ_BIT_MISSED : 0) | (n->disable ? FQ_BIT_DISABLE : 0) | (n->npsvc ? FQ_BIT_NPSVC : 0) |
            (n->busy ? FQ_BIT_IN_BUSY_POLL : 0) | (n->threaded ? FQ_BIT_THREADED : 0) | (n->sched_threaded ? FQ_BIT_SCHED_THREADED : 0) |
-           (n->place == LISTED ? FQ_BIT_LISTED : 0) | (n->place == TO_THREAD ? FQ_BIT_WITH_THREAD : 0);
+           (n->place == LISTED ? FQ_BIT_QUEUED : 0) | (n->place == TO_THREAD ? FQ_BIT_TO_THREAD : 0);
 }
 
 /* ---- a poll list with the run over it (net_rx_action) */

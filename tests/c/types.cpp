@@ -152,7 +152,7 @@ static void cards() {
     Caller &interrupts = bare->callers[0];
     Card card{0, 1, false};
     want(interrupts.interrupt(FQ_LIST, card) == FQ_GRANTED && card.masked, "masked at the grant");
-    want(interrupts.word() == (FQ_BIT_SCHED | FQ_BIT_LISTED), "its word");
+    want(interrupts.word() == (FQ_BIT_SCHED | FQ_BIT_QUEUED), "its word");
     auto end = taken(std::move(bare->callers[1]), FQ_LIST).end_watched(false, card);
     want(std::get<Ended>(end).next == FQ_NEXT_AGAIN && card.masked && card.there == 1, "what came behind the unmask is seen");
     std::size_t work = card.poll(64);

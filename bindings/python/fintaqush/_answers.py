@@ -54,9 +54,9 @@ class Next(enum.IntEnum):
 
 
 class Word(enum.IntFlag):
-    """The bits of a state word: the kernel's NAPI_STATE_.., and two of the library: on a list (LISTED) or handed to its thread
-    (WITH_THREAD), and not taken yet. Reports as JSON call these two QUEUED and TO_THREAD. The kernel's own NAPI_STATE_LISTED is
-    another bit, 4, which isn't here."""
+    """The bits of a state word: the kernel's NAPI_STATE_.., and two of the library: on a list (QUEUED) or handed to its thread
+    (TO_THREAD), and not taken yet. LISTED and WITH_THREAD are deprecated names of these two; the kernel's own NAPI_STATE_LISTED
+    is another bit, 4, which isn't here."""
     SCHED = 1 << 0
     MISSED = 1 << 1
     DISABLE = 1 << 2
@@ -64,8 +64,10 @@ class Word(enum.IntFlag):
     IN_BUSY_POLL = 1 << 6
     THREADED = 1 << 8
     SCHED_THREADED = 1 << 9
-    LISTED = 1 << 32
-    WITH_THREAD = 1 << 33
+    QUEUED = 1 << 32
+    TO_THREAD = 1 << 33
+    LISTED = QUEUED
+    WITH_THREAD = TO_THREAD
 
 
 class Fault(ValueError):

@@ -113,11 +113,16 @@ pub const FQ_BIT_IN_BUSY_POLL: u64 = 1 << 6;
 pub const FQ_BIT_THREADED: u64 = 1 << 8;
 /// `NAPI_STATE_SCHED_THREADED`.
 pub const FQ_BIT_SCHED_THREADED: u64 = 1 << 9;
-/// The library's own: the instance is on a list, and wasn't taken yet. JSON reports call it `QUEUED`. It isn't the kernel's
-/// `NAPI_STATE_LISTED`, which is bit 4 and isn't here.
-pub const FQ_BIT_LISTED: u64 = 1 << 32;
-/// The library's own: the instance was handed to its thread, and wasn't taken yet. JSON reports call it `TO_THREAD`.
-pub const FQ_BIT_WITH_THREAD: u64 = 1 << 33;
+/// The library's own: the instance is on a list, and wasn't taken yet.
+pub const FQ_BIT_QUEUED: u64 = 1 << 32;
+/// The library's own: the instance was handed to its thread, and wasn't taken yet.
+pub const FQ_BIT_TO_THREAD: u64 = 1 << 33;
+/// A name of [`FQ_BIT_QUEUED`] for older programs. The kernel's `NAPI_STATE_LISTED` is another flag, bit 4, which isn't here.
+#[deprecated(note = "use FQ_BIT_QUEUED")]
+pub const FQ_BIT_LISTED: u64 = FQ_BIT_QUEUED;
+/// A name of [`FQ_BIT_TO_THREAD`] for older programs.
+#[deprecated(note = "use FQ_BIT_TO_THREAD")]
+pub const FQ_BIT_WITH_THREAD: u64 = FQ_BIT_TO_THREAD;
 
 /// A byte queue limit. It isn't copied, and only calls write its fields.
 #[repr(C)]

@@ -1,5 +1,5 @@
 //! The safe calls, on worked cases: what each kind of value does, and what fails.
-use fintaqush::sys::{FQ_BIT_DISABLE, FQ_BIT_LISTED, FQ_BIT_NPSVC, FQ_BIT_SCHED, FQ_BIT_THREADED};
+use fintaqush::sys::{FQ_BIT_DISABLE, FQ_BIT_NPSVC, FQ_BIT_QUEUED, FQ_BIT_SCHED, FQ_BIT_THREADED};
 use fintaqush::*;
 use std::fmt::Write;
 use std::panic::{catch_unwind, AssertUnwindSafe};
@@ -127,7 +127,7 @@ fn a_request_that_is_missed_brings_one_more_poll() {
     napi.set_threaded(POLLER, false);
     assert_eq!(napi.schedule(INTERRUPT), Prep::Granted);
     napi.hand(INTERRUPT, Kind::List).unwrap();
-    assert_eq!(napi.word(), FQ_BIT_SCHED | FQ_BIT_LISTED);
+    assert_eq!(napi.word(), FQ_BIT_SCHED | FQ_BIT_QUEUED);
     assert_eq!(napi.schedule(INTERRUPT), Prep::Missed);
     assert!(!napi.take(POLLER, Kind::Thread));
     assert!(napi.take(POLLER, Kind::List));
@@ -590,7 +590,7 @@ fn a_card_is_masked_at_the_grant_and_looked_at_behind_the_unmask() {
         Prep::Granted
     );
     assert!(card.masked);
-    assert_eq!(interrupts.look(), FQ_BIT_SCHED | FQ_BIT_LISTED);
+    assert_eq!(interrupts.look(), FQ_BIT_SCHED | FQ_BIT_QUEUED);
     let (poller, next) = over(take(poller).end_watched(false, &mut card));
     assert_eq!(
         (next, card.masked, card.there),
@@ -645,7 +645,7 @@ fn a_full_poll_stays_with_its_thread() {
         End::Held(polling) => polling,
         End::Over(..) => panic!("it is on a list"),
     };
-    assert_eq!(polling.look() & FQ_BIT_LISTED, 0);
+    assert_eq!(polling.look() & FQ_BIT_QUEUED, 0);
     assert_eq!(interrupts.interrupt(Kind::Thread), Prep::Missed);
     let (poller, next) = over(polling.end(false));
     assert_eq!(next, Next::Again(Kind::Thread));
@@ -674,7 +674,7 @@ fn polls_are_counted_of_whoever_has_them() {
     assert_eq!((input.shown().put, input.shown().places), (1, 4));
     let mut busy = poller.busy().unwrap();
     busy.poll(Weight::MAX, &mut batch);
-    assert_eq!((busy.counts().polls, busy.look() & FQ_BIT_LISTED), (2, 0));
+    assert_eq!((busy.counts().polls, busy.look() & FQ_BIT_QUEUED), (2, 0));
     let (_, next) = over(busy.stop().end(false));
     assert_eq!(next, Next::Gone);
     assert_eq!(on.disable().counts().packets, 1);
