@@ -17,9 +17,9 @@
  * No call blocks, sleeps, locks or starts a thread. fq_seat_interrupt, fq_seat_interrupt_masked, fq_seat_request, fq_seat_end,
  * fq_seat_end_watched, fq_seat_end_unmasked, fq_control_step and fq_control_open try again as long as an attempt returns FQ_CHANGED,
  * because another thread changed the instance: some thread always makes progress, but the number of attempts has no bound. fq_ring_new,
- * fq_ring_split, fq_tx_new, fq_list_new, fq_shared_new, fq_shared_bare and fq_replay allocate memory, after all other checks; if an
- * allocation fails, they free what they allocated, and nothing has changed. fq_free, fq_abandon and fq_ring_finish free memory. No other
- * call allocates or frees.
+ * fq_ring_split, fq_tx_new, fq_list_new, fq_shared_new, fq_shared_bare and fq_replay allocate memory, after they have checked their
+ * arguments; if an allocation fails, they free what they allocated, and nothing has changed. fq_free, fq_abandon and fq_ring_finish free
+ * memory. No other call allocates or frees.
  *
  * Memory order: what a thread wrote before it put a packet is visible to the thread whose poll returns that packet. A poll frees the
  * places of the packets that it returns, all at once: what was done before that poll is visible to the put that finds one of them free.
@@ -100,9 +100,9 @@ enum fq_status FQ_NUMBER {
     FQ_BAD_TRACE = 120      /* replay: the bytes aren't a trace, or a row of it can't be processed */
 };
 
-/* Write a text into an array of `room` bytes, with a terminating 0: the library's FQ_VERSION; the name of a status, and its message ("?"
- * for an unknown number); the name of a trace's fault. Each returns the length of the text; the array is unchanged if that isn't below
- * `room`. FQ_MESSAGE_ROOM bytes are enough for each of them. */
+/* Each call writes a text into an array of `room` bytes, with a terminating 0: the library's FQ_VERSION; the name of a status, and its
+ * message ("?" for an unknown number); the name of a trace's fault. It returns the length of the text; the array is unchanged if that
+ * isn't below `room`. FQ_MESSAGE_ROOM bytes are enough for each of them. */
 #define FQ_MESSAGE_ROOM 96
 FQ_NONNULL size_t fq_version(char *to, size_t room);
 FQ_NONNULL size_t fq_status_text(uint32_t status, char *to, size_t room);
@@ -159,7 +159,7 @@ static inline const char *fq_status_name(uint32_t status) {
 /* Where an instance is queued: on a poll list, or for its own thread. Calls that read the kind from the state word say so. */
 enum fq_kind FQ_NUMBER { FQ_LIST = 0, FQ_THREAD = 1 };
 
-/* How a poll ended. FQ_NEXT_GONE: the device leaves the list. FQ_NEXT_AGAIN: it is to be listed again. FQ_NEXT_AGAIN_THREAD: it is
+/* How a poll ended. FQ_NEXT_GONE: the device leaves the list. FQ_NEXT_AGAIN: it has to be listed again. FQ_NEXT_AGAIN_THREAD: it is
  * queued for its thread. FQ_NEXT_REPOLL: it returned its whole weight, and is polled again after all others. FQ_NEXT_ABSENT: it wasn't
  * there. */
 enum fq_next FQ_NUMBER { FQ_NEXT_GONE = 0, FQ_NEXT_AGAIN = 1, FQ_NEXT_AGAIN_THREAD = 2, FQ_NEXT_REPOLL = 3, FQ_NEXT_ABSENT = 4 };
@@ -205,7 +205,7 @@ FQ_CHECKED static inline enum fq_status fq_dql_init(struct fq_dql *dql, uint32_t
     return (enum fq_status)made.status;
 }
 
-/* The same for callers that can't use returned structs. `*dql` has to be all 0 or a limit; it is unchanged if the call returns
+/* The same for callers that can't use returned structs. *dql has to be all 0 or a limit; it is unchanged if the call returns
  * FQ_BAD_BOUNDS. */
 FQ_CHECKED enum fq_status fq_dql_renew(struct fq_dql *dql, uint32_t min, uint32_t max, uint64_t hold_ms, uint64_t now_ms);
 
@@ -266,8 +266,8 @@ FQ_CHECKED enum fq_status fq_napi_busy_stop(struct fq_napi *napi, uint32_t who);
 FQ_NONNULL void fq_napi_set_threaded(struct fq_napi *napi, uint32_t who, bool threaded);
 /* The controller's calls. napi_disable is fq_napi_mark_disable, fq_napi_take_disable until it returns FQ_TAKEN, and fq_napi_unmark;
  * napi_enable is fq_napi_enable. fq_napi_take_disable returns FQ_TAKEN or FQ_BUSY, the others FQ_OK; all return FQ_NOT_ALLOWED for
- * another caller, and in another state. Call fq_napi_schedule once after each enable: an earlier request isn't polled, and a masked card
- * raises no interrupt. */
+ * another caller, or if the state doesn't allow the call. Call fq_napi_schedule once after each enable: an earlier request isn't polled,
+ * and a masked card raises no interrupt. */
 FQ_CHECKED enum fq_status fq_napi_mark_disable(struct fq_napi *napi, uint32_t who);
 FQ_CHECKED enum fq_status fq_napi_take_disable(struct fq_napi *napi, uint32_t who);
 FQ_CHECKED enum fq_status fq_napi_unmark(struct fq_napi *napi, uint32_t who);
@@ -324,8 +324,8 @@ struct fq_totals {
 };
 
 /* Sets *counts to the counts of a ring's polls. The handle has to own the poll end: it is a ring, or the poll end of one that was split;
- * a seat that polls; the controller of a disabled instance. Returns FQ_OK; FQ_BAD_HANDLE; FQ_NOT_ALLOWED for any other, and *counts is
- * unchanged. */
+ * a seat that polls; the controller of a disabled instance. Returns FQ_OK; FQ_BAD_HANDLE; FQ_NOT_ALLOWED for any other. *counts is
+ * unchanged unless it returns FQ_OK. */
 FQ_CHECKED enum fq_status fq_count(struct fq_handle *FQ_RESTRICT handle, struct fq_counts *FQ_RESTRICT counts);
 struct fq_ring_shown {
     uint64_t put;  /* the packets put so far, which saturates; minus the packets of fq_count, those in the ring */
@@ -621,7 +621,8 @@ FQ_CHECKED enum fq_status fq_run_next(struct fq_handle *FQ_RESTRICT list, uint32
  * FQ_NEXT_REPOLL follows a whole weight, because a device may have its own weight, below the run's; nor that FQ_NEXT_ABSENT comes
  * without packets. */
 FQ_CHECKED enum fq_status fq_run_polled(struct fq_handle *list, uint32_t work, uint32_t next);
-/* Ends the run, and sets *report. What wasn't polled, and what is to be polled again, is on the list. Returns FQ_OK; FQ_NOT_ALLOWED. */
+/* Ends the run, and sets *report. The numbers that weren't polled, and those to be polled again, are on the list. Returns FQ_OK;
+ * FQ_NOT_ALLOWED. */
 FQ_CHECKED enum fq_status fq_run_end(struct fq_handle *FQ_RESTRICT list, struct fq_run_report *FQ_RESTRICT report);
 
 /* ---- A word of pending bits. Only its poller uses a list: another thread raises the bit of a device in such a word, and wakes the
