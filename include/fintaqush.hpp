@@ -1,7 +1,9 @@
-// Fintaqush for C++17: the calls of fintaqush.h with the state of a seat in its type, so that a call that the state doesn't have
-// doesn't compile. Header only. Only a SerialNapi is copied, and nothing throws but what the standard containers do where memory is out.
-// Everything that fintaqush.h wants of its caller holds here too. What is destroyed is given up (fq_abandon): an instance whose
-// poller was destroyed is polled no more. What was moved from answers as what leads to nothing: FQ_BAD_HANDLE, none, 0, or itself.
+// Fintaqush for C++17: the calls of fintaqush.h with the state of a seat in its type, so that a call that the state doesn't allow
+// doesn't compile. Header only. Of the objects only a SerialNapi can be copied. Nothing throws except the standard containers if memory runs
+// out, and the callback of List::run.
+// What fintaqush.h requires of its caller holds here too. A destructor abandons its object (fq_abandon): an instance whose
+// poller was destroyed is never polled again. A call on an object that was moved from returns what an unset handle gives: FQ_BAD_HANDLE,
+// nullopt, 0, or the object itself.
 #ifndef FINTAQUSH_HPP
 #define FINTAQUSH_HPP
 
@@ -30,7 +32,7 @@ using Totals = fq_totals;
 using RingShown = fq_ring_shown;
 using Answers = fq_answers;
 
-// What a status says in words; "?" of a number that is none.
+// Returns the message of a status; "?" for an unknown number.
 [[nodiscard]] inline std::string message(std::uint32_t status) {
     std::string text(FQ_MESSAGE_ROOM, '\0');
     text.resize(fq_status_message(status, text.data(), text.size()));
@@ -38,10 +40,10 @@ using Answers = fq_answers;
 }
 
 namespace detail {
-// A call that the type allows is made: its number has nothing else to say.
+// Discards the status of a call that the type allows: it says nothing more.
 inline void made(std::uint32_t) noexcept {}
 
-// The card of C's calls over a card's members, which don't throw.
+// Callbacks of fq_card over a card's member functions, which don't throw.
 template <class Card>
 void mask(void *at) noexcept { static_cast<Card *>(at)->mask(); }
 template <class Card>
@@ -52,17 +54,17 @@ template <class Card>
 std::size_t poll(void *at, std::size_t most) noexcept { return static_cast<Card *>(at)->poll(most); }
 } // namespace detail
 
-// The most packets that one poll gives, 1 to 64.
+// The most packets that one poll returns, 1 to 64.
 class Weight {
 public:
     constexpr Weight() noexcept : packets_(64) {}
-    // Of a number that the compiler sees; another than 1 to 64 doesn't compile.
+    // Makes a weight from a constant; doesn't compile unless it is 1 to 64.
     template <std::size_t PACKETS>
     [[nodiscard]] static constexpr Weight of() noexcept {
         static_assert(PACKETS >= 1 && PACKETS <= 64, "a weight is 1 to 64");
         return Weight(PACKETS);
     }
-    // None of another number than 1 to 64.
+    // Makes a weight; returns nullopt unless it is 1 to 64.
     [[nodiscard]] static constexpr std::optional<Weight> make(std::size_t packets) noexcept {
         if (packets < 1 || packets > 64) return std::nullopt;
         return Weight(packets);
@@ -80,18 +82,18 @@ public:
     Word() = default;
     Word(const Word &) = delete;
     Word &operator=(const Word &) = delete;
-    // Raises a bit, 0 to 63, and answers whether the word was 0: then the poller is to be woken.
+    // Raises a bit, 0 to 63, and returns whether the word was 0: then the poller has to be woken.
     [[nodiscard]] bool raise(std::uint32_t bit) noexcept { return fq_word_raise(&raw_, bit); }
-    // Takes all bits, which are 0 then.
+    // Takes all bits: returns the word, and sets it to 0.
     [[nodiscard]] std::uint64_t take() noexcept { return fq_word_take(&raw_); }
-    // Whether a bit is raised.
+    // Returns whether any bit is raised.
     [[nodiscard]] bool any() const noexcept { return fq_word_any(&raw_); }
 
 private:
     fq_word raw_{};
 };
 
-// What the library has on the heap. It is moved, and never copied.
+// Owns an object on the library's heap. It can be moved, not copied.
 class [[nodiscard]] Handle {
 public:
     Handle() = default;
@@ -117,10 +119,10 @@ private:
     fq_handle raw_ = FQ_NONE;
 };
 
-// A byte queue limit. Moments are milliseconds of the caller's clock.
+// A byte queue limit. Times are milliseconds of the caller's clock.
 class [[nodiscard]] Limit {
 public:
-    // None where min is above max, or max above 1879048192.
+    // Makes a limit in bytes (dql_init); returns nullopt if min is above max, or max is above 1879048192.
     [[nodiscard]] static std::optional<Limit> make(std::uint32_t min, std::uint32_t max, std::uint64_t hold_ms, std::uint64_t now_ms) {
         Limit made;
         if (fq_dql_init(&made.raw_, min, max, hold_ms, now_ms) != FQ_OK) return std::nullopt;
@@ -145,10 +147,10 @@ private:
     fq_dql raw_{};
 };
 
-// A transmit ring under a byte queue limit: it keeps the sizes of the packets that were sent and aren't complete.
+// A transmit ring under a byte queue limit: it keeps the sizes of the packets that were sent and aren't completed.
 class [[nodiscard]] TxRing {
 public:
-    // None where the places aren't 1 to 65536, min is above max, max above 1879048192, or memory is out.
+    // Makes a ring; returns nullopt if the capacity isn't 1 to 65536, min is above max, max is above 1879048192, or memory runs out.
     [[nodiscard]] static std::optional<TxRing> make(std::size_t capacity, std::uint32_t min, std::uint32_t max,
                                                     std::uint64_t hold_ms, std::uint64_t now_ms) {
         Handle at;
@@ -163,7 +165,7 @@ public:
         detail::made(fq_tx_state(at_.raw(), &shown));
         return shown;
     }
-    // Whether it has been stopped, with no byte completed, for limit_ms; of each tick of a timer (fq_tx_watch).
+    // Returns whether the ring has been stopped, with no byte completed, for limit_ms; call it at each tick of a timer (fq_tx_watch).
     [[nodiscard]] bool watch(TxWatchdog &watchdog, std::uint64_t limit_ms, std::uint64_t now_ms) {
         bool stuck = false;
         detail::made(fq_tx_watch(at_.raw(), &watchdog, limit_ms, now_ms, &stuck));
@@ -175,7 +177,7 @@ private:
     Handle at_;
 };
 
-// An instance of one thread, whose calls are told at run time.
+// An instance of one thread, whose calls are checked at run time.
 class [[nodiscard]] SerialNapi {
 public:
     explicit SerialNapi(std::uint32_t controller) noexcept : raw_(fq_napi_new(controller)) {}
@@ -183,8 +185,8 @@ public:
     [[nodiscard]] Status hand(std::uint32_t who, Kind kind) { return Status(fq_napi_hand(&raw_, who, kind)); }
     [[nodiscard]] Status take(std::uint32_t who, Kind kind) { return Status(fq_napi_take(&raw_, who, kind)); }
     [[nodiscard]] Status complete(std::uint32_t who) { return Status(fq_napi_complete(&raw_, who)); }
-    // The end of a poll as the kernel ends it, full or not (fq_napi_end): FQ_OK, and next is what a run is told, after FQ_NEXT_AGAIN_THREAD
-    // the thread is to be woken; FQ_HELD: the caller polls on; FQ_NOT_ALLOWED.
+    // Ends a poll as the kernel does, full or not (fq_napi_end). Returns FQ_OK, and next is what a run takes: after FQ_NEXT_AGAIN_THREAD
+    // wake the thread; FQ_HELD: the caller keeps polling; FQ_NOT_ALLOWED.
     [[nodiscard]] Status end(std::uint32_t who, bool full, fq_next &next) {
         std::uint32_t number = FQ_NEXT_GONE;
         const Status said = fq_napi_end(&raw_, who, full, &number);
@@ -197,7 +199,7 @@ public:
     [[nodiscard]] Status mark_disable(std::uint32_t who) { return Status(fq_napi_mark_disable(&raw_, who)); }
     [[nodiscard]] Status take_disable(std::uint32_t who) { return Status(fq_napi_take_disable(&raw_, who)); }
     [[nodiscard]] Status unmark(std::uint32_t who) { return Status(fq_napi_unmark(&raw_, who)); }
-    // Ask once after it (schedule): what was asked before isn't polled.
+    // Enables the instance (napi_enable). Call schedule once after it: an earlier request isn't polled.
     [[nodiscard]] Status enable(std::uint32_t who, bool threaded) { return Status(fq_napi_enable(&raw_, who, threaded)); }
     [[nodiscard]] std::uint64_t word() const { return fq_napi_word(&raw_); }
 
@@ -205,8 +207,8 @@ private:
     fq_napi raw_;
 };
 
-// A request that was made and, where it was granted, handed over (fq_seat_request): FQ_GRANTED, FQ_MISSED, FQ_DISABLED. Of FQ_GRANTED, next
-// is FQ_NEXT_AGAIN, and the number is to be listed, or FQ_NEXT_AGAIN_THREAD, and the thread is to be woken.
+// The result of a request, which is queued if it was granted (fq_seat_request): FQ_GRANTED, FQ_MISSED or FQ_DISABLED. After FQ_GRANTED,
+// next is FQ_NEXT_AGAIN, and the number has to be listed, or FQ_NEXT_AGAIN_THREAD, and the thread has to be woken.
 struct [[nodiscard]] Requested {
     Status status;
     fq_next next;
@@ -219,30 +221,30 @@ class Busy;
 struct Shared;
 struct Bare;
 
-// A request for a poll: FQ_GRANTED with the grant, FQ_MISSED or FQ_DISABLED with the caller as it was.
+// The result of schedule: FQ_GRANTED with the grant; FQ_MISSED or FQ_DISABLED with the unchanged caller.
 struct Scheduled;
-// A take: the poller, or the caller where the instance wasn't there.
+// The result of take: the poller, or the caller if the instance wasn't there.
 using Took = std::variant<Caller, Polling>;
-// The start of busy polling, or the caller where the instance isn't idle.
+// The result of busy: the busy poller, or the caller if the instance isn't idle.
 using TookBusy = std::variant<Caller, Busy>;
-// The end of a poll: the caller at rest, or, where a request was missed, the grant of one more.
+// The result of complete: the caller at rest, or the grant of another poll if a request was missed.
 using Completed = std::variant<Caller, Granted>;
-// The end of a poll as the kernel ends it: the caller at rest with what a run is told, or who polls on, of a thread's full poll.
+// The result of end: the caller at rest with what a run takes, or the poller if it keeps polling, after a thread's full poll.
 struct Ended;
 using End = std::variant<Ended, Polling>;
 
 namespace detail {
-// A caller, whatever it is.
+// A caller in any state.
 class Seat {
 public:
-    // The state word, of the FQ_BIT_.. that are set.
+    // Returns the state word, a sum of FQ_BIT_..
     [[nodiscard]] std::uint64_t word() {
         std::uint64_t word = 0;
         made(fq_seat_look(at_.raw(), &word));
         return word;
     }
 
-    // How often its calls were answered what, since the instance was made.
+    // Returns how often its calls returned each result since the instance was made.
     [[nodiscard]] Answers answers() {
         Answers answers{};
         made(fq_seat_count(at_.raw(), &answers));
@@ -254,16 +256,16 @@ protected:
     Handle at_;
 };
 
-// One that polls.
+// A caller that polls, or busy polls.
 class Poller : public Seat {
 public:
-    // Gives the ring's next packets, at most the weight; answers how many.
+    // Removes the ring's next packets, at most the weight, and writes them to out; returns how many.
     [[nodiscard]] std::size_t poll(Packets &out, Weight weight = Weight()) {
         std::size_t count = 0;
         made(fq_seat_poll(at_.raw(), weight.get(), out.data(), out.size(), &count));
         return count;
     }
-    // What is counted of the ring's polls.
+    // Returns the counts of the ring's polls.
     [[nodiscard]] Counts counts() {
         Counts counts{};
         made(fq_count(at_.raw(), &counts));
@@ -282,20 +284,20 @@ public:
     [[nodiscard]] Took take(Kind kind) && noexcept;
     // Takes an idle instance to busy poll it (napi_busy_loop).
     [[nodiscard]] TookBusy busy() && noexcept;
-    // An interrupt: schedules, and hands over where it was granted: FQ_GRANTED, FQ_MISSED, FQ_DISABLED.
+    // Handles an interrupt: schedules, and queues the instance if granted. Returns FQ_GRANTED, FQ_MISSED or FQ_DISABLED.
     [[nodiscard]] Status interrupt(Kind kind) { return Status(fq_seat_interrupt(at_.raw(), kind)); }
-    // The same, with card.mask() between the grant and the hand-over.
+    // The same, with card.mask() after the grant and before the instance is queued.
     template <class Card>
     [[nodiscard]] Status interrupt(Kind kind, Card &card) {
         const fq_card calls = {&card, detail::mask<Card>, nullptr, nullptr, nullptr};
         return Status(fq_seat_interrupt_masked(at_.raw(), kind, &calls));
     }
-    // The same, and the kind is read from the state word: of an interrupt, a timer, a driver's open (fq_seat_request).
+    // The same, but reads the kind from the state word: for an interrupt, a timer, a driver's open (fq_seat_request).
     template <class Card>
     Requested request(Card &card) { return request_by({&card, detail::mask<Card>, nullptr, nullptr, nullptr}); }
-    // The same of a card that is masked already, or never.
+    // The same for a card that is masked already, or never.
     Requested request() { return request_by({nullptr, nullptr, nullptr, nullptr, nullptr}); }
-    // Whether polls are handed to the instance's own thread (dev_set_threaded).
+    // Sets whether polls are queued for the instance's own thread (dev_set_threaded).
     void set_threaded(bool threaded) { detail::made(fq_seat_set_threaded(at_.raw(), threaded)); }
 
 private:
@@ -311,7 +313,7 @@ private:
     }
 };
 
-// A caller to whom the instance was granted, and who has to hand it over.
+// A caller that was granted the instance, and has to queue it.
 class [[nodiscard]] Granted : public detail::Seat {
 public:
     [[nodiscard]] Caller hand(Kind kind) && noexcept {
@@ -332,13 +334,14 @@ public:
         detail::made(fq_seat_requeue(at_.raw()));
         return Caller(std::move(at_));
     }
-    // Ends the poll as the kernel does (fq_seat_end), after a full one or one that wasn't full.
+    // Ends the poll as the kernel does (fq_seat_end); full says that it returned its whole weight.
     [[nodiscard]] End end(bool full) && noexcept;
-    // The same of a card that can be looked at (fq_seat_end_watched): card.unmask(), look() and mask() are called, and don't throw. It may
-    // hand over to the thread, which is to be woken after FQ_NEXT_AGAIN_THREAD.
+    // The same for a card whose queue can be checked (fq_seat_end_watched): calls card.unmask(), look() and mask(), which don't throw. It
+    // may queue the instance for its thread: wake it after FQ_NEXT_AGAIN_THREAD.
     template <class Card>
     [[nodiscard]] End end_watched(bool full, Card &card) && noexcept;
-    // The same of one that can't (fq_seat_end_unmasked), of which work packets were polled: card.unmask(), poll(most) and mask().
+    // The same for a card whose queue can't be checked (fq_seat_end_unmasked), after work packets were polled: calls card.unmask(),
+    // poll(most) and mask().
     template <class Card>
     [[nodiscard]] End end_unmasked(Card &card, Weight weight, std::size_t &work) && noexcept;
     [[nodiscard]] Completed complete() && noexcept {
@@ -359,7 +362,7 @@ private:
 // A caller that busy polls the instance.
 class [[nodiscard]] Busy : public detail::Poller {
 public:
-    // Completes a poll below its weight (napi_complete_done), and busy polls on.
+    // Completes a poll below its weight (napi_complete_done), and keeps busy polling.
     void complete_held() { detail::made(fq_seat_complete(at_.raw())); }
     // Stops busy polling (busy_poll_stop): one poll has to follow.
     [[nodiscard]] Polling stop() && noexcept {
@@ -435,7 +438,7 @@ struct Off {};
 struct On {};
 struct Marked {};
 
-// The controller, by what it has done last.
+// The controller, by its state.
 template <class State>
 class Control;
 
@@ -446,7 +449,7 @@ template <>
 class [[nodiscard]] Control<On> {
 public:
     [[nodiscard]] Control<Marked> mark() && noexcept;
-    // napi_disable: leaves the processor to others while someone has the instance.
+    // Disables the instance (napi_disable): yields the processor while a caller owns it.
     [[nodiscard]] Control<Off> disable() && noexcept;
 
 private:
@@ -458,20 +461,22 @@ private:
 template <>
 class [[nodiscard]] Control<Off> {
 public:
-    // Ask once after it (Caller::request), or enable by open: what was asked before isn't polled.
+    // Enables the instance (napi_enable). Request a poll once after it (Caller::request), or enable by open: an earlier request isn't
+    // polled.
     [[nodiscard]] Control<On> enable(bool threaded) && noexcept {
         while (fq_control_enable(at_.raw(), threaded) == FQ_CHANGED) {
         }
         return Control<On>(std::move(at_));
     }
-    // A driver's open (fq_control_open): enables, and asks once by this caller, with card.mask() where that is granted.
+    // Opens a driver's instance (fq_control_open): enables it, and requests a poll once by this caller, with card.mask() if that is
+    // granted.
     template <class Card>
     [[nodiscard]] std::pair<Control<On>, Requested> open(bool threaded, Caller &caller, Card &card) && noexcept {
         auto on = std::move(*this).enable(threaded);
         const Requested asked = caller.request(card);
         return {std::move(on), asked};
     }
-    // What is counted of the ring's polls.
+    // Returns the counts of the ring's polls.
     [[nodiscard]] Counts counts() {
         Counts counts{};
         detail::made(fq_count(at_.raw(), &counts));
@@ -489,7 +494,7 @@ private:
 template <>
 class [[nodiscard]] Control<Marked> {
 public:
-    // Takes the instance where nobody has it, else the answer is this again.
+    // Takes the instance if no caller owns it; otherwise returns this object again.
     [[nodiscard]] std::variant<Control<Marked>, Control<Off>> try_take() && noexcept {
         std::uint32_t said;
         do said = fq_control_try_take(at_.raw());
@@ -519,15 +524,15 @@ inline Control<Off> Control<On>::disable() && noexcept {
     }
 }
 
-// The input end of a ring, whose other end an instance has, or an Output.
+// The input end of a ring, whose other end belongs to an instance or an Output.
 class [[nodiscard]] Input {
 public:
-    // False where the ring is full.
+    // Puts a packet into the ring, after all others; returns false if the ring is full.
     [[nodiscard]] bool put(std::uint64_t number, std::uint32_t bytes) {
         return fq_ring_put(at_.raw(), number, bytes) == FQ_OK;
     }
 
-    // Puts as many of the first packets in as fit, behind all others, and tells how many. A poll sees all of them at once.
+    // Puts as many of the first packets into the ring as fit, after all others, and returns how many. A poll sees all of them at once.
     [[nodiscard]] std::size_t put_all(const fq_packet *packets, std::size_t len) {
         if (len == 0) return 0;
         std::size_t count = 0;
@@ -535,7 +540,7 @@ public:
         return said == FQ_OK ? len : count;
     }
 
-    // Its places, and how many packets were put.
+    // Returns the ring's capacity, and how many packets were put.
     [[nodiscard]] RingShown shown() {
         RingShown shown{};
         detail::made(fq_ring_show(at_.raw(), &shown));
@@ -549,7 +554,7 @@ private:
     Handle at_;
 };
 
-// The other end of a ring, where no instance has it.
+// The poll end of a ring without an instance.
 class [[nodiscard]] Output {
 public:
     [[nodiscard]] std::size_t poll(Packets &out, Weight weight = Weight()) {
@@ -569,10 +574,10 @@ private:
     Handle at_;
 };
 
-// A receive ring without an instance, both ends in one hand.
+// A receive ring without an instance, with both its ends.
 class [[nodiscard]] Ring {
 public:
-    // A ring of 1 to 65536 places; none where these are out of range, or memory is out.
+    // Makes a ring of capacity 1 to 65536; returns nullopt if it is out of range, or memory runs out.
     [[nodiscard]] static std::optional<Ring> make(std::size_t capacity) {
         Handle at;
         if (fq_ring_new(at.raw(), capacity) != FQ_OK) return std::nullopt;
@@ -592,13 +597,13 @@ public:
         return counts;
     }
     [[nodiscard]] RingShown shown() { return input_.shown(); }
-    // Its two ends, each for a thread of its own; none where memory is out, and the ring is as it was.
+    // Returns its two ends, each for its own thread; nullopt if memory runs out, and the ring is unchanged.
     [[nodiscard]] std::optional<std::pair<Input, Output>> split() && {
         Handle out;
         if (fq_ring_split(input_.at_.raw(), out.raw()) != FQ_OK) return std::nullopt;
         return std::pair<Input, Output>(std::move(input_), Output(std::move(out)));
     }
-    // Its end, with its totals.
+    // Frees the ring, and returns its totals.
     [[nodiscard]] Totals finish() && {
         Totals totals{};
         detail::made(fq_ring_finish(input_.at_.raw(), &totals));
@@ -611,7 +616,7 @@ private:
 };
 
 namespace detail {
-// 2 to 8 seats, as callers. The room for them is there before a seat is, so that none is lost where memory is out.
+// Returns 2 to 8 seats as callers. Their vector is allocated before they are made, so that none is lost if memory runs out.
 template <class Make, class ToCaller>
 std::optional<std::vector<Caller>> callers(std::size_t count, Make make, ToCaller to_caller) {
     if (count < 2 || count > 8) return std::nullopt;
@@ -635,7 +640,8 @@ struct [[nodiscard]] Shared {
     Control<Off> control;
     std::vector<Caller> callers;
 
-    // A ring of 1 to 65536 places and 2 to 8 callers; none where these are out of range, or memory is out.
+    // Makes an instance over a ring of capacity 1 to 65536, with 2 to 8 callers; returns nullopt if one is out of range, or memory runs
+    // out.
     [[nodiscard]] static std::optional<Shared> make(std::size_t capacity, std::size_t callers) {
         Handle ring, control;
         if (fq_ring_new(ring.raw(), capacity) != FQ_OK) return std::nullopt;
@@ -647,12 +653,12 @@ struct [[nodiscard]] Shared {
     }
 };
 
-// An instance over no ring, whose polls read what they will: its controller, and its callers.
+// An instance without a ring, for a card that the user polls: its controller, and its callers.
 struct [[nodiscard]] Bare {
     Control<Off> control;
     std::vector<Caller> callers;
 
-    // 2 to 8 callers; none where these are out of range, or memory is out.
+    // Makes an instance with 2 to 8 callers; returns nullopt if that is out of range, or memory runs out.
     [[nodiscard]] static std::optional<Bare> make(std::size_t callers) {
         Handle control;
         auto made = detail::callers(
@@ -663,18 +669,18 @@ struct [[nodiscard]] Bare {
     }
 };
 
-// The answer to a push: FQ_OK; FQ_IN_USE, FQ_FULL.
+// The result of a push: FQ_OK, FQ_IN_USE or FQ_FULL.
 struct [[nodiscard]] Pushed {
     Status status;
-    // Whether it was listed.
+    // Returns whether it was listed.
     operator bool() const noexcept { return status == FQ_OK; }
 };
 
-// What a run did, and how it ended: FQ_OK, else why not, with what it did until then.
+// The result of a run: FQ_OK, or why it ended early, and the report of what it did until then.
 struct [[nodiscard]] Ran {
     Status status;
     fq_run_report report;
-    // Whether it ended by itself.
+    // Returns whether the run ended without an error.
     explicit operator bool() const noexcept { return status == FQ_OK; }
     [[nodiscard]] bool has_value() const noexcept { return status == FQ_OK; }
     const fq_run_report &operator*() const noexcept { return report; }
@@ -682,29 +688,29 @@ struct [[nodiscard]] Ran {
     operator std::optional<fq_run_report>() const noexcept { return status == FQ_OK ? std::optional(report) : std::nullopt; }
 };
 
-// A poll list of one thread. A number leaves it by the end of its poll, FQ_NEXT_GONE.
+// A poll list of one thread. A number leaves it when its poll ends with FQ_NEXT_GONE.
 class [[nodiscard]] List {
 public:
-    // None where memory is out.
+    // Makes a list; returns nullopt if memory runs out.
     [[nodiscard]] static std::optional<List> make() {
         Handle at;
         if (fq_list_new(at.raw()) != FQ_OK) return std::nullopt;
         return std::optional<List>(List(std::move(at)));
     }
 
-    // Puts a number at the list's tail: FQ_IN_USE where it is listed already, FQ_FULL where list and run hold 64.
+    // Puts a number at the list's tail. Returns FQ_IN_USE if it is listed already, FQ_FULL if list and run hold 64.
     Pushed push(std::uint32_t id) { return {fq_list_push(at_.raw(), id)}; }
-    // How many numbers list and run hold.
+    // Returns how many numbers list and run hold.
     [[nodiscard]] std::uint32_t size() {
         std::uint32_t len = 0;
         detail::made(fq_list_len(at_.raw(), &len));
         return len;
     }
 
-    // A run (net_rx_action): poll(id, weight) answers the packets that it gave, and how the poll ended. FQ_BAD_WEIGHT, FQ_BAD_BUDGET of the
-    // settings; FQ_NOT_ALLOWED in a run of this list. Of what a poll answered: FQ_BAD_WORK, more packets than the weight; FQ_BAD_NEXT;
-    // FQ_IN_USE, to be listed though it has listed itself. The run ends with these, and where poll throws: its device is listed no more,
-    // all others are. poll may push to this list, and not move it.
+    // Makes a run (net_rx_action). poll(id, weight) returns the packets that it processed, and how the poll ended. Returns FQ_BAD_WEIGHT
+    // or FQ_BAD_BUDGET for the settings; FQ_NOT_ALLOWED within a run of this list; for what poll returned FQ_BAD_WORK, more packets than
+    // the weight, FQ_BAD_NEXT, or FQ_IN_USE, to be listed although it has listed itself. After these, and if poll throws, the run ends:
+    // its device isn't listed any more, all others are. poll may push to this list, but not move it.
     template <class Poll>
     Ran run(std::uint32_t budget, std::uint32_t weight, std::uint32_t window, Poll poll) {
         if (const Status began = fq_run_begin(at_.raw(), budget, weight, window); began != FQ_OK) return {began, {}};
@@ -720,7 +726,7 @@ public:
     }
 
 private:
-    // A run under way, which ends with its scope. A call is refused, and changes nothing, where there is nothing left to end.
+    // A run under way, which ends with its scope. A call fails, and changes nothing, if there is nothing left to end.
     struct Run {
         fq_handle *at;
         fq_run_report report;
@@ -728,7 +734,7 @@ private:
         Run(fq_handle *list, fq_run_report none) noexcept : at(list), report(none) {}
         Run(const Run &) = delete;
         Run &operator=(const Run &) = delete;
-        // A poll whose answer was refused is still open: it is told as none.
+        // A poll whose result was rejected is still open: it is reported as FQ_NEXT_ABSENT.
         void end() noexcept {
             detail::made(fq_run_polled(at, 0, FQ_NEXT_ABSENT));
             detail::made(fq_run_end(at, &report));
@@ -740,12 +746,12 @@ private:
     Handle at_;
 };
 
-// Why a replay gave no report: its status, and of FQ_BAD_TRACE the number of the trace's fault (fq_fault_name) and its row.
+// Why a replay returned no report: its status, and for FQ_BAD_TRACE the number of the trace's fault (fq_fault_name) and its row.
 struct NoReport {
     std::uint32_t status, fault, row;
 };
 
-// The whole replay of a trace on one thread (napi_replay --mode=serial): the report.
+// Replays a whole trace on one thread (napi_replay --mode=serial), and returns its report.
 [[nodiscard]] inline std::variant<std::string, NoReport> replay(std::string_view trace, const fq_settings &settings = FQ_USUAL_SETTINGS) {
     const std::uint8_t none = 0;
     const std::uint8_t *bytes = trace.empty() ? &none : reinterpret_cast<const std::uint8_t *>(trace.data());

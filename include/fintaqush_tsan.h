@@ -1,10 +1,11 @@
 /*
- * fintaqush.h for programs under ThreadSanitizer (-fsanitize=thread), which doesn't see into the library, and so takes for a race
- * what "Memory order" of fintaqush.h orders: two calls that show it who has a buffer. In other builds they do nothing.
+ * fintaqush.h for programs under ThreadSanitizer (-fsanitize=thread). ThreadSanitizer doesn't see into the library, and would report
+ * what "Memory order" of fintaqush.h orders as a race. Two calls report to it which thread owns a buffer. In other builds they do nothing.
  *
- * Who is done with a buffer releases it before the call that gives it on: the put, or the next poll. Who gets it acquires it behind
- * the call that gives it: the poll, or the put that finds a place free. A poller's own data goes so from poller to poller, by an
- * address that stands for the instance: released before complete, requeue, hand or an end, acquired behind take.
+ * The thread that has finished with a buffer releases it before the call that passes it on: the put, or the next poll. The thread that
+ * gets it acquires it after the call that returns it: the poll, or the put that finds a place free. A poller's own data passes from
+ * poller to poller in the same way, by an address that represents the instance: release it before complete, requeue, hand or an end, and
+ * acquire it after take.
  */
 #ifndef FINTAQUSH_TSAN_H
 #define FINTAQUSH_TSAN_H

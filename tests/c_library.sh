@@ -154,7 +154,7 @@ echo 'each allocation was refused, and told' > "$scratch/refused_all"
 check 'refuse.c compiles' compile gcc "$top/tests/c/refuse.c" "$scratch/refuse" -O2 "$wraps"
 check 'each allocation refused in turn' compared "$scratch/refused_all" "$scratch/refuse"
 
-# ---- what each call that takes memory has made, ended in each state
+# ---- what each call that allocates has made, freed in each state
 
 ends_each_box() { timeout 900 "$@" > "$scratch/printed" && grep -qx '[0-9]* cases, and nothing is left' "$scratch/printed"; }
 check 'boxes.c compiles' compile gcc "$top/tests/c/boxes.c" "$scratch/boxes" -O2 "$wraps"

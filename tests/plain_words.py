@@ -12,7 +12,7 @@ TOP = pathlib.Path(__file__).resolve().parent.parent
 # Files that are searched, apart from this one.
 NAMES = re.compile(r"\.(rt|antt|rs|c|h|cc|hpp|cpp|py|sh|md)$|^(tools/\w+|test|fintaqush|replay)$")
 # Files that still have to be rewritten; the other files may not use the words.
-LATER = re.compile(r"^(include/|tools/|tests/tools/|tests/c/|tests/c_library\.sh|bindings/python/)")
+LATER = re.compile(r"^(tools/|tests/tools/)")
 # A pattern, what to write instead, a line that it finds, and one that it leaves alone.
 WORDS = (
     (r"\bbehind\b(?! (all )?others| (a|an|the) (reference|pointer|lock|firewall|proxy)\b)", "after, below, at the end of",

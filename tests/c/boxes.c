@@ -1,6 +1,6 @@
-/* boxes: each call that takes memory, in each state in which what it made can end, by each call that gives memory back, and the same
- * where it is refused: then nothing is left on the heap. To be linked with --wrap for malloc, realloc and free, and to be run under
- * valgrind too, which sees what is given back twice, or read behind its end. Where it isn't so it tells which, and ends by 9. */
+/* boxes: makes an object by each call that allocates, and frees it by each call that frees, in each state in which that is possible;
+ * and the same if a call fails. Then nothing is left on the heap. To be linked with --wrap for malloc, realloc and free, and to be run
+ * under valgrind too, which sees double frees and reads out of bounds. If something is wrong, it prints which and exits with 9. */
 #include "memory.h"
 #include <fintaqush.h>
 #include <stdio.h>
@@ -20,7 +20,7 @@ static void nothing_is_left(const char *what) {
     want(blocks == 0, what);
 }
 
-/* What stays as it is, and on the heap, where a call is refused. */
+/* A call failed with the wanted status, and changed nothing on the heap. */
 static void stays(uint32_t said, uint32_t wanted, long before, const char *what) {
     cases++;
     want(said == wanted && blocks == before, what);
@@ -35,7 +35,7 @@ static void ended(struct fq_handle *handle, enum end end, const char *what) {
     want(!handle->private_set && fq_free(handle) == FQ_BAD_HANDLE && fq_abandon(handle) == FQ_BAD_HANDLE && blocks == behind, what);
 }
 
-/* Not freed in this state, and then abandoned. */
+/* An object can't be freed in this state, and is then abandoned. */
 static void given_up(struct fq_handle *handle, const char *what) {
     stays(fq_free(handle), FQ_NOT_ALLOWED, blocks, what);
     ended(handle, ABANDON, what);
@@ -122,7 +122,7 @@ static void lists(void) {
     }
 }
 
-/* The handles of an instance: its ring's input, its controller, and two seats; and of seats that there are too many of. */
+/* The handles of an instance: its ring's input, its controller, and two seats; and an array of too many seats. */
 static struct fq_handle many[9], handles[4], *const input = &handles[0], *const control = &handles[1], *const irq = &handles[2], *const poller = &handles[3];
 
 static void made(bool bare) {
@@ -140,7 +140,7 @@ static void made(bool bare) {
     want(fq_ring_put(input, 7, 60) == FQ_OK, "a packet, which stays");
 }
 
-/* In each order: the ring's context, which is everybody's, goes with the last of them. */
+/* In each order: the ring's context, which all handles share, is freed with the last of them. */
 static void in_each_order(bool bare, enum end end) {
     for (int first = 0; first < 256; first++) {
         const int order[4] = {first & 3, first >> 2 & 3, first >> 4 & 3, first >> 6};
@@ -154,7 +154,7 @@ static void in_each_order(bool bare, enum end end) {
     }
 }
 
-/* How far an instance was brought, and who can't be freed then. */
+/* Brings an instance into a state, and tries to free the handles that can't be freed in it. */
 static void in_state(bool bare, int state) {
     struct fq_handle *held = poller;
     made(bare);

@@ -154,8 +154,8 @@ static void a_ring_whose_instance_is_refused(void) {
     given_up();
 }
 
-/* The end of a poll of one thread is told as its single calls are made, from each state, by whoever polls it or not; and a full poll is
- * completed where a disable is pending. */
+/* On one thread fq_napi_end does what the single calls do, from each state, whether or not the caller polls; and a full poll is completed
+ * if a disable is pending. */
 static enum fq_status by_single_calls(struct fq_napi *napi, uint32_t who, bool full, uint32_t *next) {
     const uint64_t word = fq_napi_word(napi);
     struct fq_napi tried = *napi;
@@ -189,7 +189,7 @@ static void ends_of_polls_on_one_thread(void) {
     }
 }
 
-/* Under load a disable ends after one poll, as in the kernel. Without a look at FQ_BIT_DISABLE, by hand over and over, it never does. */
+/* Under load a disable ends after one poll, as in the kernel. A poller that requeues without checking FQ_BIT_DISABLE never lets it end. */
 static void a_full_poll_under_a_disable(void) {
     struct fq_napi napi = fq_napi_new(2);
     uint32_t next = 99, polls = 0;
@@ -202,7 +202,7 @@ static void a_full_poll_under_a_disable(void) {
     want(polls == 1 && fq_napi_unmark(&napi, 2) == FQ_OK, "and the disable ends");
 }
 
-/* What was asked while an instance is off is missed; its open asks once, and the request is handed to where the word tells. */
+/* A request while an instance is off is missed; its open requests a poll once, and the instance is queued as the state word says. */
 static unsigned masks;
 static void mask(void *at) { masks++, (void)at; }
 static const struct fq_card card = {NULL, mask, NULL, NULL, NULL};
@@ -224,7 +224,7 @@ static void an_open_asks_once(void) {
     }
 }
 
-/* The kind is read from the word: an end that looks at the card, and a request, hand over to a thread that was set meanwhile, and say so. */
+/* fq_seat_end_watched and fq_seat_request read the kind from the state word: they queue for a thread that was set meanwhile, and report it. */
 static void unmask(void *at) { (void)at; }
 static bool look(void *at) { return (void)at, true; }
 static const struct fq_card watched = {NULL, mask, unmask, look, NULL};
@@ -243,7 +243,7 @@ static void handed_to_a_thread_that_was_set_meanwhile(void) {
     given_up();
 }
 
-/* Of several refusals of a replay the first that the header names is told. */
+/* If several errors apply, a replay returns the one that the header names first. */
 static void refusals_of_a_replay(void) {
     static const char good[] = "moment,device,event,value\n0,1,open,4\n";
     static const uint8_t bad[] = "?";
@@ -258,10 +258,10 @@ static void refusals_of_a_replay(void) {
     want(fq_replay(&settings, (const uint8_t *)good, sizeof good - 1, report, 0, &told) == FQ_NO_ROOM && told.length > 0, "then the room");
 }
 
-/* The answers of a free and of a list, of which the header names no other. */
+/* The statuses of a free and of a list are those that the header names. */
 static void frees_and_lists(void) {
     struct fq_handle list = FQ_NONE;
-    (void)fq_free(&list), (void)fq_abandon(&list); /* no compiler warns of these */
+    (void)fq_free(&list), (void)fq_abandon(&list); /* compilers don't warn about these */
     fq_free(&list);
     want(fq_list_new(&list) == FQ_OK && fq_list_new(&list) == FQ_IN_USE && fq_free(&list) == FQ_OK && fq_free(&list) == FQ_BAD_HANDLE, "a list");
 }

@@ -1,6 +1,6 @@
-/* Makes each allocation of each call that makes something fail in turn, counted from 1. Each failure has to return
- * FQ_OUT_OF_MEMORY, or to change nothing if the allocation is retried; what is left is abandoned, and then nothing is left
- * on the heap; and the same call succeeds as soon as allocations do. To be linked with --wrap for malloc, realloc and free.
+/* For each call that allocates, makes its first, second .. allocation fail, in one run each. After each failure the call has
+ * to return FQ_OUT_OF_MEMORY, or to change nothing if the allocation is retried; what is left is abandoned, and then nothing
+ * is on the heap; and the same call succeeds as soon as allocations do. To be linked with --wrap for malloc, realloc and free.
  * It exits with 9 if one of this isn't so. */
 #include "memory.h"
 #include <fintaqush.h>
@@ -128,7 +128,7 @@ static uint32_t make_replay(void) {
 }
 static bool replay_works(void) { return memcmp(report, wanted, ROOM) == 0; }
 
-/* refuse_each: how many allocations there were, each of which failed. */
+/* Returns how many allocations the call makes, after it made each of them fail. */
 static long refuse_each(const char *what, uint32_t (*make)(void), bool (*works)(void)) {
     for (long call = 1;; call++) {
         takes = 0;

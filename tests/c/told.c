@@ -1,4 +1,4 @@
-/* What the library says about itself is what the header says: version, names, sizes. A text ends with a 0 if there is room
+/* The library returns the header's version, names and sizes. A text ends with a 0 if there is room
  * for both, otherwise nothing is written. It exits with 9 if this isn't so. */
 #include <fintaqush.h>
 #if FQ_VERSION_NUMBER < 10000
@@ -28,7 +28,7 @@ static void tells(size_t tell(uint32_t, char *, size_t), uint32_t number, const 
     }
 }
 
-/* Each status says something of its own, for which there is room; what is no status says nothing. */
+/* Each status has its own message, which fits FQ_MESSAGE_ROOM; the message of an unknown number is "?". */
 static void says(uint32_t status, bool is_one) {
     static char said[300][FQ_MESSAGE_ROOM];
     want(fq_status_message(status, said[status], FQ_MESSAGE_ROOM) < FQ_MESSAGE_ROOM, "room for a message");

@@ -8,9 +8,9 @@
 
 using namespace fintaqush;
 
-static long blocks;   // of the library, on the heap
-static bool refused;  // C++ has no memory
-static bool is_out;   // the library has none
+static long blocks;   // the library's, on the heap
+static bool refused;  // allocations of C++ fail
+static bool is_out;   // those of the library fail
 
 extern "C" {
 void *__real_malloc(std::size_t size);
@@ -56,7 +56,7 @@ static_assert(noexcept(std::declval<Caller>().schedule()) && noexcept(std::declv
 static_assert(!std::is_convertible_v<int, Weight> && !std::is_constructible_v<Weight, int>);
 static_assert(Weight::of<1>().get() == 1 && Weight().get() == 64 && !Weight::make(0) && !Weight::make(65) && Weight::make(64)->get() == 64);
 
-// The structs whose names were taken by functions.
+// The structs whose names are also names of functions.
 [[maybe_unused]] static void names() {
     fq_counts counts{};
     fq_tx_shown state{};
@@ -64,7 +64,7 @@ static_assert(Weight::of<1>().get() == 1 && Weight().get() == 64 && !Weight::mak
     static_cast<void>(counts), static_cast<void>(state), static_cast<void>(made);
 }
 
-// What ends a run is told by its name, with what was polled until then, and the others stay listed.
+// What ends a run is returned as its status, with what was polled until then, and the others stay listed.
 static void refused_runs(List &list) {
     using Did = std::pair<std::uint32_t, fq_next>;
     const auto ends = [&](fq_status status, std::uint32_t left, auto &&poll) {

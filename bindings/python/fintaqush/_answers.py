@@ -74,7 +74,7 @@ class Fault(ValueError):
     """A call failed. `status` says why, and the text is its name in the header."""
 
     def __init__(self, status: Status, *more: int) -> None:
-        super().__init__(status, *more)  # the values that it is made of again where it is unpickled
+        super().__init__(status, *more)  # the arguments from which unpickling makes it again
         self.status = status
 
     def __str__(self) -> str:

@@ -14,7 +14,7 @@ from ._answers import Fault, Status
 SONAME = "libfintaqush.so.1"
 u32, u64, size, boolean = ctypes.c_uint32, ctypes.c_uint64, ctypes.c_size_t, ctypes.c_bool
 MOST: dict[Any, int] = {u32: 2**32 - 1, u64: 2**64 - 1, size: 2**64 - 1}
-DECLARED: dict[str, tuple[Any, dict[str, Any]]] = {}  # each call's answer and arguments, named as in the header
+DECLARED: dict[str, tuple[Any, dict[str, Any]]] = {}  # each call's result type and arguments, named as in the header
 
 
 class Missing(ImportError):
@@ -35,8 +35,8 @@ def missing(why: object) -> Missing:
 
 
 def place() -> str:
-    """Returns the library's path: in the folder that FINTAQUSH_LIB names, otherwise where this was installed with it, otherwise
-    by the usual search."""
+    """Returns the library's path: in the folder that FINTAQUSH_LIB names, otherwise where it was installed with this package,
+    otherwise by the usual search."""
     beside = pathlib.Path(__file__).resolve().parents[3] / SONAME
     if named := os.environ.get("FINTAQUSH_LIB"):
         return os.path.join(named, SONAME)
@@ -92,7 +92,7 @@ class Replayed(ctypes.Structure):
     _fields_ = [("length", size), ("fault", u32), ("row", u32)]
 
 
-# The structs whose size the library returns, by their numbers in `enum fq_struct`; and all.
+# The structs whose size the library returns, by their numbers in `enum fq_struct`; then all structs.
 NUMBERS = {Handle: 0, Dql: 1, DqlMade: 2, Napi: 3, Packet: 4, Counts: 5, RingShown: 7, TxShown: 8, Answers: 9, RunReport: 10}
 STRUCTS = {*NUMBERS, Settings, Replayed}
 

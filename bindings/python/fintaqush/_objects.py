@@ -241,7 +241,7 @@ class List(_Owned):
                 work, next = poll(id.value, weight)
                 c.run_polled(self._at, work, next)
         finally:
-            with contextlib.suppress(Fault):  # refused if no poll is open, which is so where nothing was raised
+            with contextlib.suppress(Fault):  # fails if no poll is open, as after a run without an exception
                 c.run_polled(self._at, 0, Next.ABSENT)
             c.run_end(self._at, report)
         return RunReport(report.polls, report.work, report.squeezed)

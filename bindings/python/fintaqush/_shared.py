@@ -9,7 +9,7 @@ from ._objects import Counts, Packet, _Owned
 
 
 class Answers(NamedTuple):
-    """How often the calls of a seat were answered what."""
+    """How often the calls of a seat returned each result."""
     granted: int
     missed: int
     disabled: int
@@ -20,14 +20,14 @@ class Answers(NamedTuple):
 
 
 def _decided(call: Callable[..., Any], *values: Any) -> Status:
-    """The answer of a call that is made again while another thread changed the instance."""
+    """Repeats a call while it returns CHANGED, because another thread changed the instance, and returns its result."""
     while (said := Status(call(*values))) is Status.CHANGED:
         pass
     return said
 
 
 class _Part(_Owned):
-    """A part of an instance, which the library has made."""
+    """A part of an instance that the library has made."""
 
     def __init__(self, at: c.Handle) -> None:
         self._at = at
@@ -37,31 +37,31 @@ class Input(_Part):
     """The input of the instance's ring."""
 
     def put(self, number: int, bytes: int) -> bool:
-        """Puts a packet in, behind all others; False: the ring is full."""
+        """Puts a packet into the ring, after all others; returns False if the ring is full."""
         return bool(c.ring_put(self._at, number, bytes) == Status.OK)
 
     @property
     def count(self) -> int:
-        """How many packets were put so far."""
+        """The number of packets that were put so far."""
         shown = c.RingShown()
         c.ring_show(self._at, shown)
         return int(shown.put)
 
 
 class Seat(_Part):
-    """A caller. A call that its state doesn't have is NOT_ALLOWED, and changes nothing."""
+    """A caller. A call that isn't allowed in its state raises NOT_ALLOWED, and changes nothing."""
 
     def schedule(self) -> Status:
-        """Asks for a poll (`napi_schedule_prep`): GRANTED, and it is to be handed over; MISSED, DISABLED."""
+        """Requests a poll (`napi_schedule_prep`): returns GRANTED, and the caller has to hand it over; MISSED, or DISABLED."""
         return _decided(c.seat_schedule, self._at)
 
     def hand(self, kind: Kind = Kind.LIST) -> None:
-        """Hands a granted instance over (`____napi_schedule`)."""
+        """Queues a granted instance (`____napi_schedule`)."""
         c.seat_hand(self._at, kind)
 
     def request(self, mask: Callable[[], object] = lambda: None) -> tuple[Status, Next]:
-        """A request for a poll (`napi_schedule`): where it is granted, masks the card and hands over to where the state word tells, AGAIN:
-        its number is to be listed, AGAIN_THREAD: its thread is to poll. GONE where it is MISSED or DISABLED."""
+        """Requests a poll (`napi_schedule`). If it is granted, masks the card and queues the instance by the state word; after AGAIN
+        its number has to be listed, after AGAIN_THREAD its thread has to poll. If it is MISSED or DISABLED, the second result is GONE."""
         said = self.schedule()
         if said is not Status.GRANTED:
             return said, Next.GONE
@@ -74,29 +74,29 @@ class Seat(_Part):
         return Next.AGAIN_THREAD if threaded else Next.AGAIN
 
     def take(self, kind: Kind = Kind.LIST) -> bool:
-        """Takes the instance from the list or as its thread; False: it wasn't there."""
+        """Takes the instance from the list or as its thread; returns False if it isn't there."""
         return bool(c.seat_take(self._at, kind) == Status.TAKEN)
 
     def poll(self, weight: int = 64) -> list[Packet]:
-        """The ring's next packets, at most weight, which is 1 to 64. BAD_WEIGHT."""
+        """Takes the ring's next packets out, at most weight, which is 1 to 64. BAD_WEIGHT."""
         out, count = (c.Packet * 64)(), c.size()
         c.seat_poll(self._at, weight, out, 64, count)
         return [Packet(one.number, one.bytes) for one in out[: count.value]]
 
     def requeue(self) -> None:
-        """The instance is on the list again."""
+        """Puts the instance on the list again."""
         c.seat_requeue(self._at)
 
     def complete(self) -> Status:
-        """Ends a poll (`napi_complete_done`): RELEASED; AGAIN, and it is to be handed over; HELD of a busy poller."""
+        """Ends a poll (`napi_complete_done`): returns RELEASED; AGAIN, and the caller has to hand it over; HELD for a busy poller."""
         return _decided(c.seat_complete, self._at)
 
     def end(self, full: bool) -> Next | None:
-        """Ends a poll as the kernel does (`__napi_poll`), and answers what a run is told; None: poll on. As `fq_seat_end`."""
+        """Ends a poll as the kernel does (`__napi_poll`), like `fq_seat_end`: returns what to pass to the run, or None: keep polling."""
         word = self.word
         if full and not word & (Word.DISABLE | Word.IN_BUSY_POLL):
             if Word.SCHED_THREADED in word:
-                _ = self.counts  # of a seat that polls alone
+                _ = self.counts  # raises unless the seat polls
                 return None
             self.requeue()
             return Next.REPOLL
@@ -106,15 +106,15 @@ class Seat(_Part):
         return None if said is Status.HELD else Next.GONE
 
     def busy_take(self) -> bool:
-        """Takes an idle instance to busy poll it (`napi_busy_loop`); False: it isn't idle."""
+        """Takes an idle instance to busy poll it (`napi_busy_loop`); returns False if it isn't idle."""
         return _decided(c.seat_busy_take, self._at) is Status.TAKEN
 
     def busy_stop(self) -> None:
-        """Stops busy polling, and one poll has to follow (`busy_poll_stop`)."""
+        """Stops busy polling (`busy_poll_stop`): one poll has to follow."""
         _decided(c.seat_busy_stop, self._at)
 
     def set_threaded(self, threaded: bool) -> None:
-        """Whether polls are handed to the instance's own thread (`dev_set_threaded`)."""
+        """Sets whether the instance is scheduled on its own thread (`dev_set_threaded`)."""
         c.seat_set_threaded(self._at, threaded)
 
     @property
@@ -126,43 +126,44 @@ class Seat(_Part):
 
     @property
     def counts(self) -> Counts:
-        """What the ring's polls gave so far, of a seat that polls."""
+        """The counts of the ring's polls so far, for a seat that polls."""
         counts = c.Counts()
         c.count(self._at, counts)
         return Counts(counts.polls, counts.packets, counts.bytes)
 
     @property
     def answers(self) -> Answers:
-        """How often its calls were answered what."""
+        """How often its calls returned each result."""
         answers = c.Answers()
         c.seat_count(self._at, answers)
         return Answers(*(getattr(answers, name) for name in Answers._fields))
 
 
 class Control(_Part):
-    """The controller of an instance, which is off at first. NOT_ALLOWED."""
+    """The controller of an instance, which is disabled at first. A call that isn't allowed in its state raises NOT_ALLOWED."""
 
     def enable(self, threaded: bool = False) -> None:
-        """Enables the instance (`napi_enable`). Ask once after it (`Seat.request`), or enable by `open`: what was asked before isn't
-        polled, and a card that is masked would stand still for ever."""
+        """Enables the instance (`napi_enable`). Request a poll once after it (`Seat.request`), or enable by `open`: an earlier request
+        isn't polled, and a masked card would hang for ever."""
         _decided(c.control_enable, self._at, threaded)
 
     def open(self, seat: Seat, threaded: bool = False, mask: Callable[[], object] = lambda: None) -> tuple[Status, Next]:
-        """A driver's open: enables, and asks once by a seat that rests. Answers as `Seat.request`."""
+        """Opens a driver's instance: enables it, and requests a poll once by a seat at rest. Returns what `Seat.request` returns."""
         self.enable(threaded)
         return seat.request(mask)
 
     def mark(self) -> None:
-        """A disable is pending (the first step of `napi_disable`)."""
+        """Marks a disable as pending (the first step of `napi_disable`)."""
         c.control_mark(self._at)
 
     def try_take(self) -> bool:
-        """The second step, to be tried between polls until it is True: it is off; False: somebody has the instance."""
+        """The second step, to be repeated between polls until it returns True: the instance is off; False if a caller owns it."""
         return _decided(c.control_try_take, self._at) is Status.TAKEN
 
 
 def shared(capacity: int, seats: int = 2) -> tuple[Input, Control, list[Seat]]:
-    """An instance over a ring of 1 to 65536 places, off, with its input, its controller and 2 to 8 seats. BAD_CAPACITY, BAD_COUNT."""
+    """Makes a disabled instance over a ring of capacity 1 to 65536; returns the ring's input, the controller and 2 to 8 seats.
+    BAD_CAPACITY, BAD_COUNT."""
     if not 2 <= seats <= 8:
         raise Fault(Status.BAD_COUNT)
     ring, control, made = c.Handle(), c.Handle(), (c.Handle * seats)()
