@@ -41,8 +41,8 @@ pub(crate) fn replay_in<P: Threads + Wait + Sync, R: Read + Drop, W: Write>(
 
 #[test]
 fn failing_reads(rt: HostRuntime) {
-    // The end is read twice: after the plain rows, and by `csv`, which parses the rest.
-    let reads = ONE_PACKET.len() as u32 + 2;
+    // The end is read only once, although both `csv` and the reader of plain rows read to it.
+    let reads = ONE_PACKET.len() as u32 + 1;
     for (mode, wanted) in MODES {
         for before in 0..reads + 2 {
             let reader = FailingReader::new(ONE_PACKET, before);
