@@ -1,6 +1,6 @@
 """Finds words that no reader outside this repository would understand, and prints what to write instead.
 
-Each row of WORDS is a test: its pattern finds no line of a tracked source or page, except in LATER. It must also find the row's first
+Each row of WORDS is a test: its pattern finds no line of a tracked source or page. It must also find the row's first
 example, and not the second one, which is an ordinary use. Code is searched in comments and doc strings, pages everywhere. The last
 line is `N passed, M failed`.
 """
@@ -10,9 +10,7 @@ import subprocess
 
 TOP = pathlib.Path(__file__).resolve().parent.parent
 # Files that are searched, apart from this one.
-NAMES = re.compile(r"\.(rt|antt|rs|c|h|cc|hpp|cpp|py|sh|md)$|^(tools/\w+|test|fintaqush|replay)$")
-# Files that still have to be rewritten; the other files may not use the words.
-LATER = re.compile(r"^(tools/|tests/tools/)")
+NAMES = re.compile(r"\.(rt|antt|rs|c|h|cc|hpp|cpp|py|sh|md)$|^(tools/[\w-]+|test|fintaqush|replay)$")
 # A pattern, what to write instead, a line that it finds, and one that it leaves alone.
 WORDS = (
     (r"\bbehind\b(?! (all )?others| (a|an|the) (reference|pointer|lock|firewall|proxy)\b)", "after, below, at the end of",
@@ -57,7 +55,7 @@ def sources():
     """Pairs of a tracked file's name and its prose."""
     for name in subprocess.run(["git", "ls-files"], cwd=TOP, capture_output=True, text=True, check=True).stdout.split("\n"):
         path = TOP / name
-        if NAMES.search(name) and not LATER.search(name) and path.is_file() and path != pathlib.Path(__file__).resolve():
+        if NAMES.search(name) and path.is_file() and path != pathlib.Path(__file__).resolve():
             yield name, prose(path, path.read_text(errors="replace"))
 
 

@@ -1,4 +1,4 @@
-"""What is set on a recorded machine, what else could be set there, and how it is set: for tools/advise."""
+"""The settings of a recorded machine, the alternatives, and the commands that apply them: for tools/advise."""
 
 from toolbox import Refusal, ran, shown
 
@@ -12,8 +12,8 @@ import observed
 from machine_report import OPTIONS
 from timeline import BACKLOG
 
-VETH_RING = 256  # of veth's driver, which ethtool doesn't report
-SOCKET = 65536  # packets: a socket's buffer isn't recorded in packets, so it holds all
+VETH_RING = 256  # entries of veth's ring, which ethtool doesn't report
+SOCKET = 65536  # packets: a recording doesn't have the socket buffer's size in packets, so this holds all
 FLUSHES = (0, 20_000, 50_000, 100_000, 200_000, 500_000)  # ns
 DEFERRALS = 2
 COALESCED = (0, 8_000, 25_000, 50_000, 100_000)  # ns
@@ -21,11 +21,11 @@ LARGER = (1, 2, 4, 8, 16)
 NOT_MODELLED = ("GRO's merging of packets", "the scheduler's choice among tasks, and hypervisors", "busy polling", "RPS after a device's own polls",
                 "adaptive coalescing")
 COMM = 15  # characters of a task's name that the kernel keeps
-WRITE = 'echo "$3" > "/sys/class/net/$1/$2"'  # whose arguments are never a part of the command
+WRITE = 'echo "$3" > "/sys/class/net/$1/$2"'  # device and value are arguments of the shell, never part of the command
 
 
 def number_in(head, key, default):
-    """A number of the head."""
+    """Returns a number of the recording's head, or the default."""
     found = re.fullmatch(r"\d{1,15}", head.get(key, ""))
     return int(found[0]) if found else default
 
@@ -36,7 +36,7 @@ def within_range(option, value):
 
 
 def options_of(head, device, is_apart):
-    """The machine's options for what was set when this was recorded."""
+    """Returns napi_machine's options for the recorded settings."""
     of_core = lambda name, default: number_in(head, f"sysctl.net.core.{name}", default)  # noqa: E731
     of_device = lambda name, default: number_in(head, f"device.{device}.{name}", default)  # noqa: E731
     options = {"budget": of_core("netdev_budget", 300), "time-limit": 1000 * of_core("netdev_budget_usecs", 8000), "socket": SOCKET,
@@ -52,7 +52,7 @@ def options_of(head, device, is_apart):
 
 
 def unmodelled_in(head, device):
-    """What is set on this machine that the model doesn't have."""
+    """Yields the settings of the recorded machine that the model doesn't have."""
     if number_in(head, "sysctl.net.core.busy_read", 0) or number_in(head, "sysctl.net.core.busy_poll", 0):
         yield "busy polling is on (net.core.busy_read, busy_poll)"
     if head.get(f"device.{device}.ethtool.coalesce.adaptive-rx") == "on":
@@ -65,7 +65,7 @@ def unmodelled_in(head, device):
 
 
 def rings_of(head, device, options):
-    """The sizes of ring or backlog that can be set."""
+    """Returns the sizes of ring or backlog that can be set."""
     now = options["ring"]
     if options.get("backlog"):
         return sorted({within_range("ring", (now - 1) * times + 1) for times in LARGER})
@@ -74,7 +74,7 @@ def rings_of(head, device, options):
 
 
 def candidates(head, device, options, has_program):
-    """All settings that are tried, that of the recording first."""
+    """Returns all settings to try, the recorded one first."""
     deferrals, coalescing, threads = [{}], [{}], [{}]
     if not options.get("backlog"):
         if {f"device.{device}.napi_defer_hard_irqs", f"device.{device}.gro_flush_timeout"} <= head.keys():
@@ -97,13 +97,13 @@ def candidates(head, device, options, has_program):
 # ---- how it is set
 
 def thread_of(device):
-    """How the names of a device's NAPI threads begin."""
+    """Returns the prefix of the names of a device's NAPI threads."""
     return f"napi/{device}-"[:COMM]
 
 
 @dataclass
 class Change:
-    """One thing that is set: `kind` is sysctl, sysfs, ring, coalesce, threads or program."""
+    """One change of a setting; `kind` is sysctl, sysfs, ring, coalesce, threads or program."""
 
     kind: str
     name: str
@@ -112,14 +112,14 @@ class Change:
 
 
 class Machine:
-    """The recorded machine, if this is it."""
+    """The machine that was recorded, if it is this one."""
 
     def __init__(self, head, device, processor):
         self.head, self.device, self.netns, self.processor = head, device, head.get("netns", ""), processor
         self.pids = [int(each) for each in head.get("program.pids", "").split()]
 
     def other_processor(self):
-        """A processor for the program, apart from the one that polls."""
+        """Returns a processor for the program, other than the one that polls."""
         for part in self.head.get("online", "0").split(","):
             first, _, last = part.partition("-")
             for number in range(int(first), int(last or first) + 1):
@@ -128,7 +128,7 @@ class Machine:
         return None
 
     def changes(self, chosen, now):
-        """What is set so that this is chosen, in an order in which it can be."""
+        """Returns the changes that lead to the chosen setting, in an order in which the kernel accepts them."""
         is_new = lambda name: chosen.get(name) != now.get(name)  # noqa: E731
         changes = []
         for name in ("napi_defer_hard_irqs", "gro_flush_timeout", "threaded"):
@@ -148,7 +148,7 @@ class Machine:
         return changes
 
     def notes_on(self, changes):
-        """What the lines that set it don't say."""
+        """Yields notes on what the commands don't show."""
         for change in changes:
             if change.kind == "threads":
                 yield f"the thread is pinned to processor {change.value}, which polls now; any other one that does nothing else is as good"
@@ -159,7 +159,7 @@ class Machine:
                        "apart")
 
     def line_of(self, change):
-        """The line for a shell that sets it."""
+        """Returns the shell command for a change."""
         front = f"ip netns exec {self.netns} " if self.netns else ""
         attribute = f"/sys/class/net/{self.device}/{change.name}"
         return {"sysctl": f"sysctl -w net.core.{change.name}={change.value}",
@@ -170,7 +170,7 @@ class Machine:
                 "program": f"for task in $(pgrep -x '{change.name[:COMM]}'); do taskset -apc {change.value} $task; done"}[change.kind]
 
     def set(self, change, value):
-        """Sets it on this machine."""
+        """Applies a change on this machine."""
         within = observed.within(self.netns)
         if change.kind == "sysctl":
             with open(f"/proc/sys/net/core/{change.name}", "w", encoding="ascii") as file:
@@ -187,7 +187,7 @@ class Machine:
             raise Refusal(f"{shown(' '.join(command))[:120]}: {shown(said.decode('utf-8', 'replace').strip())[:200]}")
 
     def move(self, change):
-        """Pins tasks to a processor. Returns where each one was allowed before."""
+        """Pins tasks to a processor. Returns the processors that each task was allowed on before."""
         if change.kind == "threads":
             tasks = [task for task, _ in observed.tasks_named(lambda name: name.startswith(thread_of(change.name)))]
         else:
@@ -207,7 +207,7 @@ class Machine:
 
     @contextlib.contextmanager
     def with_changes(self, changes):
-        """Sets all of it, and restores it, also after a failure or a signal."""
+        """Applies all changes, and restores the old values at the end, also after a failure or a signal."""
         with contextlib.ExitStack() as undo:
             for change in changes:
                 if change.kind in ("threads", "program"):

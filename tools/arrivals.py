@@ -1,4 +1,4 @@
-"""Arrivals, as napi_machine reads them: any number of packets, each with its moment in ns, its device and its size."""
+"""Arrivals, as napi_machine reads them: any number of packets, each with its time in ns, its device and its size."""
 
 from toolbox import Refusal
 
@@ -9,11 +9,11 @@ from operator import le
 HEADER = "moment,device,bytes\n"
 HEADER_WITH_FLOWS = "moment,device,bytes,flow\n"
 SECOND = 10**9  # nanoseconds, which the time stamps here are
-MOST_DEVICES = 64 * 64  # 64 of each of 64 processors
+MOST_DEVICES = 64 * 64  # 64 devices on each of 64 processors
 
 
 class Packets:
-    """Packets in little room: of each its time, its kind by a number, and its size."""
+    """Packets in compact arrays: for each its time, the number of its kind, and its size."""
 
     def __init__(self):
         self.times, self.kinds, self.sizes, self.numbers = array("Q"), array("L"), array("H"), {}
@@ -24,14 +24,14 @@ class Packets:
         self.sizes.append(size)
 
     def counted(self):
-        """How many there are of each kind."""
+        """Returns how many packets of each kind there are."""
         counts = [0] * len(self.numbers)
         for kind in self.kinds:
             counts[kind] += 1
         return dict(zip(self.numbers, counts))
 
     def in_order(self):
-        """Time, kind and size of each, by their times."""
+        """Returns time, kind and size of each packet, sorted by time."""
         is_sorted = all(map(le, self.times, islice(self.times, 1, None)))
         places = range(len(self.times)) if is_sorted else sorted(range(len(self.times)), key=self.times.__getitem__)
         names = list(self.numbers)
@@ -44,12 +44,12 @@ def check_devices(count):
 
 
 def seconds(whole, fraction):
-    """A time stamp, of up to nine digits behind its point, in ns."""
+    """Converts a timestamp with up to nine digits after the decimal point to ns."""
     return int(whole) * SECOND + int(fraction.ljust(9, "0"))
 
 
 def arrivals_text(rows, span=None, with_flows=False):
-    """The lines of rows (time, device, size), or (time, device, size, flow), of some of them if a span is given; the first one's moment is 0."""
+    """Formats rows (time, device, size) or (time, device, size, flow) as lines, only those of the span if one is given; times begin at 0."""
     yield HEADER_WITH_FLOWS if with_flows else HEADER
     start = None
     for time, *others in islice(rows, span[0] - 1, span[1]) if span else rows:
@@ -58,5 +58,5 @@ def arrivals_text(rows, span=None, with_flows=False):
 
 
 def number_of(rows, span):
-    """How many of so many rows a span has."""
+    """Returns how many of `rows` rows are in a span."""
     return len(range(rows)[span[0] - 1 : span[1]]) if span else rows

@@ -1,5 +1,5 @@
-"""Which events of a recording are packets that arrive: what the other end of a veth pair sends; without a pair what polls take from a card, or
-what the network stack receives.
+"""Decides which events of a recording are arrivals of packets: those that the other end of a veth pair sends; without a pair, those that polls
+take from a card, or those that the network stack receives.
 """
 
 from toolbox import Refusal, shown
@@ -14,7 +14,7 @@ BY_PAIR, BY_POLL, BY_STACK = "net_dev_xmit", "napi_gro_receive_entry", "netif_re
 KINDS = {BY_PAIR: BY_PAIR, BY_POLL: BY_POLL, "napi_gro_frags_entry": BY_POLL, BY_STACK: BY_STACK}  # of each event
 TAKEN = re.compile(r"dev=(\S+) .*\bhash=0x([0-9a-f]{1,8}) .*\blen=(\d{1,10}) .*\bmac_header_valid=([01]) mac_header=(-?\d{1,5})\b")
 RECEIVED = re.compile(r"dev=(\S+) .*\blen=(\d{1,10})")
-LINK_HEADER = 14  # bytes of Ethernet, which are taken off before a packet is received
+LINK_HEADER = 14  # bytes of the Ethernet header, which is removed before a packet is received
 MOST_PACKET = 65535  # bytes
 HOW = {BY_POLL: "a packet's moment is when the poll that took it began, or the interrupt that asked for this poll (napi_gro_receive_entry): its arrival "
                 "and a longer wait in the ring aren't recorded, nor is a packet that the card dropped",
@@ -23,14 +23,14 @@ HOW = {BY_POLL: "a packet's moment is when the poll that took it began, or the i
 
 
 def size_in(event, size):
-    """The size of a packet, as arrivals may have it."""
+    """Returns the size of a packet, checked against the range that arrivals may have."""
     if not 1 <= size <= MOST_PACKET:
         raise Refusal(f"line {event.line}: a packet of {size} bytes, and a trace's have 1 to {MOST_PACKET}")
     return size
 
 
 def packet_of(event):
-    """The device of a packet, its size, and its flow: the hash that the card or the kernel has, 0 if there is none."""
+    """Returns a packet's device, size and flow. The flow is the hash from the card or the kernel, 0 if there is none."""
     if event.name == BY_PAIR:
         device, size, _ = event.parts(SENT)
         return device, size_in(event, int(size)), 0
@@ -43,8 +43,8 @@ def packet_of(event):
 
 
 class PollBegins:
-    """When the poll that is under way on each processor began, or the interrupt that asked for it: a packet that it takes had arrived by then, or came
-    while it polled."""
+    """When the current poll on each processor began, or the interrupt that requested it. A packet that the poll takes arrived by then, or during the
+    poll."""
 
     def __init__(self):
         self.handlers, self.ended, self.began = {}, {}, {}  # by processor
@@ -75,7 +75,7 @@ class PollBegins:
 
 
 def chosen_kind(names, pairs, words, head):
-    """The kind of event by which packets arrive. `names` has the devices of each kind, `pairs` are the ends of the pairs that may be meant."""
+    """Returns the kind of event that counts as an arrival. `names` has the devices of each kind, `pairs` the ends of possible pairs."""
     if words.pair:
         return BY_PAIR
     wanted = set(words.device or head.get("device", "").split())
@@ -91,13 +91,13 @@ def chosen_kind(names, pairs, words, head):
 
 
 def receivers(counts, words, head):
-    """The devices that receive, in order: those that are named, or all of them, the one with most packets first."""
+    """Returns the receiving devices in order: the named ones, or all, sorted by their number of packets."""
     named = words.device or [name for name in head.get("device", "").split() if counts[name]]
     return list(named) or sorted(counts, key=lambda name: (-counts[name], name))
 
 
 def by_device(counted):
-    """How many packets each device has, of kinds (device, flow)."""
+    """Returns the number of packets per device, from counts per kind (device, flow)."""
     of = Counter()
     for (device, _), count in counted.items():
         of[device] += count
@@ -105,7 +105,7 @@ def by_device(counted):
 
 
 def why_no_packet(head, count):
-    """Why a recording has no arrivals."""
+    """Returns why a recording has no arrivals."""
     if "net/net_dev_xmit" in head.get("missing", "").split():
         return "the kernel that recorded it has no event net/net_dev_xmit, so there is no packet in it"
     if not count:

@@ -1,4 +1,4 @@
-"""The load at which a setting breaks: packets are lost, or the 99th percentile of waits gets too long."""
+"""Finds the load at which a setting breaks: packets are dropped, or the 99th percentile of waits exceeds a limit."""
 
 from toolbox import Refusal, wrong
 
@@ -9,13 +9,13 @@ from dataclasses import dataclass
 from fractions import Fraction
 
 LOWEST, HIGHEST = Fraction(1, 1024), Fraction(1024)
-APART = Fraction(101, 100)  # of the two loads between which it breaks
-STEPS = 10**6  # of a load of 1
+APART = Fraction(101, 100)  # ratio of the two loads between which it breaks
+STEPS = 10**6  # per load of 1
 LONGEST_LINE = 128  # bytes
 
 
 def limit(text):
-    """The reader of --until: drops, or p99=US."""
+    """Parses --until: drops, or p99=US."""
     found = re.fullmatch(r"drops|p99=([0-9]{1,9}(?:\.[0-9]{1,3})?)", text)
     if not found:
         raise wrong(text, "drops, or p99=US with a time in us")
@@ -23,20 +23,20 @@ def limit(text):
 
 
 def is_over(row, until):
-    """Whether a setting breaks by the values of this row."""
+    """Returns whether the results of this row exceed the limit."""
     if until == "drops":
         return int(row["dropped"]) + int(row["refused"]) > 0
     return int(row["used_p99"]) > Fraction(until.partition("=")[2]) * 1000
 
 
 def between(low, high):
-    """A load between two, by their ratio."""
+    """Returns the geometric mean of two loads."""
     return Fraction(round((float(low) * float(high)) ** 0.5 * STEPS), STEPS)
 
 
 def search(breaks):
-    """The highest load that is known to hold and the lowest that is known to break, at most 1 % apart; None if there is none. It takes it that a load
-    holds if a higher one does."""
+    """Returns the highest load known to hold and the lowest known to break, at most 1 % apart; None if there is none. Assumes that a
+    setting that holds a load also holds any lower one."""
     load = Fraction(1)
     holds, broken = (None, load) if breaks(load) else (load, None)
     while holds is None or broken is None:
@@ -56,7 +56,7 @@ def search(breaks):
 
 
 def rate_of(path):
-    """How many packets a second the arrivals in a file have, on average."""
+    """Returns the average rate of the arrivals in a file, in packets per second."""
     with open(path, "rb") as file:
         lines = sum(1 for _ in file) - 1
         file.seek(max(0, os.fstat(file.fileno()).st_size - LONGEST_LINE))
@@ -71,14 +71,14 @@ def rate_of(path):
 
 @dataclass
 class Breaking:
-    """Where a combination breaks, with costs as they are, and lower and higher by the band."""
+    """The load at which a combination breaks, with the given costs and with lower and higher ones."""
 
     key: tuple
-    ends: dict  # of each percentage of the costs the loads that hold and that break
+    ends: dict  # for each percentage of the costs: the load that holds and the load that breaks
 
 
 def breakings(keys, percents, breaks, jobs, step):
-    """The Breaking of each of these keys. `breaks` says of a key, a percentage and a load whether it breaks; `step` is called after each search."""
+    """Returns the Breaking of each key. `breaks` returns whether a key breaks at a percentage and a load; `step` is called after each search."""
     def searched(job):
         key, percent = job
         return job, search(lambda load: breaks(key, percent, load))
@@ -95,17 +95,17 @@ def breakings(keys, percents, breaks, jobs, step):
 
 
 def load_text(load):
-    """A load as an option has it."""
+    """Formats a load as an option's value."""
     return f"{float(load):.6f}".rstrip("0").rstrip(".")
 
 
 def about(load):
-    """A load as people read it: at most 1 % is known."""
+    """Formats a load for people: it is known to 1 %."""
     return f"{float(load):.3g}"
 
 
 def told(until, each, rate, percents):
-    """The sentence on a combination."""
+    """Returns the sentence on a combination."""
     holds, broken = each.ends[100]
     what = "packets are lost" if until == "drops" else f"the 99th percentile of waits is over {until.partition('=')[2]} µs"
     if broken is None:

@@ -1,5 +1,5 @@
-"""A capture of Ethernet read record by record, without tcpdump: pcap of version 2.4 only, and only if each record is whole. Everything else, and
-with flows any packet that isn't plain ARP, IPv4 or IPv6, is left to tcpdump, whose text says the same."""
+"""Reads a capture of Ethernet record by record, without tcpdump: pcap version 2.4 only, and only if each record is complete. Everything else
+is left to tcpdump, whose text has the same content; with flows, so is any packet other than plain ARP, IPv4 or IPv6."""
 
 from toolbox import Progress
 
@@ -15,18 +15,18 @@ ETHER, IPV4, IPV6 = 14, 20, 40  # bytes of a header
 ARP, IP, IP6 = b"\x08\x06", b"\x08\x00", b"\x86\xdd"
 PORTS = {6: 20, 17: 8}  # TCP and UDP, which have ports, and the bytes of their headers
 ICMP = {IP: 1, IP6: 58}
-RPC = (111, 2049)  # of these ports tcpdump writes what it reads in the packet
+RPC = (111, 2049)  # ports whose payload tcpdump decodes
 SECOND = 10**9
 MOST_SECONDS, MOST_HELD = 2**31, 262144
 
 
 class Strange(Exception):
-    """What is left to tcpdump."""
+    """A packet or capture that is left to tcpdump."""
 
 
 @functools.lru_cache(1 << 16)
 def flow_number(ends, ports):
-    """The number of a flow, by the text that tcpdump writes of its addresses and ports."""
+    """Returns the number of a flow, from the text that tcpdump prints of its addresses and ports."""
     half = len(ends) // 2
     sender, to = (socket.inet_ntop(socket.AF_INET if half == 4 else socket.AF_INET6, end) for end in (ends[:half], ends[half:]))
     if not ports:
@@ -38,7 +38,7 @@ def flow_number(ends, ports):
 
 
 def flow_of(data, at, held):
-    """The number of a packet's flow; 0 for a packet without addresses."""
+    """Returns the number of a packet's flow; 0 for a packet without addresses."""
     kind, begin = data[at + 12 : at + ETHER], at + ETHER
     if kind == ARP:
         return 0
@@ -59,7 +59,7 @@ def flow_of(data, at, held):
 
 
 def records(data, order, tick, count):
-    """Of each record its time, its length on the wire, its place and how many of its bytes are there."""
+    """Yields for each record its time, its length on the wire, its offset and its captured length."""
     unpack, place, size, seen = struct.Struct(order + "IIII").unpack_from, 24, len(data), 0
     most = min(MOST_HELD, struct.unpack_from(order + "I", data, 16)[0])
     ticks = SECOND // tick
@@ -76,8 +76,8 @@ def records(data, order, tick, count):
 
 
 def read(file, count, with_flows, add, told):
-    """Reads the packets of an open file: `add(time, ends, flow, length)` takes each, with the twelve bytes of its two link addresses; `told` is where
-    it is. Returns whether all of it could be read."""
+    """Reads the packets of an open file. Calls `add(time, ends, flow, length)` for each; `ends` are the twelve bytes of its two link addresses;
+    `told` is the file's position. Returns whether the whole file could be read."""
     head = file.read(24)
     if len(head) < 24 or head[:4] not in ORDERS or not file.seekable():
         return False

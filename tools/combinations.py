@@ -1,5 +1,5 @@
-"""What sweep and what-if share: a row of a CSV file for each combination, made by a program, several at once on all processors or by GNU
-parallel on many machines. What is there isn't made again, and several calls may work on one file.
+"""Shared by sweep and what-if: a CSV file with a row per combination, each made by a program. Several programs run at once on all processors,
+or by GNU parallel on many machines. Existing rows aren't made again, and several calls may work on one file.
 """
 
 from toolbox import (Progress, Refusal, add_program, begun, check_target, number, pair, read_now, say, share_of, shown, unfinished, why,
@@ -26,12 +26,12 @@ TRIES = 3
 
 
 def choices(read):
-    """The reader of an option's values, as 64,300,1000, each by this reader."""
+    """Returns a parser of comma-separated values, as 64,300,1000, each parsed by `read`."""
     return lambda text: list(dict.fromkeys(str(read(each)) for each in text.split(",")))
 
 
 def sum_of(file):
-    """What an open file is known by."""
+    """Returns the checksum that identifies an open file's contents."""
     digest = hashlib.sha256()
     while part := file.read(1 << 20):
         digest.update(part)
@@ -39,7 +39,7 @@ def sum_of(file):
 
 
 def add_words(parser, what, out):
-    """The options of a tool that makes rows."""
+    """Adds the options of a tool that makes rows."""
     import argparse
     parser.add_argument("--out", **out)
     parser.add_argument("--resume", action="store_true", help="go on with the file, where there is one")
@@ -51,7 +51,7 @@ def add_words(parser, what, out):
 
 
 def check_words(words):
-    """Refuses files that there can't be. Where none is named for the rows they stand in one that goes when the tool ends."""
+    """Fails if a named file can't exist. Without --out the rows go to a temporary file that is removed at the end."""
     if words.sshloginfile and not os.path.isfile(words.sshloginfile):
         raise Refusal(f"{shown(words.sshloginfile)}: there is no such file")
     if words.sshloginfile and not shutil.which("parallel"):
@@ -65,7 +65,7 @@ def check_words(words):
 
 @contextlib.contextmanager
 def locked(tool, path):
-    """The file of rows, while no other call writes to it. One that another call has put in its place meanwhile is opened anew."""
+    """Opens the file of rows and locks it against other calls. If another call replaced the file meanwhile, it is opened again."""
     while True:
         with open(path, "r+b") as file:
             try:
@@ -80,7 +80,7 @@ def locked(tool, path):
 
 
 class Counted:
-    """How many rows there are, on standard error: by Progress on a terminal, at each tenth elsewhere, where the file is one that is kept."""
+    """Reports the number of rows on standard error: as a progress line on a terminal, else at each tenth if the file is kept."""
 
     def __init__(self, tool, all_rows, is_passing):
         self.tool, self.all_rows, self.count, self.told = tool, all_rows, 0, 0
@@ -88,7 +88,7 @@ class Counted:
         self.since = time.monotonic()
 
     def how_far(self):
-        """By the rows that are made, and by how far the programs have read that make others now."""
+        """Returns the share of the work that is done, by finished rows and by how far the running programs have read."""
         return min(1, (self.count + sum(share_of(file) or 0 for file in list(read_now) if file != -1)) / self.all_rows)
 
     def step(self):
@@ -100,8 +100,8 @@ class Counted:
 
 
 class Combinations:
-    """The rows of a tool. A key's first value is a file, the second one what that is known by, and the others are settings; `row_of`
-    makes the row of a program and a key, or refuses."""
+    """The rows of a tool. The first value of a key is a file, the second identifies its contents, and the others are settings; `row_of` makes the
+    row of a program and a key, or fails."""
 
     def __init__(self, script, key, told, row_of):
         self.script, self.tool = Path(script).resolve(), os.path.basename(script)
@@ -109,20 +109,20 @@ class Combinations:
         self.head = ",".join(self.columns) + "\n"
 
     def try_row(self, made, key):
-        """The row of a key, or why there is none."""
+        """Returns the row of a key, or why there is none."""
         try:
             return self.row_of(made, key), None
         except (Refusal, OSError, UnicodeError, MemoryError) as error:
             return None, f"{shown(key[0])} {' '.join(f'--{name} {value}' for name, value in zip(self.key[2:], key[2:]))}: {why(error)}"
 
     def line_of(self, row):
-        """A row as a line of the file."""
+        """Formats a row as a line of the file."""
         text = io.StringIO()
         csv.DictWriter(text, self.columns, lineterminator="\n").writerow(row)
         return text.getvalue()
 
     def play(self, made, keys):
-        """Makes these, and prints their rows: what GNU parallel calls, on this machine or another."""
+        """Makes these rows and prints them: GNU parallel runs this, on this machine or another."""
         failed = 0
         for text in keys:
             *others, name = text.split(",", len(self.key) - 1)
@@ -135,14 +135,14 @@ class Combinations:
         return failed
 
     def rows_by_parallel(self, made, keys, words):
-        """The rows as GNU parallel's processes print them. Each process makes some, as starting one costs more than a replay; one
-        that fails is tried again, on another machine where there are some."""
+        """Yields the rows that GNU parallel's processes print. Each process makes several rows, because starting one costs more than a replay. A
+        process that fails is tried again, on another machine if there are several."""
         jobs = words.jobs or os.cpu_count()
         some = max(1, min(32, len(keys) // (4 * jobs)))
         command = ["parallel", "--will-cite", "--line-buffer", "--quote", "--retries", TRIES, "--jobs", words.jobs or "100%",
                    "--max-args", some, "--workdir", os.getcwd(), "--sshloginfile", words.sshloginfile, self.script, "--program", made, "--play"]
         with tempfile.TemporaryFile() as lines:
-            # From a file, as a pipe that is full on both sides would wait for ever.
+            # A file, because a pipe that is full in both directions would deadlock.
             lines.write(b"".join(os.fsencode(f"{','.join(key[1:])},{key[0]}\n") for key in keys))
             lines.seek(0)
             with begun(list(map(str, command)), set(), stdin=lines, stdout=subprocess.PIPE, text=True, encoding="utf-8",
@@ -156,7 +156,7 @@ class Combinations:
                     process.terminate()
 
     def rows_here(self, made, keys, words):
-        """The same on this machine, by a pool of threads: the programs are processes of their own."""
+        """The same on this machine, with a pool of threads, each running a program."""
         def tries(key):
             for left in range(TRIES - 1, -1, -1):
                 row, told = self.try_row(made, key)
@@ -176,14 +176,14 @@ class Combinations:
             pool.shutdown(cancel_futures=True)
 
     def rows_of(self, made, keys, words):
-        """The rows of these keys, in the order in which they end."""
+        """Returns the rows of these keys, as they finish."""
         return (self.rows_by_parallel if words.sshloginfile else self.rows_here)(made, keys, words)
 
     def key_of(self, row):
         return tuple(row[name] for name in self.key)
 
     def rows_in(self, file, path):
-        """The whole rows of a file, by their keys; only one that was cut short at the end is left out."""
+        """Returns the complete rows of a file by their keys. Only a row that was cut short at the end is skipped."""
         lines = list(io.StringIO(file.read().decode("utf-8", "surrogateescape"), newline="\n"))
         if lines and not lines[-1].endswith("\n"):
             lines.pop()
@@ -197,13 +197,13 @@ class Combinations:
         return {self.key_of(row): row for row in rows}
 
     def repaired_head(self, path, lines):
-        """By which line a damaged first line is put right, if the second one is a row."""
+        """Returns the command that repairs a damaged first line, if the second one is a row."""
         rows = list(csv.reader(lines[1:2]))
         is_row = bool(rows) and len(rows[0]) == len(self.columns)
         return f"; if only its first line is damaged: `sed -i '1c {self.head.strip()}' {shlex.quote(shown(path))}` puts it right" if is_row else ""
 
     def append(self, path, row):
-        """Puts a row behind the others. What a killed call left of one goes."""
+        """Appends a row. An incomplete line that a killed call left is removed."""
         with locked(self.tool, path) as file:
             begins = file.seek(max(0, file.seek(0, os.SEEK_END) - 65536))  # longer than any row
             file.truncate(end := begins + file.read().rindex(b"\n") + 1)
@@ -216,7 +216,7 @@ class Combinations:
                 raise
 
     def settle(self, path, keys):
-        """Puts the rows in order: these, as far as they are there, behind all others, but for those of a file that has changed."""
+        """Sorts the rows: those of `keys` come last, in order. Rows of files that have changed are removed."""
         asked, settings = set(keys), {(key[0], *key[2:]) for key in keys}
         with locked(self.tool, path) as file:
             rows = self.rows_in(file, path)
@@ -225,12 +225,12 @@ class Combinations:
         return rows
 
     def play_missing(self, made, words, rows, missing):
-        """Makes these, and writes each row as it ends; what another file's row tells, which held the same, isn't made again."""
+        """Makes the missing rows and appends each as it finishes. If another file with the same contents has the row, it is copied."""
         counted = Counted(self.tool, len(missing), words.is_passing)
         told = {key[1:]: row for key, row in rows.items()}
         known = [{**told[key[1:]], self.key[0]: key[0]} for key in missing if key[1:] in told]
         unknown = [key for key in missing if key[1:] not in told]
-        there = set()  # a process of parallel's that is tried again prints its first rows again
+        there = set()  # if GNU parallel runs a process again, its first rows come twice
         with Progress(f"making {len(missing)} row{'s' * (len(missing) > 1)}", counted.how_far):
             for row in itertools.chain(known, self.rows_of(made, unknown, words) if unknown else []):
                 if self.key_of(row) not in there:
@@ -239,12 +239,12 @@ class Combinations:
                     counted.step()
 
     def tell(self, words, text):
-        """A line on standard error, where the file is one that is kept."""
+        """Prints a line on standard error, if the file is kept."""
         if not words.is_passing:
             say(self.tool, text)
 
     def begin(self, words, keys):
-        """The rows that are there already."""
+        """Returns the rows that exist already."""
         if os.path.lexists(words.out) and not words.resume:
             raise Refusal(f"{shown(words.out)} is there: --resume goes on with it")
         try:
@@ -260,8 +260,8 @@ class Combinations:
         return rows
 
     def make(self, made, words, keys):
-        """Makes what isn't there yet of these, or of a part of them; at the end the rows stand in the order of their keys, behind others
-        of the file."""
+        """Makes the missing rows of these keys, or of a part of them; at the end the rows are in the order of their keys, after the other rows of
+        the file."""
         keys = keys[words.part[0] - 1 :: words.part[1]] if words.part else keys
         rows = self.begin(words, keys)
         missing = [key for key in keys if key not in rows]

@@ -1,7 +1,7 @@
-"""Pictures from a description: as .png and .svg by matplotlib, and as a page that can be zoomed (.html) by dygraphs.
+"""Draws pictures from a description: as .png and .svg with matplotlib, and as an .html page that can be zoomed, with dygraphs.
 
-A description has a title, an axis, and panels below each other. A panel has curves: lists of points with a kind (area, step, between, bars,
-line, dots), a name, and the name of a colour."""
+A description has a title, an axis, and panels, one below the other. A panel has curves: lists of points with a kind (area, step, between,
+bars, line, dots), a name, and the name of a colour."""
 
 from toolbox import Progress, Refusal, shown
 
@@ -18,7 +18,7 @@ import textwrap
 from pathlib import Path
 
 ENDS = (".png", ".svg", ".html")
-# On the page a text has a contrast of at least 4.5, and a curve of at least 3; the first eight can be told apart by the colour-blind.
+# On the page text has a contrast of at least 4.5 and curves of at least 3; colour-blind readers can distinguish the first eight colours.
 LIGHT = {"blue": "#0063a6", "orange": "#b85000", "green": "#00805c", "purple": "#9b4b86", "brown": "#7a5c00", "sky": "#2b83ba", "red": "#c22a1e",
          "black": "#1c1c1c", "grey": "#757575", "pale": "#8fa3bd", "page": "#ffffff", "text": "#1d1d1d", "quiet": "#555555", "grid": "#dddddd"}
 DARK = {"blue": "#6cb4ff", "orange": "#ffa45c", "green": "#4fd6a8", "purple": "#e3a6d3", "brown": "#e0c060", "sky": "#9ad8f8", "red": "#ff8577",
@@ -26,21 +26,21 @@ DARK = {"blue": "#6cb4ff", "orange": "#ffa45c", "green": "#4fd6a8", "purple": "#
 COLORS = ("blue", "orange", "green", "purple", "brown", "sky", "red", "black")
 SHAPES = "os^Dv*Xp"  # matplotlib's names for the marks of lines
 MARK = "^"
-PACKAGES = "/usr/lib/python3/dist-packages"  # Debian's, which another build of the same version of Python can use
+PACKAGES = "/usr/lib/python3/dist-packages"  # Debian's packages, which another build of the same version of Python can use
 DYGRAPHS = ("/usr/share/javascript/dygraphs/dygraph.min.js", "/usr/share/javascript/dygraphs/dygraph.min.css")
 NEEDS = {"matplotlib": "it needs matplotlib for Python (Debian: apt install python3-matplotlib)",
          "dygraphs": "it needs dygraphs, which isn't in /usr/share/javascript (Debian: apt install libjs-dygraphs)"}
 
 
 def find_packages():
-    """Lets Python find installed packages, which the tools start without."""
+    """Adds the folder of installed packages to the path, which the tools start without."""
     for folder in [*site.getsitepackages(), PACKAGES]:
         if folder not in sys.path and os.path.isdir(folder):
             sys.path.append(folder)
 
 
 def check_library(path):
-    """Refuses to draw without the library. A tool that works long asks before it does."""
+    """Fails if the library isn't installed. Tools that work for long check this first."""
     if Path(path).suffix == ".html":
         if not all(map(os.path.isfile, DYGRAPHS)):
             raise Refusal(NEEDS["dygraphs"])
@@ -51,7 +51,7 @@ def check_library(path):
 
 
 def matplotlib():
-    """The library, with its own settings and not the user's. It warns of nothing."""
+    """Imports matplotlib with its default settings, not the user's, and without warnings."""
     import logging
     import warnings
     find_packages()
@@ -67,7 +67,7 @@ def matplotlib():
 
 
 def styles(colors):
-    """Matplotlib's settings for these colours. No name is read as a formula, and texts of an .svg stay texts."""
+    """Returns matplotlib's settings for these colours. Names aren't parsed as formulas, and text in an .svg stays text."""
     return {"text.color": colors["text"], "axes.labelcolor": colors["text"], "xtick.color": colors["quiet"], "ytick.color": colors["quiet"],
             "axes.edgecolor": colors["quiet"], "axes.facecolor": colors["page"], "figure.facecolor": colors["page"], "savefig.facecolor": colors["page"],
             "grid.color": colors["grid"], "font.size": 9, "text.parse_math": False, "svg.fonttype": "none", "svg.hashsalt": "fintaqush",
@@ -76,7 +76,7 @@ def styles(colors):
 
 
 class canvas:
-    """A figure of matplotlib of so many pixels, within a block."""
+    """A context manager for a figure of matplotlib with a size in pixels."""
 
     def __init__(self, size, colors=None):
         self.size, self.colors, self.folder = size, colors or LIGHT, None
@@ -98,7 +98,7 @@ class canvas:
         self.close()
 
     def cache(self):
-        """The folder in which the library keeps its list of fonts: the user's, or one that goes."""
+        """Sets the folder for the library's list of fonts: the user's, or a temporary one."""
         name = os.path.join(os.environ.get("XDG_CACHE_HOME") or os.path.expanduser("~/.cache"), "fintaqush", "matplotlib")
         try:
             os.makedirs(name, exist_ok=True)
@@ -115,7 +115,7 @@ class canvas:
 
 
 def saved(figure, end, title, alternative):
-    """The bytes of a figure, with its alternative text. An .svg has the colours of the dark mode too."""
+    """Returns the bytes of a figure with its alternative text. An .svg also has the colours of the dark mode."""
     made = io.BytesIO()
     if end == ".png":
         figure.savefig(made, format="png", metadata={"Title": title, "Description": alternative, "Software": None})
@@ -131,7 +131,7 @@ def saved(figure, end, title, alternative):
 # ---- a description drawn by matplotlib
 
 def draw_curve(axes, each, colors):
-    """One curve of a panel."""
+    """Draws one curve of a panel."""
     color, name, points = colors[each["color"]], each["name"] or None, each["points"]
     x, y = [point[0] for point in points], [point[-1] for point in points]
     if each["kind"] == "area":
@@ -151,7 +151,7 @@ def draw_curve(axes, each, colors):
 
 
 def draw_panel(axes, panel, axis):
-    """What is around the curves of a panel: heading, legend, labels and scales."""
+    """Draws a panel's heading, legend, labels and scales."""
     from matplotlib.ticker import MaxNLocator, StrMethodFormatter
     axes.set_ylabel(panel["label"])
     named = axes.get_legend_handles_labels()[1] if panel.get("legend", True) else []
@@ -172,7 +172,7 @@ def draw_panel(axes, panel, axis):
 
 
 def drawn(picture, end, size, colors):
-    """The bytes of an .svg or a .png."""
+    """Returns the bytes of an .svg or a .png."""
     panels = picture["panels"]
     title = "\n".join(line for each in picture["title"].split("\n") for line in textwrap.wrap(each, max(20, size[0] // 7)) or [""])
     with canvas((size[0], size[1] * len(panels) + 20 + 16 * (title.count("\n") + 1)), colors) as figure:
@@ -189,7 +189,7 @@ def drawn(picture, end, size, colors):
 # ---- a description as a page
 
 def merged(curves):
-    """The points of all curves of a panel by their places: a row has a value, or none, for each."""
+    """Merges the points of a panel's curves by position: each row has a value per curve, or none."""
     values = {}
     for column, each in enumerate(curves):
         for point in each["points"]:
@@ -198,7 +198,7 @@ def merged(curves):
 
 
 def page_of(picture, height):
-    """The page, with the library in it."""
+    """Returns the page, which includes the library."""
     panels = [{**panel, "curves": [{name: value for name, value in each.items() if name != "points"} for each in panel["curves"]],
                "rows": merged(panel["curves"])} for panel in picture["panels"]]
     data = json.dumps({"axis": picture["axis"], "panels": panels, "height": height}, separators=(",", ":")).replace("<", "\\u003c")
@@ -213,7 +213,7 @@ def page_of(picture, height):
 # ---- both
 
 def alternative_of(picture):
-    """The picture in words, for who can't see it: of each curve between what it is."""
+    """Returns the alternative text: the range of each curve, for people who can't see the picture."""
     told = [picture["title"].replace("\n", " ") + "."]
     for number, panel in enumerate(picture["panels"], 1):
         heading = f", {panel['heading']}" if panel["heading"] else ""
@@ -225,7 +225,7 @@ def alternative_of(picture):
 
 
 def picture_bytes(picture, path, size, is_dark=False):
-    """A picture by the end of its name."""
+    """Returns the picture in the format that its file name ends with."""
     with Progress("drawing"):
         end = Path(path).suffix
         return page_of(picture, size[1]) if end == ".html" else drawn(picture, end, size, DARK if is_dark else LIGHT)

@@ -1,4 +1,4 @@
-"""Estimates, each with the interval that has it by 95 %: a straight line, and a median."""
+"""Estimates with 95 % confidence intervals: a straight line, and a median."""
 
 from toolbox import Refusal
 
@@ -6,23 +6,23 @@ from dataclasses import dataclass
 from math import sqrt
 from statistics import median
 
-FAR = 3  # standard deviations, estimated by the median of the distances
+FAR = 3  # standard deviations, estimated from the median distance
 WIDE = 1.96  # standard errors to each side
-NOTHING, LITTLE = 0.005, 0.05  # of how times differ: what a line explains that is useless, and useless if its slope may be 0
-FEWEST = 8  # of what is estimated
+NOTHING, LITTLE = 0.005, 0.05  # share of the variation that a line explains: useless below the first; below the second if its slope may be 0
+FEWEST = 8  # least number of values for an estimate
 
 
 @dataclass
 class Cost:
-    """A cost in ns, its interval, of how many it is estimated, and from what."""
+    """A cost in ns, its confidence interval, the number of values that it is estimated from, and their source."""
 
     value: float
     low: float
     high: float
     count: int
     source: str
-    explained: float = None  # the share of how the times differ that a line explains
-    middle: tuple = ()  # half of the times are between these
+    explained: float = None  # the share of the variation that a line explains
+    middle: tuple = ()  # the quartiles: half of the times are between them
 
     def interval(self):
         return f"{self.value:.0f} ns ({self.low:.0f} to {self.high:.0f})"
@@ -33,7 +33,7 @@ class Cost:
 
 
 def cost_of(times, source, less=0):
-    """The median of these times, none of them below 0, less a constant; None of too few."""
+    """Returns the median of these times minus a constant, each clipped at 0; None if there are too few."""
     if len(times) < FEWEST:
         return None
     ordered = sorted(max(0, each - less) for each in times)
@@ -43,7 +43,7 @@ def cost_of(times, source, less=0):
 
 
 def line_over(points):
-    """The straight line of the least squares, neither its value at 0 nor its slope below 0."""
+    """Returns the least-squares line, with neither its intercept nor its slope below 0."""
     count = len(points)
     mean_x, mean_y = sum(x for x, _ in points) / count, sum(y for _, y in points) / count
     spread = sum((x - mean_x) ** 2 for x, _ in points)
@@ -56,7 +56,7 @@ def line_over(points):
 
 
 def fitted(points, known):
-    """The line, and the points that it is over, once without those that lie far off the line over all; times are known to so much."""
+    """Fits the line, removes outliers once, and fits again. Returns the line and the points kept; `known` is the resolution of the times."""
     start, slope = line_over(points)
     far = FAR * 1.4826 * median(abs(y - start - slope * x) for x, y in points)
     kept = [(x, y) for x, y in points if abs(y - start - slope * x) <= max(far, known)]
@@ -65,18 +65,18 @@ def fitted(points, known):
 
 @dataclass
 class Line:
-    """What a poll and a packet cost, and how well the line over the polls explains their times."""
+    """The costs of a poll and a packet, and how well the fitted line explains the polls' times."""
 
     poll: Cost
     packet: Cost
     polls: int  # all of them
     kept: list
-    off: float  # the median distance from the line, as a share
+    off: float  # the median distance from the line, relative
 
 
 def cost_line(points, known, source):
-    """The line over polls (packets, ns). It is a refusal if the line explains nothing of how the times differ, or hardly anything with a slope whose
-    interval has 0 in it."""
+    """Fits the line over polls (packets, ns). Fails if the line explains none of the variation, or hardly any with a slope whose interval
+    includes 0."""
     start, slope, kept = fitted(points, known)
     count, mean_x = len(kept), sum(x for x, _ in kept) / len(kept)
     mean_y = sum(y for _, y in kept) / count

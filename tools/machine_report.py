@@ -1,9 +1,9 @@
-"""The options of napi_machine and its report, read: docs/FORMATS.md, "The machine's report"."""
+"""The options of napi_machine, and a parser of its report: docs/FORMATS.md, "The machine's report"."""
 
 from toolbox import Refusal, is_number, shown
 
 LONGEST = 10**9  # ns
-# The least, the greatest and the default value of each option.
+# The minimum, maximum and default of each option.
 OPTIONS = {
     "processors": (1, 64, 1), "queues": (1, 64, 1), "ring": (1, 65536, 256), "socket": (1, 65536, 512), "backlog": (0, 1, 0),
     "budget": (0, 65535, 300), "weight": (1, 64, 64), "window": (1, 65535, 1024), "time-limit": (1, LONGEST, 8000000),
@@ -11,7 +11,7 @@ OPTIONS = {
     "threaded": (0, 1, 0), "apart": (0, 1, 0), "app-wake": (0, LONGEST, 0),
     "interrupt": (0, LONGEST, 4000), "poll": (0, LONGEST, 1000), "packet": (0, LONGEST, 1000), "use": (0, LONGEST, 2000), "wake": (0, LONGEST, 0)}
 COSTS = ("interrupt", "poll", "packet", "use", "wake", "app-wake")
-# What each option is, and where Linux has it.
+# What each option is, and how it is set in Linux.
 MEANS = {
     "processors": "processors that receive; device d is on processor (d - 1) mod N",
     "queues": "queues of a device, chosen by the flow (ethtool -L)",
@@ -41,7 +41,7 @@ PERCENTILES = {"p50": "wait50", "p99": "wait99", "p999": "wait999"}
 WAITS = [f"{end}_{name}" for end in ("delivered", "used") for name in PERCENTILES]
 TOTALS, COUNTS = ("arrived", "dropped", "refused", "used"), ("interrupts", "timers", "runs", "polls", "squeezed", "late")
 VALUES = [*TOTALS, *WAITS, *(f"{name}_percent" for name in SHARES), *COUNTS, "wakes", "queues_of_a_processor", "used_per_second"]
-# What each value is, for --help and pages.
+# What each result is, for --help and pages.
 ARE = {"arrived": "packets that arrived", "dropped": "packets that found a ring full", "refused": "packets that found a socket full", "used": "packets that the application used",
        **{f"{end}_{name}": f"the {per_cent}th percentile of waits from arrival to {what}, in ns, of the {of} where it is the greatest"
           for end, what, of in (("delivered", "delivery by a poll", "device"), ("used", "the end of use", "processor"))
@@ -54,7 +54,7 @@ ARE = {"arrived": "packets that arrived", "dropped": "packets that found a ring 
 
 
 def lines_of(report):
-    """The lines of a report, by their first words, each as its numbers by their names."""
+    """Parses a report: its lines by their first words, each as its numbers by name."""
     lines = {kind: [] for kind in LINES}
     for line in report.splitlines():
         kind, *fields = line.split() or [""]
@@ -69,8 +69,8 @@ def lines_of(report):
 
 
 def values_of(report):
-    """The values of a report that a row has. Waits are those of the device or processor where they are the greatest; shares are of all
-    processors' time, and `use_percent` is of the applications' time if these have processors of their own."""
+    """Returns the results of a report that a row has. Waits are those of the device or processor with the greatest one; shares are of all
+    processors' time; `use_percent` is of the applications' time if these have processors of their own."""
     lines = lines_of(report)
     values = {name: lines["total"][0][name] for name in TOTALS}
     for end, kind in (("delivered", "device"), ("used", "processor")):
@@ -87,21 +87,21 @@ def values_of(report):
 
 
 def identifier(name):
-    """The name of an option or a value in JSON."""
+    """Returns the name of an option or a result in JSON."""
     return name.replace("-", "_")
 
 
 def share(lines, name):
-    """A time's part of the time to the end, in %."""
+    """Returns a time as a percentage of the total time."""
     whole = sum(line["end"] for line in lines)
     return f"{100 * sum(line[name] for line in lines) / whole if whole else 0:.2f}"
 
 
 def option_words(settings):
-    """The words of napi_machine for these settings; what has its default is left out."""
+    """Returns the command-line options of napi_machine for these settings, without those that have their default."""
     return [word for name, value in settings.items() if int(value) != OPTIONS[name][2] for word in (f"--{name}", str(value))]
 
 
 def with_costs(settings, percent):
-    """The settings with each cost at so many percent."""
+    """Returns the settings with each cost scaled to `percent`."""
     return {name: min(LONGEST, (int(value) * percent + 50) // 100) if name in COSTS else value for name, value in settings.items()}

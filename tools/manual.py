@@ -1,5 +1,5 @@
-"""The manual pages, made of the options that each tool declares, and these options for the completion. Run by itself, as `fintaqush --manual`
-and `fintaqush --version` do, it prints the page or the version of the command."""
+"""Generates the manual pages, and the list of options for the completion, from the options that each tool declares. As a program it prints the
+manual page or the version of the command, for `fintaqush --manual` and `fintaqush --version`."""
 
 import argparse
 import json
@@ -10,12 +10,12 @@ STATUS = "0 success; 1 error, with a message; 2 bad usage; 130 or 143 interrupte
 
 
 def plain(text):
-    """A text as a manual page has it."""
+    """Escapes a text for a manual page."""
     return re.sub(r"^([.'])", r"\\&\1", text.replace("\\", "\\e").replace("-", "\\-"), flags=re.M)
 
 
 def paragraphs(text):
-    """Paragraphs; what stands in by four spaces stays as it is, line by line."""
+    """Formats paragraphs; lines indented by four spaces are kept as they are."""
     for block in text.strip("\n").split("\n\n"):
         if block.startswith("  "):
             yield from (".PP", ".nf", plain(block), ".fi")
@@ -28,14 +28,14 @@ def shown_actions(parser):
 
 
 def options(parser):
-    """Each of the options, with what it is."""
+    """Yields each option with its description."""
     formatter = argparse.HelpFormatter(parser.prog)
     for action in shown_actions(parser):
         yield from (".TP", f".B {plain(formatter._format_action_invocation(action))}", plain(formatter._expand_help(action)))
 
 
 def page_of(parser, version):
-    """The lines of a tool's manual page."""
+    """Returns the lines of a tool's manual page."""
     head, _, text = parser.description.partition("\n\n")
     name = parser.prog.replace(" ", "-")
     has_status = re.search("^exit status", text, re.M | re.I)
@@ -47,20 +47,20 @@ def page_of(parser, version):
 
 
 def described(parser):
-    """The options as an object: of each its names, its value and its choices, and what it is."""
+    """Returns the options as an object: for each its names, its value, its choices, and its description."""
     formatter = argparse.HelpFormatter(parser.prog)
     return [{"names": action.option_strings, "value": action.metavar or action.dest.upper() if action.nargs != 0 else "",
              "choices": list(map(str, action.choices or [])), "what": formatter._expand_help(action)} for action in shown_actions(parser)]
 
 
 def describe(parser, how, version):
-    """Prints the manual page or the options, and ends the tool."""
+    """Prints the manual page or the options, and exits."""
     print("\n".join(page_of(parser, version)) if how == "--manual" else json.dumps(described(parser)))
     parser.exit()
 
 
 def page_of_command(groups, version):
-    """The lines of the manual page of `fintaqush`."""
+    """Returns the lines of the manual page of `fintaqush`."""
     lines = [f'.TH FINTAQUSH 1 "" "Fintaqush {version}"', ".SH NAME", "fintaqush \\- how Linux polls received packets, and what other settings "
              "would change", ".SH SYNOPSIS", ".B fintaqush", ".RI SUBCOMMAND \" [ARGUMENT ..]\"", ".SH DESCRIPTION",
              "Each subcommand has a manual page of its own, fintaqush\\-SUBCOMMAND(1), and prints its options by \\-\\-help."]

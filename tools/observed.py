@@ -1,4 +1,4 @@
-"""What a running machine has set for its network devices, and what it counts, as `key value` lines of a recording's head."""
+"""The settings and counters of a running machine's network devices, as `key value` lines of a recording's head."""
 
 from toolbox import Refusal, ran, shown
 
@@ -12,9 +12,9 @@ import shutil
 import time
 
 COUNTED = {"processed": 0, "dropped": 1, "squeezed": 2, "rps": 9, "flow_limit": 10}  # columns of /proc/net/softnet_stat
-PROCESSOR = 12  # and that of the processor's number, which kernels before 5.10 don't have
+PROCESSOR = 12  # the column of the processor's number, which kernels before 5.10 don't have
 SECRET = {"netdev_rss_key"}
-# What the shell reads of a device, whose name is its argument and never a part of it.
+# The shell script that reads a device's settings; the device's name is an argument, never part of the script.
 DEVICE = """cd "/sys/class/net/$1" 2> /dev/null || exit 3
 grep -s "" mtu tx_queue_len threaded napi_defer_hard_irqs gro_flush_timeout ifindex iflink operstate queues/*/rps_cpus queues/*/rps_flow_cnt \
     queues/*/xps_cpus statistics/rx_dropped statistics/rx_packets statistics/rx_missed_errors
@@ -23,23 +23,23 @@ ETHTOOL = {"ring": "-g", "coalesce": "-c", "channels": "-l", "feature": "-k"}
 FEATURES = {"generic-receive-offload", "large-receive-offload", "rx-gro-hw", "rx-gro-list", "rx-udp-gro-forwarding", "receive-hashing",
             "tcp-segmentation-offload", "generic-segmentation-offload", "tx-udp-segmentation", "ntuple-filters"}
 PACKAGES = {"ip": "iproute2", "ethtool": "ethtool"}
-os.environ["PATH"] = f"{os.environ.get('PATH', os.defpath)}:/usr/sbin:/sbin"  # where they are, and which a user's PATH may lack
+os.environ["PATH"] = f"{os.environ.get('PATH', os.defpath)}:/usr/sbin:/sbin"  # where these commands are, which a user's PATH may lack
 
 
 def text_in(path):
-    """What is in a file of the kernel, in one line; nothing if it can't be read."""
+    """Returns the contents of one of the kernel's files, in one line; an empty text if it can't be read."""
     with contextlib.suppress(OSError, ValueError), open(path, encoding="utf-8", errors="replace") as file:
         return " ".join(file.read().split())
     return ""
 
 
 def within(netns):
-    """The command in front of another one, which runs it in that network namespace."""
+    """Returns the command prefix that runs a command in that network namespace."""
     return ["ip", "netns", "exec", netns] if netns else []
 
 
 def output_of(command):
-    """What a command prints, or nothing if it fails or isn't installed."""
+    """Returns what a command prints; an empty text if it fails or isn't installed."""
     if not shutil.which(command[0]):
         return ""
     status, out, _ = ran(command)
@@ -61,7 +61,7 @@ def check_namespace(netns):
 
 
 def of_device(name, netns):
-    """What sysfs has of a device."""
+    """Returns a device's settings in sysfs."""
     status, out, _ = ran([*within(netns), "sh", "-c", DEVICE, "sh", name])
     if status != 0:
         raise Refusal(f"--device {shown(name)}: there is no such device" +
@@ -71,7 +71,7 @@ def of_device(name, netns):
 
 
 def by_ethtool(name, netns):
-    """What ethtool prints of a device: the rings, how interrupts are coalesced, the channels, what is offloaded."""
+    """Yields what ethtool prints of a device: the rings, interrupt coalescing, the channels, the offloads."""
     for part, option in ETHTOOL.items():
         front = ""
         for line in output_of([*within(netns), "ethtool", option, name]).splitlines():
@@ -84,14 +84,14 @@ def by_ethtool(name, netns):
 
 
 def driver_of(name, netns):
-    """The driver of a device."""
+    """Yields the driver of a device."""
     found = re.search(r"^driver: (\S+)", output_of([*within(netns), "ethtool", "-i", name]), re.M)
     if found:
         yield "driver", found[1]
 
 
 def ticks():
-    """How many times a second the kernel's clock ticks, which netdev_budget_usecs is rounded to, if its configuration is there."""
+    """Yields the kernel's HZ, if its configuration can be read; netdev_budget_usecs is rounded to ticks."""
     release = os.uname().release
     for path, opener in (("/proc/config.gz", gzip.open), (f"/boot/config-{release}", open), (f"/lib/modules/{release}/config", open)):
         with contextlib.suppress(OSError, EOFError), opener(path, "rt", encoding="utf-8", errors="replace") as file:
@@ -101,7 +101,7 @@ def ticks():
 
 
 def interrupts_of(name):
-    """The processors of a device's interrupts, by their numbers."""
+    """Yields the processors of a device's interrupts, by interrupt number."""
     real = os.path.realpath(f"/sys/class/net/{name}/device")
     names = {line.split(":")[0].strip(): line.split()[-1] for line in lines_in_proc("interrupts") if ":" in line}
     for folder in (real, os.path.dirname(real)):
@@ -121,7 +121,7 @@ def lines_in_proc(name):
 
 
 def tasks_named(matches):
-    """Each process whose name matches, by its number."""
+    """Yields the number of each process whose name matches."""
     for path in glob.glob("/proc/[0-9]*/comm"):
         with contextlib.suppress(OSError), open(path, encoding="utf-8", errors="replace") as file:
             name = file.read().rstrip("\n")
@@ -130,7 +130,7 @@ def tasks_named(matches):
 
 
 def of_task(pid):
-    """Where a task may run, and by which policy."""
+    """Yields the processors that a task may run on, and its scheduling policy."""
     for line in lines_in_proc(f"{pid}/status"):
         if line.startswith("Cpus_allowed_list:"):
             yield "processors", line.split()[1]
@@ -141,21 +141,21 @@ def of_task(pid):
 
 
 def threads_of(name):
-    """The NAPI threads of a device."""
+    """Yields the NAPI threads of a device."""
     for pid, thread in sorted(tasks_named(lambda each: each.startswith(f"napi/{name}-"))):
         for key, value in of_task(pid):
             yield f"thread.{thread.rpartition('-')[2]}.{key}", value
 
 
 def pairs_in(netns):
-    """The ends of veth pairs that are in a network namespace, as `ip` describes them."""
+    """Returns the ends of veth pairs in a network namespace, as `ip` describes them."""
     with contextlib.suppress(ValueError):
         return json.loads(output_of(["ip", *(["-n", netns] if netns else []), "-j", "link", "show", "type", "veth"]) or "[]")
     return []
 
 
 def peer_of(name, netns):
-    """The other end of a veth pair, if exactly one device is found: each end has the number of the other one, and of its namespace."""
+    """Returns the other end of a veth pair, if exactly one device matches: each end has the number of the other, and of its namespace."""
     own = next((link for link in pairs_in(netns) if link["ifname"] == name), {})
     if "link" in own or "link_index" not in own:
         return own.get("link", "")
@@ -167,7 +167,7 @@ def peer_of(name, netns):
 
 
 def of_kernel():
-    """The kernel, the processors, and all of net.core that is no secret."""
+    """Yields the kernel's version, the processors, and the settings in net.core, except secrets."""
     system = os.uname()
     yield "kernel", system.release
     yield from ticks()
@@ -180,7 +180,7 @@ def of_kernel():
 
 
 def settings_of_device(name, netns):
-    """All that is set for a device."""
+    """Yields all settings of a device."""
     of = of_device(name, netns)
     counts = ("statistics.", "ifindex", "iflink")
     for key, value in of.items():
@@ -193,7 +193,7 @@ def settings_of_device(name, netns):
 
 
 def counters(devices, netns):
-    """What the kernel counts: of each processor its softnet_stat, of UDP its errors, of the devices their drops."""
+    """Returns the kernel's counters: softnet_stat of each processor, UDP's errors, and the drops of the devices."""
     counted = {}
     for place, line in enumerate(lines_in_proc("net/softnet_stat")):
         columns = line.split()
@@ -210,7 +210,7 @@ def counters(devices, netns):
 
 
 def lacking(netns):
-    """What isn't installed, and how it is."""
+    """Returns which programs aren't installed, and how to install them."""
     without = {"ethtool": "rings, coalescing and offloads aren't recorded", "ip": "the other end of a veth pair isn't found: name it by --sender"}
     return [f"{name} isn't installed (Debian: apt install {PACKAGES[name]}), so {what}" for name, what in without.items()
             if not shutil.which(name) and not (name == "ip" and netns)]

@@ -1,9 +1,9 @@
-"""The state of a trace after each of its rows, and within a run after each of its polls, as the program's reports have it.
+"""The state of a trace after each of its rows, and within a run after each of its polls, taken from the program's reports.
 
 A report has only the sums of a run. Its polls come from replays of another trace, which leads to the state before the run and then makes
-one poll at a time (`--window 1`). What they print counts only if the replay before the first poll has the same rings, state words and
-poll list as the state before the run, and the one after the last poll those after it. The window doesn't limit what a thread polls, so of
-that only the sum is known."""
+one poll at a time (`--window 1`). These replays count only if the rings, state words and poll list before the first poll equal those before the
+run, and those after the last poll equal those after the run. The window doesn't limit a thread's polls, so for a thread only the sum is
+known."""
 
 import os
 from concurrent.futures import ThreadPoolExecutor
@@ -15,7 +15,7 @@ CONTROLS = ("open", "threaded", "disable", "enable")
 
 
 def state_of(report, rings):
-    """What a report says: the devices by their numbers, the poll list, and the last row that polled."""
+    """Parses a report: the devices by number, the poll list, and the last row that polled."""
     lines = report.splitlines()
     runs = sum(line.startswith(ROWS) for line in lines)
     devices, listed = {}, []
@@ -32,12 +32,12 @@ def state_of(report, rings):
 
 
 def course_of(state):
-    """What the rows to come depend on, besides the order of the poll list: the rings, the state words and who is on the list."""
+    """Returns what later rows depend on, besides the order of the poll list: the rings, the state words, and the set of listed devices."""
     return sorted(state["list"]), [(number, told["left"], told["state"], told["word"]) for number, told in state["devices"].items()]
 
 
 def is_fresh(told):
-    """Whether packets alone bring an idle device to this: the first one schedules it, a second one is a missed request."""
+    """Returns whether packets alone bring an idle device to this state: the first one schedules it, a second one is a missed request."""
     return told["left"] > 0 and ("MISSED" in told["flags"]) == (told["left"] > 1)
 
 
@@ -46,11 +46,11 @@ def packets(device, count):
 
 
 def start_of(controls, state, weight):
-    """A trace after which, by runs of one poll, the state is this one, if there is a short one.
+    """Returns a trace after which runs of one poll lead to this state, if there is a short one.
 
-    Packets alone do for devices on the list that weren't polled since they were scheduled. Otherwise each device that was polled gets
-    packets for some polls more, which all get in turn, so that the list has its order again: a poll that takes the whole weight leaves MISSED
-    set, and one that takes less clears it and leaves the device on the list with no packet."""
+    Devices on the list that weren't polled since they were scheduled need only packets. Otherwise each device that was polled gets packets for
+    some more polls, which the devices take in turn, so that the list has its order again: a poll that takes the whole weight leaves MISSED set, and
+    one that takes less clears it and leaves the device on the list with no packet."""
     devices, listed = state["devices"], state["list"]
     rows = controls + [row for number, told in devices.items() if number not in listed for row in packets(number, told["left"])]
     fresh = next((place for place in range(len(listed) + 1) if all(is_fresh(devices[each]) for each in listed[place:])), len(listed))
@@ -63,7 +63,7 @@ def start_of(controls, state, weight):
 
 
 class Replays:
-    """A trace that the program took, and its replays. Rows are counted from 1; row 0 is before the first one."""
+    """A trace that the program accepts, and its replays. Rows are counted from 1; row 0 is before the first one."""
 
     def __init__(self, made, settings, header, rows):
         self.made, self.settings, self.header, self.rows = made, settings, header, rows
@@ -74,33 +74,33 @@ class Replays:
         self.states = {}
 
     def words(self, **others):
-        """The options of a replay with these settings."""
+        """Returns the options of a replay with these settings."""
         return [word for name, value in {**self.settings, **others}.items() for word in (f"--{name}", str(value))]
 
     def state(self, rows, **others):
         return state_of(run_program(self.made, self.words(**others), text_of(self.header, rows)), self.rings)
 
     def after(self, number):
-        """The state after so many rows."""
+        """Returns the state after that many rows."""
         if number not in self.states:
             self.states[number] = self.state(self.rows[:number])
         return self.states[number]
 
     def all_after(self, numbers):
-        """The states after each of these numbers of rows."""
+        """Returns the states after each of these numbers of rows."""
         return in_parallel("replaying rows", self.after, numbers)
 
     def all_polls(self, numbers):
-        """The states within each of these rows."""
+        """Returns the states within each of these rows."""
         return in_parallel("replaying polls", self.within, numbers)
 
     def made_by(self, number):
-        """How many polls a run made; 0 for any other row."""
+        """Returns how many polls a run made; 0 for any other row."""
         run = self.runs.get(number)
         return run["polls"] if run and run["line"] == "softirq" else 0
 
     def within(self, number):
-        """The states before this row, after its first poll, and so on, up to the row's end; None if no replay has them."""
+        """Returns the states before this row, after its first poll, and so on, up to the row's end; None if no replay has them."""
         count, ends = self.made_by(number), [self.after(number - 1), self.after(number)]
         if count < 2:
             return ends[: 1 + count]
@@ -118,7 +118,7 @@ class Replays:
 
     @staticmethod
     def moved(before, first, state, has_list):
-        """A state of the other trace with the counts of this one, which has the state `before` when the other one has the state `first`."""
+        """Returns a state of the other trace with this trace's counts; `before` is this trace's state when the other has the state `first`."""
         devices = {}
         for number, told in before["devices"].items():
             start, now = first["devices"][number], state["devices"][number]
@@ -128,7 +128,7 @@ class Replays:
 
 
 def in_parallel(what, call, values):
-    """The results of a call for each of these values, by a thread for each processor."""
+    """Returns the results of a call for each of these values, with a thread for each processor."""
     done, pool = [], ThreadPoolExecutor(os.cpu_count())
     try:
         with Progress(what, lambda: len(done) / max(1, len(values))):

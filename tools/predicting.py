@@ -1,4 +1,4 @@
-"""What a recording measured compared with what napi_machine predicts, for advise and tests/live.sh."""
+"""Compares what a recording measured with what napi_machine predicts, for advise and tests/live.sh."""
 
 from toolbox import Refusal, ran, shown
 
@@ -7,21 +7,21 @@ import bisect
 from arrivals import arrivals_text
 from machine_report import option_words, values_of
 
-# Of each measured value: its name in the machine's report, its unit, and by what it is divided for that unit.
+# For each measured value: its name in the machine's report, its unit, and the divisor for that unit.
 MEASURED = {"dropped": ("packets", 1), "polls": ("polls", 1), "runs": ("runs", 1), "squeezed": ("runs", 1), "delivered_p50": ("us", 1000),
             "delivered_p99": ("us", 1000), "used_p50": ("us", 1000), "used_p99": ("us", 1000)}
-GRADES = ((15, "good"), (40, "fair"))  # the largest error, in %, that a grade allows
+GRADES = ((15, "good"), (40, "fair"))  # the largest error in % for each grade
 SIZE = 60  # bytes of an arrival, which the machine doesn't use
-FEW = 100  # drops and timers of fewer than one in so many packets aren't compared by their ratio
+FEW = 100  # drops and timers below one in FEW packets aren't compared by ratio
 
 
 def percentile(values, per_mille):
-    """The least of these values, in rising order, that so many of 1000 of them don't exceed; 0 if there is none."""
+    """Returns the percentile of sorted values: the least that `per_mille` of 1000 of them don't exceed; 0 if there is none."""
     return values[max(0, -(-len(values) * per_mille // 1000) - 1)] if values else 0
 
 
 def arrivals_at(seen, numbers=None, visible=False):
-    """The arrivals of a recording, with those that were dropped: each packet at the device that its sender has among `numbers`. If `visible`, a
+    """Returns the arrivals of a recording, including those that were dropped, each at its sender's device number in `numbers`. If `visible`, a
     packet that was sent on the processor that polls arrives when the next softirq begins there, because that softirq waits for the sender."""
     numbers = numbers or {sender: 1 for sender in set(seen.sent_by)}
     times = visible_times(seen) if visible else seen.sent
@@ -30,7 +30,7 @@ def arrivals_at(seen, numbers=None, visible=False):
 
 
 def visible_times(seen):
-    """When the processor that polls can see each packet."""
+    """Yields the time at which the processor that polls can see each packet."""
     entries = seen.entries[seen.processor]
     for time, processor in zip(seen.sent, seen.sent_on):
         place = bisect.bisect_left(entries, time)
@@ -38,8 +38,8 @@ def visible_times(seen):
 
 
 def measured_of(seen, head, used=None, packet=0):
-    """The values of a recording with that head. Of each packet that was used `used` has when it was sent and when its use ended, if that is known
-    otherwise than by the program's recorded reads. `packet` is what a packet costs, in ns."""
+    """Returns the measured values of a recording with that head. `used` has for each used packet its sending time and the end of its use, if
+    these are known from a source other than the program's recorded reads. `packet` is the cost of a packet in ns."""
     before, after = map(int, head.get(f"softnet.{seen.processor}.squeezed", "0 0").split())
     values = {"sent": len(seen.sent), "dropped": seen.dropped, "polls": len(seen.ended), "runs": seen.runs, "squeezed": after - before,
               "timers": seen.timers[seen.processor]}
@@ -51,7 +51,7 @@ def measured_of(seen, head, used=None, packet=0):
 
 
 def predicted(made, arrivals, settings):
-    """The values of the machine for these arrivals."""
+    """Returns the values that the machine predicts for these arrivals."""
     status, out, said = ran([made, *option_words(settings)], arrivals if isinstance(arrivals, bytes) else arrivals.encode())
     if status != 0:
         told = (said.decode("utf-8", "replace").splitlines() or [f"status {status}"])[-1]
@@ -60,19 +60,19 @@ def predicted(made, arrivals, settings):
 
 
 def error_of(name, measured, value, packets):
-    """How far a prediction is from what was measured, in %; of few drops by the packets, as a ratio of two small numbers says nothing."""
+    """Returns the error of a prediction in %. Few drops are compared with the number of packets, because a ratio of small numbers says nothing."""
     least = max(FEW / 10, packets / FEW) if name in ("dropped", "timers", "squeezed") else 1
     return 100 * (value - measured) / max(measured, least)
 
 
 def compared(measured, values):
-    """Name, measured value, predicted value and error in % of each value that was measured."""
+    """Returns name, measured value, predicted value and error in % of each measured value."""
     return [(name, measured[name], values[name], error_of(name, measured[name], values[name], measured["sent"]))
             for name in MEASURED if name in measured and name in values and (measured[name] or values[name] or name == "dropped")]
 
 
 def grade_of(rows):
-    """Good, fair or poor, by the largest error. Of waits the medians count: a 99th percentile of some tens of us is made of interrupts and of the
-    hypervisor's work, which the machine doesn't have."""
+    """Returns good, fair or poor, by the largest error. Of waits only the medians count, because a 99th percentile of tens of us comes from
+    interrupts and the hypervisor, which the machine doesn't model."""
     worst = max((abs(error) for name, _, _, error in rows if not name.endswith("p99")), default=100)
     return next((grade for most, grade in GRADES if worst <= most), "poor")

@@ -1,5 +1,5 @@
-"""The subcommands that are proved programs: `series`, `machine` and `replay`. Their options are read here, so that --help, the manual page and
-the completion have them; then this process becomes the program.
+"""The subcommands that are proved programs: `series`, `machine` and `replay`. Their options are declared here for --help, the manual page and the
+completion; then this process executes the program.
 """
 
 from toolbox import (HOME, TOP, Refusal, add_settings, called, check_input, number, parser_of, program, run_tool, settings_of)
@@ -14,32 +14,32 @@ from machine_report import IN_NS, MEANS, OPTIONS
 sys.path.append(f"{TOP}/scripts")
 from words import MODES
 
-SERIES = """Prints a CSV line for each row of a trace: what the report would be after this row, by the proved program napi_series.
+SERIES = """Prints a CSV line for each row of a trace: the contents of the report after that row, computed by the proved program napi_series.
 
     fintaqush series examples/bursts.csv --every 10 > series.csv
 
-The first line has the names of the columns, which docs/FORMATS.md and `man napi_series` explain. Nothing is printed before the whole trace is
-read and replayed. `fintaqush plot` draws a series.
+The first line has the names of the columns, which docs/FORMATS.md and `man napi_series` explain. Printing begins after the whole trace
+has been read and replayed. `fintaqush plot` draws a series.
 """
-MACHINE = """Predicts what becomes of arrivals on a receiving Linux machine with these settings and costs, by the proved program napi_machine.
+MACHINE = """Predicts how a receiving Linux machine with these settings and costs handles arrivals, by the proved program napi_machine.
 
     fintaqush from-pcap capture.pcap mine --arrivals
     fintaqush machine mine.csv --budget 64 --ring 512
 
 Prints a line for each queue, two or three for each processor, and a total. Times and costs are in ns. `fintaqush what-if` tries many settings
-at once and prints a table; `fintaqush costs` fits the costs to a recording.
+at once and prints a table; `fintaqush costs` estimates the costs from a recording.
 """
 
 
 def usage_text():
-    """The usage text of replay, by the name that it is called by."""
+    """Returns the usage text of replay, with the name that it was called by."""
     home = TOP if os.path.exists(f"{TOP}/docs/usage.txt") else HOME
     with open(f"{home}/docs/usage.txt", encoding="utf-8") as file:
         return file.read().replace("./replay", called("./replay"))
 
 
 def replay_parser():
-    """The options of replay, as its usage text has them: only for the manual page and the completion."""
+    """Returns a parser with the options in the usage text of replay: only for the manual page and the completion."""
     head, options, after = re.fullmatch(r"usage: .*\n\n(.*?\n)\n(  --.*?\n)\n(.*)", usage_text(), re.S).groups()
     parser = parser_of(f"Replays a trace of network devices by the polling rules of Linux, and prints the report.\n\n{head}\n{after}",
                        usage="%(prog)s [OPTION ..] [TRACE | -]", add_help=False)
@@ -70,7 +70,7 @@ def machine_parser():
 
 
 def become(command, path):
-    """Replaces this process by a program that reads a file, or standard input."""
+    """Executes a program that reads a file or standard input, in place of this process."""
     if path not in (None, "-"):
         check_input(path)
         with open(path, "rb") as file:
@@ -99,7 +99,7 @@ def machine():
 
 
 def replay():
-    """The launcher, which reads its options itself."""
+    """Executes the launcher, which parses its options itself."""
     if sys.argv[1:] in (["--manual"], ["--options"]):
         return replay_parser().parse_args()
     launcher = [f"{TOP}/replay"] if os.path.exists(f"{TOP}/replay") else [sys.executable, "-EsSB", f"{TOP}/scripts/replay.py"]

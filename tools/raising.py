@@ -1,5 +1,5 @@
-"""Runs raised anew: at the end of a run with instances on the list the kernel raises the softirq again (`net_rx_action`), and
-a trace has only the runs that somebody wrote down."""
+"""Adds runs to a trace: after a run with instances left on the poll list the kernel raises the softirq again (`net_rx_action`), while a
+trace has only the runs that were recorded."""
 
 import re
 
@@ -12,29 +12,29 @@ def is_softirq(row):
 
 
 class Raising:
-    """The rows of a trace, and how many runs stand raised behind each softirq row."""
+    """The rows of a trace, and how many runs are added after each softirq row."""
 
     def __init__(self, text, program, words, restarts):
         self.program, self.words, self.restarts = program, words, restarts
         try:
-            run_program(program, words, text)  # the trace is the replay's to refuse
+            run_program(program, words, text)  # the replay rejects a bad trace
         except Refusal as error:
-            if not PENDING.match(str(error)):  # reported for a trace that was read whole; with its runs raised it may be none
+            if not PENDING.match(str(error)):  # an error after the whole trace was read; with the added runs it may disappear
                 raise
         self.header, self.rows = records_of(text)
-        # The places of the runs. One that is followed by a run at the same moment was raised already.
+        # The indices of the runs. A run that is followed by another at the same time already has its added run.
         self.runs = [place for place, row in enumerate(self.rows) if is_softirq(row) and self.rows[place + 1 : place + 2] != [row]]
         self.number_at = {place: number for number, place in enumerate(self.runs)}
-        self.own = [number for number, place in enumerate(self.softirq_rows()) if place in self.number_at]  # each among all runs
+        self.own = [number for number, place in enumerate(self.softirq_rows()) if place in self.number_at]  # the index of each among all runs
         self.raised = [0] * len(self.runs)
-        self.settled = 0  # these runs, from the first on, have all that they need
-        self.emptied = -1  # how many were settled when what was after the others was last taken out
+        self.settled = 0  # the number of runs, from the first on, that have all the runs they need
+        self.emptied = -1  # how many were settled when surplus runs were last removed
 
     def softirq_rows(self):
         return [place for place, row in enumerate(self.rows) if is_softirq(row)]
 
     def probes(self):
-        """How many rows are tried behind each run that isn't settled: as many as behind it already, while there is room."""
+        """Returns how many rows to try after each unsettled run: as many as are after it already, while there is room."""
         tried, behind = [], sum(self.raised[: self.settled])
         for number in range(self.settled, len(self.runs)):
             behind += self.raised[number]
@@ -51,8 +51,8 @@ class Raising:
         return tried
 
     def rows_with(self, counts, end):
-        """The rows before place `end`, with so many runs behind each softirq row; and behind them the place of each among
-        the trace's own rows."""
+        """Returns the rows before index `end`, with the given number of runs after each softirq row, and the index of each among the trace's
+        own rows."""
         rows, places = [], []
         for place, row in enumerate(self.rows[:end]):
             rows.append(row)
@@ -66,7 +66,7 @@ class Raising:
         return run_program(self.program, self.words, text_of(self.header, rows))
 
     def polls_of(self, rows):
-        """The polls of each run of these rows; of those before an enable row that still meets a pending disable, where an
+        """Returns the polls of each run of these rows; only of those before an enable row that meets a pending disable, if an
         earlier run isn't settled yet."""
         try:
             report = self.replay(rows)
@@ -79,10 +79,10 @@ class Raising:
         return [run[0] for _, run in sorted(runs_of(report).items())]
 
     def step(self):
-        """One replay: rows behind a run that polled nothing found the list empty, so they are taken out again."""
+        """Makes one replay. Runs that polled nothing found the list empty, so they are removed."""
         tried = self.probes()
         if not tried and self.emptied < self.settled:
-            # What was found after the others while this one wasn't settled may be too much.
+            # Runs found after later rows while this one wasn't settled may be surplus.
             self.raised[self.settled :] = [0] * (len(self.runs) - self.settled)
             self.emptied = self.settled
             return
@@ -95,7 +95,7 @@ class Raising:
         rows, _ = self.rows_with(self.raised[: self.settled] + counts, end)
         polls = self.polls_of(rows)
         added = sum(self.raised[: self.settled])
-        is_exact = True  # whether every run so far has all that it needs, so that what comes after it is as it will be
+        is_exact = True  # whether every run so far has all the runs it needs, so that later rows are final
         for number, count in enumerate(counts, self.settled):
             place = self.own[number] + added
             if place >= len(polls):
@@ -108,7 +108,7 @@ class Raising:
                 self.settled = number + 1
 
     def refuse_unless_empty(self):
-        """There is no room for one row more: the list has to be empty behind the run that comes next."""
+        """Fails if a row would have to be added when there is no room: the list must be empty after the next run."""
         end = self.runs[self.settled] + 1
         rows, _ = self.rows_with(self.raised, end)
         report = self.replay(rows) if len(rows) <= MOST_ROWS else "list full"
@@ -117,7 +117,7 @@ class Raising:
         self.settled += 1
 
     def whole(self):
-        """All rows with all runs, once nothing changes any more, and of each its place among the trace's own."""
+        """Returns all rows with all runs, once nothing changes any more, and the index of each among the trace's own rows."""
         while self.settled < len(self.runs):
             self.step()
         rows, places = self.rows_with(self.raised, len(self.rows))
@@ -128,8 +128,8 @@ class Raising:
 
 
 def raise_runs(text, program, words, restarts=None):
-    """The trace as it would have run by these words: behind each softirq row that leaves the list filled, one more, until it is
-    empty or `restarts` stand there. Answers its bytes, and of each row the place of the one that it stands for."""
+    """Adds the runs that the kernel would make with these options: one after each softirq row that leaves the list nonempty, until it is
+    empty or `restarts` were added. Returns the trace's bytes, and for each row the index of the row that it belongs to."""
     raising = Raising(text, program, words, restarts)
     with Progress("raising runs", lambda: raising.settled / max(1, len(raising.runs))):
         rows, places = raising.whole()

@@ -1,5 +1,5 @@
-"""What a recording shows of the NAPI instances of some devices: the packets that were sent to them, their polls and runs, the reads of a program,
-and what other tasks their processor ran.
+"""What a recording shows of the NAPI instances of some devices: the packets sent to them, their polls and runs, the reads of a program,
+and the other tasks on their processor.
 """
 
 from toolbox import Refusal, shown
@@ -14,35 +14,35 @@ from recording import NET_RX, POLLED, SENT, SOFTIRQ, is_by_thread
 
 TIMER = re.compile(r"hrtimer=\S+ function=(\w+)")
 SWITCH = re.compile(r"prev_comm=(.*) prev_pid=(\d{1,9}) prev_prio=(\d{1,3}) .*==> next_comm=(.*) next_pid=(\d{1,9}) ")
-KERNEL_TASKS = re.compile(r"swapper|ksoftirqd/|napi/|migration/|rcu|cpuhp/|idle_inject/")  # tasks that poll, or that take no time to speak of
-FULL = 64  # packets, a poll's weight
-MOST_UNREAD = 64  # packets that wait for the program when a recording begins
-EARLY = 100_000  # ns: a packet's event follows its arrival, and may be that late
-REAL_TIME = 100  # below it a priority is that of a real-time task, which no other task disturbs
+KERNEL_TASKS = re.compile(r"swapper|ksoftirqd/|napi/|migration/|rcu|cpuhp/|idle_inject/")  # tasks that poll, or that take negligible time
+FULL = 64  # packets, the weight of a poll
+MOST_UNREAD = 64  # packets that may wait for the program when a recording begins
+EARLY = 100_000  # ns: an arrival's event comes after the arrival, by at most this
+REAL_TIME = 100  # a lower priority is that of a real-time task, which no other task disturbs
 
 
 def agree(pairs):
-    """Whether of each pair the first time may be that of an arrival, and the second one that of what became of the packet."""
+    """Returns whether, in each pair, the first time may be an arrival and the second a later event of the same packet."""
     return sum(time > later for time, later in pairs) * 50 <= len(pairs) and all(time <= later + EARLY for time, later in pairs)
 
 
 class Receiving:
-    """What is seen of the instances that poll `polled`, with packets of the devices `senders`, or, if none is known, packets that `receivers` receive.
+    """The instances that poll `polled`, with packets of the devices `senders`; if no sender is known, packets that `receivers` receive.
     Times are in ns."""
 
     def __init__(self, polled, senders, receivers=()):
         self.polled, self.senders, self.span = polled, senders, None
         self.receivers, self.begins, self.received = set(receivers), PollBegins(), {BY_POLL: [], BY_STACK: []}
-        self.sent, self.has_come = array("Q"), bytearray()  # when each packet was sent, and 1 unless it was dropped at a full ring
+        self.sent, self.has_come = array("Q"), bytearray()  # when each packet was sent, and 1 unless a full ring dropped it
         self.sent_on, self.sent_by, self.sending = array("H"), [], set()  # the processor, the device and the tasks that sent it
-        self.ended, self.begun, self.work, self.on, self.is_thread = array("Q"), array("Q"), array("L"), array("H"), bytearray()  # of each poll
-        self.run_of = set()  # the softirqs that polled, each by its processor and its place among the entries there
+        self.ended, self.begun, self.work, self.on, self.is_thread = array("Q"), array("Q"), array("L"), array("H"), bytearray()  # for each poll
+        self.run_of = set()  # the softirqs that polled, each by its processor and its index among the entries there
         self.entries, self.timers = defaultdict(lambda: array("Q")), Counter()  # by processor: when its softirqs began; its NAPI timers
-        self.reads, self.reading = [], {}  # of each read when it ended and when the next one of that task began
+        self.reads, self.reading = [], {}  # for each read its end, and the beginning of the next read by that task
         self.mark, self.running, self.tasks = {}, {}, defaultdict(Counter)
 
     def add(self, event):
-        """Takes the next event of the recording."""
+        """Processes the next event of the recording."""
         self.span = (self.span[0] if self.span else event.time, event.time)
         if self.receivers:
             self.begins.look(event)
@@ -81,7 +81,7 @@ class Receiving:
             self.received[KINDS[event.name]].append((self.begins.of(event), event.cpu, name))
 
     def settle(self):
-        """Takes the packets that were received as arrivals, if none of another end is known. Returns by which events, or nothing."""
+        """If no sender's packets are known, uses the received ones as arrivals. Returns the kind of event, or nothing."""
         kind = next((kind for kind, packets in self.received.items() if packets), "")
         if self.senders or not kind:
             return ""
@@ -117,39 +117,39 @@ class Receiving:
         if following.startswith("napi/"):
             self.mark["thread", int(thread)] = event.time
 
-    # ---- what follows
+    # ---- derived values
 
     @property
     def processors(self):
-        """The processors that polled, the one with most polls first."""
+        """Returns the processors that polled, the one with most polls first."""
         return [processor for processor, _ in Counter(self.on).most_common()]
 
     @property
     def processor(self):
-        """The processor that made most of the polls."""
+        """Returns the processor that made most of the polls."""
         return self.processors[0] if self.on else None
 
     @property
     def is_by_thread(self):
-        """Whether NAPI threads made most of the polls."""
+        """Returns whether NAPI threads made most of the polls."""
         return sum(self.is_thread) * 2 > len(self.is_thread)
 
     @property
     def dropped(self):
-        """How many packets found a full ring."""
+        """Returns how many packets found a full ring."""
         return len(self.has_come) - sum(self.has_come)
 
     @property
     def runs(self):
-        """How many softirqs polled."""
+        """Returns how many softirqs polled."""
         return len(self.run_of)
 
     def came(self):
-        """When each packet was sent that wasn't dropped."""
+        """Returns the sending times of the packets that weren't dropped."""
         return [time for time, has in zip(self.sent, self.has_come) if has]
 
     def waiting_before(self, came):
-        """How many packets of the first polls had been sent before the recording began. A poll that isn't full takes all that came before it."""
+        """Returns how many packets of the first polls were sent before the recording began. A poll that isn't full takes all earlier packets."""
         given, least = 0, None
         for ended, begun, work in zip(self.ended, self.begun, self.work):
             given += work
@@ -159,9 +159,9 @@ class Receiving:
         return max(0, least or 0)
 
     def delivered(self, cost=0):
-        """Of each packet that was delivered when it was sent and when it was delivered, in the order in which one instance delivers them: so long
-        before its poll's end as the packets after it cost. Nothing if the polls of several instances were recorded, or if packets and polls
-        don't agree."""
+        """Returns for each delivered packet its sending and delivery times, in the order in which one instance delivers packets. A packet's delivery
+        precedes the end of its poll by the cost of the packets after it. Returns nothing if polls of several instances were recorded, or if packets
+        and polls don't match."""
         came = self.came()
         if len(set(self.sent_by)) != 1 or not self.ended:
             return []
@@ -173,7 +173,7 @@ class Receiving:
         return [(time, max(time, end)) for time, end in pairs] if place <= len(came) and agree(pairs) else []
 
     def used(self):
-        """Of each packet that the program used when it was sent and when the next read began; nothing if reads and packets don't agree."""
+        """Returns for each used packet its sending time and the beginning of the next read; nothing if reads and packets don't match."""
         pairs, reads = self.delivered(), self.reads
         place = next((place for place, read in enumerate(reads) if pairs and read[0] >= pairs[0][0]), len(reads))
         # The first reads may be of packets that were delivered before the recording began.
@@ -186,8 +186,8 @@ class Receiving:
         return []
 
     def other_tasks(self, known, processor=None):
-        """The shares of a processor's time, that of most polls if none is named, that tasks had which neither poll, nor send, nor are in `known`,
-        process numbers: those that can disturb. Beside tasks of real time only other ones of real time can."""
+        """Returns the shares of a processor's time that other tasks had, by default on the processor with most polls: tasks that neither poll nor
+        send nor are in `known` (process numbers), so that they can disturb. Only other real-time tasks can disturb a real-time task."""
         if not self.span or self.span[1] == self.span[0]:
             return {}
         own, others = [], Counter()

@@ -1,4 +1,4 @@
-"""Recordings: the text of ftrace, of `trace-cmd report` or of `perf script`, and fintaqush record's files, read line by line."""
+"""Reads recordings line by line: the text of ftrace, of `trace-cmd report` or of `perf script`, and the files of fintaqush record."""
 
 from toolbox import Refusal, check_input, is_number, lines_in, shown
 
@@ -17,10 +17,10 @@ HEAD = "fintaqush-recording 1"
 CAPTURE = "this is a capture, which fintaqush from-pcap reads"
 OTHERS = {b"PERFILE2": "this is the file of `perf record`: take the text of `perf script --ns`", b"\xd4\xc3\xb2\xa1": CAPTURE,
           b"\x17\x08Dtraci": "this is the file of `trace-cmd record`: take the text of `trace-cmd report -t`", b"\xa1\xb2\xc3\xd4": CAPTURE,
-          b"M<\xb2\xa1": CAPTURE, b"\n\r\r\n": CAPTURE, b"\x7fELF": "this is a program"}  # by their first bytes
+          b"M<\xb2\xa1": CAPTURE, b"\n\r\r\n": CAPTURE, b"\x7fELF": "this is a program"}  # recognized by their first bytes
 NET_RX = 3  # the number of the softirq that polls (NET_RX_SOFTIRQ)
 
-# As ftrace and trace-cmd write it, `TASK-PID [CPU] FLAGS TIME: NAME:`, and as perf does, `TASK PID[/TID] [CPU] TIME: [COUNT] SYSTEM:NAME:`.
+# ftrace and trace-cmd write `TASK-PID [CPU] FLAGS TIME: NAME:`, perf writes `TASK PID[/TID] [CPU] TIME: [COUNT] SYSTEM:NAME:`.
 LINE = re.compile(r"\s*(?P<task>\S.*?)(?:-|\s+(?:\d{1,9}/)?)(?P<pid>\d{1,9})\s+(?:\([\s\d-]+\)\s+)?\[(?P<cpu>\d{1,6})\]\s+"
                   r"(?:(?P<flags>\S+)\s+)?(?P<seconds>\d{1,10})\.(?P<fraction>\d{6,9}):\s+(?:\d+\s+)?"
                   r"(?:(?:\w+:)?(?P<name>\w+):(?!\w)|sys_(?P<call>\w+)(?P<is_exit> ->|(?=\()))\s*(?P<said>.*)")
@@ -28,13 +28,13 @@ SENT = re.compile(r"dev=(\S+) .*\blen=(\d{1,10}) rc=(\w+)")
 POLLED = re.compile(r"napi poll on napi struct \S+ for (?:network )?device (\S+) work (\d{1,9}) budget (\d{1,9})")
 SOFTIRQ = re.compile(r"vec=(\d{1,9})")
 LOST = re.compile(r"\[LOST (\d+) EVENTS\]|\[(\d+) EVENTS DROPPED\]|PERF_RECORD_LOST lost (\d+)")
-# And the lines of a call chain, which perf puts after an event.
+# The lines of a call chain, which perf writes after an event.
 NO_EVENT = re.compile(r"\s*(#.*|cpus=\d+|version = .*|CPU:? ?\d+ is empty|[0-9a-f]{4,16} .* \(.*\))?$")
 
 
 @dataclass
 class Event:
-    """A line of the recording, its time in nanoseconds."""
+    """A line of the recording, with its time in nanoseconds."""
 
     line: int
     task: str
@@ -46,7 +46,7 @@ class Event:
     pid: int = 0
 
     def parts(self, pattern):
-        """What the event says, by the pattern of its kind."""
+        """Returns the fields of the event, by the pattern of its kind."""
         found = pattern.match(self.said)
         if not found:
             raise Refusal(f"line {self.line}: {self.name} says {self.said!r}, which isn't read here")
@@ -57,8 +57,8 @@ NEXT = re.compile(r"next_comm=(.*) next_pid=(\d{1,9}) ")
 
 
 def events_of(lines, lost, first=1):
-    """The events of these lines, the first of which has that number. If the kernel lost some, a list has a note."""
-    names = {}  # of the tasks, by their numbers: ftrace keeps a few only, and writes `<...>` for the others
+    """Yields the events of these lines; `first` is the number of the first line. If the kernel lost events, a note is added to `lost`."""
+    names = {}  # task names by number: ftrace keeps only a few, and writes `<...>` for the others
     for number, line in enumerate(lines, first):
         found = LINE.match(line)
         if not line.endswith("\n") and (first > 1 or not found):
@@ -79,7 +79,7 @@ def events_of(lines, lost, first=1):
 
 @contextlib.contextmanager
 def opened(recording):
-    """The lines of a file, also as .gz, or of standard input for `-`; what is no text of events at all is a refusal."""
+    """Opens a file, also as .gz, or standard input for `-`, and yields its lines. Fails if it isn't a text of events."""
     check_input(recording)
     try:
         with open(0 if recording == "-" else recording, "rb", closefd=recording != "-") as plain:
@@ -97,7 +97,7 @@ def opened(recording):
 
 
 def head_in(lines):
-    """The head of fintaqush record's file, from the lines behind its first one on."""
+    """Parses the head of fintaqush record's file, from the lines after the first one."""
     head = {}
     for line in lines:
         key, _, value = line.rstrip("\n").partition(" ")
@@ -108,7 +108,7 @@ def head_in(lines):
 
 
 def parts_of(lines):
-    """The head of these lines, none of other tools' text, and the lines of the trace."""
+    """Returns the head, empty for text of other tools, and the lines of the trace."""
     first = next(lines)
     if first.rstrip("\n") == HEAD:
         head = head_in(lines)
@@ -119,13 +119,13 @@ def parts_of(lines):
 
 
 def head_of(recording):
-    """The head of fintaqush record's file, by its keys; of other tools' text it has none."""
+    """Returns the head of fintaqush record's file, by its keys; text of other tools has none."""
     with opened(recording) as lines:
         return parts_of(lines)[0]
 
 
 def events_in(recording, lost, head=None):
-    """The events of a file, also as .gz, or of standard input for `-`. The head is put into a dictionary, if one is given."""
+    """Yields the events of a file, also as .gz, or of standard input for `-`. Fills `head` with the file's head, if a dictionary is given."""
     with opened(recording) as lines:
         found, lines = parts_of(lines)
         if head is not None:
@@ -141,12 +141,12 @@ def events_in(recording, lost, head=None):
 
 
 def check_lost(lost):
-    """Refuses a recording of which the kernel lost events."""
+    """Fails if the kernel lost events of a recording."""
     if lost:
         raise Refusal(f"{lost[0]}, so its numbers would be wrong: record for a shorter time, or with a larger buffer (fintaqush record "
                       "--buffer)")
 
 
 def is_by_thread(event):
-    """Whether the poll is made by a NAPI thread, and not by a softirq in its place."""
+    """Returns whether a NAPI thread makes the poll, and not a softirq that interrupted the thread."""
     return event.task.startswith("napi/") and event.flags[2:3] not in ("s", "h", "H")

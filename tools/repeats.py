@@ -1,4 +1,4 @@
-"""Repeats of made traffic over seeds: arrivals by fintaqush traffic for each seed, and the spread of what the machine makes of them."""
+"""Repeats generated traffic over seeds: arrivals by fintaqush traffic for each seed, and the spread of the machine's results."""
 
 from toolbox import Refusal, ran, shown, unfinished
 
@@ -13,7 +13,7 @@ TAKEN = ("--arrivals", "--out", "--seed", "--help", "-h", "--version", "--manual
 
 
 def made(words, seeds):
-    """The names of files with the arrivals of these words of tools/traffic, one for each seed from 1 on. They go when the tool ends."""
+    """Returns the names of files with arrivals by these options of tools/traffic, for seeds from 1 on. They are removed when the tool ends."""
     try:
         options = shlex.split(words)
     except ValueError as error:
@@ -37,7 +37,7 @@ def number(text):
 
 
 def spread(rows, settings, values):
-    """One row of these, which have the same settings: of each value the median (of an even number the lower one), the least and the greatest."""
+    """Combines rows with the same settings into one: for each value the median (of an even number the lower one), the minimum and the maximum."""
     row = {name: rows[0][name] for name in settings}
     row.update(status=max(int(each["status"]) for each in rows), fault=next((each["fault"] for each in rows if each["fault"]), ""))
     for name in values:

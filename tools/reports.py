@@ -1,4 +1,4 @@
-"""The report of napi_replay, read: docs/FORMATS.md, "The report"."""
+"""A parser of napi_replay's report: docs/FORMATS.md, "The report"."""
 
 from toolbox import Refusal, is_number
 
@@ -6,7 +6,7 @@ from toolbox import Refusal, is_number
 BITS = {0: "SCHED", 1: "MISSED", 2: "DISABLE", 3: "NPSVC", 6: "IN_BUSY_POLL", 8: "THREADED", 9: "SCHED_THREADED", 32: "QUEUED",
         33: "TO_THREAD"}
 
-# The lines of a report; with threads, `device` and `total` have fewer words, and in version 2 `napi` has `held` too.
+# The lines of a report; in threads mode `device` and `total` have fewer fields, and in version 2 `napi` also has `held`.
 SHAPES = [shape.split() for shape in (
     "softirq ROW polls N work N squeezed FLAG",
     "kthread ROW device N polls N work N",
@@ -25,27 +25,27 @@ ROWS = ("softirq", "kthread", "busy")
 
 
 def names_of(word):
-    """The names of the bits of a state word."""
+    """Returns the names of the bits of a state word."""
     if word != sum(1 << bit for bit in BITS if word >> bit & 1):
         raise Refusal(f"{word} is no state word")
     return [name for bit, name in BITS.items() if word >> bit & 1]
 
 
 def value_of(kind, text):
-    """A value as JSON has it."""
+    """Converts a value to its JSON type."""
     if kind == "FLAG":
         return text == "1"
     return text if kind == "STATE" else int(text)
 
 
 def is_of(shape, words):
-    """Whether the words of a line are of this shape."""
+    """Returns whether the fields of a line have this shape."""
     return len(shape) == len(words) and all(
         VALUES[part](word) if part in VALUES else part == word for part, word in zip(shape, words))
 
 
 def object_of(line):
-    """The object of a line of a report."""
+    """Parses a line of a report."""
     words = line.split(" ")
     if words[0] == "list" and all(map(is_number, words[1:])):
         return {"line": "list", "devices": [int(word) for word in words[1:]]}
@@ -62,7 +62,7 @@ def object_of(line):
 
 
 def json_of(value):
-    """An object, or a value in it, as JSON, whose own module takes long to start: no text here has a letter that it would escape."""
+    """Formats an object as JSON without the json module, which is slow to import; no text here needs escapes."""
     if isinstance(value, dict):
         return "{" + ", ".join(f'"{name}": {json_of(each)}' for name, each in value.items()) + "}"
     if isinstance(value, list):
@@ -73,7 +73,7 @@ def json_of(value):
 
 
 def objects_of(text):
-    """The objects of a whole report. One that is empty, cut or without some of its lines is refused."""
+    """Parses a whole report. Fails if it is empty, cut or lacks lines."""
     if not text:
         raise Refusal("the report is empty")
     objects = []
@@ -91,7 +91,7 @@ def objects_of(text):
 
 
 def check_whole(objects):
-    """That the lines are as many as the last one says, in their order."""
+    """Fails unless the lines are as many as the total line says, in order."""
     of = {kind: [told for told in objects if told["line"] == kind] for kind in (*ROWS, "device", "napi", "list", "total")}
     total = of["total"][0]
     with_threads = "runs" not in total

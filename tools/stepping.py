@@ -1,5 +1,5 @@
-"""What a row of a trace did, and each poll of its run, in sentences with the kernel's function: by what the reports before and after it
-say."""
+"""Describes what a row of a trace did, and each poll of its run, in sentences with the kernel's function, from the reports before and after
+the row."""
 
 NOTHING = dict.fromkeys(("arrived", "dropped", "polled", "granted", "missed", "disabled", "again", "released", "held", "left", "polls"), 0)
 QUEUE = dict.fromkeys(("sent", "held", "done", "denied", "limit", "in_flight", "stopped"), 0)
@@ -12,12 +12,12 @@ def count_of(number, thing):
 
 
 def more(before, after, device, name):
-    """By how much a count of a device is higher after than before; it may not have been opened before."""
+    """Returns the increase of a device's count; the device may be new."""
     return after["devices"][device].get(name, 0) - before["devices"].get(device, NOTHING).get(name, 0)
 
 
 class Step:
-    """A row with the states before and after it, and what it did: sentences, each with the kernel's function."""
+    """A row with the states before and after it, and sentences on what it did, each with the kernel's function."""
 
     def __init__(self, row, before, after):
         _, device, self.event, self.value = row
@@ -34,7 +34,7 @@ class Step:
         self.said.append([sentence, rule])
 
     def was(self, device):
-        """A device before the row; it may not have been opened."""
+        """Returns the device before the row; it may be new."""
         return self.before["devices"].get(device, NOTHING)
 
     def more(self, name, device=None):
@@ -94,7 +94,7 @@ class Step:
         self.say(f"Device {self.device} is to be polled by {'its thread' if self.value.strip('0') else 'softirq runs'}.", "dev_set_threaded")
 
     def polls(self):
-        """A softirq, kthread or busy row."""
+        """Describes a softirq, kthread or busy row."""
         run = self.after["run"]
         name, rule = POLLERS[self.event][0].format(self.device), POLLERS[self.event][1]
         if not run["polls"]:
@@ -107,7 +107,7 @@ class Step:
             self.say("The run is squeezed: it stopped because its budget or its window was used up.", "net_rx_action, time_squeeze")
 
     def polled(self, device):
-        """What a row that polls did to a device."""
+        """Describes what a row that polls did to a device."""
         if self.more("polled", device):
             self.say(f"{count_of(self.more('polled', device), 'packet').capitalize()} of device {device}; {self.after['devices'][device]['left']} still wait.",
                      "napi_poll")
@@ -124,7 +124,7 @@ class Step:
 
 
 def ending_of(before, after, device):
-    """How a poll ended, and the kernel's function for it."""
+    """Returns how a poll ended, and the kernel's function for it."""
     if more(before, after, device, "again"):
         return "a request was missed: poll again", "napi_complete_done"
     if more(before, after, device, "released"):
@@ -135,7 +135,7 @@ def ending_of(before, after, device):
 
 
 def polls_of(states, settings):
-    """The polls of a run between these states: of which device, how many packets, how it ended, and what is left of the budget and the
+    """Returns the polls of a run between these states: the device, the number of packets, how the poll ended, and the remaining budget and
     window."""
     work, polls = 0, []
     for number, (before, after) in enumerate(zip(states, states[1:]), 1):

@@ -1,4 +1,4 @@
-"""Answers of what-if for people: a table with units that has only the columns that differ, and lines that say what follows from it."""
+"""Formats what-if's results for people: a table with units that has only the columns that differ, and lines with conclusions."""
 
 from machine_report import VALUES, WAITS
 
@@ -6,16 +6,16 @@ HEADINGS = {"load": "load", "used_per_second": "used k/s", **{name: name.replace
             **{name: name.replace("_percent", " %") for name in VALUES if name.endswith("_percent")}}
 US = ("rx-nsecs", "gro-flush-timeout", "time-limit", "interrupt", "poll", "packet", "use", "wake", "app-wake")  # options in ns, shown in µs
 P99 = "used_p99"
-QUIET = ("queues_of_a_processor", "late", "delivered_p999", "used_p999", "timers", "wakes")  # shown only if asked for as CSV or JSON
+QUIET = ("queues_of_a_processor", "late", "delivered_p999", "used_p999", "timers", "wakes")  # only in CSV or JSON
 
 
 def digits(value):
-    """A number with three digits that count, at least."""
+    """Formats a number with at least three significant digits."""
     return f"{value:.0f}" if value >= 100 else f"{value:.1f}" if value >= 10 else f"{value:.2f}"
 
 
 def cell(name, text):
-    """A value with the unit of its column."""
+    """Formats a value with the unit of its column."""
     value = float(text)
     if name in WAITS or name in US:
         return digits(value / 1000) if value else "0"
@@ -25,7 +25,7 @@ def cell(name, text):
 
 
 def shown_cell(name, row):
-    """A value, with the least and the greatest of several seeds if there were several."""
+    """Formats a value, with the minimum and the maximum if there were several seeds."""
     middle = cell(name, row[name])
     ends = [cell(name, row[f"{name}_{end}"]) for end in ("least", "most")] if f"{name}_least" in row else []
     return f"{middle} ({ends[0]} to {ends[1]})" if ends and ends[0] != ends[1] else middle
@@ -36,14 +36,14 @@ def heading(name):
 
 
 def lines_of(columns):
-    """The lines of a table of these columns, each a heading and its cells."""
+    """Returns the lines of a table of these columns, each a heading and its cells."""
     wide = [max(map(len, (first, *cells))) for first, cells in columns]
     rows = zip(*([first, *cells] for first, cells in columns))
     return ["  ".join(text.rjust(each) for text, each in zip(row, wide)).rstrip() for row in rows]
 
 
 def table(rows, varied):
-    """The table of these rows; below it what is the same in all of them."""
+    """Returns the table of these rows; below it what is the same in all of them."""
     columns, same = [("row", [str(place) for place in range(1, len(rows) + 1)])], []
     columns += [(heading(name), [cell(name, row[name]) for row in rows]) for name in varied]
     for name in VALUES:
@@ -57,19 +57,19 @@ def table(rows, varied):
     return [*lines_of(columns), *([f"the same in all rows: {', '.join(same)}"] if same else [])]
 
 
-# ---- what follows
+# ---- conclusions
 
 def lost(row):
     return int(row["dropped"]) + int(row["refused"])
 
 
 def listed(places):
-    """Rows by their numbers."""
+    """Lists rows by their numbers."""
     return f"row{'s' if len(places) > 1 else ''} {', '.join(map(str, places))}"
 
 
 def of_waits(rows):
-    """Which row has the lowest 99th percentile of waits, and how far the others are from it."""
+    """Returns which row has the lowest 99th percentile of waits, and how far the others are from it."""
     waits = [int(row[P99]) for row in rows]
     if len(rows) < 2:
         return []
@@ -82,7 +82,7 @@ def of_waits(rows):
 
 
 def of_seeds(rows):
-    """Whether the order of the two best rows is more than chance."""
+    """Returns a warning if the order of the two best rows may be chance, because their ranges over the seeds overlap."""
     order = sorted(range(len(rows)), key=lambda place: int(rows[place][P99]))
     if len(rows) < 2 or f"{P99}_least" not in rows[0] or rows[order[0]][P99] == rows[order[1]][P99]:
         return []
@@ -92,7 +92,7 @@ def of_seeds(rows):
 
 
 def of_losses(rows):
-    """Which rows lose packets."""
+    """Returns which rows lose packets."""
     places = [place for place, row in enumerate(rows, 1) if lost(row)]
     if not places:
         return ["no packet is lost in any row"] if len(rows) > 1 else ["no packet is lost"]
@@ -100,7 +100,7 @@ def of_losses(rows):
 
 
 def of_budgets(rows):
-    """Whether the budget ever ends a run."""
+    """Returns whether the budget ever ends a run."""
     runs = [row for row in rows if int(row["runs"]) and str(row["budget"]) != "0"]
     if runs and not any(int(row["squeezed"]) for row in runs):
         return ["the budget never binds: no run is squeezed"]
@@ -108,6 +108,6 @@ def of_budgets(rows):
 
 
 def what_follows(rows):
-    """What follows from these rows, in a few lines."""
+    """Returns the conclusions from these rows, in a few lines."""
     return [*of_waits(rows), *of_seeds(rows), *of_losses(rows), *of_budgets(rows)] if rows else []
 

@@ -1,4 +1,4 @@
-"""Limits for scripts and CI: `--fail-if 'p99>200us'` makes the status 3 if a result is beyond it."""
+"""Limits for scripts and CI: `--fail-if 'p99>200us'` sets exit status 3 if a result exceeds the limit."""
 
 from toolbox import say, wrong
 
@@ -7,9 +7,9 @@ import re
 from decimal import Decimal
 from typing import NamedTuple
 
-FAILED = 3  # the status
+FAILED = 3  # the exit status
 SIGNS = {">=": operator.ge, "<=": operator.le, "==": operator.eq, "!=": operator.ne, ">": operator.gt, "<": operator.lt}
-UNITS = {"ns": 1, "us": 1000, "ms": 10**6, "s": 10**9}  # in the ns that results have
+UNITS = {"ns": 1, "us": 1000, "ms": 10**6, "s": 10**9}  # in ns, the unit of results
 CONDITION = re.compile(rf"([a-z]\w*) *({'|'.join(SIGNS)}) *(\d{{1,15}}(?:\.\d{{1,9}})?) *({'|'.join(UNITS)}|%)?")
 
 
@@ -21,7 +21,7 @@ class Condition(NamedTuple):
     unit: str
 
     def value(self, values):
-        """In the unit of the condition."""
+        """Returns the value in the condition's unit."""
         return Decimal(str(values[self.name])) / UNITS.get(self.unit, 1)
 
     def holds(self, values):
@@ -29,7 +29,7 @@ class Condition(NamedTuple):
 
 
 def add_fail_if(parser, names, times=()):
-    """The option, for results with these names, of which some are times in ns."""
+    """Adds the option, for results with these names; `times` are those in ns."""
     def read(text):
         found = CONDITION.fullmatch(text.strip())
         if not found:
@@ -47,7 +47,7 @@ def add_fail_if(parser, names, times=()):
 
 
 def status_of(tool, conditions, results):
-    """The status for these results, each its name and its values; a line for each condition that holds, with the first result."""
+    """Returns the exit status for results (name, values), and prints a line for each condition that holds, with the first such result."""
     status = 0
     for condition in conditions:
         held = [(name, values) for name, values in results if condition.holds(values)]

@@ -1,4 +1,4 @@
-"""What happens on the processors of a recording: polls, interrupts, wake-ups and reads, each with the time that it takes."""
+"""The activity on the processors of a recording: polls, interrupts, wake-ups and reads, each with its duration."""
 
 from toolbox import Refusal
 
@@ -9,24 +9,24 @@ from recording import NET_RX, POLLED, SENT, SOFTIRQ, is_by_thread
 
 HANDLER = re.compile(r"irq=(\d{1,9})(?: name=(.*))?")
 SWITCH = re.compile(r"prev_comm=.* prev_pid=(\d{1,9}) prev_prio=-?\d+ prev_state=(\S+) ==> next_comm=(.*) next_pid=(\d{1,9}) ")
-SHORT_SWITCH = re.compile(r".*:(\d{1,9}) \[-?\d+\] (\S+) ==> (.*):(\d{1,9}) \[-?\d+\]")  # as trace-cmd writes it
+SHORT_SWITCH = re.compile(r".*:(\d{1,9}) \[-?\d+\] (\S+) ==> (.*):(\d{1,9}) \[-?\d+\]")  # trace-cmd's form
 EXPIRES = re.compile(r"hrtimer=(\S+) .*\bexpires=(\d{1,20})")
 EXPIRED = re.compile(r"hrtimer=(\S+) .*\bnow=(\d{1,20})")
 RETURNED = re.compile(r"0x([0-9a-f]{1,16})$")
 WATCHDOG = "napi_watchdog"
-BACKLOG = "(no_device)"  # as napi_poll names the instance of a processor's backlog
+BACKLOG = "(no_device)"  # the name of a processor's backlog in napi_poll
 TIMER = f"the timer of {WATCHDOG}"
-# Interrupts between processors, after which a softirq or a thread may begin; and all whose events have an entry and an exit.
+# Interrupts between processors, which may start a softirq or a thread; and all interrupts with an entry and an exit event.
 BETWEEN = {"call_function_single", "call_function", "reschedule", "ipi"}
 HANDLERS = BETWEEN | {"irq_handler", "local_timer", "irq_work", "x86_platform_ipi", "thermal_apic", "threshold_apic", "deferred_error_apic",
                       "error_apic", "spurious_apic"}
-SOON = 50_000  # ns, from the end of an interrupt to what it asked for
+SOON = 50_000  # ns, from the end of an interrupt to the softirq that it requested
 SAME_CLOCK = 1_000_000  # ns
-EARLY = 100_000  # ns, by which a packet may be polled before its sender's event, which follows the sending
+EARLY = 100_000  # ns by which a poll may precede its sender's event, which follows the sending
 
 
 class Taken:
-    """How much time of a processor something takes in all, which may be nested."""
+    """How much time of a processor an activity takes in all; it may be nested."""
 
     def __init__(self):
         self.depth, self.since, self.total = 0, 0, 0
@@ -47,35 +47,35 @@ class Taken:
 
 
 class Processor:
-    """What is under way on a processor."""
+    """What is currently running on a processor."""
 
     def __init__(self):
-        self.handlers = []  # those that began: each its name, when, and whether napi_watchdog ran in it
+        self.handlers = []  # those that began: each its name, its beginning, and whether napi_watchdog ran in it
         self.ended = None  # the name, the duration and the end of the last handler
         self.by_handlers, self.above_tasks = Taken(), Taken()
-        self.softirq = self.thread = None  # since when the next poll's time counts there, and what was taken until then
+        self.softirq = self.thread = None  # the beginning of the next poll's time there, and what was taken until then
         self.full = None  # the device of the last poll, its end and what was taken until then, if it was full
-        self.is_first, self.by = False, None  # whether no poll was made since that began, and the handler that asked for it
+        self.is_first, self.by = False, None  # whether no poll was made since then, and the handler that requested it
         self.task, self.before = ("", 0, 0), ("", 0, 0)  # the task that runs, and the one before it: name, number, beginning
-        self.due = None  # of the NAPI timer that expired last
+        self.due = None  # expiry of the last NAPI timer
 
 
 class Reads:
-    """The reads of a program: packets are read in the order in which they are delivered."""
+    """The reads of a program: it reads packets in the order of their delivery."""
 
     def __init__(self, tasks=()):
         self.tasks, self.is_by_recv = set(tasks), False
-        self.called = {}  # of each task that is in a call: when it began, and what was taken then
-        self.slept = {}  # of each task that slept since its last read: when it did so last, and whether in a call
-        self.delivered = deque()  # of each packet that waits for its read: when its poll ended, and whether that gave it only
-        self.ahead = []  # reads before the end of the packet's poll: each when, and whether the program had slept
-        # The last read, if its task has had the processor since: task, time, processor, packets, what was taken there until then.
+        self.called = {}  # for each task in a call: when the call began, and what was taken then
+        self.slept = {}  # for each task that slept since its last read: when it last did, and whether in a call
+        self.delivered = deque()  # for each packet that waits for its read: when its poll ended, and whether the poll delivered only that packet
+        self.ahead = []  # reads before the end of the packet's poll: the time of each, and whether the program had slept
+        # The last read, if its task has run since: task, time, processor, packets, what was taken there until then.
         self.last = None
         self.calls, self.uses, self.wakes, self.on = [], [], [], Counter()
         self.count, self.unmatched = 0, 0
 
     def deliver(self, began, time, work):
-        """A poll ended, which gave so many packets; those that were read since it began are of this one."""
+        """Delivers the packets of a poll; those that were read since the poll began belong to it."""
         known = [read for read in self.ahead if read[0] >= began][:work]
         if work == 1 and known and known[0][1]:
             self.wakes.append(known[0][0] - time)
@@ -94,10 +94,10 @@ class Reads:
             self.last = None
 
     def leave(self, processor, event):
-        """A read returns."""
+        """Handles the return of a read."""
         by_recv = event.name.startswith("sys_exit_recv")
         found, called = RETURNED.search(event.said), self.called.pop(event.pid, None)
-        if by_recv and not self.is_by_recv and self.count:  # what it read by other calls wasn't packets
+        if by_recv and not self.is_by_recv and self.count:  # its reads by other calls weren't packets
             waiting = self.delivered
             self.__init__(self.tasks)
             self.delivered = waiting
@@ -116,7 +116,7 @@ class Reads:
         self.last = event.pid, event.time, event.cpu, packets, taken
 
     def take(self, event, called, slept, taken, packets):
-        """The packets that are read are those that were delivered first."""
+        """Matches the packets that are read with those that were delivered first."""
         known = [self.delivered.popleft() for _ in range(min(packets, len(self.delivered)))]
         self.ahead += [(event.time, slept is not None)] * (packets - len(known))
         if len(known) == packets:
@@ -142,19 +142,19 @@ class Polls:
 
 
 class Timeline:
-    """Adds up the times of a recording."""
+    """Sums up the times of a recording."""
 
     def __init__(self, pairs=(), polled=(), irq=None, interrupts=()):
-        """`polled` are the devices whose polls count, `interrupts` the names of theirs, if these are known: no other card's asks for their polls."""
+        """`polled` are the devices whose polls count; `interrupts` are their interrupts, if known: other cards' interrupts don't request their polls."""
         self.irq, self.polled, self.senders, self.interrupts = irq, set(polled), {sender for sender, _ in pairs}, set(interrupts)
         self.on = defaultdict(Processor)
         self.is_coarse, self.has_tasks, self.has_handlers = True, False, False
-        self.of, self.strays = defaultdict(Polls), 0  # by device
-        # By packets and by timers, of a processor that slept; and of one that had another task.
+        self.of, self.strays = defaultdict(Polls), 0  # per device
+        # Wake-ups by packets and by timers, on a processor that slept; and on one that ran another task.
         self.wakes, self.busy_wakes = defaultdict(list), defaultdict(list)
-        self.due = {}  # of each timer
+        self.due = {}  # for each timer
         self.waiting, self.came, self.dropped, self.given, self.unmatched, self.sent_on = deque(), 0, 0, 0, 0, Counter()
-        self.owed = 0  # packets that were polled before they came
+        self.owed = 0  # packets that were polled before their arrival
         self.poll_end, self.was_full = 0, False  # of the last poll
         self.reads = Reads()
         self.tasks, self.first, self.last = defaultdict(Counter), 0, 0
@@ -182,7 +182,7 @@ class Timeline:
             self.packet(event)
 
     def handler(self, processor, event):
-        """A handler begins or ends: that of a card's interrupt, of one between processors, or of the local timer."""
+        """Handles the beginning or end of a handler: of a card's interrupt, of one between processors, or of the local timer."""
         kind, _, end = event.name.rpartition("_")
         self.has_handlers = True
         if end == "entry":
@@ -201,7 +201,7 @@ class Timeline:
                 processor.ended = (TIMER if has_expired else name, event.time - began, event.time)
 
     def timer(self, processor, event):
-        """NAPI's timer is set, or expires within the handler that is under way."""
+        """Handles NAPI's timer: it is set, or expires in the current handler."""
         if WATCHDOG not in event.said:
             return
         if event.name == "hrtimer_start":
@@ -215,7 +215,7 @@ class Timeline:
                 processor.handlers[-1][2] = True
 
     def softirq(self, processor, event):
-        """NET_RX begins, which the last handler asked for, or ends."""
+        """Handles NET_RX: it begins, requested by the last handler, or ends."""
         if event.name == "softirq_raise" or int(event.parts(SOFTIRQ)[0]) != NET_RX:
             return
         if event.name == "softirq_entry":
@@ -228,7 +228,7 @@ class Timeline:
 
     @staticmethod
     def begin(processor, time):
-        """Polls begin, by a softirq or a thread."""
+        """Begins polls in a softirq or a thread."""
         asked = processor.ended if processor.ended and time - processor.ended[2] <= SOON else None
         processor.is_first, processor.by, processor.ended = True, asked, None
 
@@ -247,7 +247,7 @@ class Timeline:
             self.begin(processor, event.time)
 
     def packet(self, event):
-        """A packet is sent, which comes to a device."""
+        """Handles a sent packet, which arrives at a device."""
         sender, _, code = event.parts(SENT)
         if sender in self.senders:
             self.sent_on[event.cpu] += 1
@@ -270,7 +270,7 @@ class Timeline:
         elif began:
             processor.softirq = mark
         if began and processor.is_first and processor.full and processor.full[0] == device and began[0] - processor.full[1] <= SOON:
-            began = processor.full[1:]  # it goes on with what the full poll left
+            began = processor.full[1:]  # it continues with what the full poll left
         processor.full = (device, *mark) if work >= int(budget) else None
         if not self.polled or device in self.polled:
             self.strays += not began
@@ -283,7 +283,7 @@ class Timeline:
         processor.is_first, processor.by, processor.due, processor.ended = False, None, None, None
 
     def run_begins(self, processor, began, work, cpu, polls):
-        """The first poll of a softirq or a thread: which handler asked for it, and how long it took from its cause to its beginning."""
+        """Handles the first poll of a softirq or a thread: which handler requested it, and the time from its cause to its beginning."""
         name, took, _ = processor.by or (None, 0, 0)
         if name is not None and not self.irq:
             polls.handlers[name].append(took)
@@ -298,7 +298,7 @@ class Timeline:
                 self.add_wake("packets", processor, came, began - came - took)
 
     def add_wake(self, kind, processor, time, took):
-        """Adds the time of a wake-up, if neither the program nor a poll had the processor; if another task had it, it counts apart."""
+        """Adds a wake-up's time if neither the program nor a poll was running on the processor; another task's is counted separately."""
         name, pid, since = processor.before if processor.task[0].startswith("napi/") else processor.task
         if not self.has_tasks or name.startswith("swapper") and since <= time:
             self.wakes[kind].append(took)
@@ -306,7 +306,7 @@ class Timeline:
             self.busy_wakes[kind].append(took)
 
     def deliver(self, time, work, is_empty, began):
-        """A poll gave the packets that wait longest; if it wasn't full, all that came before it."""
+        """Delivers the packets that wait longest; a poll that wasn't full delivers all earlier ones."""
         self.given += work
         self.unmatched += self.owed
         self.owed = 0
@@ -321,7 +321,7 @@ class Timeline:
         self.reads.deliver(began, time, work)
 
     def settle(self):
-        """Chooses the devices that count: those that were named, else all of them; a processor's backlog only if nothing else polls."""
+        """Chooses the devices that count: the named ones, else all of them; a processor's backlog only if nothing else polls."""
         names = sorted(name for name, polls in self.of.items() if polls.polls)
         self.left_out = {BACKLOG: len(self.of[BACKLOG].polls)} if not self.polled and BACKLOG in names and len(names) > 1 else {}
         self.devices = [name for name in names if name not in self.left_out]
@@ -336,10 +336,10 @@ class Timeline:
         return self
 
     def processor(self):
-        """The processor that polls most, if any does."""
+        """Returns the processor that polls most, if any does."""
         return self.where.most_common(1)[0][0] if self.where else None
 
     def shares(self, cpu):
-        """What part of the recording each task had on a processor."""
+        """Returns each task's share of the recording on a processor."""
         whole = self.last - self.first
         return {name: took / whole for name, took in self.tasks[cpu].most_common()} if whole else {}

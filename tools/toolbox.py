@@ -1,7 +1,7 @@
-"""What the tools of this folder share: refusals by a line, signals, files that are written whole, words, traces, and the programs.
+"""What the tools of this folder share: errors, signals, files that are replaced atomically, options, traces, and programs.
 
-A tool imports it first, and it imports nothing that takes long: Ctrl-C ends a tool without a traceback while the rest is imported,
-and `run_tool` takes signals from then on.
+A tool imports it first, and it imports nothing slow: Ctrl-C ends a tool without a traceback during the other imports, and `run_tool`
+handles signals from then on.
 """
 
 import _thread
@@ -9,29 +9,29 @@ import os
 import signal
 import sys
 
-if signal.getsignal(signal.SIGINT) is signal.default_int_handler:  # and not ignored
+if signal.getsignal(signal.SIGINT) is signal.default_int_handler:  # unless it is ignored
     signal.signal(signal.SIGINT, signal.SIG_DFL)
 
 TOP = os.path.dirname(os.path.dirname(os.path.realpath(__file__)))
-# The checkout; or the prefix that this is installed in, as PREFIX/lib/fintaqush/tools.
+# The checkout; or the prefix of an installation, whose tools are in PREFIX/lib/fintaqush/tools.
 HOME = TOP if os.path.isdir(f"{TOP}/crates") else os.path.dirname(os.path.dirname(TOP))
 MOST_ROWS = 100000
 MOST_DEVICES = 16
-MOST_BYTES = 64 * 1024 * 1024  # of a trace or a report; the greatest trace has 7 MB
+MOST_BYTES = 64 * 1024 * 1024  # of a trace or a report; the largest trace has 7 MB
 HEADERS = {"moment,device,event,value": 1, "moment,device,event,value,2": 2}
 RANGES = {"budget": 65535, "weight": 64, "window": 65535}  # docs/FORMATS.md, "The words"
-TICKS = {"ms": 1000, "us": 1000000}  # moments of a second
+TICKS = {"ms": 1000, "us": 1000000}  # time units per second
 
-NAME = os.environ.get("FINTAQUSH_NAME", "")  # as scripts/subcommands.py was asked for it, `fintaqush plot`
+NAME = os.environ.get("FINTAQUSH_NAME", "")  # how scripts/subcommands.py was called, as `fintaqush plot`
 
 MAIN = _thread.get_ident()
-unfinished = set()  # the files that are being written
-running = set()  # the programs of ours that are at work
+unfinished = set()  # files that are being written
+running = set()  # our programs that are running
 read_now = set()  # the open files that they read
 
 
 class Refusal(Exception):
-    """What a tool doesn't do, and why."""
+    """An error with a message for the user."""
 
 
 class Interrupted(BaseException):
@@ -39,8 +39,8 @@ class Interrupted(BaseException):
 
 
 class Signals:
-    """The first signal ends the tool; a later one doesn't disturb what it still puts away. One that comes while a program is begun
-    waits until that is known, so that it is ended too."""
+    """The first signal ends the tool; later ones don't disturb its cleanup. A signal that comes while a program is being started is
+    deferred until the program is known, so that it is terminated too."""
 
     is_over, waiting, begins = False, None, False
 
@@ -56,8 +56,8 @@ class Signals:
 
 
 class Progress:
-    """Shows while a block runs how far that is, and the time that is left: on standard error of a terminal, from the second second on, and not
-    by --quiet. `how_far` returns a share from 0 to 1, or None if that isn't known; `more` returns a text."""
+    """Shows the progress and the time left of a block: on standard error of a terminal, after the first second, and not with --quiet.
+    `how_far` returns a share from 0 to 1, or None if it is unknown; `more` returns a text."""
 
     is_quiet, is_shown, is_busy, CLEAR = False, False, False, "\r\033[K"
 
@@ -66,7 +66,7 @@ class Progress:
 
     @classmethod
     def cleared(cls):
-        """What clears the line, if one is shown."""
+        """Returns what clears the line, if one is shown."""
         was_shown, cls.is_shown = cls.is_shown, False
         return cls.CLEAR if was_shown else ""
 
@@ -75,12 +75,12 @@ class Progress:
         return not cls.is_quiet and sys.stderr is not None and sys.stderr.isatty()
 
     def __enter__(self):
-        if self.can_be_shown() and not self.is_busy:  # of two, one in the other, the outer one is shown
+        if self.can_be_shown() and not self.is_busy:  # of two nested ones only the outer one is shown
             import threading
             Progress.is_busy, self.over = True, threading.Event()
             try:
                 threading.Thread(target=self.show, daemon=True).start()
-            except RuntimeError:  # there isn't enough memory for it
+            except RuntimeError:  # out of memory
                 pass
         return self
 
@@ -91,7 +91,7 @@ class Progress:
             print(self.cleared(), end="", file=sys.stderr, flush=True)
 
     def show(self):
-        """Until the block ends, five times a second."""
+        """Updates the line five times a second until the block ends."""
         import time
         since, waits = time.monotonic(), 1
         while not self.over.wait(waits):
@@ -101,13 +101,13 @@ class Progress:
                 parts.append(f"{took * (1 - share) / share:.0f} s left")
             Progress.is_shown = True
             line = f"{called(os.path.basename(sys.argv[0]))}: {', '.join(filter(None, parts))}"
-            columns = os.get_terminal_size(2).columns or 80  # a terminal that doesn't know has 0
+            columns = os.get_terminal_size(2).columns or 80  # a terminal without a known width reports 0
             if not self.over.is_set():
                 print(f"{self.CLEAR}{line[:columns - 1]}", end="", file=sys.stderr, flush=True)
 
 
 def share_of(file):
-    """How much of an open file is read, by whoever reads it, as a share from 0 to 1; None if that isn't known."""
+    """Returns how much of an open file has been read, by any process, as a share from 0 to 1; None if that is unknown."""
     try:
         size = os.fstat(file.fileno()).st_size
         return min(1, os.lseek(file.fileno(), 0, os.SEEK_CUR) / size) if size else None
@@ -116,19 +116,19 @@ def share_of(file):
 
 
 def shown(name):
-    """A name as a terminal may have it: no control characters, and bytes that are no text as such."""
+    """Returns a name that is safe for a terminal: without control characters and invalid bytes."""
     text = str(name)
     return "".join(letter if letter.isprintable() else letter.encode("utf-8", "surrogateescape").decode("latin-1")
                    .encode("unicode_escape").decode() for letter in text)
 
 
 def called(tool):
-    """The name that a tool was called by: its own, or that of a subcommand."""
+    """Returns the name by which a tool was called: its own, or that of a subcommand."""
     return NAME or tool
 
 
 def say(tool, text):
-    """A line on standard error, where somebody reads that."""
+    """Prints a line on standard error, if it can be written."""
     try:
         if sys.stderr is not None:
             print(f"{Progress.cleared()}{called(tool)}: {text}", file=sys.stderr, flush=True)
@@ -137,7 +137,7 @@ def say(tool, text):
 
 
 def why(error):
-    """An error in a line. What nobody thought of is one too, with where it was."""
+    """Returns an error as one line. An unexpected exception is included, with its place in the code."""
     if isinstance(error, Refusal):
         return str(error)
     if isinstance(error, MemoryError) or isinstance(error, (ImportError, RuntimeError)) and ("failed to map" in str(error)
@@ -159,7 +159,7 @@ sys.excepthook = lambda _kind, error, _trace: say(os.path.basename(sys.argv[0]),
 
 
 def ended(tool, main):
-    """The status that a tool ends with, once all that it wrote is out."""
+    """Runs `main`, flushes its output, and returns the exit status."""
     try:
         for number in (signal.SIGINT, signal.SIGTERM, signal.SIGHUP):
             if signal.getsignal(number) is signal.SIG_DFL:
@@ -168,7 +168,7 @@ def ended(tool, main):
             sys.stderr.reconfigure(errors="backslashreplace")
         if sys.stdout is None:
             raise Refusal("standard output is closed")
-        # Python's own, with PYTHONUNBUFFERED, takes a write that was cut short for a whole one.
+        # Python, with PYTHONUNBUFFERED, takes a partial write for a complete one.
         sys.stdout = open(1, "w", encoding="utf-8", errors="surrogateescape", newline="", closefd=False)
         try:
             status = main() or 0
@@ -184,8 +184,8 @@ def ended(tool, main):
 
 
 def run_tool(tool, main):
-    """Runs a tool: what it refuses and what the system refuses is a line, with status 1. A signal ends it by a line, with 128 and
-    its number as the status, and leaves no file and no program behind."""
+    """Runs a tool. An error, its own or the system's, becomes one line and exit status 1. A signal becomes one line and exit status 128
+    plus its number, and leaves no temporary files or child processes."""
     status = 1
     try:
         status = ended(tool, main)
@@ -195,11 +195,11 @@ def run_tool(tool, main):
         status = 128 + signalled.args[0]
     for name in unfinished:
         unlink(name)
-    os._exit(status)  # what can't be written now isn't tried once more
+    os._exit(status)  # output that couldn't be written isn't tried again
 
 
 def unlink(name):
-    """Takes a file away, if it is there."""
+    """Removes a file if it exists."""
     try:
         os.unlink(name)
     except OSError:
@@ -207,7 +207,7 @@ def unlink(name):
 
 
 def check_target(path, replaces=True):
-    """Refuses a name that `whole_file` couldn't write to. A tool that works long asks before it does."""
+    """Fails if `whole_file` couldn't write to this name. Tools that work for long check this first."""
     folder = os.path.dirname(path) or "."
     if os.path.isdir(path):
         raise Refusal(f"{shown(path)}: this is a folder")
@@ -220,9 +220,9 @@ def check_target(path, replaces=True):
 
 
 class whole_file:
-    """The name of a new file beside `path`, which takes its place once all of it is there. After a failure nothing has changed.
-    Unless it may replace one, a file that is there is kept, and is a refusal. The new file has the mode of the one that it replaces;
-    before it is in place only the user can read it, so that a private file is never readable by others."""
+    """A context manager for the name of a new file next to `path`, which replaces it once it is complete. After a failure nothing has changed.
+    With `replaces` false, an existing file is kept and the block fails. The new file has the mode of the one that it replaces; before it
+    is in place only the user can read it, so that a private file is never readable by others."""
 
     def __init__(self, path, replaces=True):
         check_target(path, replaces)
@@ -244,8 +244,8 @@ class whole_file:
             unfinished.discard(self.new)
 
     def put(self):
-        """Puts the new file in its place. It is on the disk before it has the name, whichever program wrote it: after a crash the
-        name is the old file's or the whole new one's."""
+        """Renames the new file to `path`. It is synced first, whichever program wrote it: after a crash the name has the old contents or
+        all of the new ones."""
         file = os.open(self.new, os.O_RDONLY)
         try:
             if self.replaces and os.path.exists(self.path):
@@ -256,18 +256,18 @@ class whole_file:
         if self.replaces:
             os.replace(self.new, self.path)
         else:
-            os.link(self.new, self.path)  # which fails if another program made it meanwhile
+            os.link(self.new, self.path)  # fails if another program created it meanwhile
 
 
 def write_whole(path, text, replaces=True):
-    """Writes a text, or its lines, in place of what was there, all or nothing."""
+    """Replaces a file by a text, or by lines, atomically."""
     with whole_file(path, replaces) as new, Progress(f"writing {shown(path)}"):
         with open(new, "w", newline="", encoding="utf-8", errors="surrogateescape") as file:
             file.writelines([text] if isinstance(text, str) else text)
 
 
 def write_all(texts):
-    """Writes new files, by their names: all of them, or none."""
+    """Writes new files, by name: all of them, or none."""
     made = []
     try:
         for path, text in texts.items():
@@ -280,14 +280,14 @@ def write_all(texts):
 
 
 def told_notes(name, notes):
-    """How many notes a file has, the first of them, and where all are."""
+    """Returns the line with the number of notes in a file, the first of them, and the file's name."""
     first = "".join(f"\n  {shown(note)}" for note in notes[:3])
     count = f"{len(notes)} note{'s' * (len(notes) != 1)}"
     return f"{count} in {shown(name)}" + (", which begins" if len(notes) > 3 else "") + f"{':' * bool(notes)}{first}"
 
 
 def write_out(path, text):
-    """Writes a text, or its lines, whole to a file, or to standard output where none is named."""
+    """Writes a text, or lines, atomically to a file, or to standard output if no file is named."""
     if path:
         write_whole(path, text)
     else:
@@ -297,7 +297,7 @@ def write_out(path, text):
 
 
 def check_input(path):
-    """Refuses a name of no file. `-` is standard input."""
+    """Fails if the input file doesn't exist. `-` is standard input."""
     if path == "-" and sys.stdin is None:
         raise Refusal("standard input is closed")
     if path != "-" and os.path.isdir(path):
@@ -307,7 +307,7 @@ def check_input(path):
 
 
 def bytes_in(file):
-    """What is in an open file; more than any trace has is refused. One step at a time, as Python makes room for all that it is asked for."""
+    """Returns the contents of an open file, read in pieces, because Python allocates what it is asked for. Fails if it is too large for a trace."""
     steps, size = [], 0
     while step := file.read(1 << 20):
         steps.append(step)
@@ -318,7 +318,7 @@ def bytes_in(file):
 
 
 def lines_in(file, most, of):
-    """The lines of an open file, none of them endless."""
+    """Yields the lines of an open file; a line that is too long fails."""
     number = 0
     with Progress("reading", lambda: share_of(file)):
         while line := file.readline(most):
@@ -329,7 +329,7 @@ def lines_in(file, most, of):
 
 
 def read_bytes(path):
-    """What is in a file, or on standard input for `-`."""
+    """Returns the contents of a file, or of standard input for `-`."""
     check_input(path)
     try:
         with open(0 if path == "-" else path, "rb", closefd=path != "-") as file:
@@ -339,23 +339,23 @@ def read_bytes(path):
 
 
 def is_number(text, most=2**64 - 1):
-    """Whether a text is a whole number, of at most that. Python has none of over 4300 digits."""
+    """Returns whether a text is a whole number up to `most`. Python rejects those of over 4300 digits."""
     return text.isascii() and text.isdigit() and len(text) <= 20 and int(text) <= most
 
 
 def version():
-    """The version, which the header has."""
+    """Returns the version in the C header."""
     with open(f"{HOME}/include/fintaqush.h", encoding="utf-8") as header:
         return next(line.split('"')[1] for line in header if line.startswith("#define FQ_VERSION "))
 
 
 def be_quiet(*_):
-    """What --quiet does."""
+    """Implements --quiet."""
     Progress.is_quiet = True
 
 
 def parser_of(text, **others):
-    """What reads a tool's words, none of them shortened, and tells them."""
+    """Returns a parser of a tool's options, without abbreviations, which also prints the manual page."""
     import argparse
     parser = argparse.ArgumentParser(**{"prog": NAME or None, "description": text, "formatter_class": argparse.RawDescriptionHelpFormatter,
                                         "allow_abbrev": False, **others})
@@ -363,21 +363,21 @@ def parser_of(text, **others):
     parser.add_argument("--quiet", action=type("Quiet", (argparse.Action,), {"__call__": be_quiet}), nargs=0, dest=argparse.SUPPRESS,
                         help="no progress on standard error")
     if sys.argv[1:] in (["--manual"], ["--options"]) and text:
-        import manual  # once it has all its options
+        import manual  # after all options were added
         parser.parse_args = parser.parse_known_args = lambda *_: manual.describe(parser, sys.argv[1], version())
-    by_argparse = parser._print_message  # which drops the failure of a write, as that of a long --help to a full disk
+    by_argparse = parser._print_message  # it ignores a failed write, as of --help to a full disk
     parser._print_message = lambda text, file=None: file.write(text) if text and file is sys.stdout else by_argparse(text, file)
     return parser
 
 
 def wrong(text, wanted):
-    """What a reader of an option's value raises."""
+    """Raises the error for a bad value of an option."""
     import argparse
     return argparse.ArgumentTypeError(f"{shown(text)[:40]!r} isn't {wanted}")
 
 
 def number(low, high):
-    """The reader of an option's whole number."""
+    """Returns a parser of a whole number from `low` to `high`."""
     def read(text):
         if not (is_number(text) and low <= int(text) <= high):
             raise wrong(text, f"a number from {low} to {high}")
@@ -386,7 +386,7 @@ def number(low, high):
 
 
 def pair(sign, example, low=1):
-    """The reader of two numbers, the first one no greater than the second."""
+    """Returns a parser of two numbers, the first at most the second."""
     def read(text):
         first, _, last = text.partition(sign)
         if not (is_number(first) and is_number(last) and low <= int(first) <= int(last) <= 10**9):
@@ -396,28 +396,28 @@ def pair(sign, example, low=1):
 
 
 def add_settings(parser):
-    """The options of a run."""
+    """Adds the options of a run."""
     for name, usual in (("budget", 300), ("weight", 64), ("window", 1024)):
         parser.add_argument(f"--{name}", type=number(1, RANGES[name]), metavar="N", help=f"1 to {RANGES[name]} ({usual})")
 
 
 def settings_of(words):
-    """The words of the replay for these options."""
+    """Returns the replay's options for these settings."""
     return [word for name in RANGES if getattr(words, name) for word in (f"--{name}", str(getattr(words, name)))]
 
 
 def add_program(parser, what="napi_serial or napi_replay"):
-    """The option for another build of the program."""
+    """Adds the option for another build of the program."""
     parser.add_argument("--program", help=f"another build of {what}; where none is named, it is built if need be")
 
 
 def add_out(parser, what):
-    """The option for the file that is written."""
+    """Adds the option for the output file."""
     parser.add_argument("--out", metavar="FILE", help=f"the file for the {what} (standard output)")
 
 
 def program(name, named=None):
-    """A program of ours, built where that is needed; or the one that is named, or that PROGRAM, SERIES or MACHINE names."""
+    """Returns the path of one of our programs, which is built if needed; or of the named one, or of the one in PROGRAM, SERIES or MACHINE."""
     named = named or os.environ.get({"napi_serial": "PROGRAM", "napi_series": "SERIES", "napi_machine": "MACHINE"}[name])
     made = f"{TOP}/crates/{name}/out/{name}"
     if named or HOME != TOP:
@@ -432,9 +432,9 @@ def program(name, named=None):
 
 
 def begun(command, among, **ends):
-    """A program at work, which stands among those from then on."""
+    """Starts a program, which is in the set `among` while it runs."""
     import subprocess
-    is_main = _thread.get_ident() == MAIN  # which is the one that signals interrupt
+    is_main = _thread.get_ident() == MAIN  # the thread that signals interrupt
     if is_main:
         Signals.begins = True
     try:
@@ -452,7 +452,7 @@ def begun(command, among, **ends):
 
 
 def ran(command, text=None, stdin=-1):
-    """A program with this input as it ended: its status, and the bytes of its two outputs."""
+    """Runs a program with this input. Returns its status and the bytes of its two outputs."""
     with begun(command, running, stdin=stdin, stdout=-1, stderr=-1) as process:  # -1 is subprocess.PIPE
         try:
             read_now.add(stdin)
@@ -469,7 +469,7 @@ def ran(command, text=None, stdin=-1):
 
 
 def lines_by(command, stdin, said):
-    """The lines that a program writes of this input, as it writes them. What it says goes to an open file; the value is its status."""
+    """Yields the lines of a program's output as they come; its standard error goes to an open file. Returns its status."""
     with Progress("reading", lambda: share_of(stdin)), begun(command, running, stdin=stdin, stdout=-1, stderr=said) as process:
         try:
             for line in process.stdout:
@@ -485,19 +485,19 @@ def lines_by(command, stdin, said):
 
 
 def played(made, words, text):
-    """A program of ours with these words and this input, as it ended."""
+    """Runs one of our programs with these options and this input."""
     return ran([made, *words], text)
 
 
 def why_refused(words):
-    """What is wrong with words that the replay refused, as the launcher tells it, without its own options."""
+    """Returns the launcher's message on options that the replay rejected, without the launcher's own options."""
     sys.path.append(f"{TOP}/scripts")
     from words import judge
     return judge(words).split(": they are --")[0]
 
 
 def run_program(made, words, text):
-    """What a program of ours writes for these words and this input; a fault of it is a refusal."""
+    """Returns the output of one of our programs with these options and this input; fails with its error."""
     status, out, said = played(made, words, text)
     if status != 0:
         told = said.decode("utf-8", "replace").strip().splitlines()
@@ -507,26 +507,26 @@ def run_program(made, words, text):
 
 
 def records_of(text):
-    """The header and the rows of a trace that the replay took, each as its four fields. Of such a trace no field has a quote,
-    a comma or the end of a line in it."""
+    """Returns the header and the rows of a trace that the replay accepts, each as its four fields. No field of such a trace has a quote,
+    a comma or a newline in it."""
     lines = [line for line in text.decode("utf-8-sig").replace("\r", "\n").split("\n") if line]
     records = [[field.strip('"') for field in line.split(",")] for line in lines]
     return ",".join(records[0]), records[1:]
 
 
 def text_of(header, rows):
-    """The bytes of a trace."""
+    """Returns the bytes of a trace."""
     return "".join(f"{line}\n" for line in [header, *map(",".join, rows)]).encode()
 
 
 def runs_of(report):
-    """Of each softirq row of a report, by its number: polls, work and 1 where it was squeezed."""
+    """Returns for each softirq row of a report, by number: polls, work, and 1 if it was squeezed."""
     return {int(line[1]): (int(line[3]), int(line[5]), int(line[7])) for line in map(str.split, report.splitlines())
             if line[0] == "softirq"}
 
 
 def with_runs(arrivals, delay):
-    """Rows of arrivals (moment, device, event, value), in order, with a softirq row so long after the first packet that waits."""
+    """Yields rows of arrivals (time, device, event, value), in order, with a softirq row `delay` after the first waiting packet."""
     run = None
     for row in arrivals:
         if run is not None and run < row[0]:
@@ -540,7 +540,7 @@ def with_runs(arrivals, delay):
 
 
 def trace_text(rows, version=1):
-    """The text of a trace of these rows, where it isn't too long."""
+    """Returns the text of a trace with these rows; fails if it is too long."""
     from itertools import islice
     rows = iter(rows)
     lines = [next(header for header, number in HEADERS.items() if number == version)]

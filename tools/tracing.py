@@ -1,4 +1,4 @@
-"""An ftrace instance of its own: which events it records, and what is in its buffers. It changes no other recording."""
+"""A separate ftrace instance: the events that it records, and the contents of its buffers. Other recordings aren't affected."""
 
 from toolbox import Refusal
 
@@ -13,13 +13,13 @@ NAME = "fintaqush-{}"
 CLOCK_SOURCE = "/sys/devices/system/clocksource/clocksource0/current_clocksource"
 NEW_MOUNTS, RECURSIVE, PRIVATE = 0x20000, 0x4000, 0x40000  # CLONE_NEWNS, MS_REC, MS_PRIVATE
 NET_RX = 3
-POLLS = ("napi/napi_poll", "irq/softirq_entry", "irq/softirq_exit")  # nothing is known without them
+POLLS = ("napi/napi_poll", "irq/softirq_entry", "irq/softirq_exit")  # without these no poll is known
 FILTERS = {"irq/softirq_entry": f"vec == {NET_RX}", "irq/softirq_exit": f"vec == {NET_RX}",
            "timer/hrtimer_start": "function.function == napi_watchdog", "timer/hrtimer_expire_entry": "function.function == napi_watchdog"}
 RECEIVED = ("net/napi_gro_receive_entry", "net/napi_gro_frags_entry", "net/netif_receive_skb")
 READS = ("recvfrom", "recvmsg", "recvmmsg", "read", "readv")
 MARK = "fintaqush mark"
-MARKS = 16  # at the beginning, and at the end
+MARKS = 16  # at the beginning, and again at the end
 MEGABYTE = 1 << 20
 
 
@@ -45,13 +45,13 @@ def is_alive(pid):
 
 
 class Instance:
-    """The instance. What it set is gone when it closes, also after a failure or a signal."""
+    """The instance. It is removed with its settings when it closes, also after a failure or a signal."""
 
     def __init__(self, folder):
         self.folder = folder
         self.path = f"{folder}/instances/{NAME.format(os.getpid())}"
         self.processors = None  # those that are recorded, if not all
-        self.marks = {}  # of each number when it was written, by CLOCK_MONOTONIC, before and after
+        self.marks = {}  # for each number when it was written, by CLOCK_MONOTONIC, before and after
 
     def __enter__(self):
         self.remove_abandoned()
@@ -65,7 +65,7 @@ class Instance:
         self.remove(self.path)
 
     def remove_abandoned(self):
-        """Removes what a process that was killed has left."""
+        """Removes what a killed process left."""
         for name in os.listdir(f"{self.folder}/instances"):
             found = re.fullmatch(NAME.format(r"(\d+)"), name)
             if found and not is_alive(found[1]):
@@ -76,7 +76,7 @@ class Instance:
         with contextlib.suppress(OSError):
             with open(f"{path}/tracing_on", "w", encoding="ascii") as file:
                 file.write("0")
-        for _ in range(50):  # the kernel may still hold it
+        for _ in range(50):  # the kernel may still use it
             try:
                 return os.rmdir(path)
             except FileNotFoundError:
@@ -99,7 +99,7 @@ class Instance:
         return os.path.exists(f"{self.path}/{name}")
 
     def set_clock(self):
-        """Chooses the processor's counter, if the kernel keeps time by it, because the text of any other clock has only microseconds."""
+        """Selects the processor's counter, if the kernel keeps time by it, because the text of any other clock has only microseconds."""
         with open("/proc/cpuinfo", encoding="utf-8", errors="replace") as file:
             flags = file.read()
         with contextlib.suppress(OSError), open(CLOCK_SOURCE, encoding="ascii") as file:
@@ -110,7 +110,7 @@ class Instance:
         return "mono"
 
     def set_buffers(self, megabytes, processors):
-        """Sets the buffer of each processor, and which processors are recorded."""
+        """Sets the buffer size of each processor, and which processors are recorded."""
         self.write("tracing_on", "0")
         self.processors = processors
         try:
@@ -126,8 +126,8 @@ class Instance:
                 raise Refusal("--processors has one that this machine doesn't have") from None
 
     def wanted(self, program, receivers=()):
-        """The events to record, of each its filter if there is one: those of all recordings, what devices without a known sender receive, then a
-        program's reads."""
+        """Returns the events to record, each with its filter if it has one: those of all recordings, those that devices without a known sender
+        receive, and a program's reads."""
         vectors = f"{self.path}/events/irq_vectors"
         names = os.listdir(vectors) if os.path.isdir(vectors) else []
         interrupts = [f"irq_vectors/{name}" for name in sorted(names) if name.endswith(("_entry", "_exit"))]
@@ -142,13 +142,13 @@ class Instance:
         return chosen
 
     def enable(self, program, receivers=()):
-        """Enables the events. Returns those that are recorded, and those that the kernel doesn't have."""
+        """Enables the events. Returns those that are recorded, and those that the kernel lacks."""
         recorded, missing = [], []
         for name, only in self.wanted(program, receivers).items():
             if not self.has(f"events/{name}"):
                 missing.append(name)
                 continue
-            with contextlib.suppress(OSError):  # recorded whole by a kernel that knows no such filter
+            with contextlib.suppress(OSError):  # a kernel without such a filter records all of them
                 if only:
                     self.write(f"events/{name}/filter", only)
             self.write(f"events/{name}/enable", "1")
@@ -158,7 +158,7 @@ class Instance:
         return recorded, missing
 
     def mark(self):
-        """Writes marks, by which the counter's time is that of CLOCK_MONOTONIC."""
+        """Writes marks, which relate the counter to CLOCK_MONOTONIC."""
         marker, before = os.open(f"{self.path}/trace_marker", os.O_WRONLY), os.sched_getaffinity(0)
         try:
             os.sched_setaffinity(0, self.processors or before)  # the others write no marks
@@ -180,7 +180,7 @@ class Instance:
         self.write("tracing_on", "0")
 
     def statistics(self):
-        """Of each processor its entries, its bytes, and the events that it lost."""
+        """Yields for each processor its entries, its bytes, and its lost events."""
         for name in sorted(os.listdir(f"{self.path}/per_cpu")):
             lines = (line.partition(": ") for line in self.read(f"per_cpu/{name}/stats").splitlines())
             values = {key: int(value) for key, _, value in lines if value.isdigit()}
@@ -189,23 +189,23 @@ class Instance:
 
 
 class Stamps:
-    """Turns the counter's stamps of the trace's lines into seconds of CLOCK_MONOTONIC with nine digits."""
+    """Converts the counter's stamps in the trace's lines to seconds of CLOCK_MONOTONIC with nine digits."""
 
     LINE = re.compile(rb"(.{16}-\d+\s+\[\d+\] \S+ +)(\d+)(: .*)", re.S)
 
     def __init__(self, clock, marks):
         self.clock, self.marks = clock, marks
-        self.seen = {}  # of each mark its stamp
+        self.seen = {}  # the stamp of each mark
 
     def look(self, line):
-        """Takes a mark's stamp, if the line is one."""
+        """Stores a mark's stamp. Returns whether the line is a mark."""
         if MARK.encode() in line and (found := re.search(rb" (\d+): tracing_mark_write: " + MARK.encode() + rb" (\d+)\s*$", line)):
             self.seen[int(found[2])] = int(found[1])
             return True
         return MARK.encode() in line
 
     def settle(self):
-        """Chooses of the marks at each end the one that took the shortest time."""
+        """Chooses, among the marks at each end, the one that was written fastest."""
         if self.clock != "tsc":
             return
         ends = []
@@ -219,7 +219,7 @@ class Stamps:
         self.ticks, self.took = stamp - self.stamp, moment - self.time
 
     def changed(self, line):
-        """The line with its time in seconds, and no bracket in a task's name, after which a line's parts are known."""
+        """Returns the line with its time in seconds, and without brackets in a task's name, so that its fields can be parsed."""
         found = self.LINE.match(line)
         if not found:
             return line

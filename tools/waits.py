@@ -1,4 +1,4 @@
-"""How long packets wait, in rows of a trace: a ring gives them in order, and the series tells what each run gave of each device."""
+"""How long packets wait, in rows of a trace: a ring is first in, first out, and the series has what each run took from each device."""
 
 from toolbox import records_of
 
@@ -6,8 +6,8 @@ from collections import Counter, deque
 
 
 def add_waits(rows, text):
-    """Puts into each row of a series that gave packets how many rows these had waited, the least and the most. A run that was raised
-    counts as the row that it stands for."""
+    """Adds to each row of a series that took packets how many rows these had waited, minimum and maximum. A run that was added counts as the
+    row that it follows."""
     rings, dropped = {}, Counter()
     for row, (_, _, event, _) in zip(rows, records_of(text)[1]):
         number, device = int(row["row"]), row["device"]

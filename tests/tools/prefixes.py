@@ -1,4 +1,4 @@
-"""The series of a trace as the reports of all its prefixes tell it: what napi_series has to write."""
+"""Computes the series of a trace from the reports of all its prefixes: the expected output of napi_series."""
 
 import csv
 import io
@@ -8,19 +8,19 @@ COLUMNS = "row,moment,device,state,waiting,arrived,dropped,polled,in_flight,limi
 
 
 def report_of(program, rows, words, header):
-    """The report of a trace of these lines, each as its words."""
+    """Returns the report of a trace with these lines, each as its fields."""
     text = header + "".join(f"{row}\n" for row in rows)
     done = subprocess.run([program, *words], input=text, capture_output=True, text=True, check=True)
     return [line.split() for line in done.stdout.splitlines()]
 
 
 def polled_in(report):
-    """By each device of a report its polls and the packets that they gave."""
+    """Returns for each device of a report its polls and the packets that they took."""
     return {line[1]: (int(line[14]), int(line[8])) for line in report if line[0] == "device"}
 
 
 def values_of(number, row, report, report_before):
-    """The line of a series behind that row."""
+    """Returns the line of a series after that row."""
     moment, device, _, _ = row.split(",")
     told = dict.fromkeys(COLUMNS, "")
     told.update(row=number, moment=int(moment), device=int(device))
@@ -45,7 +45,7 @@ def values_of(number, row, report, report_before):
 
 
 def series_by_reports(program, rows, words, every=1, header="moment,device,event,value\n"):
-    """The text of the series: a replay for each row that it has."""
+    """Returns the text of the series, with a replay for each of its rows."""
     text = io.StringIO()
     writer = csv.DictWriter(text, COLUMNS, lineterminator="\n")
     writer.writeheader()

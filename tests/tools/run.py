@@ -1,5 +1,5 @@
-"""Runs the tests of this folder; the last line is `N passed, M failed, K skipped`. The reason of a test that is skipped is what it needs,
-by its name in tests/needs.txt."""
+"""Runs the tests of this folder; the last line is `N passed, M failed, K skipped`. A test is skipped if a program or library is missing; the
+reason is its name in tests/needs.txt."""
 
 import sys
 import unittest

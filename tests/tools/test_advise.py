@@ -1,4 +1,4 @@
-"""Tests of tools/advise, on recordings that are made by given costs. Expected values are counted by hand."""
+"""Tests of tools/advise, on recordings generated from given costs. Expected values are computed by hand."""
 
 import contextlib
 import json
@@ -27,14 +27,14 @@ HEAD = {"clock": "tsc", "seconds": "1.000000", "events": "napi/napi_poll", "lost
 
 
 def file_of(made, **changes):
-    """What tools/record would write of it."""
+    """Returns what tools/record would write for this recording."""
     text = made if isinstance(made, str) else made.text()
     head = {**HEAD, "lines": len(text.splitlines()), **changes}
     return "fintaqush-recording 1\n" + "".join(f"{name} {value}\n" for name, value in head.items() if value != "") + "trace\n" + text
 
 
 def quiet(reader=5, count=80, works=(5, 15)):
-    """Bursts of 5 and 15 packets in turn, 400 us apart, each in one poll; the program reads them on another processor, or on the same one."""
+    """Returns bursts of 5 and 15 packets, alternating, 400 us apart, each in one poll. The program reads on another processor, or on the same one."""
     made = Made(**COSTS)
     made.reader = reader
     made.switch(made.time - 9000, timing.POLLER, "other-5", "swapper/3-0")
@@ -48,7 +48,7 @@ def quiet(reader=5, count=80, works=(5, 15)):
 
 
 def overloaded(count=40, ring=50):
-    """Bursts of 100 and 60 packets in turn, 2 ms apart, of which a backlog takes 50."""
+    """Returns bursts of 100 and 60 packets, alternating, 2 ms apart, of which a backlog takes 50."""
     made = Made(**COSTS)
     made.switch(made.time - 9000, timing.POLLER, "other-5", "swapper/3-0")
     for place in range(count):
@@ -59,7 +59,7 @@ def overloaded(count=40, ring=50):
         made.event(time, timing.POLLER, "<idle>-0", "softirq_entry: vec=3 [action=NET_RX]")
         end = made.polled(time, "<idle>-0", ring, "(no_device)")
         made.event(end, timing.POLLER, "<idle>-0", "softirq_exit: vec=3 [action=NET_RX]")
-        if place % 4 == 0:  # a packet alone, as a poll's cost is known by polls of different lengths
+        if place % 4 == 0:  # a single packet, because a poll's cost is estimated from polls of different lengths
             made.sent(begin + 10**6, 1)
             time = made.handler(begin + 10**6 + COSTS["wake"], "call_function_single")
             made.event(time, timing.POLLER, "<idle>-0", "softirq_entry: vec=3 [action=NET_RX]")
@@ -91,7 +91,7 @@ class Advise(InFolder):
         self.assertEqual((told["fit"], told["processor"], told["options"]["apart"], told["options"]["packet"]), ("good", 3, 1, 410))
 
     def test_nothing_to_change(self):
-        """Each setting but that of now delays packets."""
+        """Each other setting delays packets."""
         done = self.advised(file_of(quiet()), "--goal", "p99")
         self.assertIn("the fit is good\n", done.stdout)
         self.assertIn("advice: change nothing, since no setting is notably better for the 99th percentile of waits\n", done.stdout)
@@ -100,7 +100,7 @@ class Advise(InFolder):
         self.assertIn("net.core.netdev_budget isn't tried", done.stdout)
 
     def test_less_processor_time(self):
-        """With a timer of 500 us bursts 400 us apart share some polls, and no interrupt is left but the first."""
+        """With a timer of 500 us, bursts 400 us apart share some polls, and only the first interrupt is left."""
         told = self.object(file_of(quiet()), "--goal", "cpu")
         self.assertEqual({name: told["advised"]["options"][name] for name in ("threaded", "defer_hard_irqs", "gro_flush_timeout")},
                          {"threaded": 0, "defer_hard_irqs": 2, "gro_flush_timeout": 500000})
@@ -116,13 +116,13 @@ class Advise(InFolder):
         self.assertEqual(limited["advised"]["options"]["gro_flush_timeout"] in (0, 100000, 50000, 20000), True)
 
     def test_a_program_on_the_processor_that_polls(self):
-        """It is advised to go elsewhere; the waits are those to the end of use."""
+        """The program is advised to run elsewhere; the waits are those to the end of use."""
         done = self.advised(file_of(quiet(reader=timing.POLLER)), "--goal", "p50")
         self.assertIn("wait to the end of use, p50, us", done.stdout)
         self.assertIn("  for task in $(pgrep -x 'server'); do taskset -apc 0 $task; done\n", done.stdout)
 
     def test_a_card(self):
-        """Without a sender the packets that polls take arrive when the interrupt came: the waits of test_the_recorded_setting without waking, 3300 ns."""
+        """Without a sender, packets that polls take arrived with the interrupt: the waits of test_the_recorded_setting without waking, 3300 ns."""
         lines = []
         for line in quiet().text().splitlines(True):
             found = re.search(r" (\d+)\.(\d{9}): napi_poll: .* work (\d+) ", line)
@@ -156,14 +156,14 @@ class Advise(InFolder):
         self.assertIn("no setting keeps to the limits\n", done.stdout)
 
     def test_a_poor_fit(self):
-        """A head that has another backlog than that of the recording: no advice, and the reason."""
+        """The head has a backlog that isn't the recorded one: no advice, and the reason is printed."""
         done = self.advised(file_of(overloaded(), **{**BACKLOG, "sysctl.net.core.netdev_max_backlog": 9}), status=1)
         self.assertIn("the fit is poor\n", done.stdout)
         self.assertNotIn("advice:", done.stdout)
         self.assertRegex(done.stderr, r"^advise: .*x\.rec: the recorded setting isn't predicted well, so there is no advice\n$")
 
     def test_other_tasks(self):
-        """Those that had the processor are told; what polls, sends or uses isn't among them, and beside real-time tasks only such ones count."""
+        """Tasks that ran on the processor are reported, except those that poll, send or use packets; next to real-time tasks only real-time ones count."""
         made = quiet()
         end = made.time
         made.switch(end, timing.POLLER, "swapper/3-0", "cc1-77")
@@ -174,7 +174,7 @@ class Advise(InFolder):
         self.assertEqual(self.object(file_of(quiet()))["other_tasks"], {})
 
     def test_other_tasks_beside_the_program(self):
-        """Which reads on a processor of its own: 10 of 42 ms there."""
+        """The program reads on a separate processor: another task has 10 of 42 ms there."""
         made = quiet()
         made.switch(made.time, made.reader, "swapper/9-0", "cc1-77")
         made.switch(made.time + 10**7, made.reader, "cc1-77", "swapper/9-0")
@@ -229,7 +229,7 @@ class Advise(InFolder):
 
 
 class Seen(unittest.TestCase):
-    """What is read of a recording."""
+    """The values read from a recording."""
 
     def seen(self, text, polled="vb1"):
         seen = Receiving({polled}, {"va1"})
@@ -247,7 +247,7 @@ class Seen(unittest.TestCase):
         self.assertEqual(end - begin, 9650 + 2450 + 900 + 4300)
 
     def test_reads_that_are_no_packets(self):
-        """One read of three is missing: which packets the others gave isn't known."""
+        """One of three reads is missing: which packets the others took is unknown."""
         text = quiet(count=4).text()
         reads = [line for line in text.splitlines(True) if "-> 0x64" in line]
         for line in reads[::3]:
@@ -255,7 +255,7 @@ class Seen(unittest.TestCase):
         self.assertEqual((self.seen(text).used(), len(self.seen(text).delivered())), ([], 40))
 
     def test_packets_from_before_the_recording(self):
-        """The first poll's packets are none of those that were sent, and the program reads them first."""
+        """The first poll's packets were sent before the recording, and the program reads them first."""
         whole, lines = quiet(count=6), quiet(count=6).text().splitlines(True)
         sent = next(place for place, line in enumerate(lines) if "net_dev_xmit" in line)
         text = "".join(lines[:sent] + lines[sent + 5 :])
@@ -263,7 +263,7 @@ class Seen(unittest.TestCase):
         self.assertEqual(self.seen(text).used(), self.seen(whole.text()).used()[5:])
 
     def test_a_packet_that_is_polled_before_its_event(self):
-        """The sender's event may follow the poll by some us; then the wait counts as 0. If that is so for many, packets and polls don't agree."""
+        """The sender's event may come some us after the poll; then the wait counts as 0. If many packets are such, packets and polls don't match."""
         made = quiet(count=8, works=(50,))
         made.softirq_round([3], is_early=True)
         waits = [end - begin for begin, end in self.seen(made.text()).delivered()]
@@ -273,7 +273,7 @@ class Seen(unittest.TestCase):
         self.assertEqual(self.seen(made.text()).delivered(), [])
 
     def test_packets_that_the_sender_makes_visible_late(self):
-        """A softirq on the sender's own processor begins when the sender lets it."""
+        """A softirq on the sender's own processor begins only when the sender lets it."""
         made = Made(**COSTS)
         made.sent(made.time, 3)
         made.event(made.time + 900, timing.SENDER, "sender-7", "softirq_entry: vec=3 [action=NET_RX]")
@@ -293,13 +293,13 @@ class Seen(unittest.TestCase):
         self.assertEqual(predicting.grade_of(rows(3) + rows(500, "used_p99")), "good")
 
     def test_few_drops(self):
-        """Three drops for none, of 1000 packets, are 30 % of a hundredth of them."""
+        """Three drops predicted for none, of 1000 packets, are 30 % of a hundredth of them."""
         self.assertEqual((predicting.error_of("dropped", 0, 3, 1000), predicting.error_of("dropped", 200, 210, 1000)), (30, 5))
 
 
 @unittest.skipUnless(os.geteuid() == 0 and shutil.which("ip"), "root")
 class Setting(InFolder):
-    """What --verify sets, in a network namespace of its own."""
+    """The settings that --verify applies, in a separate network namespace."""
 
     def setUp(self):
         super().setUp()
@@ -312,7 +312,7 @@ class Setting(InFolder):
         return subprocess.run(["ip", "netns", "exec", self.netns, "cat", f"/sys/class/net/vb1/{name}"], check=True, capture_output=True, text=True).stdout.strip()
 
     def test_it_is_set_and_restored(self):
-        """Also when what is done meanwhile fails, and when a later change can't be made."""
+        """Also if the code in between fails, and if a later change fails."""
         machine = advising.Machine({"netns": self.netns, "online": "0-3", "program": "none"}, "vb1", 1)
         now = {"defer-hard-irqs": 0, "gro-flush-timeout": 0, "threaded": 0, "ring": 256, "rx-nsecs": 0, "apart": 0}
         changes = machine.changes({**now, "defer-hard-irqs": 2, "gro-flush-timeout": 50000}, now)

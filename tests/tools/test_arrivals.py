@@ -14,13 +14,13 @@ HEADER = "moment,device,bytes\n"
 
 class Arrivals(InFolder):
     def taken(self, text, *words):
-        """The report of arrivals, which the machine has to take."""
+        """Returns the report of arrivals, which the machine must accept."""
         done = subprocess.run([MACHINE, *words], input=text, capture_output=True, text=True, check=False)
         self.assertEqual((done.stderr, done.returncode), ("", 0))
         return done.stdout
 
     def made(self, tool, recorded, *words):
-        """The rows and the notes of what was recorded, which is a text or the bytes of a capture."""
+        """Returns the rows and the notes for a recording, which is a text or the bytes of a capture."""
         path = self.folder / "recorded"
         path.write_bytes(recorded if isinstance(recorded, bytes) else recorded.encode())
         for end in ("csv", "notes"):
@@ -36,7 +36,7 @@ class Arrivals(InFolder):
 
 @HAS_MACHINE
 class FromPcap(Arrivals):
-    # In nanoseconds, out of order; what goes out, a broadcast, a multicast, and what isn't for this machine.
+    # In nanoseconds, out of order; also an outgoing packet, a broadcast, a multicast, and one for another machine.
     TEXT = """100.000000001 eth0  In  ifindex 2 02:00:00:00:00:01 ethertype IPv4 (0x0800), length 60: 10.0.0.1 > 10.0.0.2: UDP
 100.000002001 eth1  In  ifindex 3 02:00:00:00:00:01 ethertype IPv4 (0x0800), length 62: 10.0.0.1 > 10.0.0.2: UDP
 100.000001501 eth0  Out ifindex 2 02:00:00:00:00:02 ethertype IPv4 (0x0800), length 61: 10.0.0.2 > 10.0.0.1: UDP
@@ -69,7 +69,7 @@ class FromPcap(Arrivals):
 
     @test_tools.FromPcap.HAS_TCPDUMP
     def test_a_capture_in_nanoseconds(self):
-        """The format's other magic number tells that a time is in ns. By --to a link address is a device, and multicasts are left out."""
+        """The format's other magic number means times in ns. With --to a link address is a device, and multicasts are left out."""
         seen = [(100, 1, 10, 60), (101, 11, 1, 61), (150, 255, 11, 90), (999, 1, 11, 62)]
         text = bytearray(test_tools.FromPcap.capture(seen))
         text[:4] = struct.pack("<I", 0xA1B23C4D)
@@ -82,7 +82,7 @@ class FromPcap(Arrivals):
         self.assertEqual((piped.stderr, (self.folder / "piped.csv").read_text()), ("", (self.folder / "made.csv").read_text()))
 
     def test_flows(self):
-        """Packets of the same addresses and ports have the same number, others another one; what has neither, as ARP, has 0."""
+        """Packets with the same addresses and ports have the same number, others another one; packets with neither, as ARP, have 0."""
         ends = ("10.0.0.1.5000 > 10.0.0.2.9: UDP, length 18", "10.0.0.1.5001 > 10.0.0.2.9: UDP, length 18", "10.0.0.1.5000 > 10.0.0.2.9: UDP, length 19",
                 "Request who-has 10.0.0.2 tell 10.0.0.1, length 46", "vlan 5, p 0, ethertype IPv4 (0x0800), 10.0.0.1.5001 > 10.0.0.2.9: UDP, length 18",
                 "fe80::1.7 > fe80::2.9: UDP, length 3")
@@ -94,7 +94,7 @@ class FromPcap(Arrivals):
         flows = [row.split(",")[3] for row in rows]
         self.assertEqual((first, flows[0], flows[1], flows[3]), ("moment,device,bytes,flow", flows[2], flows[4], "0"))
         self.assertEqual(len({flows[0], flows[1], flows[3], flows[5]}), 4)
-        # Of the definition of CRC-32 (IEEE 802.3), by its polynomial.
+        # From the definition of CRC-32 (IEEE 802.3), by its polynomial.
         crc = 0xFFFFFFFF
         for byte in b"10.0.0.1.5000 > 10.0.0.2.9":
             crc ^= byte
@@ -121,7 +121,7 @@ class FromPcap(Arrivals):
 @HAS_MACHINE
 class FromFtrace(Arrivals):
     def test_what_was_sent_arrives_at_the_other_end(self):
-        """With time stamps of nine digits, as `trace-cmd report -t` writes them."""
+        """With timestamps of nine digits, as `trace-cmd report -t` writes them."""
         rows, notes, said = self.made("from-ftrace", """cpus=2
    a-1  [000] b....  5.000000007: net_dev_xmit: dev=va1 skbaddr=0 len=61 rc=0
    a-1  [001] b....  5.000001008: net_dev_xmit: dev=vb1 skbaddr=0 len=62 rc=0
@@ -137,7 +137,7 @@ class FromFtrace(Arrivals):
         self.assertEqual(said.splitlines()[0], "made.csv: 2 devices, 4 rows; 5 notes in made.notes, which begins:")
 
     def test_a_recording_made_in_trouble(self):
-        """Of 121 packets a backlog of 6 dropped three, which arrived too. The file names the pair; the rows are what its lines say."""
+        """Of 121 packets a backlog of 6 dropped three, which also arrived. The file names the pair; the rows follow its lines."""
         text = (TOP / "examples/veth-backlog.rec").read_text()
         sent = re.findall(r" (\d+)\.(\d{9}): net_dev_xmit: dev=va7 skbaddr=\S+ len=(\d+) rc=[01]$", text, re.M)
         times = [int(whole) * 10**9 + int(part) for whole, part, _ in sent]
@@ -150,8 +150,8 @@ class FromFtrace(Arrivals):
         rows, _, _ = self.made("from-ftrace", gzip.compress(text.encode()))
         self.assertEqual(len(rows), 121)
 
-    # A card's polls on Linux 6.18, by the kernel's formats of these events: an interrupt at 1 us, a run with two polls of two packets and of one; without
-    # an interrupt a run with one packet, 10 us later. A packet is received without the 14 bytes of its link header.
+    # A card's polls on Linux 6.18, in the kernel's formats of these events: an interrupt at 1 us, and a run with two polls, of two packets and of one; then,
+    # without an interrupt, a run with one packet, 10 us later. A packet is received without the 14 bytes of its link header.
     POLLS = (("d.h1.", 1000, "irq_handler_entry: irq=38 name=virtio2-input.0"), ("d.h1.", 3000, "irq_handler_exit: irq=38 ret=handled"),
              ("..s1.", 4000, "softirq_entry: vec=3 [action=NET_RX]"), ("..s1.", 5000, (46, 10)), ("..s1.", 6000, (46, 7)),
              ("..s1.", 9000, "napi_poll: napi poll on napi struct 0 for device eth0 work 2 budget 2"), ("..s1.", 10_000, (86, 10)),
@@ -161,13 +161,13 @@ class FromFtrace(Arrivals):
 
     @staticmethod
     def received(size, flow):
-        """The two events of a packet that a poll takes."""
+        """Returns the two events of a packet that a poll takes."""
         return (f"napi_gro_receive_entry: dev=eth0 napi_id=0x103 queue_mapping=1 skbaddr=0 vlan_tagged=0 vlan_proto=0x0000 vlan_tci=0x0000 protocol=0x0800 "
                 f"ip_summed=0 hash=0x{flow:08x} l4_hash=0 len={size} data_len=0 truesize=832 mac_header_valid=1 mac_header=-14 nr_frags=0 gso_size=0 gso_type=0x0",
                 f"netif_receive_skb: dev=eth0 skbaddr=0 len={size}")
 
     def of_a_card(self, *without):
-        """What was recorded of a card, without some events."""
+        """Returns the recording of a card, without some events."""
         lines = []
         for flags, time, said in self.POLLS:
             for place, each in enumerate(self.received(*said) if isinstance(said, tuple) else [said]):
@@ -176,7 +176,7 @@ class FromFtrace(Arrivals):
         return "".join(lines)
 
     def test_packets_that_a_card_received(self):
-        """They arrive when the poll that took them began, or the interrupt before it."""
+        """Packets arrive when the poll that took them began, or at the interrupt before it."""
         wanted = ["0,1,60", "0,1,60", "8000,1,100", "99000,1,100"]
         rows, notes, said = self.made("from-ftrace", self.of_a_card())
         self.assertEqual((rows, said.splitlines()[0]), (wanted, "made.csv: 1 devices, 4 rows; 2 notes in made.notes:"))
@@ -186,12 +186,12 @@ class FromFtrace(Arrivals):
         self.assertEqual(rows, wanted)
         self.assertIn("(netif_receive_skb): GRO may have merged", notes[1])
         self.assertEqual(self.made("from-ftrace", self.of_a_card(), "--device", "eth0")[0], wanted)
-        # Without the softirqs and the interrupts a packet's own time is all that is known.
+        # Without the softirqs and the interrupts only a packet's own time is known.
         alone = self.of_a_card("softirq_entry", "softirq_exit", "irq_handler_entry", "irq_handler_exit", "napi_poll", "netif_receive_skb")
         self.assertEqual(self.made("from-ftrace", alone)[0], ["0,1,60", "1000,1,60", "5000,1,100", "96000,1,100"])
 
     def test_flows_of_a_card(self):
-        """A flow is the hash, by which the machine chooses of two queues: of 10, 7, 10 and 0 the second one has one packet."""
+        """A flow is the hash, by which the machine selects one of two queues: of 10, 7, 10 and 0 the second one has one packet."""
         for end in ("csv", "notes"):
             (self.folder / f"made.{end}").unlink(missing_ok=True)
         self.write("recorded", self.of_a_card())
@@ -208,7 +208,7 @@ class FromFtrace(Arrivals):
         self.assertEqual(run("from-ftrace", "-", self.folder / "none", "--flows", text="").returncode, 2)
 
     def test_a_trace_of_a_card(self):
-        """Each poll has the packets that it took: three in the first run, one in the second."""
+        """Each poll takes its packets: three in the first run, one in the second."""
         self.write("recorded", self.of_a_card())
         done = run("from-ftrace", "recorded", "made", "--unit", "us", folder=self.folder)
         self.assertEqual((done.stderr, done.returncode), ("", 0))
@@ -226,7 +226,7 @@ class FromFtrace(Arrivals):
         self.assertEqual(done.stderr, "from-ftrace: -: no packet of eth7 is received in it; those that receive are: eth0\n")
 
     def test_recordings_that_it_refuses(self):
-        """By one line each, and nothing is written."""
+        """Each fails with one line, and no file is written."""
         text = (TOP / "examples/veth-backlog.rec").read_text()
         event = "   a-1  [000] b....  5.000001: net_dev_xmit: dev=va1 skbaddr=0 len=61 rc=0\n"
         without = re.sub(r".*net_dev_xmit: .*\n", "", text)
@@ -250,7 +250,7 @@ class FromFtrace(Arrivals):
             self.assertIn(why, done.stderr)
 
     def test_a_recording(self):
-        """The packets of the trace that another converter made, in their order and with the sizes, and moments that round to its own."""
+        """The packets of the trace that another converter made, in their order and with their sizes; the times round to its own."""
         rows, _, _ = self.made("from-ftrace", (HERE / "soft-tcp.txt").read_text(), *test_tools.PAIRS)
         theirs = [line.split(",") for line in (HERE / "soft-tcp.csv").read_text().splitlines() if ",rx," in line]
         self.assertEqual([row.split(",")[1:] for row in rows], [[device, size] for _, device, _, size in theirs])
@@ -300,7 +300,7 @@ class Traffic(Arrivals):
         self.assertEqual(rows[0][0], 0)
 
     def test_flows(self):
-        """The other columns are what they were; of 8 flows each queue of 4 has about a fourth of 4000 packets, within six deviations of 27."""
+        """The other columns are unchanged; of 8 flows each of 4 queues has about a fourth of 4000 packets, within six deviations of 27."""
         words = ["--kind", "poisson", "--rate", "4000"]
         plain = self.rows(*words)
         done = run("traffic", "--arrivals", *words, "--flows", "8")
@@ -317,7 +317,7 @@ class Traffic(Arrivals):
         self.assertNotEqual(self.rows(*words, "1"), self.rows(*words, "2"))
 
     def test_the_seed_decides_when_packets_come(self):
-        """Not their sizes alone; and each device has times of its own."""
+        """And not only their sizes; each device has times of its own."""
         for kind in ("constant", "poisson", "bursts"):
             words = ["--kind", kind, "--devices", "2", "--rate", "2000", "--bytes", "60", "--seed"]
             times = [{(device, moment) for moment, device, _ in self.rows(*words, seed)} for seed in (1, 2)]

@@ -1,4 +1,4 @@
-"""Tests of how tools/from-pcap reads captures: by their records it writes the same as by tcpdump's text."""
+"""Tests of how tools/from-pcap reads captures: reading records gives the same result as tcpdump's text."""
 
 import os
 import random
@@ -15,7 +15,7 @@ UDP, TCP, ICMP, ICMP6 = 17, 6, 1, 58
 
 
 def transport(chance, protocol):
-    """A header with its ports, and some bytes."""
+    """Returns a header with its ports, and some bytes."""
     ports = struct.pack(">HH", chance.randrange(1000, 60000), chance.choice((9, 443, 5000)))
     if protocol == UDP:
         return ports + struct.pack(">HH", 26, 0) + bytes(18)
@@ -25,7 +25,7 @@ def transport(chance, protocol):
 
 
 def inner(chance, is_strange):
-    """The type and the bytes of a packet: ARP, IPv4 or IPv6; a strange one may also have a VLAN, be a fragment, have options or be of another type."""
+    """Returns the type and the bytes of a packet: ARP, IPv4 or IPv6; a strange one may have a VLAN, be a fragment, have options or another type."""
     kind = chance.randrange(10 if is_strange else 6)
     if kind == 0:
         return b"\x08\x06", struct.pack(">HHBBH", 1, 0x0800, 6, 4, 1) + MACS[0] + ADDRESSES[0] + bytes(6) + ADDRESSES[1]
@@ -45,7 +45,7 @@ def inner(chance, is_strange):
 
 
 def capture_of(seed, is_strange=False, order="<", ticks=10**6, count=300):
-    """A capture of packets by chance, whose times don't always rise."""
+    """Returns a random capture, whose times don't always rise."""
     chance = random.Random(seed)
     magic = 0xA1B2C3D4 if ticks == 10**6 else 0xA1B23C4D
     text, time = struct.pack(order + "IHHiIII", magic, 2, 4, 0, 0, 262144, 1), 1_700_000_000 * ticks
@@ -69,7 +69,7 @@ class Captures(InFolder):
 
     @skip_without("tcpdump")
     def test_records_are_what_tcpdump_says(self):
-        """In both orders of bytes, with times in \u00b5s and ns, with and without what only tcpdump reads."""
+        """In both byte orders, with times in \u00b5s and ns, with and without packets that only tcpdump can read."""
         for seed, (order, ticks, is_strange) in enumerate((order, ticks, is_strange) for order in "<>" for ticks in (10**6, 10**9) for is_strange in (False, True)):
             (self.folder / "captured").write_bytes(capture_of(seed, is_strange, order, ticks))
             told = subprocess.run(["tcpdump", "-r", "captured", "-tt", "--nano", "-n", "-e"], cwd=self.folder, capture_output=True, text=True, check=True).stdout
@@ -85,7 +85,7 @@ class Captures(InFolder):
         self.assertEqual((done.stderr, done.returncode), ("from-pcap: captured: it needs tcpdump, which isn't on PATH (Debian: apt install tcpdump)\n", 1))
 
     def test_what_a_million_packets_take(self):
-        """A hundred thousand, in processor time, with room for a machine that is ten times slower than a second for each million."""
+        """Reads 100,000 packets; the limit on processor time leaves room for a machine ten times slower than one second per million."""
         (self.folder / "captured").write_bytes(capture_of(1, count=1000)[:24] + 100 * capture_of(1, count=1000)[24:])
         before = os.times()
         self.made("captured", "--arrivals")

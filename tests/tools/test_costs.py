@@ -1,4 +1,4 @@
-"""Tests of tools/costs, on recordings that are made by given costs, and on real ones by plain searches in their lines."""
+"""Tests of tools/costs, on recordings generated from given costs, and on real ones with plain searches in their lines."""
 
 import json
 import random
@@ -12,8 +12,8 @@ from tooltest import HERE, TOP, InFolder, run
 
 
 def recorded(interrupt, poll, packet, unit=1, noise=lambda: 0, threads=False):
-    """A recording of rounds by these costs in ns: a handler, then a softirq with three polls; two timers' handlers, one within a poll and one
-    without a softirq, tell nothing of them."""
+    """Returns a recording of rounds with these costs in ns: a handler, then a softirq with three polls. Two timers' handlers, one within a poll and
+    one without a softirq, must not count."""
     lines, time, chance = [], 10**9, random.Random(3)
 
     def event(name, said):
@@ -57,7 +57,7 @@ class Costs(InFolder):
         return {name: int(value) for name, value in re.findall(r"--(\w+) (\d+)", self.told(text, "--words", *words))}
 
     def test_costs_that_are_exact(self):
-        """The timers' handlers are neither interrupts of the card nor a part of polls; 30 polls of 600 are far too long."""
+        """The timers' handlers are neither interrupts of the card nor part of polls; 30 polls of 600 are far too long."""
         text = recorded(2100, 1500, 330)
         self.assertEqual(self.words(text), {"interrupt": 2100, "poll": 1500, "packet": 330})
         told = self.told(text)
@@ -68,7 +68,7 @@ class Costs(InFolder):
         self.assertTrue(told.endswith("use: not known: no read of a program is recorded (fintaqush record --program)\n--interrupt 2100 --poll 1500 --packet 330\n"))
 
     def test_costs_that_vary(self):
-        """Within 3 %, also where stamps are of microseconds; and it says how far the polls lie from the line."""
+        """Within 3 %, also with timestamps in microseconds; and the tool prints how far the polls are from the line."""
         chance = random.Random(5)
         for unit in (1, 1000):
             text = recorded(2000, 3000, 400, unit, lambda: chance.randrange(-200, 201))
@@ -88,7 +88,7 @@ class Costs(InFolder):
         told = self.told((HERE / "soft-gso-23.txt").read_text())
         self.assertIn("interrupt: not known, of 0 handlers", told)
         self.assertRegex(told, r"\n--poll \d+ --packet \d+\n$")
-        done = run("costs", HERE / "soft-tcp.txt")  # whose polls take as long with 10 packets as with one
+        done = run("costs", HERE / "soft-tcp.txt")  # its polls take as long with 10 packets as with one
         self.assertEqual((done.returncode, done.stdout), (1, ""))
         self.assertIn("the line explains 0 % of how the times differ", done.stderr)
 
@@ -105,15 +105,15 @@ class Costs(InFolder):
 
 
     def test_polls_of_one_packet_only(self):
-        """A poll of 2000 and a packet of 400 ns take 2400 together; it says what to record."""
+        """A poll of 2000 and a packet of 400 ns take 2400 together; the tool prints what to record."""
         done = run("costs", "-", text=one_packet_each(2400))
         self.assertEqual((done.returncode, done.stdout, done.stderr.count("\n")), (1, "", 1))
         self.assertIn("each of 40 polls took one packet, so what a poll and what a packet costs can't be told apart; together they are 2400 ns (2400 to 2400): record "
                       "traffic of which some polls take several packets, as bursts (with sendmmsg or UDP_SEGMENT), a higher load, or", done.stderr)
 
     def test_a_line_that_explains_nothing(self):
-        """Times of 1 to 9 packets in turn that don't grow with them: 1000 and 9000 ns as often for each number. And 410 ns a packet more, but with so much else
-        that the line explains little: that is a line on standard error."""
+        """Times of 1 to 9 packets that don't grow with the packets: 1000 and 9000 ns equally often for each number. Then 410 ns more per packet, but with
+        so much other variation that the line explains little: the tool prints a warning on standard error."""
         polls = [(work, took) for work in range(1, 10) for took in (1000, 9000) * 20]
         done = run("costs", "-", "--words", text=polls_of(polls))
         self.assertEqual((done.returncode, done.stdout, done.stderr.count("\n")), (1, "", 1))
@@ -122,7 +122,7 @@ class Costs(InFolder):
         self.assertTrue((done.returncode, done.stdout) == (1, "") and "explains" in done.stderr or "isn't told apart from 0" in done.stderr, done.stderr)
 
     def test_the_backlog_is_left_out(self):
-        """As long as a device polls. Its polls take ten times as long."""
+        """If a device polls. The backlog's polls take ten times as long."""
         text = recorded(2100, 1500, 330)
         backlog = recorded(21000, 15000, 3300).replace("[001]", "[002]").replace("device eth0", "device (no_device)").replace("eth0-rx-0", "other")
         both = "".join(sorted((text + backlog).splitlines(True), key=lambda line: line.split("..s1.")[1].split()[0].rjust(20)))
@@ -135,7 +135,7 @@ class Costs(InFolder):
         self.assertIn("polls of several devices are taken together: eth0, eth1; --device takes those of one\n", more)
 
     def test_the_interrupts_of_another_card(self):
-        """A disk's interrupt ends 20 ns before each softirq, and the card's 50 ns earlier asked for it. tools/record knows the card's."""
+        """A disk's interrupt ends 20 ns before each softirq; the card's, 50 ns earlier, requested it. tools/record knows the card's."""
         text = "".join(line if "softirq_entry: vec=3" not in line else self.disk(line) + line for line in recorded(2100, 1500, 330).splitlines(True))
         lines = [line for line in text.splitlines(True)]
         head = "fintaqush-recording 1\nlost 0\nlines {}\ndevice eth0\npolled eth0\ndevice.eth0.irq.25.name eth0-rx-0\n{}trace\n"
@@ -146,7 +146,7 @@ class Costs(InFolder):
 
     @staticmethod
     def disk(line):
-        """The interrupt before a softirq."""
+        """Returns the interrupt before a softirq."""
         at = re.search(r"(\d+)\.(\d{9}): ", line)
         time = int(at[1]) * 10**9 + int(at[2])
         return "".join(f"   <idle>-0     [001] d.h1.  {each // 10**9}.{each % 10**9:09}: {said}\n" for each, said in (
@@ -154,7 +154,7 @@ class Costs(InFolder):
 
 
 def polls_of(polls):
-    """A recording of softirqs with one poll each, of so many packets and ns."""
+    """Returns a recording of softirqs with one poll each, with these packets and ns."""
     lines, time = [], 10**9
     for work, took in polls:
         for said in ("softirq_entry: vec=3 [action=NET_RX]", f"napi_poll: napi poll on napi struct 0 for device eth0 work {work} budget 64",
@@ -170,7 +170,7 @@ def one_packet_each(took):
 
 
 class Modelled(InFolder):
-    """Costs that a recording was made by are those that come out, to a nanosecond."""
+    """The costs that a recording was generated from are the estimated ones, to a nanosecond."""
 
     COSTS = {"interrupt": 1700, "poll": 2600, "packet": 410, "wake": 3300, "use": 5200, "app-wake": 2450, "read": 900}
     PAIR = ("--pair", "va1:vb1")
@@ -185,7 +185,7 @@ class Modelled(InFolder):
         return {name: self.COSTS[name] for name in names}
 
     def rounds(self, reader, count=60):
-        """Softirqs of one to three polls, and the reads of what they gave."""
+        """Generates softirqs of one to three polls, and the reads of their packets."""
         made, chance = Made(**self.COSTS), random.Random(4)
         made.reader = reader
         made.switch(made.time - 9000, timing.POLLER, "other-5", "swapper/3-0")
@@ -197,7 +197,7 @@ class Modelled(InFolder):
         return made
 
     def test_softirqs_by_interrupts_between_processors(self):
-        """The program reads on another processor. Packets that came alone tell app-wake, the others use."""
+        """The program reads on another processor. app-wake is estimated from single packets, use from the others."""
         made = self.rounds(reader=5)
         told, costs = self.costs(made)
         self.assertEqual(costs, self.wanted("interrupt", "poll", "packet", "wake", "use", "app-wake"))
@@ -220,8 +220,8 @@ class Modelled(InFolder):
         self.assertEqual((costs["wake"], told["dropped"]), (3300, 200))
 
     def test_threads_by_timers_and_by_packets(self):
-        """A wake-up by a timer counts from when that was due, not from when it ran."""
-        for share in (0, 1, 3):  # of four rounds, those by a timer
+        """A wake-up by a timer begins when the timer was due, not when it ran."""
+        for share in (0, 1, 3):  # of four rounds, those woken by a timer
             made, chance = Made(**self.COSTS), random.Random(6)
             made.switch(made.time - 9000, timing.POLLER, "other-5", "swapper/3-0")
             for place in range(120):
@@ -233,7 +233,7 @@ class Modelled(InFolder):
             self.assertEqual("by timers" in " ".join(told["text"]), share > 0)
 
     def test_polls_that_no_interrupt_asks_for(self):
-        """As those of a sender that shares the processor; what isn't known to be 0 isn't told."""
+        """As with a sender that shares the processor; a cost that isn't known to be 0 isn't printed."""
         made = self.rounds(reader=5)
         made.lines = [line for line in made.lines if "call_function_single" not in line[1]]
         self.assertNotIn("interrupt", self.costs(made)[1])
@@ -241,7 +241,7 @@ class Modelled(InFolder):
         self.assertEqual(self.costs(made)[1]["interrupt"], 0)
 
     def test_a_stream_has_no_use(self):
-        """Its reads aren't packets: here each takes what several packets brought."""
+        """Its reads aren't packets: here each read takes the bytes of several packets."""
         made = self.rounds(reader=5)
         reads = [line for line in made.lines if "sys_recvmsg ->" in line[1]]
         gone = set(reads[1::2])
@@ -251,7 +251,7 @@ class Modelled(InFolder):
         self.assertTrue(any(line.startswith("use: not known: ") and "so a read isn't a packet's" in line for line in told["text"]))
 
     def test_a_quiet_recording_has_no_use(self):
-        """The distance of packets that come alone isn't their use."""
+        """The time between single packets isn't their use."""
         made = Made(**self.COSTS)
         made.reader = 5
         made.switch(made.time - 9000, timing.POLLER, "other-5", "swapper/3-0")
@@ -280,7 +280,7 @@ class Modelled(InFolder):
         self.assertEqual((costs["poll"], costs["packet"], told["polls_on"]), (2600, 410, {str(timing.POLLER): told["polls"]}))
 
     def test_a_fit_that_is_worse_than_useless(self):
-        """Times that fall with the packets; and, with a note, times that have nothing to do with them."""
+        """Times that fall with the number of packets; and, with a note, times that don't depend on it."""
         def made(time_of):
             made = Made(**self.COSTS)
             for _ in range(200):
@@ -298,7 +298,7 @@ class Modelled(InFolder):
         self.assertTrue("doesn't grow with them" in done.stderr or "isn't told apart from 0" in done.stdout)
 
     def test_a_run_that_goes_on_with_what_a_full_poll_left(self):
-        """Its first poll counts from the end of the full one, also if the kernel took 4000 ns to come back."""
+        """Its first poll begins at the end of the full one, even if the kernel took 4000 ns to continue."""
         made = Made(**self.COSTS)
         made.costs["interrupt"] = 0
         for place in range(60):
@@ -316,7 +316,7 @@ class Modelled(InFolder):
         self.assertEqual((costs["poll"], costs["packet"]), (2600, 410))
 
     def test_names_that_ftrace_did_not_keep(self):
-        """`<...>` is the task that the processor was given to."""
+        """`<...>` is the task that the processor switched to."""
         made, chance = Made(**self.COSTS), random.Random(6)
         made.switch(made.time - 9000, timing.POLLER, "other-5", "swapper/3-0")
         for place in range(60):
@@ -325,7 +325,7 @@ class Modelled(InFolder):
         self.assertEqual((costs, told["threaded"]), (self.wanted("interrupt", "poll", "packet", "wake"), 1))
 
     def test_a_packet_whose_event_comes_after_its_poll(self):
-        """The sender's event follows the sending: a poll on another processor may be quicker. Half of the packets here are such."""
+        """The sender's event comes after the sending: a poll on another processor may be earlier. Half of the packets here are such."""
         made = self.rounds(reader=5)
         for place in range(400):
             made.time = made.read(made.softirq_round([1], is_early=place % 2 == 0), 1) + 100_000
@@ -333,7 +333,7 @@ class Modelled(InFolder):
         self.assertEqual((costs["wake"], told["costs"]["wake"]["count"]), (3300, 260))
 
     def test_a_program_that_never_sleeps(self):
-        """It looks for packets again and again: what lies between two reads is their use only if the second packet was there at the first."""
+        """It polls for packets: the time between two reads is a use only if the second packet was there at the first read."""
         made = self.rounds(reader=5)
         made.lines = [line for line in made.lines if "server" not in line[1]]
         for time, line in list(made.lines):
@@ -354,7 +354,7 @@ class Modelled(InFolder):
         self.assertNotIn("use", self.costs(alone)[1])
 
     def test_an_interrupt_is_no_part_of_a_use(self):
-        """In each use an interrupt takes 300 ns and a softirq 700, another interrupt in it included."""
+        """In each use an interrupt takes 300 ns and a softirq 700, including another interrupt in it."""
         made = self.rounds(reader=5)
         for time in [time for time, line in made.lines if "sys_recvmsg ->" in line]:
             for after, said in ((1, "local_timer_entry: vector=236"), (301, "local_timer_exit: vector=236"), (400, "softirq_entry: vec=3 [action=NET_RX]"),
@@ -363,7 +363,7 @@ class Modelled(InFolder):
         self.assertEqual(self.costs(made)[1]["use"], self.COSTS["use"] - 1000)
 
     def test_other_tasks_are_told(self):
-        """A quarter of the time is another task's."""
+        """Another task has a quarter of the time."""
         made = self.rounds(reader=5)
         begin, end = min(made.lines)[0], max(made.lines)[0]
         made.event(end + (end - begin) // 3, timing.POLLER, "hog-8", "sched_switch: prev_comm=hog prev_pid=8 prev_prio=120 prev_state=R ==> "
@@ -374,7 +374,7 @@ class Modelled(InFolder):
 
 
 class Recorded(InFolder):
-    """Real recordings: a backlog by RPS, a thread with deferral, and a program on another processor. Plain searches find the same."""
+    """Real recordings: a backlog by RPS, a thread with deferral, and a program on another processor. Plain searches find the same values."""
 
     def check(self, name, device, counts):
         path = TOP / "examples/veth-backlog.rec" if name == "backlog" else HERE / f"recorded-{name}.rec"
@@ -396,7 +396,7 @@ class Recorded(InFolder):
         return found, calls, lone
 
     def check_line(self, polls, costs):
-        """The straight line of the least squares, without what lies over three deviations off the line over all."""
+        """Checks the least-squares line, without values over three deviations off the line over all."""
         points = [(work, took) for work, took, *_ in polls]
         for _ in range(2):
             slope, start = statistics.linear_regression(*zip(*points))
@@ -419,7 +419,7 @@ class Recorded(InFolder):
         self.assertEqual(found["app-wake"], (timing.middle(max(0, each - statistics.median(calls)) for each in lone), 9))
 
     def test_what_it_refuses(self):
-        """Cut anywhere, with lost events, of a kernel without the events, or of another version."""
+        """Cut at any place, with lost events, of a kernel without the events, or of another version."""
         text = (TOP / "examples/veth-backlog.rec").read_text()
         for changed, why in ((text[:-30], "isn't whole"), (text[: text.rindex("\n", 0, -2) + 1], "it is cut: 622 of 623 events are there"),
                              (text[:1000], "it is cut: its head has no end"), ("", "it is empty"), ("fintaqush-recording 1\n", "its head has no end"),

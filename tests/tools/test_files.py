@@ -1,5 +1,5 @@
-"""Tests of how the tools write files: whole or not at all, on the disk before they have their names, and never readable by more users than
-the file that they replace."""
+"""Tests of how the tools write files: completely or not at all, synced before they are renamed, and never readable by more users than the file
+that they replace."""
 
 import os
 import stat
@@ -21,7 +21,7 @@ class Replaced(InFolder):
         return stat.S_IMODE(path.stat().st_mode)
 
     def test_the_mode_stays(self):
-        """For each way to write a file in place of another one; a new file has what the umask leaves."""
+        """For each way to replace a file; a new file gets the mode that the umask leaves."""
         for mode in (0o600, 0o640, 0o644, 0o664, 0o444, 0o400, 0o755):
             old = self.write("old", "old\n")
             old.chmod(mode)
@@ -38,7 +38,7 @@ class Replaced(InFolder):
             self.assertEqual((done.stderr, oct(self.mode(self.folder / f"new{mask}"))), (b"", oct(mode)))
 
     def test_what_is_private_never_shows(self):
-        """The file that is to replace one that only its user reads is theirs alone from its first moment on, even if it fails."""
+        """The new file for one that only its user can read is private from its creation on, even if the write fails."""
         old = self.write("old.csv", "old\n")
         old.chmod(0o600)
         seen = []
@@ -55,7 +55,7 @@ class Replaced(InFolder):
         self.assertEqual({mode & 0o077 for mode in [*seen, self.mode(old)]}, {0})
 
     def test_it_is_on_the_disk_before_it_has_its_name(self):
-        """The kernel is asked to write all of it, and only then the name is put in place: in the place of a file, and as a new one."""
+        """The file is synced before it gets its name: when it replaces a file, and as a new one."""
         events = []
         really_sync = os.fsync
 
@@ -74,7 +74,7 @@ class Replaced(InFolder):
         with unittest.mock.patch("os.fsync", synced), by_name[0], by_name[1], by_name[2]:
             toolbox.write_whole(str(self.folder / "old"), TEXT)
             toolbox.write_all({str(self.folder / name): text for name, text in (("first", TEXT), ("second", "short\n"))})
-            with toolbox.whole_file(str(self.folder / "drawn")) as new:  # by another program
+            with toolbox.whole_file(str(self.folder / "drawn")) as new:  # written by another program
                 subprocess.run(["sh", "-c", 'printf text > "$0"', new], check=True)
         sizes = {"old": len(TEXT), "first": len(TEXT), "second": 6, "drawn": 4}
         self.assertEqual([each[2] for each in events if each[0] != "fsync"], list(sizes))
@@ -87,7 +87,7 @@ class AllOrNone(InFolder):
     CAPTURED = "".join(f"100.{place:06} eth0  In  ifindex 2 02:00:00:00:00:01 ethertype IPv4 (0x0800), length 60: UDP\n" for place in range(200))
 
     def test_a_failure_behind_the_first_file(self):
-        """A file may have no more than 1 kB here: the notes fit, the trace doesn't, and none of them stays."""
+        """With a file size limit of 1 kB the notes fit and the trace doesn't: neither file stays."""
         self.write("captured", self.CAPTURED)
         for tool, words in (("from-pcap", ["captured", "made"]), ("from-pcap", ["captured", "made", "--arrivals"]),
                             ("from-ftrace", [HERE / "recorded-apart.rec", "made"]), ("from-ftrace", [TOP / "examples/veth-backlog.rec", "made", "--arrivals"])):
@@ -95,7 +95,7 @@ class AllOrNone(InFolder):
                                   capture_output=True, text=True, check=False, cwd=self.folder, env={**os.environ, "PROGRAM": REPLAY})
             self.assertEqual((done.returncode, done.stdout, self.names()), (1, "", ["captured"]), done.stderr)
             self.assertEqual(done.stderr, f"{tool}: File too large\n")
-            done = run(tool, *words, folder=self.folder)  # and with room for it all are there
+            done = run(tool, *words, folder=self.folder)  # with room for all, both are written
             self.assertEqual((done.returncode, {"made.csv", "made.notes"} - set(self.names())), (0, set()), done.stderr)
             self.assertLess((self.folder / "made.notes").stat().st_size, 1024)
             self.assertGreater((self.folder / "made.csv").stat().st_size, 1024)
@@ -103,7 +103,7 @@ class AllOrNone(InFolder):
                 path.unlink()
 
     def test_whatever_the_failure_is(self):
-        """Of three files the last one fails: its text ends by an error or a signal, its name is taken, its folder is gone."""
+        """The last of three files fails: its text raises an error or a signal, its name is taken, or its folder is gone."""
         def lines(error):
             yield "a line\n"
             raise error

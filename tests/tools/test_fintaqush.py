@@ -1,4 +1,4 @@
-"""Tests of the command `fintaqush`: how it finds its subcommands, what it refuses, its completions, and its tour."""
+"""Tests of the command `fintaqush`: how it finds its subcommands, its errors, its completions, and its tour."""
 
 import ast
 import os
@@ -85,7 +85,7 @@ class Fintaqush(InFolder):
         self.assertEqual((done.stderr, done.returncode), ("fintaqush machine: none: there is no such file\n", 1))
 
     def test_an_older_python_ends_by_a_line(self):
-        """It has to parse the file, so its syntax is an old one's."""
+        """An older Python has to parse the file, so its syntax must be old."""
         ast.parse(SOURCE.read_text(), feature_version=(3, 7))
         self.assertNotRegex(SOURCE.read_text(), r"""\bf["']""")
         fake = f"import runpy, sys; sys.version_info = (3, 8, 20, 'final', 0); sys.argv[1:] = ['plot']; runpy.run_path('{SOURCE}', run_name='__main__')"
@@ -110,7 +110,7 @@ class Fintaqush(InFolder):
         self.assertEqual((done.stderr, done.returncode), ("fintaqush: standard input is a folder\n", 1))
 
     def test_signals(self):
-        """To the process that was begun, which is the tool by then: a line, and 128 and the signal's number."""
+        """Signals to the started process, which has become the tool: one line, and exit status 128 plus the signal's number."""
         os.mkfifo(self.folder / "fifo")
         for number in (signal.SIGINT, signal.SIGTERM):
             process = subprocess.Popen([COMMAND, "json", "fifo"], stderr=subprocess.PIPE, stdout=subprocess.DEVNULL, cwd=self.folder,
@@ -166,14 +166,14 @@ class Completion(InFolder):
 
     @skip_without("zsh")
     def test_zsh(self):
-        """On a terminal, by the TAB key."""
+        """On a terminal, with the TAB key."""
         script = self.write("script", call("completion", "zsh").stdout)
         for line, told in (("fintaqush pl", "fintaqush plot "), ("fintaqush plot --fo", "fintaqush plot --force"), ("fintaqush replay --mode th", "--mode threads")):
             seen = self.typed(["zsh", "-f", "-i"], f"autoload -U compinit; compinit -u -D; PS1='> '; source {script}; echo re''ady\n", "ready", line + "\t", told)
             self.assertIn(told, seen)
 
     def typed(self, shell, first, ready, then, told):
-        """What a shell shows on its terminal."""
+        """Returns what a shell shows on its terminal."""
         process, end = pty.fork()
         if process == 0:
             os.execvpe(shell[0], shell, {**os.environ, "TERM": "dumb", "COLUMNS": "200", "HOME": str(self.folder)})

@@ -23,13 +23,13 @@ class Plot(InFolder):
         return run("plot", "--series", self.write("series", text), "--force", "--out", self.folder / "picture.svg", *words)
 
     def described(self, text, *words):
-        """The panels that would be drawn of a series, by the curves' names: their points."""
+        """Returns the points that would be drawn for a series, by panel and curve name."""
         done = self.plot(text, "--json", *words)
         self.assertEqual((done.stderr, done.returncode), ("", 0))
         return points_of(done.stdout)
 
     def test_the_curves(self):
-        """Two packets wait until run 4 takes one and is squeezed, and run 5 takes the other."""
+        """Two packets wait until run 4 takes one and is squeezed; run 5 takes the other."""
         curves = self.described(self.ROWS)
         self.assertEqual(curves, {"bytes in flight": [[6, 500], [7, 0]], "limit": [[6, 0], [7, 1000]],
                                   "packets that wait": [[1, 0], [2, 1], [3, 2], [4, 1], [5, 0], [6, 0], [7, 0]],
@@ -40,7 +40,7 @@ class Plot(InFolder):
         self.assertEqual(json.loads(self.plot(self.ROWS, "--json", "--time").stdout)["axis"]["label"], "ms")
 
     def test_more_rows_than_the_width_has(self):
-        """Of 10000 rows a panel of 300 pixels has a lowest and a highest level at each; the work of runs is summed. A page has all rows."""
+        """Of 10000 rows a panel of 300 pixels shows a lowest and a highest level per pixel; the work of runs is summed. A page has all rows."""
         rows = [f"{2 * n + 1},{n},1,on,{n % 7},{n + n % 7},0,{n},,,,,,,,,,\n{2 * n + 2},{n},0,,,,,,,,,,1,1,0,,,\n" for n in range(5000)]
         curves = self.described(self.HEAD + "".join(rows), "--size", "300x100")
         self.assertTrue(all(0 < len(points) <= 300 for points in curves.values()))
@@ -61,21 +61,21 @@ class Plot(InFolder):
         self.assertIn("none of the rows 20:30 is there", self.plot(self.ROWS, "--rows", "20:30").stderr)
 
     def waits(self, text, *words):
-        """How long the packets of each row had waited: the row, the shortest and the longest."""
+        """Returns how long the packets of each row had waited: the row, the shortest and the longest."""
         curves = points_of(run("plot", "-", "--json", "--waits", *words, text=text).stdout)
         return [(row, shortest, longest) for (row, shortest), (_, longest) in zip(curves["shortest"], curves["longest wait of a run"])]
 
     def test_how_long_packets_wait(self):
-        """By hand: with a budget of 1 each run has one packet, of the device that comes next on the list. The second device's ring has
-        one place, so its second packet is dropped; its third one comes behind the run that took the first."""
+        """By hand: with a budget of 1 each run takes one packet, of the next device on the list. The second device's ring has one place, so
+        its second packet is dropped; its third one comes after the run that took the first."""
         rows = "0,1,open,8\n0,2,open,1\n1,1,rx,60\n1,2,rx,60\n1,2,rx,60\n1,1,rx,60\n2,0,softirq,0\n3,0,softirq,0\n3,2,rx,60\n4,0,softirq,0\n5,0,softirq,0\n"
         # Row 7 has device 1's packet of row 3, row 8 device 2's of row 4, row 10 device 1's of row 6, row 11 device 2's of row 9.
         self.assertEqual(self.waits(HEADER + rows, "--budget", "1", "--weight", "1"), [(7, 4, 4), (8, 4, 4), (10, 4, 4), (11, 2, 2)])
-        # By the usual settings row 7 has all that wait, and row 10 the one of row 9.
+        # With the default settings row 7 takes all that wait, and row 10 the one of row 9.
         self.assertEqual(self.waits(HEADER + rows), [(7, 1, 4), (10, 1, 1)])
 
     def test_waits_are_those_of_the_reports(self):
-        """Of a recorded piece by a small budget: each row's packets by what the reports of its prefixes tell of each device."""
+        """On a part of a recording with a small budget: each row's packets must match each device's counts in the reports of the trace's prefixes."""
         header, *rows = (TOP / "examples/linux-veth-bursts.csv").read_text().split()[:300]
         rings, polled, dropped, wanted = {}, {}, {}, []
         for number, row in enumerate(rows, 1):
@@ -98,8 +98,8 @@ class Plot(InFolder):
         self.assertGreater(len(wanted), 3)
 
     def test_panels_that_are_alike_are_one(self):
-        """With the same words both panels are. By a weight of 59 a packet of each 60 more stays behind, three in the end, which is less
-        than a tenth of what waits, and the work of the runs is another; by one of 8 nearly all stay."""
+        """With the same options both panels are equal. With a weight of 59 one more packet per 60 is left, three in the end, which is less
+        than a tenth of what waits, but the work of the runs differs; with a weight of 8 nearly all are left."""
         trace = self.write("trace.csv", HEADER + "0,1,open,256\n" + ("1,1,rx,60\n" * 60 + "2,0,softirq,0\n") * 3 + "3,0,softirq,0\n" * 9)
         same, default = "the same with both settings", "default settings"
         for words, headings in ((["--beside", ""], [same, same]),
@@ -111,14 +111,14 @@ class Plot(InFolder):
 
     @skip_without("matplotlib")
     def test_a_picture_that_is_there(self):
-        """It is replaced only by --force, and that is known before the replay, which here would fail."""
+        """It is replaced only with --force; this is checked before the replay, which would fail here."""
         old = self.write("picture.svg", "old\n")
         done = run("plot", TOP / "examples/bursts.csv", "--out", old, SERIES="/bin/false")
         self.assertEqual((done.stderr, done.returncode, old.read_text()),
                          (f"plot: {old} is there: --force replaces it, and --out names another file\n", 1, "old\n"))
         self.assertIn("/bin/false ended with status 1", run("plot", TOP / "examples/bursts.csv", "--force", "--out", old, SERIES="/bin/false").stderr)
 
-    # A Python that finds neither library, as one without them.
+    # A Python that finds neither library.
     WITHOUT = ("import sys, runpy; sys.path.insert(0, sys.argv[1]); import drawing; drawing.find_packages = lambda: None; "
                "drawing.DYGRAPHS = ('/none',); sys.argv[0:2] = [sys.argv[1] + '/plot']; runpy.run_path(sys.argv[0], run_name='__main__')")
 
@@ -146,7 +146,7 @@ class Plot(InFolder):
         self.assertEqual(run("plot").returncode, 2)
 
     def test_what_a_title_says(self):
-        """How many runs were squeezed with which settings, and between what the limit is."""
+        """The number of squeezed runs with each setting, and the range of the limit."""
         self.assertEqual(json.loads(self.plot(self.ROWS, "--json").stdout)["title"], "series: 1 of 2 runs squeezed; the limit of device 1 is 0 to 1,000 bytes")
         done = run("plot", TOP / "examples/bursts.csv", "--json", "--budget", "64", "--beside", "--budget 300")
         self.assertRegex(json.loads(done.stdout)["title"], r"^bursts\.csv: [1-9]\d* of \d+ runs squeezed with --budget 64; 0 of \d+ runs squeezed with --budget 300")
@@ -172,13 +172,13 @@ class Plot(InFolder):
 
     @skip_without("matplotlib")
     def test_a_dark_picture(self):
-        """The first pixel of a .png is that of the page."""
+        """The first pixel of a .png has the page's colour."""
         for words, color in (([], (255, 255, 255)), (["--dark"], (0x16, 0x18, 0x1C))):
             done = run("plot", TOP / "examples/bursts.csv", *words, "--force", "--out", self.folder / "x.png")
             self.assertEqual((done.stderr, done.returncode), ("", 0))
             self.assertEqual(first_pixel((self.folder / "x.png").read_bytes()), color)
 
-    # Zooms by the wheel and by the buttons, points at a row, and reports the range of each panel and the values that are shown.
+    # Zooms with the wheel and the buttons, points at a row, and reports the range of each panel and the displayed values.
     WALK = """<script>
 const told = [], tell = () => told.push(charts.map(({ graph }) => graph.xAxisRange().map(Math.round)));
 tell();
@@ -195,7 +195,7 @@ document.body.replaceChildren(made('pre', 'told', JSON.stringify(told)));
     @skip_without("chromium")
     @skip_without("dygraphs")
     def test_a_page_is_zoomed_and_tells_values(self):
-        """All panels have the same range after each step, a smaller one after a zoom; at row 4 one packet waits, and the run has one."""
+        """All panels have the same range after each step, a smaller one after a zoom; at row 4 one packet waits, and the run took one."""
         self.plot(self.ROWS, "--out", self.folder / "x.html")
         page = self.write("walked.html", (self.folder / "x.html").read_text().replace("</body>", self.WALK + "</body>"))
         done = subprocess.run(["chromium", "--headless", "--no-sandbox", "--disable-gpu", f"--user-data-dir={self.folder}/profile",
@@ -246,7 +246,7 @@ document.body.replaceChildren(made('pre', 'told', JSON.stringify(told)));
 
     @skip_without("matplotlib")
     def test_a_home_that_nobody_can_write(self):
-        """The library keeps a list of fonts there; without one it leaves nothing elsewhere, and says nothing."""
+        """The library keeps a list of fonts in the home folder; if it isn't writable, no file is left elsewhere, and no message is printed."""
         os.mkdir(self.folder / "tmp")
         done = run("plot", TOP / "examples/bursts.csv", "--out", self.folder / "x.png", HOME="/proc", XDG_CACHE_HOME="/proc",
                    TMPDIR=str(self.folder / "tmp"))
@@ -254,12 +254,12 @@ document.body.replaceChildren(made('pre', 'told', JSON.stringify(told)));
 
 
 def points_of(text):
-    """The points of each curve that has a name, of what would be drawn."""
+    """Returns the points of each named curve that would be drawn."""
     return {each["name"]: each["points"] for panel in json.loads(text)["panels"] for each in panel["curves"] if each["name"]}
 
 
 def first_pixel(picture):
-    """The colour of the first pixel of a .png, which no filter changes."""
+    """Returns the colour of the first pixel of a .png, which no filter changes."""
     place, packed = 8, b""
     while place < len(picture):
         size, kind = struct.unpack(">I4s", picture[place : place + 8])

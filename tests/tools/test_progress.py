@@ -1,4 +1,4 @@
-"""Tests of what long work shows: how far it is and the time left, on standard error of a terminal, and nothing elsewhere or by --quiet."""
+"""Tests of the progress of long work: its share and the time left, on a terminal's standard error only, and not with --quiet."""
 
 import os
 import re
@@ -9,13 +9,13 @@ import unittest
 from tooltest import HAS_MACHINE, HERE, MACHINE, REPLAY, SERIES, TOP, InFolder, run
 
 BURSTS = TOP / "examples/bursts.csv"
-# What is read before it waits is half of 40 kB and more than is read at once.
+# The part that is read before it waits is half of 40 kB and more than one read.
 HALF = "#!/bin/sh\nhead -c 20000 > /dev/null; sleep 2.5; exit 1\n"
 
 
 class Shown(InFolder):
     def seen(self, tool, *words, **variables):
-        """What a tool writes on a terminal that is its standard error."""
+        """Returns what a tool writes on a terminal that is its standard error."""
         ours, theirs = os.openpty()
         with subprocess.Popen([sys.executable, "-BES", TOP / "tools" / tool, *map(str, words)], stdout=subprocess.DEVNULL, stderr=theirs,
                               stdin=subprocess.DEVNULL, cwd=self.folder,
@@ -25,7 +25,7 @@ class Shown(InFolder):
             try:
                 while part := os.read(ours, 65536):
                     text += part
-            except OSError:  # the terminal's end
+            except OSError:  # end of the terminal
                 pass
             os.close(ours)
         return text.decode()
@@ -36,7 +36,7 @@ class Shown(InFolder):
         return str(path)
 
     def check(self, pattern, tool, *words, **variables):
-        """It is shown, and its line is cleared; by --quiet it isn't."""
+        """Checks that the progress is shown and its line cleared, and that --quiet hides it."""
         text = self.seen(tool, *words, **variables)
         self.assertRegex(text, rf"\r\x1b\[K{tool}: {pattern}")
         self.assertTrue(text.rpartition(f"{tool}: {re.findall(pattern, text)[-1]}")[2].partition("\r\x1b[K")[1], "it isn't cleared")
@@ -49,12 +49,12 @@ class Shown(InFolder):
         self.assertNotIn("\x1b[K", self.seen("sweep", *words, "--out", "others", "--quiet", PROGRAM=slow))
 
     def test_a_row_of_what_if(self):
-        """By how much of the arrivals the program has read."""
+        """By the share of the arrivals that the program has read."""
         arrivals = self.write("arrivals", "moment,device,bytes\n" + "".join(f"{place:019},1,60\n" for place in range(1600)))
         self.assertIn("making 1 row, 50 %, ", self.seen("what-if", arrivals, MACHINE=self.program("half", HALF)))
 
     def test_a_capture(self):
-        """By how much of it tcpdump has read."""
+        """By the share of the capture that tcpdump has read."""
         capture = self.folder / "capture.pcap"
         capture.write_bytes(b"\xd4\xc3\xb2\xa1" + b"\0" * 39996)
         self.program("tcpdump", HALF)

@@ -1,4 +1,4 @@
-"""Tests of tools/raise: expected numbers are the kernel's own, or of traces that are small enough to be played by hand."""
+"""Tests of tools/raise: expected numbers come from the kernel, or from traces that are small enough to replay by hand."""
 
 import re
 import subprocess
@@ -8,7 +8,7 @@ from tooltest import HEADER, REPLAY, TOP, InFolder, run
 
 class Raise(InFolder):
     def raised(self, text, *words):
-        """The rows of the trace that it writes."""
+        """Returns the rows of the resulting trace."""
         done = run("raise", "-", *words, text=text)
         self.assertEqual(done.returncode, 0, done.stderr)
         return done.stdout.splitlines()[1:]
@@ -18,8 +18,8 @@ class Raise(InFolder):
         return [line.split() for line in done.stdout.splitlines()]
 
     def test_recorded_bursts_lose_no_packet(self):
-        """15245 packets came to the kernel's polls. By a small budget 8441 of them are polled in the recorded runs, 5582 are
-        dropped; with the runs that the kernel would add, all are polled."""
+        """15245 packets reached the kernel's polls. With a small budget the recorded runs poll 8441 of them, and 5582 are dropped; with the runs
+        that the kernel would add, all are polled."""
         words = ["--budget", "16", "--weight", "8"]
         path = TOP / "examples/linux-veth-bursts.csv"
         def sums(report):
@@ -29,14 +29,14 @@ class Raise(InFolder):
         self.assertRegex(done.stderr, r"^raise: \d+ runs raised anew, \d+ rows\n$")
         text = (self.folder / "raised.csv").read_text()
         self.assertEqual(sums(self.replay(text, *words)), (15245, 0, ["list"]))
-        # Only softirq rows are added, and another call adds none.
+        # Only softirq rows are added, and a second call adds none.
         kept = iter(text.splitlines())
         self.assertTrue(all(row in kept for row in path.read_text().splitlines()))
         self.assertEqual(run("raise", self.folder / "raised.csv", *words).stdout, text)
 
     def test_what_the_pages_show_of_a_budget_is_true_to_the_kernel(self):
-        """A command of a page with another budget or weight has its runs raised; or it plays a recording by the recorded one, or
-        arrivals, which raise them, or says what it drops."""
+        """A command in a page with another budget or weight adds runs, or replays a recording with the recorded one, or uses arrivals, for which
+        the machine makes all runs, or the page says what it drops."""
         pages = [TOP / "README.md", TOP / "examples/README.md", *sorted((TOP / "docs").glob("*.md")), TOP / "replay"]
         commands = [line for page in pages for line in page.read_text().splitlines()
                     if re.search(r"(^|[ `])(\./replay|tools/[a-z-]+|(\./)?fintaqush [a-z-]+) [^\[]*--(budget|weight) ", line)]
@@ -48,8 +48,8 @@ class Raise(InFolder):
     BURST = HEADER + "0,1,open,8\n" + "1,1,rx,60\n" * 3 + "2,0,softirq,0\n3,0,softirq,0\n"
 
     def test_by_hand(self):
-        """One packet a run: three runs have a packet each, and as each poll was full a fourth one polls: for nothing, and as a
-        request was missed once more. The row at 3 ms finds the list empty, and stays."""
+        """With one packet per run, three runs take a packet each. Each poll was full and a request was missed, so a fourth run polls without a
+        packet. The row at 3 ms finds the list empty, and stays."""
         words = ["--budget", "1", "--weight", "1"]
         rows = self.BURST.splitlines()[1:]
         self.assertEqual(self.raised(self.BURST, *words), [*rows[:5], *["2,0,softirq,0"] * 3, rows[5]])
@@ -58,8 +58,8 @@ class Raise(InFolder):
         self.assertEqual(self.raised(self.BURST), rows)
 
     def test_a_run_that_is_not_squeezed(self):
-        """With a weight of 1 each full poll is to be repeated, and the run stops with the device on the list, but without a squeeze.
-        The kernel starts another run after it, too."""
+        """With a weight of 1 each full poll asks for a repoll, and the run stops with the device on the list, but without a squeeze. The kernel
+        starts another run after it too."""
         rows = self.BURST.splitlines()[1:]
         raised = self.raised(self.BURST, "--weight", "1")
         self.assertEqual(raised, [*rows[:5], *["2,0,softirq,0"] * 3, rows[5]])
@@ -67,7 +67,7 @@ class Raise(InFolder):
         self.assertEqual([line[-2:] for line in report if line[0] == "softirq"], [["squeezed", "0"]] * 5)
 
     def test_a_trace_of_version_2(self):
-        """With a budget of 1 runs are raised until all of its nine packets are polled, with the usual one none is. Busy rows stay."""
+        """With a budget of 1 runs are added until all nine packets are polled; with the default budget none is added. Busy rows stay."""
         text = (TOP / "examples/busy-poll.csv").read_text()
         words = ["--budget", "1", "--weight", "1"]
         raised = "\n".join([text.splitlines()[0], *self.raised(text, *words), ""])
@@ -83,14 +83,14 @@ class Raise(InFolder):
                          ["0,01,open,8", "1,1,rx,60", "1,1,rx,60", "2,0,softirq,0", *["2,0,softirq,0"] * 2])
 
     def test_a_disable_that_waits_for_the_runs(self):
-        """Of the rows as they are the enable row meets a pending disable; with the runs raised there is none."""
+        """In the given rows the enable row meets a pending disable; with the added runs it doesn't."""
         two = HEADER + "0,1,open,8\n0,2,open,8\n0,1,rx,60\n0,2,rx,60\n1,2,disable,0\n2,0,softirq,0\n3,2,enable,0\n"
         self.assertEqual(self.raised(two, "--budget", "1", "--weight", "1")[5:-1].count("2,0,softirq,0") > 1, True)
         self.assertIn("trace fault 12 Pending row 7", run("raise", "-", "--budget", "1", "--weight", "1", "--restarts", "0", text=two).stderr)
         self.assertIn("trace fault 12 Pending row 6", run("raise", "-", text=two.replace("2,0,softirq,0\n", "")).stderr)
 
     def test_as_many_rows_as_a_trace_has(self):
-        """With a packet a run 49990 packets take 49991 runs, the last for nothing."""
+        """With one packet per run 49990 packets take 49991 runs, the last without a packet."""
         words = ["--budget", "1", "--weight", "1"]
         text = HEADER + "0,1,open,65536\n" + "0,1,rx,60\n" * 49990 + "1,0,softirq,0\n"
         self.assertEqual(len(self.raised(text, *words)), 49991 + 49991)

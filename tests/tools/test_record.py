@@ -1,4 +1,4 @@
-"""Tests of tools/record: what it refuses, and, as root where the kernel traces, recordings of a veth pair of their own."""
+"""Tests of tools/record: its errors, and, as root on a kernel with tracing, recordings of a separate veth pair."""
 
 import os
 import re
@@ -17,8 +17,8 @@ from types import SimpleNamespace
 from tooltest import TOP, InFolder, run
 
 IN_MOUNTS = ["unshare", "-m", "sh", "-c", 'cd /sys/kernel/tracing && { [ -d instances ] || mount -t tracefs nodev .; } 2> /dev/null && cd /sys/kernel/tracing && eval "$1"', "sh"]
-# A program that reads so many packets, under a name of its own; and one that sends bursts again and again, the first one of so many packets,
-# each of one more up to the last.
+# A program with a given name that reads a number of packets; and one that sends bursts repeatedly: the first has so many packets, and each
+# following one has one more, up to the last.
 SERVER = """import socket, sys
 open("/proc/self/comm", "w").write(sys.argv[1])
 end = socket.socket(socket.AF_INET, socket.SOCK_DGRAM)
@@ -40,7 +40,7 @@ for _ in range(times):
 
 
 def in_tracing(command):
-    """What a shell command prints in the folder of tracefs; None if it fails, as where nothing can be traced."""
+    """Returns what a shell command prints in the folder of tracefs; None if it fails, as on a machine without tracing."""
     done = subprocess.run([*IN_MOUNTS, command], capture_output=True, text=True, check=False)
     return done.stdout if done.returncode == 0 else None
 
@@ -52,7 +52,7 @@ HAS_TRACING = HAS_NAMESPACES and in_tracing("ls events/napi/napi_poll") is not N
 
 
 class Refused(InFolder):
-    """What needs no tracing."""
+    """Errors that need no tracing."""
 
     def refused(self, *words, status=1, **options):
         done = subprocess.run([sys.executable, "-BES", TOP / "tools/record", *words], capture_output=True, text=True, check=False, cwd=self.folder, **options)
@@ -65,7 +65,7 @@ class Refused(InFolder):
             self.assertIn("usage: record", self.refused(*words, status=2))
 
     def test_without_root_it_says_so_at_once(self):
-        front = [] if os.geteuid() else ["unshare", "-U"]  # where nobody is root
+        front = [] if os.geteuid() else ["unshare", "-U"]  # run without root
         done = subprocess.run([*front, sys.executable, "-BES", TOP / "tools/record", "--device", "none", "--out", "none/x"], capture_output=True, text=True, check=False)
         self.assertEqual((done.stderr, done.stdout, done.returncode), ("record: only root may record: sudo fintaqush record ..\n", "", 1))
 
@@ -90,10 +90,10 @@ class Refused(InFolder):
 
 
 class Waits(unittest.TestCase):
-    """How long it records, by buffers that are made up: of each look the bytes in the fullest of them."""
+    """How long it records, with made-up sizes of the fullest buffer at each check."""
 
     def looks(self, sizes, seconds):
-        """Whether it ends early, and after how many looks."""
+        """Returns whether it ends early, and after how many checks."""
         sys.path.insert(0, str(TOP / "tools"))
         wait = runpy.run_path(str(TOP / "tools/record"))["wait"]
         wait.__globals__["LOOKS"] = 0.001
@@ -103,7 +103,8 @@ class Waits(unittest.TestCase):
         return wait(instance, SimpleNamespace(seconds=seconds, buffer=1)), len(taken)
 
     def test_it_ends_before_a_buffer_is_full(self):
-        """Four looks ahead of nine tenths of 2^20 bytes: by 50000 a look the 14th has 700000, and with 200000 more it is near 943718, the 15th past it."""
+        """It ends if four more checks would exceed nine tenths of 2^20 bytes, 943718. With 50000 bytes per check, four more lead from 700000 at the
+        14th check to 900000, and from 750000 at the 15th to 950000."""
         self.assertEqual(self.looks(range(50_000, 10**7, 50_000), 60), (True, 15))
         self.assertEqual(self.looks([100_000, 500_000], 60), (True, 2))
 
@@ -117,7 +118,7 @@ class Waits(unittest.TestCase):
 @unittest.skipUnless(HAS_NAMESPACES, "namespaces")
 @unittest.skipUnless(HAS_TRACING, "tracing")
 class Recorded(InFolder):
-    """On a veth pair whose ends are in namespaces of their own."""
+    """On a veth pair whose ends are in separate namespaces."""
 
     def setUp(self):
         super().setUp()
@@ -131,7 +132,7 @@ class Recorded(InFolder):
         addresses = "02:00:00:00:00:01", "02:00:00:00:00:02"
         self.ip("link", "add", self.ends[0], "address", addresses[0], "netns", self.sending, "type", "veth",
                 "peer", "name", self.ends[1], "address", addresses[1], "netns", self.receiving)
-        for place, name in enumerate((self.sending, self.receiving)):  # nothing but what is sent goes over the pair
+        for place, name in enumerate((self.sending, self.receiving)):  # only packets of the test go over the pair
             subprocess.run(["ip", "netns", "exec", name, "sh", "-c", "echo 1 > /proc/sys/net/ipv6/conf/all/disable_ipv6"], stderr=subprocess.DEVNULL, check=False)
             self.ip("-n", name, "addr", "add", f"10.98.0.{place + 1}/24", "dev", self.ends[place])
             self.ip("-n", name, "link", "set", self.ends[place], "up")
@@ -141,7 +142,7 @@ class Recorded(InFolder):
         subprocess.run(["ip", *words], check=True)
 
     def start(self, *words, seconds="1"):
-        """The tool, once it records."""
+        """Starts the tool, and returns when it records."""
         command = [sys.executable, "-BES", TOP / "tools/record", seconds, "--device", self.ends[1], "--netns", self.receiving, "--out", self.folder / "made", *words]
         process = subprocess.Popen(command, stdout=subprocess.PIPE, stderr=subprocess.PIPE, cwd=self.folder,
                                    preexec_fn=lambda: signal.signal(signal.SIGINT, signal.SIG_DFL))
@@ -159,7 +160,7 @@ class Recorded(InFolder):
         subprocess.run(["ip", "netns", "exec", self.sending, sys.executable, "-c", CLIENT, *map(str, numbers)], check=True)
 
     def serve(self, count):
-        """A program that reads so many packets."""
+        """Starts a program that reads so many packets."""
         process = subprocess.Popen(["ip", "netns", "exec", self.receiving, sys.executable, "-c", SERVER, self.program, str(count)], stdout=subprocess.PIPE)
         self.addCleanup(process.communicate)
         self.addCleanup(process.kill)
@@ -173,12 +174,12 @@ class Recorded(InFolder):
         return dict(line.split(" ", 1) for line in lines), body
 
     def check_gone(self, process):
-        """No instance and no file but the recording is left, and tracing is as it was."""
+        """Checks that no instance and no file but the recording is left, and that tracing is as before."""
         self.assertNotIn(f"fintaqush-{process.pid}", in_tracing("ls instances").split())
         self.assertIn(self.names(), ([], ["made"]))
 
     def test_a_recording(self):
-        """Forty bursts of one to forty packets, which a program reads. Numbers come from what was sent, and from the kernel's files."""
+        """Forty bursts of one to forty packets, which a program reads. Expected numbers come from the sent packets, and from the kernel's files."""
         server = self.serve(820)
         set_before = in_tracing("cat current_tracer tracing_on trace_clock events/enable buffer_size_kb saved_cmdlines_size")
         settings = {path.name: path.read_text().strip() for path in Path("/proc/sys/net/core").glob("*[a-z]") if os.access(path, os.R_OK)}
@@ -212,7 +213,7 @@ class Recorded(InFolder):
         self.check_clock(lines, head)
 
     def check_clock(self, lines, head):
-        """Times are of CLOCK_MONOTONIC, and rise on each processor; with the processor's counter they have nine digits."""
+        """Checks that times are of CLOCK_MONOTONIC and rise on each processor; with the processor's counter they have nine digits."""
         stamps = [re.match(r".{16}-\d+\s+\[(\d+)\] \S+ +(\d+)\.(\d+): ", line) for line in lines]
         self.assertTrue(all(stamps))
         self.assertEqual({len(found[3]) for found in stamps}, {9 if head["clock"] == "tsc" else 6})
@@ -225,7 +226,7 @@ class Recorded(InFolder):
         self.assertTrue(2.5e9 < max(times, key=lambda each: each[1])[1] - min(times, key=lambda each: each[1])[1] < 30e9)
 
     def test_a_device_without_a_pair(self):
-        """Of the loopback device, as of a card, it records the packets that are received: at least those that are sent here. They are arrivals."""
+        """On the loopback device, as on a card, it records the received packets: at least those sent here. They are arrivals."""
         process = subprocess.Popen([sys.executable, "-BES", TOP / "tools/record", "2", "--device", "lo", "--out", "made"], stdout=subprocess.PIPE,
                                    stderr=subprocess.PIPE, text=True, cwd=self.folder)
         self.addCleanup(process.communicate)
@@ -257,7 +258,7 @@ class Recorded(InFolder):
             self.check_gone(process)
 
     def test_what_a_killed_one_left_is_removed(self):
-        """And what one that lives has is kept."""
+        """The instance of a running process is kept."""
         process = self.start(seconds="60")
         process.kill()
         process.communicate()
@@ -273,7 +274,7 @@ class Recorded(InFolder):
         self.assertIn(f"fintaqush-{os.getpid()}", left)
 
     def test_events_that_are_lost(self):
-        """While it can't look at its buffers more comes than they hold. It says how many were lost, and the old file stays."""
+        """While the tool can't check its buffers, more events come than they hold. It prints how many were lost, and the old file stays."""
         self.write("made", "old\n")
         process = self.start("--buffer", "1", seconds="3")
         process.send_signal(signal.SIGSTOP)
@@ -284,7 +285,7 @@ class Recorded(InFolder):
         self.assertEqual((process.returncode, self.names(), (self.folder / "made").read_text()), (1, ["made"], "old\n"))
 
     def test_a_machine_without_an_even_counter(self):
-        """CLOCK_MONOTONIC is taken then, and times have six digits."""
+        """CLOCK_MONOTONIC is used instead, and times have six digits."""
         tool = f"""import runpy, sys
 sys.path.insert(0, "{TOP}/tools")
 sys.argv[0] = "record"

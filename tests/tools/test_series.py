@@ -1,4 +1,4 @@
-"""Tests of napi_series: its lines are what the reports of all prefixes tell, and its faults those of napi_replay."""
+"""Tests of napi_series: its lines equal the values in the reports of all prefixes, and its faults equal napi_replay's."""
 
 import subprocess
 import unittest
@@ -8,7 +8,7 @@ from tooltest import HEADER, REPLAY, SERIES, TOP
 
 NAMES = "row,moment,device,state,waiting,arrived,dropped,polled,in_flight,limit,avail,stopped,polls,work,squeezed,word,list,gave\n"
 
-# Every event, a full ring, a pending disable, a thread, a queue that is over its limit, a completion that is refused.
+# Every event, a full ring, a pending disable, a thread, a queue over its limit, a rejected completion.
 MIXED = """0,1,open,3
 0,2,open,2
 1,1,rx,100
@@ -48,7 +48,7 @@ def run(program, words, text):
 
 class Series(unittest.TestCase):
     def check_prefixes(self, rows, words, every=1, header=HEADER):
-        """The series has to be what a replay of each prefix reports."""
+        """Checks that the series equals the reports of the replays of all prefixes."""
         done = run(SERIES, [*(["--every", str(every)] if every > 1 else []), *words], header + "".join(f"{row}\n" for row in rows))
         self.assertEqual((done.stderr, done.returncode), ("", 0))
         self.assertEqual(done.stdout, series_by_reports(REPLAY, rows, words, every, header))
@@ -75,16 +75,16 @@ class Series(unittest.TestCase):
         self.check_prefixes(rows[:600], [], 7)
 
     def test_by_hand(self):
-        """A packet comes and is polled. The limit of 0 stops the queue at its first 100 bytes, so that the second packet is
-        held back, and their completion lifts it by 100."""
+        """A packet arrives and is polled. The limit of 0 stops the queue at its first 100 bytes, so that the second packet is held back; their
+        completion raises the limit by 100."""
         text = HEADER + "0,1,open,8\n3,1,rx,60\n4,0,softirq,0\n5,1,tx,100\n6,1,tx,100\n7,1,done,1\n"
         self.assertEqual(run(SERIES, [], text).stdout, NAMES + "1,0,1,on,0,0,0,0,,,,,,,,0,,\n2,3,1,on,1,1,0,0,,,,,,,,4294967297, 1,\n"
                          "3,4,0,,,,,,,,,,1,1,0,,, 1:1\n4,5,1,on,0,1,0,1,100,0,-100,1,,,,0,,\n5,6,1,on,0,1,0,1,100,0,-100,1,,,,0,,\n"
                          "6,7,1,on,0,1,0,1,0,100,100,0,,,,0,,\n")
 
     def test_what_a_run_polls(self):
-        """By hand: a budget of 2 packets and a weight of 1: the run polls both devices once, puts back both, and device 2 is empty then;
-        the next one finds that out, and gives device 1's second packet, a whole weight again."""
+        """By hand, with a budget of 2 packets and a weight of 1: the run polls both devices once and requeues both, and device 2 is empty then;
+        the next run finds it empty, and takes device 1's second packet, again a whole weight."""
         text = HEADER + "0,1,open,8\n0,2,open,8\n1,1,rx,60\n1,1,rx,60\n1,2,rx,60\n2,0,softirq,0\n3,0,softirq,0\n"
         lines = run(SERIES, ["--budget", "2", "--weight", "1"], text).stdout.splitlines()
         self.assertEqual([line.split(",")[-2:] for line in lines[3:]], [[" 1", ""], [" 1", ""], [" 1 2", ""], [" 1 2", " 1:1 2:1"], [" 1", " 1:1 2:0"]])

@@ -1,4 +1,4 @@
-"""Tests of tools/steps: what its page shows, by a browser if there is one, is what the report of each prefix of the trace says."""
+"""Tests of tools/steps: its page, in a browser if there is one, shows the values in the report of each prefix of the trace."""
 
 import html
 import json
@@ -14,7 +14,7 @@ from tooltest import HEADER, REPLAY, TOP, InFolder, contrast, run
 BROWSER = next(filter(None, map(shutil.which, ("chromium", "chromium-browser", "google-chrome"))), None)
 # docs/FORMATS.md, "The state word".
 FLAGS = {0: "SCHED", 1: "MISSED", 2: "DISABLE", 3: "NPSVC", 6: "IN_BUSY_POLL", 8: "THREADED", 9: "SCHED_THREADED", 32: "QUEUED", 33: "TO_THREAD"}
-# Steps on by the key, the button, the slider and a stroke in turn, then back by each, and prints what is shown after each step.
+# Steps forward with the key, the button, the slider and a swipe in turn, then back with each, and prints what is shown after each step.
 WALK = """<script>
 const one = name => document.querySelector(name).textContent;
 const told = [], shown = () => told.push({ place: by('place').textContent, list: one('.list'), said: one('.said'),
@@ -43,7 +43,7 @@ class Steps(InFolder):
         return (self.folder / "page.html").read_text()
 
     def dumped(self, page, *words):
-        """What a browser makes of a page."""
+        """Returns what a browser makes of a page."""
         self.write("walked.html", page)
         done = subprocess.run([BROWSER, "--headless", "--no-sandbox", "--disable-gpu", f"--user-data-dir={self.folder}/profile", *words,
                                "--dump-dom", f"file://{self.folder}/walked.html"], capture_output=True, text=True, check=False, timeout=300,
@@ -52,7 +52,7 @@ class Steps(InFolder):
 
     @staticmethod
     def wanted(header, rows, words):
-        """What has to be shown behind each row, by the report of the rows up to there."""
+        """Yields what must be shown after each row, from the report of the rows up to there."""
         places = {row.split(",")[1]: row.split(",")[3] for row in rows if row.split(",")[2] == "open"}
         for number in range(len(rows) + 1):
             report = report_of(REPLAY, rows[:number], words, header)
@@ -84,7 +84,7 @@ class Steps(InFolder):
 
     @unittest.skipUnless(BROWSER, "chromium")
     def test_a_page_is_no_wider_than_a_phone(self):
-        """A browser's window is 500 wide at least, so the page is shown in a frame of 360."""
+        """A browser's window is at least 500 wide, so the page is shown in a frame of 360."""
         page = self.steps(TOP / "examples/two-queues.csv")
         frame = self.write("frame.html", page.replace("</body>", "<script>go(9); parent.postMessage(document.documentElement.scrollWidth, '*')"
                                                       "</script></body>"))
@@ -93,17 +93,17 @@ class Steps(InFolder):
         self.assertTrue(found and 0 < int(found[1]) <= 360, found)
 
     def data(self, trace, *words):
-        """What a page shows, as it has it."""
+        """Returns the data of a page."""
         return json.loads(re.search(r"^const page = (.*);$", self.steps(trace, *words), re.M)[1])
 
     def said(self, rows, *words, header=HEADER):
-        """What the page says after each row."""
+        """Returns the page's sentences for each row."""
         trace = self.write("trace.csv", header + "".join(f"{row}\n" for row in rows))
         return [step["said"] for step in self.data(trace, *words)["sides"][0]["steps"]][1:]
 
     def test_what_a_row_did_and_by_which_rule(self):
-        """By hand: the ring has two places, so a third packet is dropped; the second one's request is missed. A budget of 1 is spent
-        by the first packet, with the device on the list."""
+        """By hand: the ring has two places, so a third packet is dropped; the second one's request is missed. The first packet uses up a budget
+        of 1, with the device on the list."""
         said = self.said(["0,1,open,2", "1,1,rx,60", "1,1,rx,60", "1,1,rx,60", "2,0,softirq,0", "3,0,softirq,0", "4,1,disable,0", "4,1,rx,60",
                           "6,1,tx,100", "7,1,done,1", "7,1,done,1"], "--budget", "1", "--weight", "1")
         texts = ["".join(f"{sentence} {rule} " for sentence, rule in step) for step in said]
@@ -120,7 +120,7 @@ class Steps(InFolder):
     QUEUED = ["0,1,open,8", "0,2,open,8", "0,3,open,8", "1,1,rx,60", "1,2,rx,60", "1,1,rx,60", "1,3,rx,60", "1,1,rx,60", "1,3,rx,60"]
 
     def polls(self, rows, *words):
-        """The polls of each run: device, packets, how it ended, and what is left of the budget."""
+        """Returns the polls of each run: device, packets, how it ended, and the remaining budget."""
         trace = self.write("trace.csv", HEADER + "".join(f"{row}\n" for row in rows))
         steps = self.data(trace, *words)["sides"][0]["steps"]
         return [step["polls"] and [(poll["device"], poll["packets"], poll["ending"], poll["budget"]) for poll in step["polls"]]
@@ -128,15 +128,15 @@ class Steps(InFolder):
 
     def test_a_run_poll_by_poll(self):
         """By hand, with a weight of 2. The list has 1, 2 and 3. Device 1 has three packets: its poll takes two and asks for a repoll.
-        Device 2 has one and no missed request, so it completes. Device 3 has two, its whole weight. Then the run stops, as something is
-        to be repolled. The next run takes device 1's last packet: a request was missed, so it is polled again; device 3 has none left, and
-        a missed request; then each is polled once more, completes and is idle."""
+        Device 2 has one and no missed request, so it completes. Device 3 has two, its whole weight. Then the run stops, because devices wait for a
+        repoll. The next run takes device 1's last packet: a request was missed, so it is polled again; device 3 has none left, and a missed request;
+        then each is polled once more, completes and is idle."""
         again, repoll = "a request was missed: poll again", "its whole weight: repoll"
         first = [(1, 2, repoll, 8), (2, 1, "complete", 7), (3, 2, repoll, 5)]
         second = [(1, 1, again, 9), (3, 0, again, 9), (1, 0, "complete", 9), (3, 0, "complete", 9)]
         rows = [*self.QUEUED, "2,0,softirq,0", "3,0,softirq,0"]
         self.assertEqual(self.polls(rows, "--weight", "2", "--budget", "10"), [first, second])
-        # A budget of 3 is used up by two polls; device 3 stays on the list, before device 1, which is to be repolled.
+        # Two polls use up a budget of 3; device 3 stays on the list, before device 1, which waits for a repoll.
         self.assertEqual(self.polls(rows, "--weight", "2", "--budget", "3"), [[(1, 2, repoll, 1), (2, 1, "complete", 0)],
                                                                              [(3, 2, repoll, 1), (1, 1, again, 0)]])
 
@@ -149,7 +149,7 @@ class Steps(InFolder):
                          [[(1, 1, 2)], [(2, 0, 1)], [(3, 0, 2)]])
 
     def test_polls_add_up_to_their_runs(self):
-        """In recordings, with several settings: each run that opens has the polls and the packets of its report."""
+        """In recordings, with several settings: the polls and packets of each expanded run sum to those of its report."""
         for name, rows, words in (("linux-veth-bursts", "1:500", ["--budget", "16", "--weight", "8"]), ("linux-veth-small-budget", "120:320", []),
                                   ("linux-veth-tcp", "13500:13913", ["--budget", "64"])):
             trace, known, runs = TOP / f"examples/{name}.csv", 0, 0
@@ -168,7 +168,7 @@ class Steps(InFolder):
             self.assertEqual(known, runs, name)
 
     def test_a_window_of_rows(self):
-        """Rows of a recording of 13,913 rows: their numbers stay those of the trace, and the states those of the reports so far."""
+        """Rows of a recording of 13,913 rows: their numbers stay those of the trace, and the states match the reports so far."""
         trace = TOP / "examples/linux-veth-tcp.csv"
         header, *rows = trace.read_text().splitlines()
         page = self.data(trace, "--rows", "13900:13913")
@@ -199,7 +199,7 @@ class Steps(InFolder):
         for wrong in ("--budget", "--budget x", "'", "3"):
             self.assertEqual(run("steps", trace, "--out", "x.html", "--beside", wrong, folder=self.folder).returncode, 2)
 
-    # Clicks on a mark and on a poll, plays, pauses and steps by keys, and reports the row and the list after each.
+    # Clicks on a mark and on a poll, plays, pauses and steps with keys, and reports the row and the list after each.
     CLICKS = """<script>
 const told = [], tell = () => told.push([page.steps[here()].at, document.querySelector('.list').textContent, document.querySelectorAll('tr.chosen').length]);
 const near = number => {
@@ -233,7 +233,7 @@ setTimeout(() => { by('play').click(); told.push(by('play').getAttribute('aria-l
         self.assertEqual(told[-1], "Timeline of 11 rows: 1 squeezed runs, 1 dropped packets.")
 
     def test_texts_can_be_read(self):
-        """In both modes each text has a contrast of at least 4.5 to what it stands on, and each curve and border of at least 3."""
+        """In both modes text has a contrast of at least 4.5 to its background, and curves and borders of at least 3."""
         page = self.steps(TOP / "examples/two-packets.csv")
         for block in re.findall(r":root \{(.*?)\}", page, re.S):
             colors = dict(re.findall(r"--(\w+): #([0-9a-f]{6})", block))

@@ -1,4 +1,4 @@
-"""Tests of tools/ where what is around them is broken or hostile: each ends by a line and a status, and never by a traceback."""
+"""Tests of tools/ in a broken or hostile environment: each fails with one line and an exit status, and never with a traceback."""
 
 import os
 import re
@@ -16,7 +16,7 @@ import toolbox  # noqa: E402
 
 TRACE = TOP / "examples/bursts.csv"
 REPORT = "list\ntotal devices 0 runs 0 polls 0 work 0 squeezed 0\n"
-# Each tool with words by which it writes to standard output, and its input.
+# Each tool with options by which it writes to standard output, and its input.
 WRITERS = {"raise": [TRACE], "report2json": ["-"], "traffic": [], "compare-runs": [TRACE, "--budget", "1", "--"],
            "plot": [TRACE, "--json"], "compare-recording": [TOP / "examples/linux-veth-small-budget", "--budget", "64"],
            "from-ftrace": [HERE / "soft-tcp.txt", "made", *(f"--pair=va{number}:vb{number}" for number in range(1, 7))],
@@ -36,18 +36,18 @@ MOST_SECONDS = 300
 
 class Surroundings(InFolder):
     def start(self, tool, words, environment=USUAL, **ends):
-        """A tool at work, for which Ctrl-C isn't ignored."""
+        """Starts a tool for which Ctrl-C isn't ignored."""
         return subprocess.Popen([sys.executable, "-B", TOP / "tools" / tool, *words], stderr=subprocess.PIPE, cwd=self.folder,
                                 env={**environment, "PROGRAM": REPLAY, "SERIES": SERIES, "MACHINE": MACHINE, **ends.pop("variables", {})},
                                 preexec_fn=lambda: signal.signal(signal.SIGINT, signal.SIG_DFL), **ends)
 
     def check_line(self, tool, said):
-        """One line of the tool's own."""
+        """Checks that the tool printed one line of its own."""
         self.assertEqual(said.count(b"\n"), 1, (tool, said))
         self.assertTrue(said.startswith(f"{tool}: ".encode()), (tool, said))
 
     def writes(self):
-        """Every way to write to standard output, and a folder without what was made beside it, as nothing is overwritten."""
+        """Yields every way to write to standard output, each in a folder without earlier outputs, because no file is overwritten."""
         self.write("captured", CAPTURED)
         self.write("arrivals", "moment,device,bytes\n0,1,60\n")
         for environment in (USUAL, BARE):
@@ -64,7 +64,7 @@ class Surroundings(InFolder):
             self.assertEqual((said, process.returncode), (f"{tool}: No space left on device\n".encode(), 1))
 
     def test_a_disk_that_fills_up_with_outputs_unbuffered(self):
-        """A file of 1 kB takes some of what is written, and Python, unbuffered, would take that for all."""
+        """A file limited to 1 kB takes part of the output, and Python, unbuffered, would take that for all."""
         report = subprocess.run([REPLAY], input=(TOP / "examples/linux-veth-bursts.csv").read_bytes(), capture_output=True, check=True).stdout
         words = {tool: WRITERS[tool] for tool in ("raise", "report2json", "traffic", "plot")}
         for environment in (USUAL, BARE):
@@ -76,7 +76,7 @@ class Surroundings(InFolder):
                 self.assertEqual((done.stderr, done.returncode), (f"{tool}: File too large\n".encode(), 1))
 
     def test_numbers_of_5000_digits(self):
-        """Python makes none of so many: they are refused as any other that is too great."""
+        """Python rejects numbers with so many digits: the error is that of any number that is too large."""
         digits = "9" * 5000
         event = f"   a-1  [000] b....  5.000000: net_dev_xmit: dev=va1 skbaddr=0 len={digits} rc=0\n"
         self.write("made.csv", HEADER)
@@ -96,12 +96,12 @@ class Surroundings(InFolder):
             self.assertLess(len(done.stderr), 3000)
 
     def within(self, memory, tool, *words):
-        """A tool in that many kB of address space."""
+        """Runs a tool in that many kB of address space."""
         return subprocess.run(["bash", "-c", f'ulimit -v {memory}; exec "$0" "$@"', sys.executable, "-BES", TOP / "tools" / tool, *words],
                               capture_output=True, check=False, cwd=self.folder, env={**USUAL, "PROGRAM": REPLAY, "SERIES": SERIES, "MACHINE": MACHINE})
 
     def test_want_of_memory(self):
-        """60 MB can be read in 100 MB, and not be read as text as well."""
+        """In 100 MB, 60 MB can be read, but not decoded to text as well."""
         text = self.write("text", "softirq 4 polls 2 work 3 squeezed 1\n" * 1700000)
         for tool, words in (("report2json", [text]), ("plot", ["--series", text, "--json"])):
             done = self.within(100000, tool, *words)
@@ -109,7 +109,7 @@ class Surroundings(InFolder):
         self.assertEqual(self.names(), ["text"])
 
     def test_want_of_memory_at_any_time(self):
-        """From where Python and toolbox.py have started on it ends by a line, and with enough of it as ever."""
+        """Once Python and toolbox.py have started, it ends with one line; with enough memory it works as usual."""
         for tool, words in (("report2json", ["report"]), ("traffic", ["--out", "out"]), ("sweep", ["--help"])):
             self.write("report", REPORT)
             statuses = set()
@@ -122,7 +122,7 @@ class Surroundings(InFolder):
             self.assertIn(0, statuses)
 
     def test_an_end_by_TERM_leaves_nothing(self):
-        """As a batch system ends a job, to the tool alone: no file beside the old one, and no program at work."""
+        """A batch system sends TERM to the tool only: no temporary file and no running program is left."""
         old = self.write("old.svg", "old\n")
         held = self.write("held", f"#!/bin/sh\necho $$ > '{self.folder}/begun.new'\nmv '{self.folder}/begun.new' '{self.folder}/begun'\nexec sleep 1000\n")
         held.chmod(0o755)
@@ -147,7 +147,7 @@ class Surroundings(InFolder):
                 self.assertEqual((old.read_text(), self.names()), ("old\n", before), tool)
 
     def test_more_interruptions_disturb_nothing(self):
-        """One each millisecond, from when it reads a FIFO on until it has ended: a line, and its status."""
+        """One signal per millisecond, from when it reads a FIFO until it has ended: one line, and its exit status."""
         os.mkfifo(self.folder / "fifo.csv")
         for tool, words in (("report2json", []), ("raise", ["--out", "out"]), ("from-pcap", ["made"])):
             process, end = self.start(tool, ["fifo.csv", *words], stdout=subprocess.PIPE), None
@@ -182,7 +182,7 @@ class Surroundings(InFolder):
             self.assertEqual(self.names(), ["arrivals", "captured"])
 
     def test_a_standard_error_that_takes_nothing(self):
-        """The status tells what it would tell."""
+        """The exit status is the same."""
         for environment in (USUAL, BARE):
             for tool in ALL:
                 for words, status in ((["--no-such-word"], 2), (["--help"], 0)):
@@ -192,7 +192,7 @@ class Surroundings(InFolder):
                     self.assertEqual(done.returncode, status, (tool, words))
 
     def held(self, name):
-        """A program that tells when it has begun, and then waits for ever; and where it tells that."""
+        """Returns a program that creates a file when it begins and then waits for ever, and the name of that file."""
         for fifo in ("begun", "never"):
             if not (self.folder / fifo).exists():
                 os.mkfifo(self.folder / fifo)
@@ -201,7 +201,7 @@ class Surroundings(InFolder):
         return program
 
     def interrupt(self, process, begun, is_ready=lambda: True):
-        """Ctrl-C on its terminal, where all that is at work has it, once the held program has begun."""
+        """Sends Ctrl-C as a terminal does, to all processes, once the waiting program has begun."""
         until = time.monotonic() + MOST_SECONDS
         while not (select.select([begun], [], [], 0.1)[0] and is_ready()):
             self.assertIsNone(process.poll())
@@ -213,7 +213,7 @@ class Surroundings(InFolder):
         return names, said
 
     def test_an_interruption_of_tools_that_write(self):
-        """In the middle of a replay: the old file stays, and nothing beside it."""
+        """In the middle of a replay: the old file stays, and no temporary file."""
         held = self.held("held")
         old = self.write("old.svg", "old\n")
         before = self.names()
@@ -229,7 +229,7 @@ class Surroundings(InFolder):
             self.assertEqual((old.read_text(), self.names()), ("old\n", before))
 
     def test_an_interruption_of_a_sweep(self):
-        """What was played is there, line by line, and the next call goes on with it."""
+        """Finished rows are in the file, line by line, and the next call resumes with it."""
         held, out = self.held("held"), self.folder / "rows"
         held.write_text(held.read_text().replace("#!/bin/sh\n", f"#!/bin/sh\n[ \"$2\" = 300 ] || exec '{REPLAY}' \"$@\"\n"))
         words = [TRACE, "--budget", "64,300", "--jobs", "1", "--out", out]
@@ -245,7 +245,7 @@ class Surroundings(InFolder):
         self.assertEqual(len(out.read_text().splitlines()), 3)
 
     def test_an_interruption_before_it_has_begun(self):
-        """While it imports what it needs: it ends by the signal, and says nothing, or says that it was interrupted."""
+        """During the imports: the signal ends it, without a message or with the one that it was interrupted."""
         for module in ("csv", "argparse"):
             self.write(f"{module}.py", "import os, signal\nos.kill(os.getpid(), signal.SIGINT)\n")
             for tool in ALL:
@@ -259,7 +259,7 @@ class Surroundings(InFolder):
             (self.folder / f"{module}.py").unlink()
 
     def interrupt_reading(self, process):
-        """Ctrl-C again and again: one between Python's look for signals and its wait for a byte is seen only behind that wait."""
+        """Sends Ctrl-C repeatedly: one that comes between Python's check for signals and its wait for a byte is handled only after that wait."""
         until = time.monotonic() + MOST_SECONDS
         while True:
             process.send_signal(signal.SIGINT)
@@ -269,7 +269,7 @@ class Surroundings(InFolder):
                 self.assertLess(time.monotonic(), until)
 
     def test_an_interruption_of_tools_that_read(self):
-        """On a FIFO that somebody has open and writes nothing to."""
+        """On a FIFO that a process has open and writes nothing to."""
         os.mkfifo(self.folder / "fifo.csv")
         words = {"compare-runs": ["--"], "plot": ["--json"], "from-pcap": ["made"], "from-ftrace": ["made"]}
         for tool in ALL:
@@ -297,7 +297,7 @@ class Surroundings(InFolder):
         self.assertEqual((old.read_text(), self.names()), ("old\n", ["old.csv"]))
 
     def test_files_that_cannot_be_written_leave_the_old_ones(self):
-        """A file beside the target takes the text, so that nothing is cut: here it may have no more than 1 kB."""
+        """A temporary file takes the text, so that no file is truncated: here files are limited to 1 kB."""
         old = self.write("old.csv", "old\n")
         words = {"raise": [TRACE, "--out", old], "traffic": ["--out", old], "report2json": ["-", "--out", old]}
         report = subprocess.run([REPLAY], input=(TOP / "examples/linux-veth-bursts.csv").read_bytes(), capture_output=True, check=True).stdout
@@ -308,7 +308,7 @@ class Surroundings(InFolder):
             self.check_line(tool, done.stderr)
 
     def test_a_disk_that_is_full(self):
-        """For which files stand that may not grow at all: each tool that writes some says so, and what was there stays."""
+        """With a limit of no bytes per file, each tool that writes a file says so, and old files stay."""
         old, rows = self.write("old.svg", "old\n"), self.folder / "rows"
         self.assertEqual(run("sweep", TRACE, "--budget", "64", "--out", rows).returncode, 0)
         before = rows.read_text()

@@ -15,7 +15,7 @@ from tooltest import HEADER, REPLAY, TOP, InFolder, run, skip_without
 
 
 def slurm_block():
-    """The job array of docs/TOOLS.md."""
+    """Returns the job array of docs/TOOLS.md."""
     lines = (TOP / "docs/TOOLS.md").read_text().splitlines()
     first = lines.index("    #!/bin/bash")
     last = next(place for place in range(first, len(lines)) if not lines[place].startswith("    "))
@@ -23,7 +23,7 @@ def slurm_block():
 
 
 def has_slurm():
-    """Whether a job can be given to a slurmd."""
+    """Returns whether a slurmd accepts jobs."""
     return bool(shutil.which("sbatch")) and subprocess.run(["sinfo", "-h"], capture_output=True, check=False).returncode == 0
 
 
@@ -46,9 +46,9 @@ class Sweep(InFolder):
             return list(csv.DictReader(file))
 
     def check_rows(self):
-        """Nine packets come to eight places, so one is dropped. A budget of 2 squeezes the run after its first poll. A poll
-        that is full has its next turn in the next run; one that isn't is made again, for the requests that were missed. The
-        queue's limit of 0 grows by the 100 bytes that were complete while nothing else was queued."""
+        """Nine packets meet eight places, so one is dropped. A budget of 2 squeezes the run after its first poll. A device whose poll was full is
+        polled again in the next run; one whose poll wasn't is polled again because of missed requests. The queue's limit of 0 grows by the 100
+        bytes that were completed while nothing else was queued."""
         rows = self.rows()
         self.assertEqual([(row["budget"], row["weight"]) for row in rows], [("2", "2"), ("2", "64"), ("300", "2"), ("300", "64")] * 2)
         names = ["status", "fault", "polls", "work", "squeezed", "dropped", "left", "greatest_limit"]
@@ -83,7 +83,7 @@ total devices 3 runs 2 polls 7 work 80 squeezed 2
 """
 
     def test_each_value_is_of_all_rows_and_devices(self):
-        """A program that prints this report: rows of all three kinds poll, each number has a digit of its own, and the greatest limit is
+        """With a program that prints this report: rows of all three kinds poll, each number has a digit of its own, and the greatest limit is
         neither the first queue's nor the last one's."""
         program = self.write("program", f"#!/bin/sh\ncat > '{self.folder}/read'\ncat '{self.write('report', self.REPORT)}'\n")
         program.chmod(0o755)
@@ -111,7 +111,7 @@ total devices 3 runs 2 polls 7 work 80 squeezed 2
         self.assertEqual(self.out.read_text().splitlines(keepends=True), [kept[0], kept[1], *lines[2:]])
 
     def test_a_damaged_file_and_the_line_that_repairs_it(self):
-        """What the refusal tells is done by a shell; then --resume has all rows again."""
+        """A shell runs the command in the error message; then --resume has all rows again."""
         self.sweep()
         whole = self.out.read_text()
         for damage in (lambda lines: [lines[0], lines[1], lines[2].replace(",", "", 3), *lines[3:]], lambda lines: ["trace;sum\n", *lines[1:]]):
@@ -124,7 +124,7 @@ total devices 3 runs 2 polls 7 work 80 squeezed 2
             self.assertEqual(self.out.read_text(), whole)
 
     def test_limits(self):
-        """By --fail-if a result beyond one makes the status 3; by hand, a budget of 2 squeezes, and 300 doesn't."""
+        """With --fail-if, a result beyond a limit sets exit status 3; by hand, a budget of 2 squeezes, and 300 doesn't."""
         for condition, status in (("squeezed>0", 3), ("squeezed>1", 0), ("dropped >= 1", 3), ("left==6", 3), ("work<2", 0)):
             done = self.sweep("--resume", "--fail-if", condition)
             self.assertEqual((done.returncode, done.stderr.count("sweep: --fail-if")), (status, status // 3), condition)
@@ -133,7 +133,7 @@ total devices 3 runs 2 polls 7 work 80 squeezed 2
             self.assertEqual(self.sweep("--fail-if", condition).returncode, 2, condition)
 
     def test_two_calls_on_one_file_lose_no_row(self):
-        """Each plays other windows, at the same time; the file has the rows of both, each once."""
+        """Each replays other windows, at the same time; the file has the rows of both, each once."""
         slow = self.write("slow", f"#!/bin/sh\nsleep 0.05\nexec '{REPLAY}' \"$@\"\n")
         slow.chmod(0o755)
         words = [self.folder, "--budget", "2,300", "--resume", "--jobs", "2", "--out", self.out, "--program", slow]
@@ -145,7 +145,7 @@ total devices 3 runs 2 polls 7 work 80 squeezed 2
                          sorted(itertools.product(["burst.csv", "faulty.csv"], ["2", "300"], sum(windows, []))))
 
     def test_it_goes_by_what_a_trace_holds(self):
-        """A trace that has changed is played anew, and its old rows go; one with another name isn't played, and has its rows."""
+        """A changed trace is replayed again, and its old rows are removed; a renamed one isn't replayed, and keeps its rows."""
         played = self.folder / "played"
         program = self.write("program", f"#!/bin/sh\necho >> '{played}'\nexec '{REPLAY}' \"$@\"\n")
         program.chmod(0o755)
@@ -175,7 +175,7 @@ total devices 3 runs 2 polls 7 work 80 squeezed 2
         self.assertEqual(sorted(self.out.read_text().splitlines()), sorted(whole.splitlines()))
 
     def test_tasks_that_are_cancelled_and_resumed_have_the_rows_of_one_machine(self):
-        """Sixteen of them, each with its part, ended by TERM as a job is that is cancelled, at any time, and begun again until all end."""
+        """Sixteen tasks, each with its part, are terminated at any time, as a cancelled job is, and started again until all have finished."""
         slow = self.write("slow", f"#!/bin/sh\nsleep 0.05\nexec '{REPLAY}' \"$@\"\n")
         slow.chmod(0o755)
         windows = ",".join(str(number) for number in range(1, 33))
@@ -223,7 +223,7 @@ total devices 3 runs 2 polls 7 work 80 squeezed 2
         self.assertEqual(len(self.rows()), 12)
 
     def test_what_fails_is_no_row_and_is_tried_again(self):
-        """A program that ends by a signal, one that isn't the replay, one that reads nothing, and one that fails twice."""
+        """A program that a signal ends, one that isn't the replay, one that reads nothing, and one that fails twice."""
         for body in ("kill -9 $$", "exit 0", "echo hello", "echo 'memory fault 11 OutOfMemory' >&2; exit 4",
                      "echo 'trace fault 10 ReadFailed' >&2; exit 2", "exit 64"):
             program = self.write("program", f"#!/bin/sh\n{body}\n")
@@ -235,7 +235,7 @@ total devices 3 runs 2 polls 7 work 80 squeezed 2
         program.write_text(f"#!/bin/sh\necho >> '{self.folder}/calls'\nexec '{REPLAY}' \"$@\"\n")
         self.assertEqual(self.sweep("--resume", "--program", program).returncode, 0)
         self.check_rows()
-        # Twice no luck, and then there is.
+        # It fails twice, and then succeeds.
         self.out.unlink()
         program.write_text(f"#!/bin/sh\nd='{self.folder}/'$2-$4; if mkdir \"$d\" 2> /dev/null || mkdir \"$d\"b 2> /dev/null; then exit 7; fi\n"
                            f"exec '{REPLAY}' \"$@\"\n")
@@ -243,7 +243,7 @@ total devices 3 runs 2 polls 7 work 80 squeezed 2
         self.check_rows()
 
     def test_runs_raised_anew(self):
-        """By the recorded runs alone 5582 packets are dropped; Linux would have raised more."""
+        """With the recorded runs only, 5582 packets are dropped; Linux would have made more runs."""
         trace = TOP / "examples/linux-veth-bursts.csv"
         for words in ([], ["--raise"]):
             done = run("sweep", trace, "--budget", "16", "--weight", "8", "--out", self.out, "--resume", *words)
@@ -281,7 +281,7 @@ total devices 3 runs 2 polls 7 work 80 squeezed 2
         self.assertEqual((done.returncode, "\x1b" in done.stderr), (0, False), done.stderr)
         self.assertIn(b"/\xff;touch x,\x1b.csv", self.out.read_bytes())
 
-    # In place of ssh: it runs here what it is to run on a host, and no host called dead answers.
+    # In place of ssh: it runs the command here instead of on a host, and a host called dead doesn't respond.
     SSH = """#!/bin/bash
 while [[ $1 = -* ]]; do
     case $1 in -[olpiF]) shift ;; esac
@@ -295,7 +295,7 @@ SHELL=/bin/bash exec bash -c "$*"  # as sshd does
 """
 
     def by_ssh(self, *hosts, words=()):
-        """A sweep over these machines, and the hosts that were asked for something."""
+        """Runs a sweep over these machines, and returns the hosts that were used."""
         (self.folder / "bin").mkdir(exist_ok=True)
         ssh = self.write("bin/ssh", self.SSH)
         ssh.chmod(0o755)
@@ -314,7 +314,7 @@ SHELL=/bin/bash exec bash -c "$*"  # as sshd does
 
     @skip_without("parallel")
     def test_a_machine_that_is_dead(self):
-        """What it was given is played by the other one, and no row is lost."""
+        """The other machine replays its rows, and no row is lost."""
         done, asked = self.by_ssh("dead", "two")
         self.assertEqual(done.returncode, 0, done.stderr)
         self.assertEqual(set(asked), {"dead", "two"})
@@ -323,7 +323,7 @@ SHELL=/bin/bash exec bash -c "$*"  # as sshd does
 
     @skip_without("parallel")
     def test_machines_that_are_all_dead(self):
-        """No row, a status that says so, and the next call plays them."""
+        """No row, an exit status that says so, and the next call replays them."""
         done, asked = self.by_ssh("dead")
         self.assertEqual((done.returncode, self.rows()), (1, []))
         self.assertIn("8 rows are missing: --resume tries them again", done.stderr)
@@ -333,7 +333,7 @@ SHELL=/bin/bash exec bash -c "$*"  # as sshd does
         self.check_rows()
 
     def by_slurm(self, *words, path=None):
-        """The block of docs/TOOLS.md as it stands, given to sbatch; its parts together are the rows of one sweep."""
+        """Runs the block of docs/TOOLS.md unchanged with sbatch; its parts together are the rows of one sweep."""
         (self.folder / "traces").mkdir()
         for name in ("burst.csv", "faulty.csv"):
             os.rename(self.folder / name, self.folder / "traces" / name)
@@ -357,8 +357,8 @@ SHELL=/bin/bash exec bash -c "$*"  # as sshd does
     def test_the_block_for_slurm(self):
         self.by_slurm("--wait")
 
-    # In place of sbatch: it reads the lines for it at the head of the file, and runs each job of the array after the other, with
-    # what Slurm sets for a job.
+    # In place of sbatch: it parses the options at the head of the file, and runs each job of the array after the other, with the variables
+    # that Slurm sets for a job.
     SBATCH = """#!/usr/bin/env python3
 import os, re, subprocess, sys
 words = dict(re.findall(r"^#SBATCH --([a-z-]+)=(\\S+)$", open(sys.argv[1]).read(), re.M))

@@ -1,4 +1,4 @@
-"""Tests of tools/. Expected traces and work are another converter's, expected values are written by hand."""
+"""Tests of tools/. Expected traces and work come from another converter; expected values are written by hand."""
 
 import json
 import os
@@ -16,7 +16,7 @@ PAIRS = [word for number in range(1, 7) for word in ("--pair", f"va{number}:vb{n
 
 class FromFtrace(InFolder):
     def convert(self, text, *words):
-        """The rows, the work and the notes of a recording."""
+        """Returns the rows, the work and the notes of a recording."""
         for end in ("csv", "work", "notes"):
             (self.folder / f"made.{end}").unlink(missing_ok=True)
         done = run("from-ftrace", "-", self.folder / "made", *words, text=text)
@@ -26,7 +26,7 @@ class FromFtrace(InFolder):
         return rows[1:], work, notes
 
     def refused(self, text, *words):
-        """What it says where it gives no trace, and leaves no file."""
+        """Returns the error message for a recording without a trace, and checks that no file is left."""
         done = run("from-ftrace", "-", self.folder / "made", *words, text=text)
         self.assertEqual(done.returncode, 1)
         self.assertEqual(list(self.folder.iterdir()), [])
@@ -146,7 +146,7 @@ CPU:1 [7 EVENTS DROPPED]
             path.unlink()
 
     def recipe(self):
-        """The shell lines of docs/TOOLS.md that record."""
+        """Returns the shell commands in docs/TOOLS.md that record."""
         lines = (TOP / "docs/TOOLS.md").read_text().splitlines()
         first = lines.index("    set -u")
         last = next(place for place in range(first, len(lines)) if not lines[place].startswith("    "))
@@ -169,7 +169,7 @@ CPU:1 [7 EVENTS DROPPED]
     def test_some_rows(self):
         whole = (HERE / "soft-gso-23.csv").read_text().splitlines()
         rows, work, notes = self.convert((HERE / "soft-gso-23.txt").read_text(), *PAIRS, "--rows", "70:150")
-        # The packet of row 69 waits when row 70 comes, so it stands in front.
+        # The packet of row 69 waits at row 70, so it is at the beginning.
         self.assertEqual(rows, whole[1:13] + whole[69:151])
         polls = [number for number, row in enumerate(whole) if ",softirq," in row]
         theirs = (HERE / "soft-gso-23.work").read_text().splitlines()
@@ -179,7 +179,7 @@ CPU:1 [7 EVENTS DROPPED]
                                                          "--rows", "70:80").stderr)
 
     def test_some_rows_begin_with_the_packets_that_wait(self):
-        """Six packets came before row 68 and weren't polled in row 67; so the replay has the kernel's work from there on too."""
+        """Six packets came before row 68 and weren't polled in row 67; with them the replay has the kernel's work from there on too."""
         rows, _, notes = self.convert((HERE / "soft-gso-23.txt").read_text(), *PAIRS, "--rows", "68:150")
         self.assertEqual(rows[12:19], ["128,10,rx,590"] * 6 + ["128,0,softirq,0"])
         self.assertTrue(any(note.endswith("; of their packets 6 waited when the first of these rows came, and stand in front")
@@ -191,7 +191,7 @@ CPU:1 [7 EVENTS DROPPED]
             self.assertEqual(done.returncode, 0, done.stdout)
 
     def test_a_replay_is_compared_with_the_recording(self):
-        """Six packets arrive while each of three runs is under way; the replay gives them to that run, the kernel to the next."""
+        """Six packets arrive during three runs; the replay gives each to that run, the kernel to the next."""
         run("from-ftrace", HERE / "soft-gso-23.txt", self.folder / "made", *PAIRS)
         done = run("compare-recording", self.folder / "made")
         self.assertEqual(done.returncode, 0)
@@ -214,7 +214,7 @@ CPU:1 [7 EVENTS DROPPED]
                                                           "0 others are accounted for by notes: as the kernel\n"))
 
     def test_a_replay_that_is_other_than_the_kernel(self):
-        """One packet comes before each of 30 runs, and the kernel polled two, 30 times; of those lines ten are printed, and a line counts them."""
+        """One packet comes before each of 30 runs, and the kernel polled two, 30 times; ten of those lines are printed, and a line counts the rest."""
         self.write("made.csv", HEADER + "0,1,open,256\n" + "".join(f"{place},1,rx,60\n{place},0,softirq,0\n" for place in range(30)))
         self.write("made.work", "polls 1 work 2\n" * 30)
         done = run("compare-recording", self.folder / "made")
@@ -233,8 +233,8 @@ class FromPcap(InFolder):
 
     @staticmethod
     def capture(packets=PACKETS):
-        """A capture by its format's description: 24 bytes in front, 16 before each packet. Each is told by its time in µs, the last
-        bytes of whom it goes to and of its sender, and its size; 255 is everybody."""
+        """Returns a capture in the format's description: a header of 24 bytes, and 16 bytes before each packet. A packet is given by its time in µs, the
+        last bytes of its receiver's and sender's addresses, and its size; 255 is the broadcast address."""
         text = struct.pack("<IHHiIII", 0xA1B2C3D4, 2, 4, 0, 0, 65535, 1)
         for fraction, to, sender, size in packets:
             ends = (b"\xff" * 6 if to == 255 else bytes([2, 0, 0, 0, 0, to])) + bytes([2, 0, 0, 0, 0, sender])
@@ -242,7 +242,7 @@ class FromPcap(InFolder):
         return text
 
     def made(self, packets, *words):
-        """The rows and the notes of a capture."""
+        """Returns the rows and the notes of a capture."""
         for end in ("csv", "notes"):
             (self.folder / f"made.{end}").unlink(missing_ok=True)
         (self.folder / "captured.pcap").write_bytes(packets if isinstance(packets, bytes) else self.capture(packets))
@@ -251,7 +251,7 @@ class FromPcap(InFolder):
         return [(self.folder / f"made.{end}").read_text().splitlines() for end in ("csv", "notes")]
 
     HAS_TCPDUMP = skip_without("tcpdump")
-    # What one interface sees, whose address ends in 1: five others, a broadcast of theirs, and what it sends itself.
+    # What one interface sees, whose address ends in 1: five packets from others, a broadcast of theirs, and its own packets.
     SEEN = [(100 * place, *((1, 10 + place) if place % 2 else (10 + place, 1)), 60 + place) for place in range(10)] + [
         (1100, 255, 11, 90), (1200, 255, 1, 91)]
 
@@ -274,7 +274,7 @@ class FromPcap(InFolder):
 
     @HAS_TCPDUMP
     def test_a_capture_that_is_cut(self):
-        """It is read up to there, with a note."""
+        """The part before the cut is read, with a note."""
         whole, _ = self.made(self.PACKETS)
         rows, notes = self.made(self.capture()[:-3])
         self.assertEqual(rows, whole[:4] + ["1,0,softirq,0"])
@@ -288,7 +288,7 @@ class FromPcap(InFolder):
         self.assertIn("rows 3 to 5 alone, with the packets that wait before them in front", notes)
 
     def test_more_interfaces_than_devices(self):
-        """None is dropped: they are to be named."""
+        """No interface is dropped: the user has to name them."""
         text = "".join(f"100.{number:06} eth{number}  In  ifindex 2 02:00:00:00:00:01 ethertype IPv4 (0x0800), length 60: UDP\n" for number in range(17))
         done = run("from-pcap", "-", self.folder / "made", text=text)
         self.assertEqual((done.returncode, self.names()), (1, []))
@@ -321,7 +321,7 @@ class FromPcap(InFolder):
     NO_LENGTH = "no row: packets without a length of 1 to 65535 bytes, "
 
     def test_every_length_that_a_row_has(self):
-        """1 and 65,535 bytes are the least and the most; what is beyond is counted in the notes. By a capture too."""
+        """1 and 65,535 bytes are the minimum and the maximum; packets beyond are counted in the notes. The same for a capture."""
         text = "".join(self.LINE.format(place, size) for place, size in enumerate((1, 65535, 0, 65536, 65534, 100000, 2)))
         for words, rows in ((["--unit", "us"], [f"{place},1,rx,{size}" for place, size in ((0, 1), (1, 65535), (4, 65534), (6, 2))]),
                             (["--arrivals"], [f"{1000 * place},1,{size}" for place, size in ((0, 1), (1, 65535), (4, 65534), (6, 2))])):
@@ -340,7 +340,7 @@ class FromPcap(InFolder):
         self.assertFalse(any(note.startswith(self.NO_LENGTH) for note in notes), notes)
 
     def test_packets_of_one_time_keep_their_places(self):
-        """Those with one time stamp stand as they do in the capture, whether it is in the order of time or has to be sorted."""
+        """Packets with the same timestamp keep the capture's order, whether it is sorted by time or not."""
         in_order = [(1, 900), (2, 64), (2, 62), (2, 1500), (2, 60), (2, 63), (3, 500)]
         out_of_order = [*in_order[1:4], in_order[6], in_order[0], *in_order[4:6]]
         for seen in (in_order, out_of_order):
@@ -399,7 +399,7 @@ class Traffic(InFolder):
         self.assertNotEqual(self.rows(*words, "--seed", "1"), self.rows(*words, "--seed", "2"))
 
     def test_the_seed_decides_when_packets_come(self):
-        """Not their sizes alone: the times of another seed are others, of each kind of traffic; each device has times of its own."""
+        """And not only their sizes: another seed has other times, for each kind of traffic; each device has times of its own."""
         for kind in ("constant", "poisson", "bursts"):
             words = ["--kind", kind, "--devices", "2", "--unit", "us", "--rate", "2000", "--seconds", "0.5", "--bytes", "60"]
             times = [{(row[1], int(row[0])) for row in self.rows(*words, "--seed", seed) if row[2] == "rx"} for seed in (1, 2, 3)]
@@ -409,7 +409,7 @@ class Traffic(InFolder):
             self.assertLess(len(of[0] & of[1]), len(of[0]) / 10, kind)
 
     def test_packets_of_one_moment_stand_as_they_come(self):
-        """A millisecond has many packets of five devices: they stand there as in the same trace in microseconds."""
+        """A millisecond has many packets of five devices: their order is that of the same trace in microseconds."""
         for kind in ("constant", "poisson"):
             words = ["--kind", kind, "--devices", "5", "--rate", "3000", "--seconds", "0.2", "--seed", "7"]
             coarse, fine = ([row for row in self.rows(*words, "--unit", unit) if row[2] == "rx"] for unit in ("ms", "us"))
@@ -438,7 +438,7 @@ class CompareRuns(InFolder):
     BURST = HEADER + "0,1,open,8\n0,2,open,8\n" + "0,1,rx,60\n" * 3 + "1,0,softirq,0\n2,2,rx,60\n3,0,softirq,0\n"
 
     def test_what_two_settings_change(self):
-        """A budget of 1 gives one packet a run, by the usual one all three come at once; device 2 has one packet either way."""
+        """With a budget of 1 each run takes one packet; with the default all three come at once; device 2 has one packet either way."""
         trace = self.write("burst.csv", self.BURST)
         done = run("compare-runs", trace, "--budget", "1", "--weight", "1", "--", "--weight", "1")
         self.assertEqual((done.stderr, done.returncode), ("", 0))
@@ -455,7 +455,7 @@ class CompareRuns(InFolder):
         self.assertNotIn("total      work", raised)
 
     def test_a_trace_of_version_2(self):
-        """Nine packets come in examples/busy-poll.csv, and none is lost by either budget, if the runs are raised anew."""
+        """examples/busy-poll.csv has nine packets, and with the added runs neither budget loses any."""
         done = run("compare-runs", TOP / "examples/busy-poll.csv", "--raise", "--budget", "1", "--weight", "1", "--", "--weight", "64")
         self.assertEqual(done.returncode, 0)
         self.assertIn("the same: list", done.stdout)
@@ -507,12 +507,12 @@ napi 1 granted 0 missed 0 disabled 0 again 0 released 1 word 65 held 3
 list
 total devices 1 runs 0 polls 0 work 0 squeezed 0
 """)
-        told = list(map(json.loads, done.stdout.splitlines()))
-        self.assertEqual(told[0], {"line": "busy", "row": 7, "device": 1, "polls": 4, "work": 2})
-        self.assertEqual((told[2]["held"], told[2]["flags"]), (3, ["SCHED", "IN_BUSY_POLL"]))
+        objects = list(map(json.loads, done.stdout.splitlines()))
+        self.assertEqual(objects[0], {"line": "busy", "row": 7, "device": 1, "polls": 4, "work": 2})
+        self.assertEqual((objects[2]["held"], objects[2]["flags"]), (3, ["SCHED", "IN_BUSY_POLL"]))
 
     def test_it_starts_quickly(self):
-        """What takes Python long to import isn't, and the least of ten runs takes no more than 60 ms of processor."""
+        """Modules that are slow to import aren't imported, and the fastest of ten runs takes at most 60 ms of processor time."""
         took, command = [], [sys.executable, "-BES", "-X", "importtime", TOP / "tools/report2json"]
         self.assertEqual((TOP / "tools/report2json").read_text().split("\n", 1)[0], "#!/usr/bin/env -S python3 -BES")
         for _ in range(10):

@@ -1,4 +1,4 @@
-"""Tests of tools/what-if. Expected values are counted by hand, or those of the plain model of the machine."""
+"""Tests of tools/what-if. Expected values are computed by hand, or by the plain model of the machine."""
 
 import csv
 import io
@@ -32,7 +32,7 @@ class WhatIf(InFolder):
         return list(csv.DictReader(io.StringIO(done.stdout)))
 
     def modelled(self, text, *words):
-        """The values of a row, by the plain model."""
+        """Returns the values of a row, by the plain model."""
         lines = [line.split() for line in machine_model.machine(list(words), text).splitlines()]
         of = {kind: [dict(zip(line[skip::2], map(int, line[skip + 1 :: 2]))) for line in lines if line[0] == kind]
               for kind, skip in (("device", 0), ("processor", 0), ("time", 0), ("application", 0), ("total", 1))}
@@ -73,7 +73,7 @@ class WhatIf(InFolder):
             self.assertEqual(row, self.modelled(self.arrivals.read_text(), *words), words)
 
     def test_queues(self):
-        """With queues the fourth column is read, and without them left out; arrivals without it have none."""
+        """With queues the fourth column is read, and without them ignored; arrivals without it have none."""
         self.assertIn("there is no column flow", run("what-if", self.arrivals, "--queues", "1,2").stderr)
         rows = self.arrivals.read_text().split()[1:]
         with_flows = "moment,device,bytes,flow\n" + "".join(f"{row},{place % 5}\n" for place, row in enumerate(rows))
@@ -107,7 +107,7 @@ class WhatIf(InFolder):
         return done.stderr
 
     def test_a_budget_with_one_queue(self):
-        """It changes squeezes only, and the tool says so; with three queues it doesn't say that."""
+        """It changes only squeezes, and the tool says so; with three queues it doesn't."""
         self.assertEqual(self.said("--budget", "2,300", "--band", "0"), "")
         self.arrivals.write_text(HEADER + "".join(f"{1000 * place},1,60\n" for place in range(400)))
         told = self.said("--budget", "16,300", "--band", "0")
@@ -119,7 +119,7 @@ class WhatIf(InFolder):
         self.assertEqual(small, usual)
 
     def test_a_load_moves_the_moments(self):
-        """At half the load a moment is twice what it was, at 1.5 two thirds, rounded down; no other file is left behind."""
+        """At half the load a time is doubled, at 1.5 it is two thirds, rounded down; no temporary file is left."""
         before = set(os.listdir("/tmp"))
         rows = {row.pop("load"): row for row in self.rows("--load", "0.5,1,1.5", "--use", "4000")}
         for load, (up, down) in {"0.5": (2, 1), "1": (1, 1), "1.5": (2, 3)}.items():
@@ -140,7 +140,7 @@ class WhatIf(InFolder):
         self.assertEqual((told[0]["arrived"], isinstance(told[0]["use_percent"], float)), (300, True))
 
     def test_json_keys_are_identifiers(self):
-        """Also those of made traffic and of a load that is searched; each object has the version of its form."""
+        """Also with generated traffic and a searched load; each object has the format's version."""
         for words in ([self.arrivals], [self.arrivals, "--until", "drops", "--ring", "8"], ["--traffic", "--rate 1000", "--seeds", "2"]):
             done = run("what-if", "--json", *words)
             self.assertEqual(done.returncode, 0, done.stderr)
@@ -149,7 +149,7 @@ class WhatIf(InFolder):
             self.assertEqual((told["gro_flush_timeout"], told["app_wake"]), (0, 0))
 
     def test_columns_are_explained(self):
-        """By --help, each of those that a row has."""
+        """--help explains each column of a row."""
         text = run("what-if", "--help").stdout
         row, = self.rows()
         for name in row:
@@ -173,7 +173,7 @@ class WhatIf(InFolder):
             "the budget never binds: no run is squeezed"])
 
     def test_the_table_is_for_terminals(self):
-        """And CSV for the rest; --csv and --json are for both."""
+        """Otherwise CSV is printed; --csv and --json work for both."""
         for words, begins in (([], b"row  "), (["--csv"], b"budget,"), (["--json"], b'{"version": 1')):
             master, slave = os.openpty()
             with open(master, "rb", buffering=0) as end:
@@ -199,14 +199,14 @@ class WhatIf(InFolder):
         self.assertIn("no setting here changes the 99th percentile of waits to the end of use", told)
 
     def lost_at(self, load, *words):
-        """What the plain model loses of these arrivals at a load, and its 99th percentile of waits."""
+        """Returns the drops in the plain model for these arrivals at a load, and its 99th percentile of waits."""
         rows = (line.split(",") for line in self.arrivals.read_text().split()[1:])
         scaled = HEADER + "".join(f"{int(int(moment) // Fraction(load))},{device},{size}\n" for moment, device, size in rows)
         told = self.modelled(scaled, *words)
         return int(told["dropped"]) + int(told["refused"]), int(told["used_p99"])
 
     def test_the_load_at_which_it_breaks(self):
-        """A packet each 10 us, and a ring of one: by the plain model it holds at the one load and breaks at the other, which are at most 1 % apart."""
+        """A packet every 10 us, and a ring of one: in the plain model one load holds and the other breaks, and they are at most 1 % apart."""
         self.arrivals.write_text(HEADER + "".join(f"{10_000 * place},1,60\n" for place in range(300)))
         words = ["--ring", "1", "--interrupt", "1000", "--poll", "1000", "--packet", "1000", "--use", "0"]
         row, = self.rows(*words, "--until", "drops")
@@ -233,7 +233,7 @@ class WhatIf(InFolder):
         self.assertEqual(sorted(name for name in self.names() if name != "arrivals.csv"), [])
 
     def test_made_traffic_over_seeds(self):
-        """The median, the least and the greatest of what the plain model makes of each seed's arrivals; a setting by each."""
+        """The median, the minimum and the maximum of the plain model's values for each seed's arrivals; one row per setting."""
         words = ["--kind", "poisson", "--rate", "100000", "--seconds", "0.01"]
         of = [run("traffic", "--arrivals", *words, "--seed", seed).stdout for seed in (1, 2, 3)]
         told = self.repeated(" ".join(words), "--seeds", "3", "--threaded", "0,1")
@@ -260,7 +260,7 @@ class WhatIf(InFolder):
             self.assertIn(why, done.stderr)
 
     def test_a_file_of_rows_is_gone_on_with(self):
-        """By parts, and by other budgets behind each other; what is there isn't made again."""
+        """By parts, and then with other budgets; existing rows aren't made again."""
         out = self.folder / "rows"
         whole = self.rows("--budget", "1,2,3", "--out", out)
         lines = out.read_text().splitlines()
@@ -276,7 +276,7 @@ class WhatIf(InFolder):
         self.assertIn("is there: --resume goes on with it", run("what-if", self.arrivals, "--out", out).stderr)
 
     def test_parts_of_a_job_array_are_one_table(self):
-        """As docs/TOOLS.md puts those of sweep together; what is there needs no program."""
+        """docs/TOOLS.md combines those of sweep in the same way; existing rows need no program."""
         words = ["--budget", "1,2,300", "--load", "1,2"]
         for part in range(1, 5):
             self.rows(*words, "--part", f"{part}/4", "--out", self.folder / f"rows-{part}.csv")

@@ -1,4 +1,4 @@
-"""Recordings that are made by given costs, and costs of a recording by plain searches in its lines."""
+"""Recordings generated from given costs, and costs of a recording found by plain searches in its lines."""
 
 import re
 from statistics import median
@@ -7,7 +7,7 @@ SENDER, POLLER = 2, 3  # processors
 
 
 class Made:
-    """A recording as ftrace writes it, of packets on a veth pair, by given costs in ns."""
+    """A recording in ftrace's format, of packets on a veth pair, generated from given costs in ns."""
 
     def __init__(self, **costs):
         self.costs, self.lines, self.time, self.reader = costs, [], 10**12, POLLER
@@ -30,7 +30,7 @@ class Made:
             self.event(time, SENDER, "sender-7", f"net_dev_xmit: dev=va1 skbaddr=0 len=100 rc={code}")
 
     def handler(self, time, name, inner=None):
-        """An interrupt's handler on the polling processor; returns when it has ended."""
+        """Adds an interrupt's handler on the polling processor; returns its end."""
         end = time + self.costs["interrupt"]
         self.event(time, POLLER, "<idle>-0", f"{name}_entry: vector=251")
         if inner:
@@ -45,8 +45,8 @@ class Made:
         return end
 
     def softirq_round(self, works, is_early=False):
-        """Packets come, an interrupt between processors asks for a softirq, and that polls; returns when it has ended. An early one ends before
-        the events of its packets, which follow the sending."""
+        """Adds packets, an interrupt between processors that requests a softirq, and its polls; returns its end. An early one ends before the events
+        of its packets, which come after the sending."""
         if not is_early:
             self.sent(self.time, works[0])
         time = self.handler(self.time + self.costs["wake"], "call_function_single")
@@ -61,7 +61,7 @@ class Made:
         return time
 
     def thread_round(self, work, by_timer):
-        """Packets wait for the thread's timer, or wake it; the poll sets the timer again."""
+        """Adds packets that wait for the thread's timer, or that wake the thread; the poll sets the timer again."""
         due = self.timer if by_timer else self.time
         self.sent(due - 500 if by_timer else due, work)
         begin = due + self.costs["wake"]
@@ -78,7 +78,7 @@ class Made:
         self.event(time, self.reader, "server-60", "sys_recvmsg(fd: 3, msg: 0x1, flags: 0)")
 
     def read(self, end, count):
-        """The program, which sleeps in a call, wakes after the poll's end, reads all, and sleeps again."""
+        """The program, which sleeps in a call, wakes after the poll's end, reads all packets, and sleeps again."""
         read, use = self.costs["read"], self.costs["use"]
         time = end + self.costs["app-wake"]
         self.switch(time, self.reader, "swapper/9-0", "server-60", "R")
@@ -93,7 +93,7 @@ class Made:
 
 
 def searched(text):
-    """The events of tools/record's file: time, processor, task, its number, and what is told. What follows searches them backwards."""
+    """Returns the events of a file of tools/record: time, processor, task, its number, and the text. The functions below search them backwards."""
     events = []
     for line in text[text.index("\ntrace\n") + 7:].splitlines():
         found = re.match(r"\s*(\S.*)-(\d+)\s+\[(\d+)\] \S+ +(\d+)\.(\d{9}): (\S.*)", line)
@@ -103,12 +103,12 @@ def searched(text):
 
 
 def on(events, cpu, until):
-    """The events on a processor before one of them, the last one first."""
+    """Returns the events on a processor before one of them, the last one first."""
     return [event for event in events[:until] if event[1] == cpu][::-1]
 
 
 def poll_times(events, device):
-    """Of each poll its packets and its time, if its beginning is known, with the place of what it began with, if that wasn't another poll."""
+    """Yields for each poll its packets and its time, if its beginning is known, and the index of its first event unless that is another poll."""
     for place, (time, cpu, _, _, said) in enumerate(events):
         found = re.match(rf"napi_poll: .* for device {re.escape(device)} work (\d+) ", said)
         if not found:
@@ -129,7 +129,7 @@ def poll_times(events, device):
 
 
 def before_run(events, place):
-    """The duration of the interrupt that a run or a thread follows within 50 us, or None: one between processors, or of NAPI's timer."""
+    """Returns the duration of the interrupt (between processors, or of NAPI's timer) that came within 50 us before a run or a thread, or None."""
     end = has_timer = None
     for event in on(events, events[place][1], place):
         name = event[4].split(":")[0]
@@ -153,7 +153,7 @@ def middle(values):
 
 
 def stolen(events, cpu, begin, end):
-    """How long handlers and softirqs had a processor between two times at which none was under way."""
+    """Returns how long handlers and softirqs ran on a processor between two times at which none was running."""
     total, depth, since = 0, 0, 0
     for time, where, _, _, said in events:
         if where == cpu and begin <= time <= end:
@@ -168,7 +168,7 @@ def stolen(events, cpu, begin, end):
 
 
 def packet_ends(events, device):
-    """Of each polled packet when its poll ended, and whether it was the only one there. The k-th is read by the k-th read."""
+    """Returns for each polled packet when its poll ended, and whether it was the only one. The k-th packet is read by the k-th read."""
     return [(time, work == 1) for work, time in polls_of(events, device) for _ in range(work)]
 
 
@@ -178,7 +178,7 @@ def polls_of(events, device):
 
 
 def reads_of(events, device):
-    """The uses, the calls that found a packet, and how long lone packets waited for a program that slept."""
+    """Returns the uses, the calls that found a packet, and how long single packets waited for a sleeping program."""
     reads = [(time, cpu) for time, cpu, task, _, said in events if task == "server" and re.match(r"sys_recvmsg -> 0x", said)]
     calls = [time for time, _, task, _, said in events if task == "server" and said.startswith("sys_recvmsg(")]
     leaves = [(time, " prev_state=S " in said) for time, _, task, _, said in events if task == "server" and said.startswith("sched_switch: prev_comm=server")]
@@ -199,7 +199,7 @@ def reads_of(events, device):
 
 
 def wakes_of(events, device):
-    """How long it took from what asked for each run to its beginning, less the interrupt: from a packet, or from when a timer was due."""
+    """Yields the time from each run's cause (a packet, or a timer's due time) to its beginning, minus the interrupt."""
     came = [time for time, _, _, _, said in events if re.match(r"net_dev_xmit: dev=va7 .*rc=0$", said)]
     taken = last = 0
     for place, (time, cpu, _, _, said) in enumerate(events):
@@ -221,7 +221,7 @@ def wakes_of(events, device):
 
 
 def had_other(events, cpu, time, until):
-    """Whether a task that is neither the program nor one that polls had the processor at a time, up to the beginning of the run."""
+    """Returns whether a task other than the program and the pollers ran on the processor at a time, up to the beginning of the run."""
     switches = [each for each in events[:until + 1] if each[1] == cpu and each[4].startswith("sched_switch")]
     if switches and switches[-1][0] == events[until][0] and "next_comm=napi/" in switches[-1][4]:
         switches.pop()

@@ -1,5 +1,5 @@
-"""What the tests of tools/ share. PROGRAM, SERIES and MACHINE name other builds of napi_replay, napi_series and napi_machine, for the
-tools too."""
+"""Shared code of the tests of tools/. PROGRAM, SERIES and MACHINE name other builds of napi_replay, napi_series and napi_machine, also for the
+tools."""
 
 import atexit
 import os
@@ -18,7 +18,7 @@ REPLAY = os.environ.get("PROGRAM") or str(TOP / "crates/napi_replay/out/napi_rep
 SERIES = os.environ.get("SERIES") or str(TOP / "crates/napi_series/out/napi_series")
 MACHINE = os.environ.get("MACHINE") or str(TOP / "crates/napi_machine/out/napi_machine")
 if not os.path.exists(MACHINE) and shutil.which("g++"):
-    # Where napi_machine doesn't stand yet, the program that the bench has beside it tries the tools.
+    # If napi_machine isn't built, the tools are tested with the bench's C++ program in its place.
     built = tempfile.mkdtemp()
     atexit.register(shutil.rmtree, built)
     MACHINE = f"{built}/machine"
@@ -27,7 +27,7 @@ HAS_MACHINE = unittest.skipUnless(os.path.exists(MACHINE), "g++")
 
 
 def skip_without(program):
-    """Skips a test if this program or library, a name of tests/needs.txt, isn't installed."""
+    """Skips a test if this program or library, a name in tests/needs.txt, isn't installed."""
     return unittest.skipUnless(needs.is_here(program), program)
 
 
@@ -35,7 +35,7 @@ HEADER = "moment,device,event,value\n"
 
 
 def run(tool, *words, text=None, path=None, folder=None, **variables):
-    """Runs a tool. The path is that of its commands, where another one is wanted."""
+    """Runs a tool. `path` is the PATH for its commands, if another one is wanted."""
     environment = {**os.environ, "PROGRAM": REPLAY, "SERIES": SERIES, "MACHINE": MACHINE, **variables}
     if path is not None:
         environment["PATH"] = path
@@ -45,7 +45,7 @@ def run(tool, *words, text=None, path=None, folder=None, **variables):
 
 
 def contrast(one, other):
-    """The contrast of two colours, as WCAG 2 defines it."""
+    """Returns the contrast of two colours, as WCAG 2 defines it."""
     def light(color):
         parts = [int(color[place : place + 2], 16) / 255 for place in (0, 2, 4)]
         red, green, blue = (part / 12.92 if part <= 0.04045 else ((part + 0.055) / 1.055) ** 2.4 for part in parts)
@@ -67,5 +67,5 @@ class InFolder(unittest.TestCase):
         return path
 
     def names(self):
-        """What is in the folder."""
+        """Returns the names in the folder."""
         return sorted(path.name for path in self.folder.iterdir())
