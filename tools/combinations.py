@@ -42,10 +42,10 @@ def add_words(parser, what, out):
     """Adds the options of a tool that makes rows."""
     import argparse
     parser.add_argument("--out", **out)
-    parser.add_argument("--resume", action="store_true", help="go on with the file, where there is one")
-    parser.add_argument("--part", type=pair("/", "3/16"), metavar="K/N", help="each Nth row from the Kth on, for a job array")
-    parser.add_argument("--jobs", type=number(1, 999999), help="programs at a time (as many as processors)")
-    parser.add_argument("--sshloginfile", help="GNU parallel's file of machines; without it all rows are made on this one")
+    parser.add_argument("--resume", action="store_true", help="continue an existing file")
+    parser.add_argument("--part", type=pair("/", "3/16"), metavar="K/N", help="only part K of N: every Nth row from the Kth on, for a job array")
+    parser.add_argument("--jobs", type=number(1, 999999), help="programs to run at once (one per processor)")
+    parser.add_argument("--sshloginfile", help="GNU parallel's file of machines; without it all replays run on this machine")
     add_program(parser, what)
     parser.add_argument("--play", nargs="+", help=argparse.SUPPRESS)
 
@@ -246,7 +246,7 @@ class Combinations:
     def begin(self, words, keys):
         """Returns the rows that exist already."""
         if os.path.lexists(words.out) and not words.resume:
-            raise Refusal(f"{shown(words.out)} is there: --resume goes on with it")
+            raise Refusal(f"{shown(words.out)} exists: --resume continues it")
         try:
             write_whole(words.out, self.head, replaces=False)
         except (Refusal, FileExistsError):

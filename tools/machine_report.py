@@ -61,7 +61,7 @@ def lines_of(report):
         numbered = [] if kind == "total" else ["number"]
         names, numbers = [*numbered, *fields[len(numbered) :: 2]], [*fields[: len(numbered)], *fields[len(numbered) + 1 :: 2]]
         if kind not in lines or len(names) != len(numbers) or not all(map(is_number, numbers)):
-            raise Refusal(f"no report of napi_machine: {shown(line[:60])}")
+            raise Refusal(f"not a report of napi_machine: {shown(line[:60])}")
         lines[kind].append(dict(zip(names, map(int, numbers))))
     if len(lines["total"]) != 1 or not report.endswith("\n"):
         raise Refusal("the report is cut: it ends in no total line")

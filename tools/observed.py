@@ -48,7 +48,7 @@ def output_of(command):
 
 def check_device(name):
     if not re.fullmatch(r"[^\s/:-][^\s/:]{0,14}", name):
-        raise Refusal(f"--device {shown(name)}: no name of a device")
+        raise Refusal(f"--device {shown(name)}: not a device name")
 
 
 def check_namespace(netns):

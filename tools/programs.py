@@ -62,7 +62,7 @@ def series_parser():
 
 def machine_parser():
     parser = parser_of(MACHINE)
-    parser.add_argument("file", nargs="?", metavar="ARRIVALS", help="of from-pcap, from-ftrace or traffic, by --arrivals; - or none: standard input")
+    parser.add_argument("file", nargs="?", metavar="ARRIVALS", help="arrivals, made with --arrivals of from-pcap, from-ftrace or traffic; - or none: standard input")
     for name, (low, high, default) in OPTIONS.items():
         parser.add_argument(f"--{name}", type=number(low, high), metavar="N",
                             help=f"{MEANS[name]}, {low} to {high}{' ns' if name in IN_NS else ''} ({default})")

@@ -110,7 +110,7 @@ class Receiving:
     def add_switch(self, event):
         found = SWITCH.match(event.said)
         if not found:
-            raise Refusal(f"line {event.line}: sched_switch says {shown(event.said[:60])!r}, which isn't read here")
+            raise Refusal(f"line {event.line}: sched_switch says {shown(event.said[:60])!r}, an unknown format")
         last, process, priority, following, thread = found.groups()
         self.tasks[event.cpu][last, int(process), int(priority)] += event.time - self.running.get(event.cpu, self.span[0])
         self.running[event.cpu] = event.time

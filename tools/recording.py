@@ -49,7 +49,7 @@ class Event:
         """Returns the fields of the event, by the pattern of its kind."""
         found = pattern.match(self.said)
         if not found:
-            raise Refusal(f"line {self.line}: {self.name} says {self.said!r}, which isn't read here")
+            raise Refusal(f"line {self.line}: {self.name} says {self.said!r}, an unknown format")
         return found.groups()
 
 
@@ -143,7 +143,7 @@ def events_in(recording, lost, head=None):
 def check_lost(lost):
     """Fails if the kernel lost events of a recording."""
     if lost:
-        raise Refusal(f"{lost[0]}, so its numbers would be wrong: record for a shorter time, or with a larger buffer (fintaqush record "
+        raise Refusal(f"{lost[0]}, so results would be wrong: record for a shorter time, or with a larger buffer (fintaqush record "
                       "--buffer)")
 
 

@@ -108,4 +108,4 @@ def check_whole(objects):
         is_whole = is_whole and len(runs) == total["runs"] and all(
             sum(run[name] for run in runs) == total[name] for name in ("polls", "work", "squeezed"))
     if not is_whole:
-        raise Refusal("the report is cut: its lines aren't those that its total line tells of")
+        raise Refusal("the report is cut: its lines don't match its total line")

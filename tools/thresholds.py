@@ -42,7 +42,7 @@ def add_fail_if(parser, names, times=()):
         return Condition(text.strip(), name, sign, Decimal(limit), unit or ("ns" if name in times else ""))
 
     parser.add_argument("--fail-if", action="append", default=[], type=read, metavar="CONDITION",
-                        help=f"exit with status {FAILED} if it holds for a result, as 'dropped>0'"
+                        help=f"exit with status {FAILED} if the condition holds for a result, as 'dropped>0'"
                              + (f" or '{next(iter(times))}>200us'" if times else "") + "; may be given many times")
 
 

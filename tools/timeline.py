@@ -235,7 +235,7 @@ class Timeline:
     def switch(self, processor, event):
         found = SWITCH.match(event.said) or SHORT_SWITCH.match(event.said)
         if not found:
-            raise Refusal(f"line {event.line}: sched_switch says {event.said[:60]!r}, which isn't read here")
+            raise Refusal(f"line {event.line}: sched_switch says {event.said[:60]!r}, an unknown format")
         task, state, name, pid = found.groups()
         self.has_tasks = True
         if processor.task[0]:

@@ -212,11 +212,11 @@ def check_target(path, replaces=True):
     if os.path.isdir(path):
         raise Refusal(f"{shown(path)}: this is a folder")
     if not replaces and os.path.lexists(path):
-        raise Refusal(f"{shown(path)} is there, and isn't overwritten")
+        raise Refusal(f"{shown(path)} exists and isn't overwritten")
     if not os.path.isdir(folder):
         raise Refusal(f"{shown(folder)}: there is no such folder")
     if os.path.exists(path) and not os.path.isfile(path):
-        raise Refusal(f"{shown(path)}: this is no regular file")
+        raise Refusal(f"{shown(path)}: not a regular file")
 
 
 class whole_file:
@@ -361,7 +361,7 @@ def parser_of(text, **others):
                                         "allow_abbrev": False, **others})
     parser.add_argument("--version", action="version", version=f"{parser.prog} of Fintaqush {version()}", help="print the version")
     parser.add_argument("--quiet", action=type("Quiet", (argparse.Action,), {"__call__": be_quiet}), nargs=0, dest=argparse.SUPPRESS,
-                        help="no progress on standard error")
+                        help="print no progress on standard error")
     if sys.argv[1:] in (["--manual"], ["--options"]) and text:
         import manual  # after all options were added
         parser.parse_args = parser.parse_known_args = lambda *_: manual.describe(parser, sys.argv[1], version())
@@ -408,7 +408,7 @@ def settings_of(words):
 
 def add_program(parser, what="napi_serial or napi_replay"):
     """Adds the option for another build of the program."""
-    parser.add_argument("--program", help=f"another build of {what}; where none is named, it is built if need be")
+    parser.add_argument("--program", help=f"another build of {what} (built if needed)")
 
 
 def add_out(parser, what):
@@ -423,7 +423,7 @@ def program(name, named=None):
     if named or HOME != TOP:
         made = os.path.abspath(named or f"{HOME}/bin/{name}")
         if not (os.path.isfile(made) and os.access(made, os.X_OK)):
-            raise Refusal(f"{shown(named or made)}: this is no program")
+            raise Refusal(f"{shown(named or made)}: not a program")
     else:
         import subprocess
         if subprocess.run([f"{TOP}/scripts/build.sh", name], check=False, stdin=subprocess.DEVNULL).returncode != 0:

@@ -160,7 +160,7 @@ class Advise(InFolder):
         done = self.advised(file_of(overloaded(), **{**BACKLOG, "sysctl.net.core.netdev_max_backlog": 9}), status=1)
         self.assertIn("the fit is poor\n", done.stdout)
         self.assertNotIn("advice:", done.stdout)
-        self.assertRegex(done.stderr, r"^advise: .*x\.rec: the recorded setting isn't predicted well, so there is no advice\n$")
+        self.assertRegex(done.stderr, r"^advise: .*x\.rec: the prediction of the recorded setting is poor, so there is no advice\n$")
 
     def test_other_tasks(self):
         """Tasks that ran on the processor are reported, except those that poll, send or use packets; next to real-time tasks only real-time ones count."""

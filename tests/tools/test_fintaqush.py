@@ -136,7 +136,7 @@ class Fintaqush(InFolder):
         self.assertRegex(done.stdout, r"dropped 3 packets")  # as recorded
         self.assertEqual(re.findall(r"^ +(\d+) +(yes|no) ", done.stdout, re.M), [(str(size), apart) for size in (6, 12, 48) for apart in ("no", "yes")])
         done = call("try", "--out", "fintaqush-try.html", folder=self.folder)
-        self.assertEqual((done.stderr, done.returncode), ("fintaqush try: fintaqush-try.html is there, and isn't overwritten\n", 1))
+        self.assertEqual((done.stderr, done.returncode), ("fintaqush try: fintaqush-try.html exists and isn't overwritten\n", 1))
 
 
 class Completion(InFolder):

@@ -115,7 +115,7 @@ class Plot(InFolder):
         old = self.write("picture.svg", "old\n")
         done = run("plot", TOP / "examples/bursts.csv", "--out", old, SERIES="/bin/false")
         self.assertEqual((done.stderr, done.returncode, old.read_text()),
-                         (f"plot: {old} is there: --force replaces it, and --out names another file\n", 1, "old\n"))
+                         (f"plot: {old} exists: --force replaces it, --out names another file\n", 1, "old\n"))
         self.assertIn("/bin/false ended with status 1", run("plot", TOP / "examples/bursts.csv", "--force", "--out", old, SERIES="/bin/false").stderr)
 
     # A Python that finds neither library.
@@ -132,7 +132,7 @@ class Plot(InFolder):
 
     def test_refusals(self):
         self.assertIn("no series of napi_series", self.plot("a,b\n1,2\n").stderr)
-        self.assertIn("a series without rows", self.plot(self.HEAD).stderr)
+        self.assertIn("the series has no rows", self.plot(self.HEAD).stderr)
         self.assertIn("nothing to draw", self.plot(self.HEAD + "1,0,1,on,0,0,0,0,,,,,,,\n").stderr)
         self.assertIn("there is no device 3; these are: 1", self.plot(self.ROWS, "--device", "3").stderr)
         self.assertIn("line 2: no line of a series", self.plot(self.HEAD + "a,b\n").stderr)

@@ -26,7 +26,7 @@ class Raise(InFolder):
             return (int(report[-1][8]), sum(int(line[6]) for line in report if line[0] == "device"), report[-2])
         self.assertEqual(sums(self.replay(path.read_text(), *words))[:2], (8441, 5582))
         done = run("raise", path, *words, "--out", self.folder / "raised.csv")
-        self.assertRegex(done.stderr, r"^raise: \d+ runs raised anew, \d+ rows\n$")
+        self.assertRegex(done.stderr, r"^raise: \d+ runs added, \d+ rows\n$")
         text = (self.folder / "raised.csv").read_text()
         self.assertEqual(sums(self.replay(text, *words)), (15245, 0, ["list"]))
         # Only softirq rows are added, and a second call adds none.

@@ -67,13 +67,13 @@ class Refused(InFolder):
     def test_without_root_it_says_so_at_once(self):
         front = [] if os.geteuid() else ["unshare", "-U"]  # run without root
         done = subprocess.run([*front, sys.executable, "-BES", TOP / "tools/record", "--device", "none", "--out", "none/x"], capture_output=True, text=True, check=False)
-        self.assertEqual((done.stderr, done.stdout, done.returncode), ("record: only root may record: sudo fintaqush record ..\n", "", 1))
+        self.assertEqual((done.stderr, done.stdout, done.returncode), ("record: recording needs root: sudo fintaqush record ..\n", "", 1))
 
     @unittest.skipUnless(IS_ROOT, "root")
     @unittest.skipUnless(HAS_IP, "ip")
     def test_what_is_not_there(self):
         for words, why in ((["--device", "none9"], "--device none9: there is no such device; one in a network namespace needs --netns"),
-                           (["--device", "../lo"], "--device ../lo: no name of a device"), (["--device=-lo"], "--device -lo: no name of a device"),
+                           (["--device", "../lo"], "--device ../lo: not a device name"), (["--device=-lo"], "--device -lo: not a device name"),
                            (["--device", "lo;id"], "--device lo;id: there is no such device; one in a network namespace needs --netns"),
                            (["--device", "lo", "--netns", "none9"], "--netns none9: there is no such network namespace; `ip netns` lists them"),
                            (["--device", "lo", "--netns", "../x"], "--netns ../x: there is no such network namespace; `ip netns` lists them"),

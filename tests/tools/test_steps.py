@@ -17,7 +17,7 @@ FLAGS = {0: "SCHED", 1: "MISSED", 2: "DISABLE", 3: "NPSVC", 6: "IN_BUSY_POLL", 8
 # Steps forward with the key, the button, the slider and a swipe in turn, then back with each, and prints what is shown after each step.
 WALK = """<script>
 const one = name => document.querySelector(name).textContent;
-const told = [], shown = () => told.push({ place: by('place').textContent, list: one('.list'), said: one('.said'),
+const opened = [], told = [], shown = () => told.push({ place: by('place').textContent, list: one('.list'), said: one('.said'),
   devices: [...document.querySelectorAll('.device')].map(card => [card.dataset.device, card.querySelector('h2').textContent,
     card.querySelector('.waiting').textContent, card.querySelector('.counts').textContent,
     [...card.querySelectorAll('.chip')].map(chip => chip.textContent).join(' '), (card.querySelector('.limit') || {}).textContent || '']) });
@@ -27,12 +27,13 @@ const stroke = (from, to) => { touch('touchstart', from); touch('touchend', to);
 const slide = by_how_many => { slider.value = Number(slider.value) + by_how_many; slider.dispatchEvent(new Event('input')); };
 const on = [() => key('ArrowRight'), () => by('forth').click(), () => slide(1), () => stroke(300, 100)];
 const back = [() => key('ArrowLeft'), () => by('back').click(), () => slide(-1), () => stroke(100, 300)];
-shown();
+opened.push(page.steps[here()].at);
+key('Home'); shown();
 for (let place = 1; place < count; place++) { on[place % 4](); shown(); }
 on[0](); shown();
 for (let place = 1; place < count; place++) { back[place % 4](); shown(); }
 key('End'); shown(); key('Home'); shown();
-document.body.replaceChildren(made('pre', 'told', JSON.stringify(told)));
+document.body.replaceChildren(made('pre', 'told', JSON.stringify({ opened, told })));
 </script>"""
 
 
@@ -76,7 +77,9 @@ class Steps(InFolder):
             self.assertNotRegex(page, r"(src|href)=")
             found = re.search(r'<pre class="told">(.*?)</pre>', self.dumped(page.replace("</body>", WALK + "</body>")))
             self.assertTrue(found, name)
-            told = json.loads(html.unescape(found[1]))
+            walked = json.loads(html.unescape(found[1]))
+            told = walked["told"]
+            self.assertEqual(walked["opened"], ["1"])  # the first row with a device
             wanted = list(self.wanted(f"{header}\n", rows, words))
             walk = [*wanted, wanted[-1], *wanted[-2::-1], wanted[-1], wanted[0]]
             self.assertEqual([{part: step[part] for part in ("place", "list", "devices")} for step in told], walk, name)

@@ -117,7 +117,7 @@ CPU:1 [7 EVENTS DROPPED]
         self.assertIn("line 1: net_dev_xmit says", self.refused(packet.format("x")))
         self.assertIn("a packet of 65536 bytes", self.refused(packet.format(65536)))
         self.assertIn("no device of --pair is recorded; these are: va1", self.refused(packet.format(60), "--pair", "x:y"))
-        self.assertIn("a device stands in two pairs", self.refused(packet.format(60), "--pair", "va1:b", "--pair", "b:c"))
+        self.assertIn("a device is in two pairs", self.refused(packet.format(60), "--pair", "va1:b", "--pair", "b:c"))
         self.assertIn("not as A:B", self.refused(packet.format(60), "--pair", "va*:vb"))
         self.assertIn("18 devices", self.refused(packet.format(60), *(f"--pair=va{n}:vb{n}" for n in range(1, 10))))
         self.assertIn("100001 rows", self.refused(packet.format(60) * 99999))
@@ -141,7 +141,7 @@ CPU:1 [7 EVENTS DROPPED]
         for end in ("csv", "work", "notes"):
             path = self.write(f"made.{end}", "mine\n")
             done = run("from-ftrace", HERE / "soft-tcp.txt", self.folder / "made", *PAIRS)
-            self.assertIn(f"made.{end} is there, and isn't overwritten", done.stderr)
+            self.assertIn(f"made.{end} exists and isn't overwritten", done.stderr)
             self.assertEqual((done.returncode, self.names(), path.read_text()), (1, [f"made.{end}"], "mine\n"))
             path.unlink()
 
@@ -225,7 +225,7 @@ CPU:1 [7 EVENTS DROPPED]
         self.write("made.csv", HEADER + "0,1,open,256\n" + "0,0,softirq,0\n" * 30)
         done = run("compare-recording", self.folder / "made")
         self.assertEqual((done.returncode, done.stdout, done.stderr.count("\n")), (1, "", 1))
-        self.assertIn("made.csv: no packet arrives in it, so there is nothing to compare", done.stderr)
+        self.assertIn("made.csv: it has no arrivals, so there is nothing to compare", done.stderr)
 
 
 class FromPcap(InFolder):

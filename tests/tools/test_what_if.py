@@ -273,7 +273,7 @@ class WhatIf(InFolder):
         self.assertEqual((out.read_text().splitlines(), calls.read_text()), (lines, "\n\n"))
         parts = [row for part in ("1/2", "2/2") for row in self.rows("--budget", "1,2,3,4", "--part", part)]
         self.assertEqual([row["budget"] for row in parts], ["1", "3", "2", "4"])
-        self.assertIn("is there: --resume goes on with it", run("what-if", self.arrivals, "--out", out).stderr)
+        self.assertIn("exists: --resume continues it", run("what-if", self.arrivals, "--out", out).stderr)
 
     def test_parts_of_a_job_array_are_one_table(self):
         """docs/TOOLS.md combines those of sweep in the same way; existing rows need no program."""
