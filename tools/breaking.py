@@ -109,9 +109,9 @@ def told(until, each, rate, percents):
     holds, broken = each.ends[100]
     what = "packets are lost" if until == "drops" else f"the 99th percentile of waits is over {until.partition('=')[2]} µs"
     if broken is None:
-        return f"it holds up to {about(holds)} times this load, the highest that is tried"
+        return f"it holds up to {about(holds)} times this load, the highest one tried"
     if holds is None:
-        return f"it breaks at {about(broken)} times this load too, the lowest that is tried: {what}"
+        return f"it breaks at {about(broken)} times this load, the lowest one tried: {what}"
     line = f"it breaks at {about(broken)} times this load ({rate * float(broken) / 1000:.3g} k packets/s): {what}"
     sides = [each.ends[percent][1] for percent in percents if percent != 100]
     return line + (f"; with costs {abs(percents[-1] - 100)} % higher or lower at {about(min(sides))} to {about(max(sides))}" if sides and None not in sides else "")

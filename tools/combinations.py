@@ -188,19 +188,19 @@ class Combinations:
         if lines and not lines[-1].endswith("\n"):
             lines.pop()
         if not lines or lines[0] != self.head:
-            raise Refusal(f"{shown(path)}: this is no file of {self.tool}'s" + self.repaired_head(path, lines))
+            raise Refusal(f"{shown(path)}: not a file of {self.tool}" + self.repaired_head(path, lines))
         rows = list(csv.DictReader(lines[1:], self.columns))
         for place, row in enumerate(rows, 2):
             if None in row or None in row.values():
-                raise Refusal(f"{shown(path)}: row {place} is none of {self.tool}'s: `sed -i {place}d {shlex.quote(shown(path))}` takes it out, and "
-                              "--resume makes what is missing")
+                raise Refusal(f"{shown(path)}: row {place} isn't a row of {self.tool}: `sed -i {place}d {shlex.quote(shown(path))}` removes it, and "
+                              "--resume makes the missing rows")
         return {self.key_of(row): row for row in rows}
 
     def repaired_head(self, path, lines):
         """Returns the command that repairs a damaged first line, if the second one is a row."""
         rows = list(csv.reader(lines[1:2]))
         is_row = bool(rows) and len(rows[0]) == len(self.columns)
-        return f"; if only its first line is damaged: `sed -i '1c {self.head.strip()}' {shlex.quote(shown(path))}` puts it right" if is_row else ""
+        return f"; if only its first line is damaged: `sed -i '1c {self.head.strip()}' {shlex.quote(shown(path))}` repairs it" if is_row else ""
 
     def append(self, path, row):
         """Appends a row. An incomplete line that a killed call left is removed."""

@@ -148,7 +148,7 @@ class Advise(InFolder):
         self.assertEqual((values["dropped"], told["fit"]), ((1200, 1200), "good"))
         self.assertEqual((told["now"]["lost"], told["advised"]["values"]["lost"]), (1200, 0))
         self.assertEqual(told["set"], ["sysctl -w net.core.netdev_max_backlog=196"])
-        self.assertTrue(any("what a packet" in note for note in told["notes"]))
+        self.assertTrue(any("the cost of a packet" in note for note in told["notes"]))
         few = self.object(file_of(overloaded(), **BACKLOG), "--goal", "p99", "--max-drops", "20")
         self.assertEqual(few["advised"]["values"]["lost"], 20)
         self.assertEqual(few["set"], ["sysctl -w net.core.netdev_max_backlog=98"])
@@ -170,7 +170,7 @@ class Advise(InFolder):
         made.switch(end + 10**7, timing.POLLER, "cc1-77", "swapper/3-0")
         told = self.object(file_of(made))
         self.assertEqual((list(told["other_tasks"]), 0.2 < told["other_tasks"]["cc1"] < 0.3), (["cc1"], True))
-        self.assertIn("other tasks used processor 3 too (cc1 24 %): the prediction needs a processor of its own", self.advised(file_of(made)).stdout)
+        self.assertIn("other tasks used processor 3 too (cc1 24 %): the prediction assumes a processor without other tasks", self.advised(file_of(made)).stdout)
         self.assertEqual(self.object(file_of(quiet()))["other_tasks"], {})
 
     def test_other_tasks_beside_the_program(self):
@@ -180,7 +180,7 @@ class Advise(InFolder):
         made.switch(made.time + 10**7, made.reader, "cc1-77", "swapper/9-0")
         told = self.object(file_of(made))
         self.assertEqual((told["other_tasks"], list(told["other_tasks_of_program"]), 0.2 < told["other_tasks_of_program"]["cc1"] < 0.3), ({}, ["cc1"], True))
-        self.assertIn("other tasks used processor 5, on which the program reads, too (cc1 24 %): the prediction needs", self.advised(file_of(made)).stdout)
+        self.assertIn("other tasks used processor 5, on which the program reads, too (cc1 24 %): the prediction assumes", self.advised(file_of(made)).stdout)
 
     def test_what_is_set_and_not_modelled(self):
         told = self.object(file_of(quiet(), **{"sysctl.net.core.busy_read": 50, "device.vb1.ethtool.coalesce.adaptive-rx": "on", "udp.RcvbufErrors": "3 10",
@@ -201,11 +201,11 @@ class Advise(InFolder):
         whole = file_of(quiet())
         trace = quiet().text()
         for text, why in (
-                ("", "it is empty"), (trace, "this is no file of fintaqush record"), (whole[:-3000], "it is cut"), (whole[:200], "it is cut"),
-                (file_of(quiet(), lost=7), "the kernel lost 7 events"), (file_of(quiet(), polled=""), "nothing polls vb1 in it"),
+                ("", "it is empty"), (trace, "not a file of fintaqush record"), (whole[:-3000], "it is cut"), (whole[:200], "it is cut"),
+                (file_of(quiet(), lost=7), "the kernel lost 7 events"), (file_of(quiet(), polled=""), "it has no polls of vb1"),
                 (file_of(re.sub(r".*net_dev_xmit.*\n", "", trace)), "no arrival is in it"),
-                (file_of(re.sub(r".*napi_poll.*\n", "", trace)), "nothing polls vb1 in it"),
-                (file_of(quiet(), device="vb1 vb2", sender="va1 va2", polled="vb1 vb2"), "it has several devices: name one of vb1, vb2 by --device"),
+                (file_of(re.sub(r".*napi_poll.*\n", "", trace)), "it has no polls of vb1"),
+                (file_of(quiet(), device="vb1 vb2", sender="va1 va2", polled="vb1 vb2"), "it has several devices: name one with --device: vb1, vb2"),
                 (file_of(trace.replace("[003]", "[002]", trace.count("[003]") // 2)), "is polled on processors 2, 3"),
                 ("PERFILE2 and so on\n", "this is the file of `perf record`")):
             done = self.advised(text, status=1)

@@ -76,7 +76,7 @@ class Costs(InFolder):
                 wanted = {"interrupt": 2000, "poll": 3000, "packet": 400}[name]
                 self.assertTrue(abs(value - wanted) <= wanted * (0.03 if name != "poll" or unit == 1 else 0.1), (name, value))
             told = self.told(text)
-            self.assertRegex(told, r"the line explains (99|100) % of how the others differ, and half of them are within [0-3] % of it\n")
+            self.assertRegex(told, r"the line explains (99|100) % of the others' variation, and half of them are within [0-3] % of it\n")
             self.assertEqual("time stamps are of microseconds" in told, unit == 1000)
 
     def test_whose_handlers_count(self):
@@ -99,7 +99,7 @@ class Costs(InFolder):
             self.assertEqual((done.returncode, done.stdout), (1, ""))
             self.assertIn(why, done.stderr)
         done = run("costs", "-", text=re.sub(r"work \d+", "work 1", text))
-        self.assertIn("each of 600 polls took one packet, so what a poll and what a packet costs can't be told apart", done.stderr)
+        self.assertIn("each of 600 polls took one packet, so the cost of a poll can't be separated from that of a packet", done.stderr)
         self.assertIn("line 1: no line of ftrace", run("costs", "-", text="what\n").stderr)
         self.assertIn("there is no such file", run("costs", "none").stderr)
 
@@ -108,7 +108,7 @@ class Costs(InFolder):
         """A poll of 2000 and a packet of 400 ns take 2400 together; the tool prints what to record."""
         done = run("costs", "-", text=one_packet_each(2400))
         self.assertEqual((done.returncode, done.stdout, done.stderr.count("\n")), (1, "", 1))
-        self.assertIn("each of 40 polls took one packet, so what a poll and what a packet costs can't be told apart; together they are 2400 ns (2400 to 2400): record "
+        self.assertIn("each of 40 polls took one packet, so the cost of a poll can't be separated from that of a packet; together they are 2400 ns (2400 to 2400): record "
                       "traffic of which some polls take several packets, as bursts (with sendmmsg or UDP_SEGMENT), a higher load, or", done.stderr)
 
     def test_a_line_that_explains_nothing(self):
@@ -119,7 +119,7 @@ class Costs(InFolder):
         self.assertEqual((done.returncode, done.stdout, done.stderr.count("\n")), (1, "", 1))
         self.assertIn("over 360 polls of 1 to 9 packets the time doesn't grow with them (the line explains 0 % of how the times differ)", done.stderr)
         done = run("costs", "-", "--words", text=polls_of([(1, 2000), (1, 9000), (2, 9600), (2, 2600)] * 3 + [(3, 2900), (3, 9900)] * 2))
-        self.assertTrue((done.returncode, done.stdout) == (1, "") and "explains" in done.stderr or "isn't told apart from 0" in done.stderr, done.stderr)
+        self.assertTrue((done.returncode, done.stdout) == (1, "") and "explains" in done.stderr or "can't be distinguished from 0" in done.stderr, done.stderr)
 
     def test_the_backlog_is_left_out(self):
         """If a device polls. The backlog's polls take ten times as long."""
@@ -132,7 +132,7 @@ class Costs(InFolder):
         self.assertEqual(self.words(both, "--device", "(no_device)"), {"interrupt": 21000, "poll": 15000, "packet": 3300})
         self.assertEqual(self.words(backlog), {"interrupt": 21000, "poll": 15000, "packet": 3300})
         more = self.told(text + text.replace("eth0 work", "eth1 work").replace("[001]", "[002]"))
-        self.assertIn("polls of several devices are taken together: eth0, eth1; --device takes those of one\n", more)
+        self.assertIn("polls of several devices are combined: eth0, eth1; --device takes those of one\n", more)
 
     def test_the_interrupts_of_another_card(self):
         """A disk's interrupt ends 20 ns before each softirq; the card's, 50 ns earlier, requested it. tools/record knows the card's."""
@@ -248,7 +248,7 @@ class Modelled(InFolder):
         made.lines = [line for line in made.lines if line not in gone]
         told, costs = self.costs(made)
         self.assertNotIn("use", costs)
-        self.assertTrue(any(line.startswith("use: not known: ") and "so a read isn't a packet's" in line for line in told["text"]))
+        self.assertTrue(any(line.startswith("use: not known: ") and "so a read isn't one packet" in line for line in told["text"]))
 
     def test_a_quiet_recording_has_no_use(self):
         """The time between single packets isn't their use."""
@@ -295,7 +295,7 @@ class Modelled(InFolder):
         self.assertEqual(done.stderr, "costs: -: what a packet costs isn't known: over 200 polls of 1 to 3 packets the time doesn't grow with them (the line explains "
                          "0 % of how the times differ): record more varied traffic, on a processor that does nothing else\n")
         done = run("costs", "-", text=made(lambda work: chance.randrange(1000, 90_000)))
-        self.assertTrue("doesn't grow with them" in done.stderr or "isn't told apart from 0" in done.stdout)
+        self.assertTrue("doesn't grow with them" in done.stderr or "can't be distinguished from 0" in done.stdout)
 
     def test_a_run_that_goes_on_with_what_a_full_poll_left(self):
         """Its first poll begins at the end of the full one, even if the kernel took 4000 ns to continue."""

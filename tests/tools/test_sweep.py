@@ -269,7 +269,7 @@ total devices 3 runs 2 polls 7 work 80 squeezed 2
         os.mkfifo(self.folder / "fifo.csv")
         done = self.sweep()
         self.assertIn("folder.csv: skipped, because it isn't a regular file", done.stderr)
-        self.assertIn("fifo.csv: passed over", done.stderr)
+        self.assertIn("fifo.csv: skipped", done.stderr)
         self.check_rows()
         self.assertIn("as a regular file", run("sweep", self.folder / "fifo.csv", "--out", self.out).stderr)
 
@@ -378,7 +378,7 @@ for job in range(first, last + 1):
     def test_a_file_is_not_overwritten(self):
         self.out.write_text("mine\n")
         self.assertIn("exists: --resume continues it", self.sweep().stderr)
-        self.assertIn("this is no file of sweep's", self.sweep("--resume").stderr)
+        self.assertIn("not a file of sweep", self.sweep("--resume").stderr)
         self.assertEqual(self.out.read_text(), "mine\n")
 
     def test_parts_are_all_of_it(self):
@@ -397,6 +397,6 @@ for job in range(first, last + 1):
                       ["--restarts", "3"], ["--window", "65536"]):
             done = run("sweep", *(words and [self.folder]), *words, "--out", self.out)
             self.assertEqual((done.returncode, self.out.exists()), (2, False), words)
-        self.assertIn("there is no such trace", run("sweep", self.folder / "none", "--program", REPLAY).stderr)
+        self.assertIn("no such trace", run("sweep", self.folder / "none", "--program", REPLAY).stderr)
         self.assertIn("not a program", run("sweep", self.folder, "--program", "/dev/null", "--out", self.out).stderr)
         self.assertIn("no such folder", run("sweep", self.folder, "--out", self.folder / "none/rows").stderr)

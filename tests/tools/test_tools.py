@@ -118,7 +118,7 @@ CPU:1 [7 EVENTS DROPPED]
         self.assertIn("a packet of 65536 bytes", self.refused(packet.format(65536)))
         self.assertIn("no device of --pair is recorded; these are: va1", self.refused(packet.format(60), "--pair", "x:y"))
         self.assertIn("a device is in two pairs", self.refused(packet.format(60), "--pair", "va1:b", "--pair", "b:c"))
-        self.assertIn("not as A:B", self.refused(packet.format(60), "--pair", "va*:vb"))
+        self.assertIn("not of the form A:B", self.refused(packet.format(60), "--pair", "va*:vb"))
         self.assertIn("18 devices", self.refused(packet.format(60), *(f"--pair=va{n}:vb{n}" for n in range(1, 10))))
         self.assertIn("100001 rows", self.refused(packet.format(60) * 99999))
 
@@ -208,7 +208,7 @@ CPU:1 [7 EVENTS DROPPED]
         self.assertEqual(done.returncode, 1)
         self.assertIn("row 138: work 69, the kernel 63: OTHER THAN THE KERNEL", done.stdout)
         self.write("made.work", "polls 1\n")
-        self.assertIn(".work: line 1 isn't as", run("compare-recording", self.folder / "made").stderr)
+        self.assertIn(".work: line 1 isn't of the form", run("compare-recording", self.folder / "made").stderr)
         done = run("compare-recording", TOP / "examples/linux-veth-small-budget", "--budget", "64")
         self.assertEqual((done.returncode, done.stdout), (0, "544 rows, 15647 packets; the kernel 15647; 544 rows agree, 0 differ, "
                                                           "0 others are accounted for by notes: as the kernel\n"))
@@ -364,7 +364,7 @@ class FromPcap(InFolder):
     def test_refusals(self):
         done = run("from-pcap", "none.pcap", "made", folder=self.folder)
         self.assertEqual((done.stderr, done.returncode), ("from-pcap: none.pcap: there is no such file\n", 1))
-        for text, why in (("", "no packet arrives"), ("what\n", "line 1: not as `tcpdump -tt -n -e`"), (self.TEXT * 60000, "more than")):
+        for text, why in (("", "no packet arrives"), ("what\n", "line 1: not in the format of `tcpdump -tt -n -e`"), (self.TEXT * 60000, "more than")):
             done = run("from-pcap", "-", self.folder / "made", text=text)
             self.assertEqual((done.returncode, self.names()), (1, []), done.stderr)
             self.assertIn(why if why != "more than" else "and a trace has at most 100000", done.stderr)

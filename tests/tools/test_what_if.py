@@ -130,7 +130,7 @@ class WhatIf(InFolder):
         self.arrivals.write_text(HEADER + '0,1,60\n"7",1,60\n')
         done = run("what-if", self.arrivals, "--load", "2")
         self.assertEqual(done.returncode, 1)
-        self.assertIn("row 2: only moments that are plain numbers are scaled", done.stderr)
+        self.assertIn("row 2: only times that are plain numbers can be scaled", done.stderr)
 
     def test_json(self):
         done = run("what-if", self.arrivals, "--json", "--budget", "1,2", "--load", "0.5", "--band", "0")
@@ -225,7 +225,7 @@ class WhatIf(InFolder):
 
     def test_loads_that_never_and_always_break(self):
         self.arrivals.write_text(HEADER + "".join(f"{10_000 * place},1,60\n" for place in range(20)))
-        self.assertEqual(self.table("--until", "drops", "--band", "0"), ["it holds up to 1.02e+03 times this load, the highest that is tried"])
+        self.assertEqual(self.table("--until", "drops", "--band", "0"), ["it holds up to 1.02e+03 times this load, the highest one tried"])
         row, = self.rows("--until", "drops", "--band", "0")
         self.assertEqual((row["holds_at"], row["breaks_at"], row["packets_per_second"]), ("1024", "", ""))
         row, = self.rows("--until", "p99=1", "--band", "0")  # an interrupt takes 4 us
