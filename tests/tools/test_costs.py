@@ -94,7 +94,7 @@ class Costs(InFolder):
 
     def test_what_it_refuses(self):
         text = recorded(1, 1, 1)
-        for without, why in (("softirq_entry", "0 polls in softirqs or threads that it has whole"), ("napi_poll", "0 polls in softirqs or threads")):
+        for without, why in (("softirq_entry", "0 polls in complete softirqs or threads"), ("napi_poll", "0 polls in softirqs or threads")):
             done = run("costs", "-", text="".join(line for line in text.splitlines(True) if without not in line))
             self.assertEqual((done.returncode, done.stdout), (1, ""))
             self.assertIn(why, done.stderr)
@@ -423,7 +423,7 @@ class Recorded(InFolder):
         text = (TOP / "examples/veth-backlog.rec").read_text()
         for changed, why in ((text[:-30], "isn't whole"), (text[: text.rindex("\n", 0, -2) + 1], "it is cut: 622 of 623 events are there"),
                              (text[:1000], "it is cut: its head has no end"), ("", "it is empty"), ("fintaqush-recording 1\n", "its head has no end"),
-                             (text.replace("\nlost 0\n", "\nlost 5\n"), "the kernel lost 5 events, so its numbers would be wrong"),
+                             (text.replace("\nlost 0\n", "\nlost 5\n"), "the kernel lost 5 events, so results would be wrong"),
                              (text.replace("recording 1", "recording 2"), "another version of fintaqush record wrote it"),
                              (text.replace("\nlines 623", "\nlines 9"), "it is cut: 623 of 9 events"),
                              (re.sub(r".*(napi_poll|softirq_e).*\n", "", text).replace("lines 623", "lines 513"), "0 polls of (no_device) in softirqs or threads")):
