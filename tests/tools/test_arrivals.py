@@ -233,7 +233,7 @@ class FromFtrace(Arrivals):
         lines = sum(not line.startswith("#") for line in without.split("\ntrace\n")[1].splitlines())
         without = without.replace("\nlines 623\n", f"\nlines {lines}\n")
         for changed, why in (
-                (b"", "it is empty"), (event + "CPU:1 [LOST 7 EVENTS]\n" + event, "line 2 of the recording: the kernel lost 7 events, so its numbers would be wrong"),
+                (b"", "it is empty"), (event + "CPU:1 [LOST 7 EVENTS]\n" + event, "line 2 of the recording: the kernel lost 7 events, so results would be wrong"),
                 (event + "CPU:1 [7 EVENTS DROPPED]\n", "the kernel lost 7 events"), (text.replace("\nlost 0\n", "\nlost 12\n"), "the kernel lost 12 events"),
                 (event[:-20], "line 1: "), (event + event[:30], "it is cut: line 2 isn't whole"), (text[:-9], "isn't whole"), (text[:900], "its head has no end"),
                 (text[: text.rindex("\n", 0, -2) + 1], "it is cut: 622 of 623 events are there"), (without, "there is no packet in it: record the event net/net_dev_xmit"),

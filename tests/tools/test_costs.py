@@ -94,7 +94,7 @@ class Costs(InFolder):
 
     def test_what_it_refuses(self):
         text = recorded(1, 1, 1)
-        for without, why in (("softirq_entry", "0 polls in complete softirqs or threads"), ("napi_poll", "0 polls in softirqs or threads")):
+        for without, why in (("softirq_entry", "0 polls in complete softirqs or threads"), ("napi_poll", "0 polls in complete softirqs or threads")):
             done = run("costs", "-", text="".join(line for line in text.splitlines(True) if without not in line))
             self.assertEqual((done.returncode, done.stdout), (1, ""))
             self.assertIn(why, done.stderr)

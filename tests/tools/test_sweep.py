@@ -271,7 +271,7 @@ total devices 3 runs 2 polls 7 work 80 squeezed 2
         self.assertIn("folder.csv: skipped, because it isn't a regular file", done.stderr)
         self.assertIn("fifo.csv: skipped", done.stderr)
         self.check_rows()
-        self.assertIn("as a regular file", run("sweep", self.folder / "fifo.csv", "--out", self.out).stderr)
+        self.assertIn("or not a regular file", run("sweep", self.folder / "fifo.csv", "--out", self.out).stderr)
 
     def test_a_name_that_is_no_text(self):
         name = os.fsencode(self.folder) + b"/\xff;touch x,\x1b.csv"
