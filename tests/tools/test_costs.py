@@ -426,7 +426,7 @@ class Recorded(InFolder):
                              (text.replace("\nlost 0\n", "\nlost 5\n"), "the kernel lost 5 events, so results would be wrong"),
                              (text.replace("recording 1", "recording 2"), "another version of fintaqush record wrote it"),
                              (text.replace("\nlines 623", "\nlines 9"), "it is cut: 623 of 9 events"),
-                             (re.sub(r".*(napi_poll|softirq_e).*\n", "", text).replace("lines 623", "lines 513"), "0 polls of (no_device) in softirqs or threads")):
+                             (re.sub(r".*(napi_poll|softirq_e).*\n", "", text).replace("lines 623", "lines 513"), "0 polls of (no_device) in complete softirqs or threads")):
             done = run("costs", "-", text=changed)
             self.assertEqual((done.returncode, done.stdout, done.stderr.count("\n")), (1, "", 1), done.stderr)
             self.assertIn(why, done.stderr)

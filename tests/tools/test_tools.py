@@ -202,7 +202,7 @@ CPU:1 [7 EVENTS DROPPED]
         few = run("compare-recording", self.folder / "made", "--lines", "2").stdout.splitlines()
         self.assertEqual((len(few), few[2]), (4, "and 4 more rows accounted for by notes: --lines 6 prints them"))
         notes = (self.folder / "made.notes").read_text()
-        self.assertIn("rows behind it carry the difference on", notes)
+        self.assertIn("later rows carry the difference on", notes)
         self.write("made.notes", "".join(line for line in notes.splitlines(True) if not line.startswith("row 138:")))
         done = run("compare-recording", self.folder / "made")
         self.assertEqual(done.returncode, 1)
