@@ -59,7 +59,8 @@ def usage():
         lines += ["", title + ":"] + ["  %-18s %s" % (name, what) for name, _, what in group]
     lines += ["", "`fintaqush SUBCOMMAND --help` has the options of one; its manual page is fintaqush-SUBCOMMAND(1).", "",
               "  --version          print the version", "  -h, --help         this text", "",
-              "Exit status: 0 success; 1 error, with a message; 2 bad usage; 130 or 143 interrupted. `replay` and `machine` have more."]
+              "Exit status: 0 success; 1 error, with a message; 2 bad usage; 3 a condition of --fail-if holds; 130 or 143 interrupted.",
+              "`replay`, `series` and `machine` have more."]
     return "\n".join(lines) + "\n"
 
 

@@ -59,7 +59,7 @@ def unmodelled_in(head, device):
         yield "adaptive coalescing is on (ethtool -C adaptive-rx)"
     before, after = map(int, head.get("udp.RcvbufErrors", "0 0").split())
     if after > before:
-        yield f"{after - before} packets were dropped at a full socket, which isn't modelled: see net.core.rmem_max and SO_RCVBUF"
+        yield f"{after - before} packets were dropped at a full socket (see net.core.rmem_max and SO_RCVBUF)"
     if head.get("polled", "").split() == [device] and re.search("[1-9a-f]", head.get(f"device.{device}.rx-0.rps_cpus", "0")):
         yield "RPS moves packets on after these polls (rps_cpus)"
 

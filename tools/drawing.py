@@ -152,7 +152,7 @@ def draw_curve(axes, each, colors):
 
 def draw_panel(axes, panel, axis):
     """Draws a panel's heading, legend, labels and scales."""
-    from matplotlib.ticker import MaxNLocator, StrMethodFormatter
+    from matplotlib.ticker import LogLocator, MaxNLocator, NullFormatter, StrMethodFormatter
     axes.set_ylabel(panel["label"])
     named = axes.get_legend_handles_labels()[1] if panel.get("legend", True) else []
     if named:
@@ -163,7 +163,11 @@ def draw_panel(axes, panel, axis):
     axes.set_xlim(axis["low"], axis["high"])
     if panel.get("log"):
         axes.set_yscale("log")
+        low, high = axes.get_ylim()
+        if high < 100 * low:  # powers of ten alone would be too few labels
+            axes.yaxis.set_major_locator(LogLocator(subs=(1, 2, 5)))
         axes.yaxis.set_major_formatter(StrMethodFormatter("{x:g}"))
+        axes.yaxis.set_minor_formatter(NullFormatter())
     else:
         axes.set_ylim(0, panel["top"])
         axes.yaxis.set_major_locator(MaxNLocator(5, integer=panel["top"] >= 5))
@@ -174,7 +178,7 @@ def draw_panel(axes, panel, axis):
 def drawn(picture, end, size, colors):
     """Returns the bytes of an .svg or a .png."""
     panels = picture["panels"]
-    title = "\n".join(line for each in picture["title"].split("\n") for line in textwrap.wrap(each, max(20, size[0] // 7)) or [""])
+    title = "\n".join(line for each in picture["title"].split("\n") for line in textwrap.wrap(each, max(20, size[0] // 8)) or [""])
     with canvas((size[0], size[1] * len(panels) + 20 + 16 * (title.count("\n") + 1)), colors) as figure:
         columns = figure.subplots(len(panels), 1, sharex=True, squeeze=False)
         figure.suptitle(title, fontsize=10.5)

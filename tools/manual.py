@@ -6,7 +6,8 @@ import json
 import re
 import sys
 
-STATUS = "0 success; 1 error, with a message; 2 bad usage; 130 or 143 interrupted."
+STATUS = "0 success; 1 error, with a message; 2 bad usage;{} 130 or 143 interrupted."
+FAILED = " 3 a condition of \\-\\-fail\\-if holds;"
 
 
 def plain(text):
@@ -39,10 +40,11 @@ def page_of(parser, version):
     head, _, text = parser.description.partition("\n\n")
     name = parser.prog.replace(" ", "-")
     has_status = re.search("^exit status", text, re.M | re.I)
+    failed = FAILED if any("--fail-if" in action.option_strings for action in shown_actions(parser)) else ""
     return [f'.TH {plain(name.upper())} 1 "" "Fintaqush {version}"', ".SH NAME",
             f"{plain(name)} \\- {plain(' '.join(head.split()).rstrip('.'))}", ".SH SYNOPSIS",
             plain(" ".join(parser.format_usage().removeprefix("usage: ").split())), ".SH DESCRIPTION", *list(paragraphs(text))[1:],
-            ".SH OPTIONS", *options(parser), *([] if has_status else [".SH EXIT STATUS", STATUS]), ".SH SEE ALSO",
+            ".SH OPTIONS", *options(parser), *([] if has_status else [".SH EXIT STATUS", STATUS.format(failed)]), ".SH SEE ALSO",
             ".BR fintaqush (1), napi_replay (1)"]
 
 
@@ -68,7 +70,7 @@ def page_of_command(groups, version):
         lines += [f".SH {plain(title.upper())}"]
         for name, _, what in group:
             lines += [".TP", f".BR fintaqush\\-{plain(name)} (1)", plain(what)]
-    return [*lines, ".SH EXIT STATUS", STATUS, ".SH SEE ALSO", ".BR napi_replay (1), napi_series (1), napi_machine (1), fintaqush (3)"]
+    return [*lines, ".SH EXIT STATUS", STATUS.format(FAILED), ".SH SEE ALSO", ".BR napi_replay (1), napi_series (1), napi_machine (1), fintaqush (3)"]
 
 
 def main():

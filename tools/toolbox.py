@@ -506,6 +506,11 @@ def run_program(made, words, text):
     return out.decode("ascii")
 
 
+def as_rows(key, value, numbers):
+    """Returns a dictionary as a list of objects, for JSON: a name of a task and a number of a processor aren't identifiers."""
+    return [{key: each, value: number} for each, number in numbers.items()]
+
+
 def records_of(text):
     """Returns the header and the rows of a trace that the replay accepts, each as its four fields. No field of such a trace has a quote,
     a comma or a newline in it."""

@@ -11,7 +11,7 @@ import unittest
 
 import timing
 from timing import Made
-from tooltest import HAS_MACHINE, TOP, InFolder, run, skip_without
+from tooltest import HAS_MACHINE, TOP, InFolder, keys_of, run, skip_without
 
 sys.path.insert(0, str(TOP / "tools"))
 import advising  # noqa: E402
@@ -79,7 +79,9 @@ class Advise(InFolder):
         return done
 
     def object(self, text, *words):
-        return json.loads(self.advised(text, "--json", *words).stdout)
+        told = json.loads(self.advised(text, "--json", *words).stdout)
+        self.assertEqual([name for name in keys_of(told) if not name.isidentifier()], [])
+        return told
 
     def test_the_recorded_setting(self):
         """A burst's packet k waits 3300 + 1700 + 2600 + 410 k ns: the last of 15 13750. Of all packets half wait for at most the 8th place: 10880."""
@@ -169,9 +171,9 @@ class Advise(InFolder):
         made.switch(end, timing.POLLER, "swapper/3-0", "cc1-77")
         made.switch(end + 10**7, timing.POLLER, "cc1-77", "swapper/3-0")
         told = self.object(file_of(made))
-        self.assertEqual((list(told["other_tasks"]), 0.2 < told["other_tasks"]["cc1"] < 0.3), (["cc1"], True))
+        self.assertEqual([(each["task"], 0.2 < each["share"] < 0.3) for each in told["other_tasks"]], [("cc1", True)])
         self.assertIn("other tasks used processor 3 too (cc1 24 %): the prediction assumes a processor without other tasks", self.advised(file_of(made)).stdout)
-        self.assertEqual(self.object(file_of(quiet()))["other_tasks"], {})
+        self.assertEqual(self.object(file_of(quiet()))["other_tasks"], [])
 
     def test_other_tasks_beside_the_program(self):
         """The program reads on a separate processor: another task has 10 of 42 ms there."""
@@ -179,13 +181,22 @@ class Advise(InFolder):
         made.switch(made.time, made.reader, "swapper/9-0", "cc1-77")
         made.switch(made.time + 10**7, made.reader, "cc1-77", "swapper/9-0")
         told = self.object(file_of(made))
-        self.assertEqual((told["other_tasks"], list(told["other_tasks_of_program"]), 0.2 < told["other_tasks_of_program"]["cc1"] < 0.3), ({}, ["cc1"], True))
+        self.assertEqual((told["other_tasks"], [(each["task"], 0.2 < each["share"] < 0.3) for each in told["other_tasks_of_program"]]), ([], [("cc1", True)]))
         self.assertIn("other tasks used processor 5, on which the program reads, too (cc1 24 %): the prediction assumes", self.advised(file_of(made)).stdout)
+
+    def test_a_use_that_is_unknown(self):
+        """Without reads a note says to record the program; with reads of half of the packets, so not of all, it doesn't."""
+        lines = quiet().text().splitlines(True)
+        reads = [place for place, line in enumerate(lines) if "sys_recvmsg" in line]
+        for kept, ending in (([], ": record with --program, so that waits are those to the end of use"), (reads[: len(reads) // 2], "")):
+            text = "".join(line for place, line in enumerate(lines) if place in kept or "sys_recvmsg" not in line)
+            self.assertIn(f"the cost of a packet's use is unknown and counts as 0{ending}", self.object(file_of(text))["notes"])
 
     def test_what_is_set_and_not_modelled(self):
         told = self.object(file_of(quiet(), **{"sysctl.net.core.busy_read": 50, "device.vb1.ethtool.coalesce.adaptive-rx": "on", "udp.RcvbufErrors": "3 10",
                                                "device.vb1.rx-0.rps_cpus": "00000008"}))
-        for each in ("busy polling is on", "adaptive coalescing is on", "7 packets were dropped at a full socket", "RPS moves packets on"):
+        for each in ("busy polling is on", "adaptive coalescing is on", "7 packets were dropped at a full socket (see net.core.rmem_max and SO_RCVBUF), which isn't",
+                     "RPS moves packets on"):
             self.assertTrue(any(note.startswith(each) for note in told["notes"]), each)
 
     @skip_without("matplotlib")

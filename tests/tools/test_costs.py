@@ -8,7 +8,7 @@ import unittest
 
 import timing
 from timing import Made
-from tooltest import HERE, TOP, InFolder, run
+from tooltest import HERE, TOP, InFolder, keys_of, run
 
 
 def recorded(interrupt, poll, packet, unit=1, noise=lambda: 0, threads=False):
@@ -179,6 +179,7 @@ class Modelled(InFolder):
         done = run("costs", "-", "--json", *self.PAIR, *words, text=made if isinstance(made, str) else made.text())
         self.assertEqual((done.stderr, done.returncode), ("", 0))
         told = json.loads(done.stdout)
+        self.assertEqual([name for name in keys_of(told) if not name.isidentifier()], [])
         return told, {name.replace("_", "-"): cost["value"] for name, cost in told["costs"].items()}
 
     def wanted(self, *names):
@@ -277,7 +278,7 @@ class Modelled(InFolder):
             made.event(10**12 + place * 999_999 + 77_777, 1, "other-5", f"napi_poll: napi poll on napi struct 0 for device eth9 work {place % 9} budget 64")
             made.event(10**12 + place * 999_999 + 77_778, 1, "other-5", "softirq_exit: vec=3 [action=NET_RX]")
         told, costs = self.costs(made, "--device", "vb1")
-        self.assertEqual((costs["poll"], costs["packet"], told["polls_on"]), (2600, 410, {str(timing.POLLER): told["polls"]}))
+        self.assertEqual((costs["poll"], costs["packet"], told["polls_on"]), (2600, 410, [{"processor": timing.POLLER, "polls": told["polls"]}]))
 
     def test_a_fit_that_is_worse_than_useless(self):
         """Times that fall with the number of packets; and, with a note, times that don't depend on it."""
@@ -370,7 +371,7 @@ class Modelled(InFolder):
                    "next_comm=swapper/3 next_pid=0 next_prio=120")
         made.switch(end + 1, timing.POLLER, "swapper/3-0", "hog-8", "R")
         told, _ = self.costs(made)
-        self.assertAlmostEqual(told["tasks"]["hog"], 0.25, delta=0.01)
+        self.assertAlmostEqual({each["task"]: each["share"] for each in told["tasks"]}["hog"], 0.25, delta=0.01)
 
 
 class Recorded(InFolder):

@@ -48,6 +48,9 @@ class Fintaqush(InFolder):
             self.assertTrue(done.stdout.startswith(f"usage: fintaqush {name}"), done.stdout[:80])
             page = call(name, "--manual").stdout
             self.assertTrue(page.startswith(f".TH FINTAQUSH\\-{name.upper().replace('-', chr(92) + '-')} 1 "), page[:80])
+            self.assertEqual("; 3 a condition of \\-\\-fail\\-if holds;" in page, "--fail-if" in done.stdout, page)
+        for text in (call("--manual").stdout.replace("\\-", "-"), call("--help").stdout):
+            self.assertIn("; 3 a condition of --fail-if holds;", text)
         done = call("raise", "none.csv", folder=self.folder)
         self.assertEqual((done.stderr, done.returncode), ("fintaqush raise: none.csv: there is no such file\n", 1))
         self.assertIn("fintaqush raise: error: unrecognized arguments: --buget", call("raise", "x", "--buget").stderr)

@@ -329,7 +329,7 @@ class Surroundings(InFolder):
     def test_places_that_take_no_file(self):
         (self.folder / "folder.csv").mkdir()
         os.mkfifo(self.folder / "fifo.csv")
-        for out, why in (("none/x.csv", "there is no such folder"), ("folder.csv", "this is a folder"), ("fifo.csv", "no regular file")):
+        for out, why in (("none/x.csv", "there is no such folder"), ("folder.csv", "this is a folder"), ("fifo.csv", "not a regular file")):
             for tool in ("raise", "traffic", "report2json"):
                 words = [TRACE] if tool == "raise" else []
                 done = run(tool, *words, "--out", out, text=REPORT, folder=self.folder)

@@ -296,6 +296,18 @@ class WhatIf(InFolder):
                      "99th percentile of waits", "dropped and refused, %", "share, %", "budget 1<", "budget 300<", "load (times the arrivals)"):
             self.assertIn(told, text.replace("&apos;", "'"))
 
+    @skip_without("matplotlib")
+    def test_a_long_title_fits(self):
+        """The outermost columns of pixels are white. A scale of less than two decades also has labels between powers of ten."""
+        words = ["--gro-flush-timeout", "0,20000,100000", "--defer-hard-irqs", "2", "--load", "0.5,1,2", "--plot"]
+        self.rows(*words, self.folder / "x.png")
+        self.rows(*words, self.folder / "x.svg")
+        darkest = ("import sys; sys.path.append(sys.argv[1]); import drawing; drawing.matplotlib(); from matplotlib.image import imread; "
+                   "print(imread(sys.argv[2])[:, [0, 1, -2, -1], :3].min())")
+        done = subprocess.run([sys.executable, "-c", darkest, TOP / "tools", self.folder / "x.png"], capture_output=True, text=True, check=True)
+        self.assertEqual(done.stdout, "1.0\n")
+        self.assertTrue(re.search(r">0\.0*[25]<", (self.folder / "x.svg").read_text()))
+
     def test_the_picture_of_words_that_it_cannot_tell_apart(self):
         for words, why in (([], "no option has several values"), (["--budget", "1,2,3", "--weight", "1,2,3", "--load", "1,2"], "9 curves")):
             done = run("what-if", self.arrivals, *words, "--plot", self.folder / "x.png")

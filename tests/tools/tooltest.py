@@ -44,6 +44,14 @@ def run(tool, *words, text=None, path=None, folder=None, **variables):
                           env=environment, cwd=folder, errors="surrogateescape", timeout=600)
 
 
+def keys_of(told):
+    """Yields all keys of a JSON object and of the objects in it."""
+    if isinstance(told, dict):
+        yield from told
+    for each in told.values() if isinstance(told, dict) else told if isinstance(told, list) else ():
+        yield from keys_of(each)
+
+
 def contrast(one, other):
     """Returns the contrast of two colours, as WCAG 2 defines it."""
     def light(color):
