@@ -70,9 +70,9 @@ class Shown(InFolder):
         self.check(r"predicting \d+ settings, \d+ %", "advise", HERE / "recorded-apart.rec", MACHINE=slow)
 
     def test_what_is_made_and_what_is_read(self):
-        self.assertRegex(self.seen("traffic", "--arrivals", "--rate", "100000", "--seconds", "4", "--out", "made.csv"), r"traffic: making arrivals, \d+ %, \d+ s left")
+        self.assertRegex(self.seen("traffic", "--arrivals", "--rate", "100000", "--seconds", "16", "--out", "made.csv"), r"traffic: making arrivals, \d+ %, \d+ s left")
         line = "   a-1  [000] b....  5.{:06}: net_dev_xmit: dev=va1 skbaddr=0 len=60 rc=0\n"
-        recording = self.write("recording", "".join(map(line.format, range(200000))))
+        recording = self.write("recording", "".join(map(line.format, range(500000))))
         self.assertRegex(self.seen("from-ftrace", recording, "trace", "--arrivals"), r"from-ftrace: reading, \d+ %, \d+ s left")
 
     def test_elsewhere_nothing_is_shown(self):
