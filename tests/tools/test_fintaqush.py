@@ -135,6 +135,8 @@ class Fintaqush(InFolder):
     def test_the_tour(self):
         done = call("try", folder=self.folder)
         self.assertEqual((done.stderr, done.returncode, self.names()), ("", 0, ["fintaqush-try.html"]))
+        for command in re.findall(r"^    \$ (\S+) ", done.stdout, re.M):  # which are typed in this folder
+            self.assertTrue((self.folder / command).is_file() and "/" in command, command)
         self.assertIn("With 16 there are 793 runs, of which 312 are squeezed; with 300 there are 528, and 0 are squeezed.", done.stdout)
         self.assertRegex(done.stdout, r"dropped 3 packets")  # as recorded
         self.assertEqual(re.findall(r"^ +(\d+) +(yes|no) ", done.stdout, re.M), [(str(size), apart) for size in (6, 12, 48) for apart in ("no", "yes")])
