@@ -35,12 +35,12 @@ listed q = length q.list + held_in q.run
 
 -- ---- of the devices
 
-abbrev pub flag : Bool → ℕ
-flag b = if b then 1 else 0
+abbrev pub bit_if : Bool → ℕ
+bit_if b = if b then 1 else 0
 
 -- a mask has the bits of the devices in whose entries that holds
 abbrev pub IsMask : (Option DeviceView → Bool) → Devices → ℕ → Type 0
-IsMask holds devices mask = (n : ℕ) → n < 64 → bit_at mask n ≡ flag (holds (at n devices))
+IsMask holds devices mask = (n : ℕ) → n < 64 → bit_at mask n ≡ bit_if (holds (at n devices))
 
 abbrev pub has_timer : Option DeviceView → Bool
 has_timer place = option_map_or (λ d. is_some (timer_of d.phase)) place false
