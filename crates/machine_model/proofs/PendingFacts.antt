@@ -5,42 +5,42 @@ use Rattle.std.specs.{Prelude.{◌==◌, position}, List.position_or_len, Option
 use Rattle.std.proofs.lemmas.{Bool.cases_eq, Grind.{common_steps, get_or-set_at}, List.{get_or-set_other, length-set, Sums.position_or_len_is}}
 use Rattle.std.proofs.lemmas.Nat.Bits.{bit_at-trailing_zeros, bit_at-zero}
 use Rattle.{device_places.{proofs.PlaceFacts.{at-index, below-some}, specs.Places.{at, changed, changed_from}}}
-use Rattle.machine_words.specs.declared.settings.Settings.{Settings}
-use Rattle.machine_model.specs.Device.{DeviceView, after_packet, is_masked, opened, without_next}
-use Rattle.machine_model.specs.Devices.{Devices, asks_at, soonest_from, sooner, timer_at}
+use Rattle.machine_words.specs.declared.settings.MachineSettings.{MachineSettings}
+use Rattle.machine_model.specs.Device.{QueueView, after_packet, is_masked, new_queue, without_next}
+use Rattle.machine_model.specs.Devices.{QueueViews, asks_at, soonest_from, sooner, timer_at}
 use Rattle.machine_model.specs.Shown.{IsMask, IsPending, earlier, bit_if, has_timer}
 use Rattle.machine_model.{specs.declared.devices.{Pending.Pending, Timer.Timer}, proofs.WeightFacts.{named, soonest-is}}
 
 -- ---- the entry that changed
 
-set-same : (xs : Devices) (n : ℕ) → slice_set xs n (at n xs) ≡ xs
+set-same : (xs : QueueViews) (n : ℕ) → slice_set xs n (at n xs) ≡ xs
 set-same [] n = grind (arith, common_steps)
 set-same (x ∷ xs) zero = refl
-set-same (x ∷ xs) (suc n) = ap (λ (ys : Devices). x ∷ ys) (set-same xs n)
+set-same (x ∷ xs) (suc n) = ap (λ (ys : QueueViews). x ∷ ys) (set-same xs n)
 
-changed-length : (change : DeviceView → DeviceView) (n : ℕ) (xs : Devices) → length (changed change n xs) ≡ length xs
+changed-length : (change : QueueView → QueueView) (n : ℕ) (xs : QueueViews) → length (changed change n xs) ≡ length xs
 changed-length change n xs = grind (arith, common_steps)
 
-changed-set : (change : DeviceView → DeviceView) (n : ℕ) (xs : Devices)
+changed-set : (change : QueueView → QueueView) (n : ℕ) (xs : QueueViews)
     → changed change n xs ≡ slice_set xs n (at n (changed change n xs))
 changed-set change n xs = by (at n xs) refl
   where
-    by : (o : Option DeviceView) → at n xs ≡ o → changed change n xs ≡ slice_set xs n (at n (changed change n xs))
+    by : (o : Option QueueView) → at n xs ≡ o → changed change n xs ≡ slice_set xs n (at n (changed change n xs))
     by None none = rw none (sym (set-same xs n))
     by (Some d) some = grind (arith, common_steps, below-some)
 
-placed : (change : DeviceView → DeviceView) (n : ℕ) (before after : Devices) → after ≡ changed change n before
+placed : (change : QueueView → QueueView) (n : ℕ) (before after : QueueViews) → after ≡ changed change n before
     → after ≡ slice_set before n (at n after)
 placed change n before after is = rw is (changed-set change n before)
 
-long : (change : DeviceView → DeviceView) (n : ℕ) (before after : Devices) → after ≡ changed change n before → n < length after
+long : (change : QueueView → QueueView) (n : ℕ) (before after : QueueViews) → after ≡ changed change n before → n < length after
     → n < length before
-long change n before after is below = omega (arith, ap (λ (xs : Devices). length xs) is, changed-length change n before, below)
+long change n before after is below = omega (arith, ap (λ (xs : QueueViews). length xs) is, changed-length change n before, below)
 
-at-same : (xs : Devices) (n : ℕ) (y : Option DeviceView) → n < length xs → at n (slice_set xs n y) ≡ y
+at-same : (xs : QueueViews) (n : ℕ) (y : Option QueueView) → n < length xs → at n (slice_set xs n y) ≡ y
 at-same xs n y below = get_or-set_at xs n n y None refl below
 
-at-other : (xs : Devices) (n m : ℕ) (y : Option DeviceView) → (m ≡ n → ⊥) → at m (slice_set xs n y) ≡ at m xs
+at-other : (xs : QueueViews) (n m : ℕ) (y : Option QueueView) → (m ≡ n → ⊥) → at m (slice_set xs n y) ≡ at m xs
 at-other xs n m y other = get_or-set_other xs n m y None other
 
 -- ---- masks
@@ -53,8 +53,8 @@ bit_if-off : (b : Bool) → bit_if b ≡ 0 → b ≡ false
 bit_if-off true e = cc e
 bit_if-off false e = refl
 
-module _ (holds : Option DeviceView → Bool) where
-  pub mask-set : (xs : Devices) (n : ℕ) (y : Option DeviceView) (old new : ℕ) → n < length xs → bit_at new n ≡ bit_if (holds y)
+module _ (holds : Option QueueView → Bool) where
+  pub mask-set : (xs : QueueViews) (n : ℕ) (y : Option QueueView) (old new : ℕ) → n < length xs → bit_at new n ≡ bit_if (holds y)
       → ((m : ℕ) → m < 64 → (m ≡ n → ⊥) → bit_at new m ≡ bit_at old m)
       → IsMask holds xs old
       → IsMask holds (slice_set xs n y) new
@@ -64,13 +64,13 @@ module _ (holds : Option DeviceView → Bool) where
       by (inl same) = rw (same, at-same xs n y below) own
       by (inr other) = rw (at-other xs n m y other) (others m small other ∙ mask m small)
 
-  pub mask-same : (xs : Devices) (n : ℕ) (y : Option DeviceView) (old : ℕ) → n < length xs → length xs ≤ 64 → holds y ≡ holds (at n xs)
+  pub mask-same : (xs : QueueViews) (n : ℕ) (y : Option QueueView) (old : ℕ) → n < length xs → length xs ≤ 64 → holds y ≡ holds (at n xs)
       → IsMask holds xs old
       → IsMask holds (slice_set xs n y) old
   mask-same xs n y old below few same mask =
       mask-set xs n y old old below (mask n (omega (arith, below, few)) ∙ ap bit_if (sym same)) (λ m small other. refl) mask
 
-  pub mask-changed : (change : DeviceView → DeviceView) (n : ℕ) (before after : Devices) (old new : ℕ) → n < length after
+  pub mask-changed : (change : QueueView → QueueView) (n : ℕ) (before after : QueueViews) (old new : ℕ) → n < length after
       → after ≡ changed change n before
       → bit_at new n ≡ bit_if (holds (at n after))
       → ((m : ℕ) → m < 64 → (m ≡ n → ⊥) → bit_at new m ≡ bit_at old m)
@@ -79,37 +79,37 @@ module _ (holds : Option DeviceView → Bool) where
   mask-changed change n before after old new below is own others mask =
       rw (placed change n before after is) (mask-set before n (at n after) old new (long change n before after is below) own others mask)
 
-  pub mask-more : (xs ys : Devices) (old : ℕ) → ((m : ℕ) → at m ys ≡ at m xs) → IsMask holds xs old → IsMask holds ys old
-  mask-more xs ys old same mask m small = mask m small ∙ ap (λ (o : Option DeviceView). bit_if (holds o)) (sym (same m))
+  pub mask-more : (xs ys : QueueViews) (old : ℕ) → ((m : ℕ) → at m ys ≡ at m xs) → IsMask holds xs old → IsMask holds ys old
+  mask-more xs ys old same mask m small = mask m small ∙ ap (λ (o : Option QueueView). bit_if (holds o)) (sym (same m))
 
-  within : (xs : Devices) (i : ℕ) → holds None ≡ false → holds (at i xs) ≡ true → i < length xs
+  within : (xs : QueueViews) (i : ℕ) → holds None ≡ false → holds (at i xs) ≡ true → i < length xs
   within [] i none up = absurd (cc (none, up))
   within (x ∷ xs) zero none up = omega arith
   within (x ∷ xs) (suc i) none up = omega (arith, within xs i none up)
 
-  pub held-at : (xs : Devices) (mask n : ℕ) → IsMask holds xs mask → n < 64 → bit_at mask n ≡ 1 → holds (at n xs) ≡ true
+  pub held-at : (xs : QueueViews) (mask n : ℕ) → IsMask holds xs mask → n < 64 → bit_at mask n ≡ 1 → holds (at n xs) ≡ true
   held-at xs mask n is small set = bit_if-on (holds (at n xs)) (sym (is n small) ∙ set)
 
-  pub clear-at : (xs : Devices) (mask n : ℕ) → IsMask holds xs mask → n < 64 → bit_at mask n ≡ 0 → holds (at n xs) ≡ false
+  pub clear-at : (xs : QueueViews) (mask n : ℕ) → IsMask holds xs mask → n < 64 → bit_at mask n ≡ 0 → holds (at n xs) ≡ false
   clear-at xs mask n is small clear = bit_if-off (holds (at n xs)) (sym (is n small) ∙ clear)
 
-  pub inside : (xs : Devices) (mask n : ℕ) → holds None ≡ false → IsMask holds xs mask → n < 64 → bit_at mask n ≡ 1 → n < length xs
+  pub inside : (xs : QueueViews) (mask n : ℕ) → holds None ≡ false → IsMask holds xs mask → n < 64 → bit_at mask n ≡ 1 → n < length xs
   inside xs mask n none is small set = within xs n none (held-at xs mask n is small set)
 
 -- ---- the lowest that asks
 
-position-at : (xs : Devices) (i : ℕ) → position_or_len asks_at xs ≡ i → i < length xs → position asks_at xs ≡ Some i
+position-at : (xs : QueueViews) (i : ℕ) → position_or_len asks_at xs ≡ i → i < length xs → position asks_at xs ≡ Some i
 position-at xs i at below = grind (arith, common_steps)
 
-position-none : (xs : Devices) → position_or_len asks_at xs ≡ length xs → position asks_at xs ≡ None
+position-none : (xs : QueueViews) → position_or_len asks_at xs ≡ length xs → position asks_at xs ≡ None
 position-none xs all = grind (arith, common_steps)
 
-pub lowest-none : (xs : Devices) (mask : ℕ) → mask ≡ 0 → length xs ≤ 64 → IsMask asks_at xs mask → position asks_at xs ≡ None
+pub lowest-none : (xs : QueueViews) (mask : ℕ) → mask ≡ 0 → length xs ≤ 64 → IsMask asks_at xs mask → position asks_at xs ≡ None
 lowest-none xs mask none few is =
     position-none xs (position_or_len_is asks_at xs (length xs) None (omega arith)
     (λ k below. clear-at asks_at xs mask k is (omega (arith, below, few)) (rw none (bit_at-zero k))) (λ past. absurd (omega (arith, past))))
 
-pub lowest-some : (xs : Devices) (mask : ℕ) → 0 < mask → mask < 2 ^ 64 → IsMask asks_at xs mask
+pub lowest-some : (xs : QueueViews) (mask : ℕ) → 0 < mask → mask < 2 ^ 64 → IsMask asks_at xs mask
     → position asks_at xs ≡ Some (trailing_zeros w64 mask)
 lowest-some xs mask some fits is =
     let low = bit_at-trailing_zeros w64 mask some fits in
@@ -151,7 +151,7 @@ behind k (Some t) None (Some o) own later =
 behind k (Some t) (Some r) None own later = earlier-none (sooner (Some t) (Some r))
 behind k (Some t) (Some r) (Some o) own later = behind-some t r o (omega (arith, own t refl, later o refl))
 
-soonest-from : (k : ℕ) (xs : Devices) (n : ℕ) (y : Option DeviceView) → n < length xs
+soonest-from : (k : ℕ) (xs : QueueViews) (n : ℕ) (y : Option QueueView) → n < length xs
     → soonest_from k (slice_set xs n y) ≡ earlier (soonest_from k (slice_set xs n None)) (timer_at (k + n) y)
 unfolding soonest_from
 soonest-from k [] n y below = absurd (omega (arith, below))
@@ -167,7 +167,7 @@ soonest-from k (x ∷ xs) (suc n) y below =
     ∙ ap (λ (m : ℕ). earlier (sooner (timer_at k x) (soonest_from (k + 1) (slice_set xs n None))) (timer_at m y)) same)
 
 -- the soonest of all is that of the others, or that of one device
-soonest-set : (xs : Devices) (n : ℕ) (y : Option DeviceView) → n < length xs
+soonest-set : (xs : QueueViews) (n : ℕ) (y : Option QueueView) → n < length xs
     → soonest_from 0 (slice_set xs n y) ≡ earlier (soonest_from 0 (slice_set xs n None)) (timer_at n y)
 soonest-set xs n y below =
     let same : 0 + n ≡ n = omega arith in
@@ -194,11 +194,11 @@ stays-by None (Some a) = refl
 stays-by (Some r) None = grind (arith, common_steps)
 stays-by (Some r) (Some a) = grind (arith, common_steps)
 
-soonest-before : (xs : Devices) (n : ℕ) → n < length xs
+soonest-before : (xs : QueueViews) (n : ℕ) → n < length xs
     → soonest_from 0 xs ≡ earlier (soonest_from 0 (slice_set xs n None)) (timer_at n (at n xs))
-soonest-before xs n below = ap (λ (ys : Devices). soonest_from 0 ys) (sym (set-same xs n)) ∙ soonest-set xs n (at n xs) below
+soonest-before xs n below = ap (λ (ys : QueueViews). soonest_from 0 ys) (sym (set-same xs n)) ∙ soonest-set xs n (at n xs) below
 
-pub soonest-other : (change : DeviceView → DeviceView) (n : ℕ) (before after : Devices) (old own : Option Timer) → n < length after
+pub soonest-other : (change : QueueView → QueueView) (n : ℕ) (before after : QueueViews) (old own : Option Timer) → n < length after
     → own ≡ timer_at n (at n after)
     → is_of old n ≡ false
     → after ≡ changed change n before
@@ -210,10 +210,10 @@ soonest-other change n before after old own below timer other is was =
     let one = timer_at n (at n before) in
     let same = renewed n old rest one own (was ∙ soonest-before before n inside) (λ a some. named n (at n before) a some) other in
     let now : soonest_from 0 after ≡ earlier rest (timer_at n (at n after)) =
-    ap (λ (xs : Devices). soonest_from 0 xs) (placed change n before after is) ∙ soonest-set before n (at n after) inside in
+    ap (λ (xs : QueueViews). soonest_from 0 xs) (placed change n before after is) ∙ soonest-set before n (at n after) inside in
     sym (now ∙ (ap (λ (t : Option Timer). earlier rest t) (sym timer) ∙ same))
 
-pub soonest-stays : (change : DeviceView → DeviceView) (n : ℕ) (before after : Devices) (old own : Option Timer) → n < length after
+pub soonest-stays : (change : QueueView → QueueView) (n : ℕ) (before after : QueueViews) (old own : Option Timer) → n < length after
     → own ≡ timer_at n (at n after)
     → own ≡ old
     → after ≡ changed change n before
@@ -225,14 +225,14 @@ soonest-stays change n before after old own below timer stays is was =
     let one = timer_at n (at n before) in
     let came : old ≡ earlier rest one = was ∙ soonest-before before n inside in
     let now : soonest_from 0 after ≡ earlier rest (timer_at n (at n after)) =
-    ap (λ (xs : Devices). soonest_from 0 xs) (placed change n before after is) ∙ soonest-set before n (at n after) inside in
+    ap (λ (xs : QueueViews). soonest_from 0 xs) (placed change n before after is) ∙ soonest-set before n (at n after) inside in
     let same : earlier rest old ≡ old = ap (λ (t : Option Timer). earlier rest t) came ∙ (stays-by rest one ∙ sym came) in
     sym (now ∙ (ap (λ (t : Option Timer). earlier rest t) (sym timer ∙ stays) ∙ same))
 
 -- ---- changes after which all stays
 
 -- the entry asks as before, and its timer is the same
-pending-same : (xs : Devices) (n : ℕ) (y : Option DeviceView) (p : Pending) → n < length xs → length xs ≤ 64
+pending-same : (xs : QueueViews) (n : ℕ) (y : Option QueueView) (p : Pending) → n < length xs → length xs ≤ 64
     → asks_at y ≡ asks_at (at n xs)
     → has_timer y ≡ has_timer (at n xs)
     → timer_at n y ≡ timer_at n (at n xs)
@@ -247,29 +247,32 @@ pending-same xs n y p below few asks timed timer was = record {
 }
 
 -- the value that was read from the entry is the device there
-there : (xs : Devices) (n : ℕ) (x : Option DeviceView) (d : DeviceView) → n < length xs → x ≡ slice_index_or xs n x → x ≡ Some d
+there : (xs : QueueViews) (n : ℕ) (x : Option QueueView) (d : QueueView) → n < length xs → x ≡ slice_index_or xs n x → x ≡ Some d
     → at n xs ≡ Some d
 there xs n x d below found some = at-index xs n x below (sym found) ∙ some
 
 -- what holds for the devices, after the one in this entry changed
-pub changed-kept : (f : DeviceView → DeviceView) (xs : Devices) (n : ℕ) (x : Option DeviceView) (d e : DeviceView)
+pub changed-kept : (f : QueueView → QueueView) (xs : QueueViews) (n : ℕ) (x : Option QueueView) (d e : QueueView)
     → n < length xs
     → x ≡ slice_index_or xs n x
     → x ≡ Some d
     → e ≡ f d
-    → (old new : Pending) (now : Devices)
-    → ((change : DeviceView → DeviceView) (before : Devices) → now ≡ changed change n before → IsPending before old → IsPending now new)
+    → (old new : Pending) (now : QueueViews)
+    → ((change : QueueView → QueueView) (before : QueueViews) → now ≡ changed change n before → IsPending before old → IsPending now new)
     → now ≡ slice_set xs n (Some e)
     → (length xs ≤ 64) × IsPending xs old
     → (length (slice_set xs n (Some e)) ≤ 64) × IsPending (slice_set xs n (Some e)) new
 changed-kept f xs n x d e below found some is old new now after now_is kept =
     let here = there xs n x d below found some in
     let change : slice_set xs n (Some e) ≡ changed f n xs =
-    ap (λ (v : DeviceView). slice_set xs n (Some v)) is ∙ sym (ap (λ (o : Option DeviceView). changed_from f n o xs) here) in
-    (omega (arith, length-set xs n (Some e), kept.0), subst (λ (ys : Devices). IsPending ys new) now_is (after f xs (now_is ∙ change) kept.1))
+    ap (λ (v : QueueView). slice_set xs n (Some v)) is ∙ sym (ap (λ (o : Option QueueView). changed_from f n o xs) here) in (
+      omega (arith, length-set xs n (Some e), kept.0),
+      subst (λ (ys : QueueViews). IsPending ys new) now_is
+          (after f xs (now_is ∙ change) kept.1),
+    )
 
 -- the same if its phase stays
-pub phase-kept : (xs : Devices) (n : ℕ) (x : Option DeviceView) (d e : DeviceView) (old : Pending)
+pub phase-kept : (xs : QueueViews) (n : ℕ) (x : Option QueueView) (d e : QueueView) (old : Pending)
     → n < length xs
     → x ≡ slice_index_or xs n x
     → x ≡ Some d
@@ -282,18 +285,18 @@ phase-kept xs n x d e old below found some same kept =
       pending-same xs n (Some e) old below kept.0 (rw (here, same) refl) (rw (here, same) refl) (rw (here, same) refl) kept.1,
     )
 
-pub phase-next : (backlog : Bool) (d : DeviceView) → (without_next backlog d).phase ≡ d.phase
+pub phase-next : (backlog : Bool) (d : QueueView) → (without_next backlog d).phase ≡ d.phase
 phase-next backlog d = grind (arith, common_steps)
 
-pub phase-masked : (moment : ℕ) (s : Settings) (d : DeviceView) → is_masked d.phase ≡ true → (after_packet moment s d).phase ≡ d.phase
+pub phase-masked : (moment : ℕ) (s : MachineSettings) (d : QueueView) → is_masked d.phase ≡ true → (after_packet moment s d).phase ≡ d.phase
 unfolding after_packet
 phase-masked moment s d masked = grind (arith, common_steps)
 
 -- a new device asks for nothing
-pub opened-kept : (xs : Devices) (n capacity : ℕ) (e : DeviceView) (old : Pending)
+pub opened-kept : (xs : QueueViews) (n capacity : ℕ) (e : QueueView) (old : Pending)
     → n < length xs
     → at n xs ≡ None
-    → e ≡ opened capacity
+    → e ≡ new_queue capacity
     → length xs ≤ 64
     → IsPending xs old
     → (length (slice_set xs n (Some e)) ≤ 64) × IsPending (slice_set xs n (Some e)) old
@@ -308,7 +311,7 @@ unfolding soonest_from
 no-timer k zero = refl
 no-timer k (suc count) = no-timer (k + 1) count
 
-soonest-more : (k : ℕ) (xs : Devices) (count : ℕ) → soonest_from k (xs ++ replicate count None) ≡ soonest_from k xs
+soonest-more : (k : ℕ) (xs : QueueViews) (count : ℕ) → soonest_from k (xs ++ replicate count None) ≡ soonest_from k xs
 unfolding soonest_from
 soonest-more k [] count = no-timer k count
 soonest-more k (x ∷ xs) count = ap (λ (s : Option Timer). sooner (timer_at k x) s) (soonest-more (k + 1) xs count)
@@ -318,14 +321,14 @@ at-none zero m = refl
 at-none (suc count) zero = refl
 at-none (suc count) (suc m) = at-none count m
 
-at-more : (xs : Devices) (count m : ℕ) → at m (xs ++ replicate count None) ≡ at m xs
+at-more : (xs : QueueViews) (count m : ℕ) → at m (xs ++ replicate count None) ≡ at m xs
 at-more [] count m = at-none count m
 at-more (x ∷ xs) count zero = refl
 at-more (x ∷ xs) count (suc m) = at-more xs count m
 
-pub pending-more : (xs : Devices) (count : ℕ) (p : Pending) → IsPending xs p → IsPending (xs ++ replicate count None) p
+pub pending-more : (xs : QueueViews) (count : ℕ) (p : Pending) → IsPending xs p → IsPending (xs ++ replicate count None) p
 pending-more xs count p was =
-    let ys : Devices = xs ++ replicate count None in
+    let ys : QueueViews = xs ++ replicate count None in
     record {
       asking = mask-more asks_at xs ys p.asking (at-more xs count) was.asking;
       timed = mask-more has_timer xs ys p.timed (at-more xs count) was.timed;
@@ -341,7 +344,7 @@ pending-none p asking timed soonest = record {
 }
 
 -- the devices after one changed
-pub pending-changed : (change : DeviceView → DeviceView) (n : ℕ) (before after : Devices) (old new : Pending) → n < length after
+pub pending-changed : (change : QueueView → QueueView) (n : ℕ) (before after : QueueViews) (old new : Pending) → n < length after
     → after ≡ changed change n before
     → (bit_at new.asking n ≡ bit_if (asks_at (at n after))) × ((m : ℕ) → m < 64 → (m ≡ n → ⊥) → bit_at new.asking m ≡ bit_at old.asking m)
     → (bit_at new.timed n ≡ bit_if (has_timer (at n after))) × ((m : ℕ) → m < 64 → (m ≡ n → ⊥) → bit_at new.timed m ≡ bit_at old.timed m)

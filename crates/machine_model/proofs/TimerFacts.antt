@@ -4,8 +4,8 @@ use Rattle.std.proofs.Common.{length, drop, get_or, refl, ap, sym, arith, w64}
 use Rattle.std.proofs.{lemmas.{Bool.cases_eq, Grind.common_steps, List.drop_all, Nat.and_le_l}, Math.Seq.drop-cons}
 use Rattle.std.proofs.lemmas.Nat.Bits.{bit_at-trailing_zeros, bit_at-zero, bit_at_clear_other, bit_at_clear_same}
 use Rattle.std.specs.{Prelude.{bit_and, is_some, nat_le, nat_lt, if◌then◌else◌}, Int.{bit_at, bit_not, trailing_zeros}, Option.option_map}
-use Rattle.{device_places.specs.Places.at, machine_model.specs.Device.{DeviceView, timer_of}}
-use Rattle.machine_model.specs.{Devices.{Devices, soonest_from, sooner, timer_at}, declared.devices.Timer.Timer}
+use Rattle.{device_places.specs.Places.at, machine_model.specs.Device.{QueueView, timer_of}}
+use Rattle.machine_model.specs.{Devices.{QueueViews, soonest_from, sooner, timer_at}, declared.devices.Timer.Timer}
 use Rattle.machine_model.{specs.Shown.{IsMask, has_timer}, proofs.PendingFacts.{clear-at, inside}}
 
 sooner-some : (x y z : Timer) → sooner (Some x) (sooner (Some y) (Some z)) ≡ sooner (sooner (Some x) (Some y)) (Some z)
@@ -25,7 +25,7 @@ pub sooner-none : (a : Option Timer) → sooner a None ≡ a
 sooner-none None = refl
 sooner-none (Some x) = refl
 
-pub soonest-next : (places : Devices) (number : ℕ) (best : Option Timer) → number < length places
+pub soonest-next : (places : QueueViews) (number : ℕ) (best : Option Timer) → number < length places
     → sooner best (soonest_from number (drop number places))
     ≡ sooner (sooner best (timer_at number (get_or places number None))) (soonest_from (number + 1) (drop (number + 1) places))
 unfolding soonest_from
@@ -33,12 +33,12 @@ soonest-next places number best below =
     let cut = drop-cons places number None below in
     let next : suc number ≡ number + 1 = omega arith in
     let timer = timer_at number (get_or places number None) in
-    ap (λ (xs : Devices). sooner best (soonest_from number xs)) cut
+    ap (λ (xs : QueueViews). sooner best (soonest_from number xs)) cut
     ∙ (sooner-assoc best timer (soonest_from (number + 1) (drop (suc number) places))
     ∙ ap (λ (n : ℕ). sooner (sooner best timer) (soonest_from (number + 1) (drop n places))) next)
 
 -- entries without a timer are skipped
-skip : (count : ℕ) (places : Devices) (k n : ℕ) → n ≡ k + count → n ≤ length places
+skip : (count : ℕ) (places : QueueViews) (k n : ℕ) → n ≡ k + count → n ≤ length places
     → ((j : ℕ) → k ≤ j → j < n → timer_at j (at j places) ≡ None)
     → soonest_from k (drop k places) ≡ soonest_from n (drop n places)
 skip zero places k n is most none = ap (λ (m : ℕ). soonest_from m (drop m places)) (let same : k ≡ n = omega (arith, is) in same)
@@ -49,7 +49,7 @@ skip (suc count) places k n is most none =
     ∙ (ap (λ (t : Option Timer). sooner t (soonest_from (k + 1) (drop (k + 1) places))) first
     ∙ skip count places (k + 1) n (omega (arith, is)) most (λ j least less. none j (omega (arith, least)) less))
 
-no-timer : (n : ℕ) (o : Option DeviceView) → has_timer o ≡ false → timer_at n o ≡ None
+no-timer : (n : ℕ) (o : Option QueueView) → has_timer o ≡ false → timer_at n o ≡ None
 no-timer n None none = refl
 no-timer n (Some d) none = by (timer_of d.phase) none
   where
@@ -58,14 +58,14 @@ no-timer n (Some d) none = by (timer_of d.phase) none
     by (Some at) e = cc e
 
 -- A walk over the bits of a mask: `best` is the soonest timer of the entries below `from`, and `left` has the bits from there on.
-pub record Walked (places : Devices) (timed : ℕ) (best : Option Timer) (left : ℕ) : Type 0 where
+pub record Walked (places : QueueViews) (timed : ℕ) (best : Option Timer) (left : ℕ) : Type 0 where
   pub from : ℕ
   pub fits : from ≤ length places
   pub rest : soonest_from 0 places ≡ sooner best (soonest_from from (drop from places))
   pub gone : (n : ℕ) → n < from → bit_at left n ≡ 0
   pub same : (n : ℕ) → from ≤ n → n < 64 → bit_at left n ≡ bit_at timed n
 
-pub walk-start : (places : Devices) (timed : ℕ) → Walked places timed None timed
+pub walk-start : (places : QueueViews) (timed : ℕ) → Walked places timed None timed
 walk-start places timed = record {
   from = 0;
   fits = omega arith;
@@ -74,7 +74,7 @@ walk-start places timed = record {
   same = λ n least small. refl;
 }
 
-pub walk-next : (places : Devices) (timed : ℕ) (best : Option Timer) (left n : ℕ) → IsMask has_timer places timed
+pub walk-next : (places : QueueViews) (timed : ℕ) (best : Option Timer) (left n : ℕ) → IsMask has_timer places timed
     → 0 < left
     → left < 2 ^ 64
     → n ≡ trailing_zeros w64 left
@@ -114,7 +114,7 @@ walk-next places timed best left n mask some fits is was =
         let less : m < n = omega (arith, most, other) in
         bit_at_clear_other w64 left n (omega (arith, is, low.0)) m (omega (arith, less, is, low.0)) other ∙ low.2 m (omega (arith, is, less))
 
-pub walk-end : (places : Devices) (timed : ℕ) (best : Option Timer) (left : ℕ) → IsMask has_timer places timed
+pub walk-end : (places : QueueViews) (timed : ℕ) (best : Option Timer) (left : ℕ) → IsMask has_timer places timed
     → length places ≤ 64
     → left ≡ 0
     → Walked places timed best left
@@ -128,7 +128,7 @@ walk-end places timed best left mask few none was =
     let past : soonest_from was.from (drop was.from places) ≡ soonest_from size (drop size places) =
     skip (size - was.from) places was.from size (omega (arith, was.fits)) (omega arith) clear in
     sym (was.rest ∙ (ap (λ (t : Option Timer). sooner best t) (past
-    ∙ ap (λ (xs : Devices). soonest_from size xs) (drop_all size places (omega arith))) ∙ sooner-none best))
+    ∙ ap (λ (xs : QueueViews). soonest_from size xs) (drop_all size places (omega arith))) ∙ sooner-none best))
 
 -- the bit of the walk that is cleared makes the rest smaller
 pub walk-less : (left n : ℕ) → 0 < left → left < 2 ^ 64 → n ≡ trailing_zeros w64 left

@@ -3,11 +3,11 @@
 use Rattle.std.specs.Prelude.{◌≡◌, ◌<◌, ℕ, ◌+◌, ◌==◌, ◌||◌, ◌&&◌, nat_lt, Bool, true, false, ◌++◌, length, is_some, Option, Some, None}
 use Rattle.std.specs.{Prelude.{if◌then◌else◌}, Option.option_map_or, Int.bit_at}
 use Rattle.{poll_runs.specs.Turn.asked_for, poll_runs.specs.declared.polling_run.PollingRun.PollingRun, device_places.specs.Places.at}
-use Rattle.machine_model.specs.{Device.{DeviceView, timer_of}, Devices.{Devices, asks_at, soonest_from}, Softirq.{RunView, SoftirqView}}
+use Rattle.machine_model.specs.{Device.{QueueView, timer_of}, Devices.{QueueViews, asks_at, soonest_from}, Softirq.{RunView, SoftirqView}}
 use Rattle.machine_model.specs.declared.devices.{Pending.Pending, Timer.Timer}
 
-abbrev pub shown : PollingRun → RunView
-shown run = record {
+abbrev pub run_view : PollingRun → RunView
+run_view run = record {
   own = run.own;
   repoll = run.repoll;
   asked = run.asked;
@@ -19,7 +19,7 @@ shown run = record {
 }
 
 abbrev pub run_if : Bool → PollingRun → Option RunView
-run_if true run = Some (shown run)
+run_if true run = Some (run_view run)
 run_if false run = None
 
 -- the most packets that a poll of the run may process
@@ -39,14 +39,14 @@ abbrev pub bit_if : Bool → ℕ
 bit_if b = if b then 1 else 0
 
 -- a mask has the bits of the devices in whose entries that holds
-abbrev pub IsMask : (Option DeviceView → Bool) → Devices → ℕ → Type 0
+abbrev pub IsMask : (Option QueueView → Bool) → QueueViews → ℕ → Type 0
 IsMask holds devices mask = (n : ℕ) → n < 64 → bit_at mask n ≡ bit_if (holds (at n devices))
 
-abbrev pub has_timer : Option DeviceView → Bool
+abbrev pub has_timer : Option QueueView → Bool
 has_timer place = option_map_or (λ d. is_some (timer_of d.phase)) place false
 
 -- which devices ask, whose timer is set, and the soonest timer
-pub record IsPending (devices : Devices) (pending : Pending) : Type 0 where
+pub record IsPending (devices : QueueViews) (pending : Pending) : Type 0 where
   pub asking : IsMask asks_at devices pending.asking
   pub timed : IsMask has_timer devices pending.timed
   pub soonest : pending.soonest ≡ soonest_from 0 devices

@@ -4,14 +4,14 @@ ghost use Rattle.std.specs.Prelude.{◌≡◌, ◌≢◌, ◌≤◌, ◌<◌, �
 ghost use Rattle.std.specs.Int.{bit_at};
 ghost use Rattle.std.specs.Option.{option_map_or};
 ghost use Rattle.device_places.specs.Places.{at, changed};
-ghost use Rattle.machine_model.specs.Device.{DeviceView};
-ghost use Rattle.machine_model.specs.Devices.{Devices, asks_at, soonest_from, sooner, timer_at};
+ghost use Rattle.machine_model.specs.Device.{QueueView};
+ghost use Rattle.machine_model.specs.Devices.{QueueViews, asks_at, soonest_from, sooner, timer_at};
 ghost use Rattle.machine_model.specs.Kept.{all_scheduled};
 ghost use Rattle.machine_model.specs.Shown.{IsMask, IsPending, bit_if, earlier, has_timer};
 ghost use Rattle.machine_model.specs.declared.devices.Pending.{Pending};
 
-use crate::device::{Device, DeviceReport};
-use machine_words::Settings;
+use crate::device::{QueueReport, ReceiveQueue};
+use machine_words::MachineSettings;
 use std::alloc::{AllocError, Global};
 use std::marker::Model;
 
@@ -37,17 +37,17 @@ pub(crate) struct Pending {
 
 /// The devices of a processor, each at its number there; each is made when its first packet arrives.
 #[derive(Drop)]
-pub(crate) struct Devices {
-    places: Vec<Option<Device>>,
+pub(crate) struct QueueTable {
+    places: Vec<Option<ReceiveQueue>>,
     pending: Pending,
 }
 
-impl Model for Devices {
+impl Model for QueueTable {
     ghost use Rattle.std.specs.Prelude.{◌≡◌, ◌≤◌, length};
     ghost use Rattle.machine_model.specs.Devices as devices;
     ghost use Rattle.machine_model.specs.Shown.{IsPending};
 
-    ghost Value = { devices.Devices };
+    ghost Value = { devices.QueueViews };
 
     ghost view = { λ d. d.places.items };
 
@@ -56,7 +56,7 @@ impl Model for Devices {
 }
 
 // Returns whether the device in this entry, if there is one, asks for an interrupt.
-fn asks(place: &Option<Device>) -> bool
+fn asks(place: &Option<ReceiveQueue>) -> bool
     ensures { result ≡ asks_at place.now }
 {
     match place {
@@ -66,7 +66,7 @@ fn asks(place: &Option<Device>) -> bool
 }
 
 // Returns whether the timer of the device in this entry, if there is one, is set.
-fn has_timer(place: &Option<Device>) -> bool
+fn has_timer(place: &Option<ReceiveQueue>) -> bool
     ensures { result ≡ has_timer place.now }
 {
     match place {
@@ -76,7 +76,7 @@ fn has_timer(place: &Option<Device>) -> bool
 }
 
 // Returns the timer of the device in this entry, if there is one and one is set.
-fn timer_in(place: &Option<Device>, device: u32) -> Option<Timer>
+fn timer_in(place: &Option<ReceiveQueue>, device: u32) -> Option<Timer>
     ensures { result ≡ timer_at device place.now }
 {
     let at = place.as_ref()?.timer()?;
@@ -95,7 +95,7 @@ fn sooner(first: Option<Timer>, second: Option<Timer>) -> Option<Timer>
 }
 
 // Returns the timer of a device, if there is one and one is set.
-fn timer_of(places: &[Option<Device>], number: u32) -> Option<Timer>
+fn timer_of(places: &[Option<ReceiveQueue>], number: u32) -> Option<Timer>
     ensures { result ≡ timer_at number (at number places.now) }
 {
     if number as usize >= places.len() {
@@ -105,7 +105,7 @@ fn timer_of(places: &[Option<Device>], number: u32) -> Option<Timer>
 }
 
 // Returns the soonest timer of the devices in these entries, of which `timed` has a bit for each whose timer is set.
-fn soonest_in(places: &[Option<Device>], timed: u64) -> Option<Timer>
+fn soonest_in(places: &[Option<ReceiveQueue>], timed: u64) -> Option<Timer>
     requires { length places.now ≤ 64 }
     ensures { IsMask has_timer places.now timed → result ≡ soonest_from 0 places.now }
 {
@@ -135,7 +135,7 @@ fn earlier(first: Option<Timer>, second: Option<Timer>) -> Option<Timer>
 
 // Returns the lowest device that asks for an interrupt, of those that `asking` has a bit for.
 fn lowest_in(asking: u64) -> Option<usize>
-    ensures lowest { (devices : Devices) → length devices ≤ 64 → IsMask asks_at devices asking
+    ensures lowest { (devices : QueueViews) → length devices ≤ 64 → IsMask asks_at devices asking
         → result ≡ position asks_at devices }
     ensures below { IfSome result (λ number. number < 64) }
 {
@@ -183,11 +183,11 @@ fn soonest_after(
     soonest: Option<Timer>,
     number: usize,
     timed: u64,
-    places: &[Option<Device>],
+    places: &[Option<ReceiveQueue>],
 ) -> Option<Timer>
     requires number { number < length places.now }
     requires few { length places.now ≤ 64 }
-    ensures { (change : DeviceView → DeviceView) (before : Devices)
+    ensures { (change : QueueView → QueueView) (before : QueueViews)
         → places.now ≡ changed change number before
         → soonest ≡ soonest_from 0 before
         → IsMask has_timer places.now timed
@@ -204,10 +204,10 @@ fn soonest_after(
 }
 
 // Returns what a processor reads, after this device changed.
-fn pending_after(pending: Pending, number: usize, places: &[Option<Device>]) -> Pending
+fn pending_after(pending: Pending, number: usize, places: &[Option<ReceiveQueue>]) -> Pending
     requires number { number < length places.now }
     requires few { length places.now ≤ 64 }
-    ensures { (change : DeviceView → DeviceView) (before : Devices)
+    ensures { (change : QueueView → QueueView) (before : QueueViews)
         → places.now ≡ changed change number before
         → IsPending before pending
         → IsPending places.now result }
@@ -222,7 +222,7 @@ fn pending_after(pending: Pending, number: usize, places: &[Option<Device>]) -> 
 }
 
 // Adds empty entries up to a number.
-fn make_place(places: &mut Vec<Option<Device>>, number: usize) -> Result<(), AllocError>
+fn make_place(places: &mut Vec<Option<ReceiveQueue>>, number: usize) -> Result<(), AllocError>
     requires number { number < 64 }
     requires few { length places.old.items ≤ 64 }
     ensures places { OnOk result (places.new.items
@@ -238,20 +238,20 @@ fn make_place(places: &mut Vec<Option<Device>>, number: usize) -> Result<(), All
     Ok(())
 }
 
-impl Devices {
+impl QueueTable {
     ghost use Rattle.std.specs.Prelude.{◌≡◌, ◌≤◌, ◌<◌, [], IfSome, OnOk, length, position};
     ghost use Rattle.std.specs.Option.{option_map};
-    ghost use Rattle.machine_model.specs.Machine.{report_of};
+    ghost use Rattle.machine_model.specs.Machine.{queue_report};
     ghost use Rattle.device_places.specs.Places.{at, changed};
-    ghost use Rattle.machine_model.specs.Device.{after_packet, delivered, expired, interrupted, polled, raised_again, without_next};
+    ghost use Rattle.machine_model.specs.Device.{after_packet, queue_delivered, expired, interrupted, queue_polled, raised_again, without_next};
     ghost use Rattle.machine_model.specs.Devices.{asks_at, has_room_at, is_fired_at, next_packet_at, soonest_from, with_device};
     ghost use Rattle.machine_model.specs.Kept.{all_scheduled};
 
     /// Returns an empty table.
-    pub(crate) fn new(alloc: Global) -> Devices
+    pub(crate) fn new(alloc: Global) -> QueueTable
         ensures { result ≡ [] }
     {
-        Devices {
+        QueueTable {
             places: Vec::new(alloc),
             pending: Pending {
                 asking: 0,
@@ -290,13 +290,13 @@ impl Devices {
     {
         make_place(&mut self.places, number)?;
         if number < self.places.len() && self.places[number].is_none() {
-            self.places[number] = Some(Device::new(alloc, capacity)?);
+            self.places[number] = Some(ReceiveQueue::new(alloc, capacity)?);
         }
         Ok(())
     }
 
     /// Handles the arrival of a packet for a device. Returns whether its ring took it.
-    pub(crate) fn arrive(&mut self, number: usize, moment: u64, settings: &Settings) -> bool
+    pub(crate) fn arrive(&mut self, number: usize, moment: u64, settings: &MachineSettings) -> bool
         ensures devices { self.new ≡ changed (after_packet moment settings.now) number self.old }
         ensures room { result ≡ has_room_at (at number self.old) }
     {
@@ -377,7 +377,8 @@ impl Devices {
 
     /// Delivers a packet of a device that arrived at `came`. Fails if the allocation for counting its wait fails.
     pub(crate) fn deliver(&mut self, number: usize, now: u64, came: u64) -> Result<(), AllocError>
-        ensures devices { OnOk result (self.new ≡ changed (delivered now came) number self.old) }
+        ensures devices { OnOk result (self.new
+            ≡ changed (queue_delivered now came) number self.old) }
         ensures scheduled { all_scheduled self.new ≡ all_scheduled self.old }
     {
         if number < self.places.len() {
@@ -389,8 +390,14 @@ impl Devices {
     }
 
     /// Ends a poll of a device that processed this many packets.
-    pub(crate) fn end_poll(&mut self, number: usize, now: u64, given: u32, settings: &Settings)
-        ensures { self.new ≡ changed (polled now given settings.now) number self.old }
+    pub(crate) fn end_poll(
+        &mut self,
+        number: usize,
+        now: u64,
+        given: u32,
+        settings: &MachineSettings,
+    )
+        ensures { self.new ≡ changed (queue_polled now given settings.now) number self.old }
     {
         if number < self.places.len() {
             if let Some(device) = &mut self.places[number] {
@@ -401,8 +408,8 @@ impl Devices {
     }
 
     /// What is reported of a device, if there is one.
-    pub(crate) fn report(&self, number: usize) -> Option<DeviceReport>
-        ensures { result ≡ option_map report_of (at number self.now) }
+    pub(crate) fn report(&self, number: usize) -> Option<QueueReport>
+        ensures { result ≡ option_map queue_report (at number self.now) }
     {
         if number < self.places.len() {
             if let Some(device) = &self.places[number] {

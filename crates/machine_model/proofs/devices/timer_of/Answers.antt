@@ -4,5 +4,5 @@ use Rattle.machine_model.proofs.devices.timer_of.Goals as goal
 
 pub returns : goal.returns
 returns c =
-    let x = c.index-places.result in
-    rw (at-index c.args.places.now c.args.number x (omega arith) (sym c.index-places.is)) c.timer_in.ensures
+    let x = c.index-places-number.result in
+    rw (at-index c.args.places.now c.args.number x (omega arith) (sym c.index-places-number.is)) c.timer_in.ensures
