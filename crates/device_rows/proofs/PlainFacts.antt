@@ -11,7 +11,7 @@ use Rattle.csv.proofs.RoundTrip.{field-run, record-same}
 use Rattle.csv.specs.declared.parser.State.TheVariants as state
 use Rattle.device_rows.specs.Plain.{IsPlain, StartsWithEvent, StartsWithNumber, StartsWithRecord, StartsWithRow, StartsWithTitle, StartsWithTitles}
 use Rattle.device_rows.specs.Record.{event_of, four_of, is_numeral, numeral, version_of}
-use Rattle.device_rows.specs.declared.{event.Event.Event}
+use Rattle.device_rows.specs.declared.{event.RowEvent.RowEvent}
 use Rattle.device_rows.proofs.{NumeralFacts.digits-push, ShortFacts.short-row}
 
 -- a digit is no special character of csv's
@@ -124,7 +124,7 @@ splits-at text place stop below ends =
     ∙ ap (λ s. take place text ++ s ∷ drop (place + 1) text) ends
 
 -- what the name of an event and a comma split off
-pub event-starts : (version : ℕ) (name : List ℕ) (event : Event) (text prefix rest : List ℕ) → IsPlain name
+pub event-starts : (version : ℕ) (name : List ℕ) (event : RowEvent) (text prefix rest : List ℕ) → IsPlain name
     → event_of version name ≡ Some event → prefix ≡ name ++ 44 ∷ [] → text ≡ prefix ++ rest → StartsWithEvent version text event rest
 event-starts version name event text prefix rest plain names is splits = record {
   name = name;
@@ -146,7 +146,7 @@ number-ends text place stop number below some few digits value ends =
       value = value;
     }
 
-pub row-starts : (version : ℕ) (text behind-m behind-d behind-e rest : List ℕ) (moment device value : ℕ) (event : Event)
+pub row-starts : (version : ℕ) (text behind-m behind-d behind-e rest : List ℕ) (moment device value : ℕ) (event : RowEvent)
     → StartsWithNumber text 44 moment behind-m → StartsWithNumber behind-m 44 device behind-d
     → StartsWithEvent version behind-d event behind-e → StartsWithNumber behind-e 10 value rest → moment < 2 ^ 64
     → StartsWithRow version text (record { moment = moment; device = device; event = event; value = value }) rest

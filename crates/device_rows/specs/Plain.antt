@@ -4,7 +4,7 @@ use Rattle.std.specs.List.{list_any}
 use Rattle.csv.specs.{Machine.next_record, Reading.{default_config, strip_bom}, Writing.{default_writer, needs_byte}}
 use Rattle.csv.specs.declared.parser.State.TheVariants as state
 use Rattle.device_rows.specs.{Record.{event_of, is_numeral, numeral, row_of, version_of}, Row.{device_fits, value_fits}}
-use Rattle.device_rows.specs.declared.{event.Event.Event, row.Row.Row}
+use Rattle.device_rows.specs.declared.{event.RowEvent.RowEvent, row.Row.Row}
 
 -- a field without a comma, a quote or a line end
 abbrev pub IsPlain : List ℕ → Type 0
@@ -18,7 +18,7 @@ pub record StartsWithNumber (text : List ℕ) (stop number : ℕ) (rest : List �
   pub value : number ≡ numeral field
 
 -- a text is the name of this event that a comma ends, followed by the rest
-pub record StartsWithEvent (version : ℕ) (text : List ℕ) (event : Event) (rest : List ℕ) : Type 0 where
+pub record StartsWithEvent (version : ℕ) (text : List ℕ) (event : RowEvent) (rest : List ℕ) : Type 0 where
   pub name : List ℕ
   pub splits : text ≡ name ++ 44 ∷ rest
   pub plain : IsPlain name

@@ -7,7 +7,7 @@ ghost use Rattle.device_places.specs.Range.{IsWithin};
 ghost use Rattle.device_rows.specs.Plain.{StartsWithEvent, StartsWithNumber, StartsWithRow, StartsWithTitles};
 ghost use Rattle.device_rows.specs.Record.{numeral};
 
-use crate::event::Event;
+use crate::event::RowEvent;
 use crate::row::Row;
 
 // A number below this, with one more digit, fits into 64 bits.
@@ -58,41 +58,41 @@ pub fn number(text: &[u8], stop: u8) -> Option<(u64, &[u8])>
 // Returns the event whose name starts a text, if a comma ends the name, and the text after the comma. The names that most rows
 // have are tried first.
 #[inline(always)]
-fn plain_event(version: u32, text: &[u8]) -> Option<(Event, &[u8])>
+fn plain_event(version: u32, text: &[u8]) -> Option<(RowEvent, &[u8])>
     ensures { IfSome result (λ found. StartsWithEvent version text.now found.0 found.1.now) }
 {
     if let Some(rest) = text.strip_prefix(b"rx,".as_slice()) {
-        return Some((Event::Rx, rest));
+        return Some((RowEvent::Rx, rest));
     }
     if let Some(rest) = text.strip_prefix(b"tx,".as_slice()) {
-        return Some((Event::Tx, rest));
+        return Some((RowEvent::Tx, rest));
     }
     if let Some(rest) = text.strip_prefix(b"done,".as_slice()) {
-        return Some((Event::Finish, rest));
+        return Some((RowEvent::Finish, rest));
     }
     if let Some(rest) = text.strip_prefix(b"softirq,".as_slice()) {
-        return Some((Event::Softirq, rest));
+        return Some((RowEvent::Softirq, rest));
     }
     if let Some(rest) = text.strip_prefix(b"kthread,".as_slice()) {
-        return Some((Event::Kthread, rest));
+        return Some((RowEvent::Kthread, rest));
     }
     if let Some(rest) = text.strip_prefix(b"open,".as_slice()) {
-        return Some((Event::Opened, rest));
+        return Some((RowEvent::Opened, rest));
     }
     if let Some(rest) = text.strip_prefix(b"disable,".as_slice()) {
-        return Some((Event::Disable, rest));
+        return Some((RowEvent::Disable, rest));
     }
     if let Some(rest) = text.strip_prefix(b"enable,".as_slice()) {
-        return Some((Event::Enable, rest));
+        return Some((RowEvent::Enable, rest));
     }
     if let Some(rest) = text.strip_prefix(b"threaded,".as_slice()) {
-        return Some((Event::Threaded, rest));
+        return Some((RowEvent::Threaded, rest));
     }
     if version != 2 {
         return None;
     }
     let rest = text.strip_prefix(b"busy,".as_slice())?;
-    Some((Event::Busy, rest))
+    Some((RowEvent::Busy, rest))
 }
 
 /// Returns the plain row at the start of a text, and the text after it. Its moment is unrestricted; its device and its value

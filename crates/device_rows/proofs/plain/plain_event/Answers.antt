@@ -1,6 +1,6 @@
 use Rattle.std.proofs.{Common.{◌≡◌, Some, refl, rules}, lemmas.{Bool.Decides.Decides-eqb, Slice.Eq.strip_prefix_is}}
 use Rattle.{std.specs.Prelude.codes, device_rows.{specs.Record.event_of, proofs.PlainFacts.event-starts}}
-use Rattle.device_rows.specs.declared.event.Event.TheVariants.{Rx, Tx, Finish, Softirq, Kthread, Opened, Disable, Enable, Threaded, Busy}
+use Rattle.device_rows.specs.declared.event.RowEvent.TheVariants.{Rx, Tx, Finish, Softirq, Kthread, Opened, Disable, Enable, Threaded, Busy}
 use Rattle.device_rows.proofs.plain.plain_event.Goals as goal
 
 pub returns-in-Some : goal.returns-in-Some
