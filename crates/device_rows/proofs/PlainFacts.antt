@@ -9,7 +9,8 @@ use Rattle.csv.specs.{Machine.next_record, Reading.{default_config, strip_bom}, 
 use Rattle.csv.specs.Records.{field_at}
 use Rattle.csv.proofs.RoundTrip.{field-run, record-same}
 use Rattle.csv.specs.declared.parser.State.TheVariants as state
-use Rattle.device_rows.specs.Plain.{IsPlain, StartsWithEvent, StartsWithNumber, StartsWithRecord, StartsWithRow, StartsWithTitle, StartsWithTitles}
+use Rattle.device_rows.specs.Plain.{IsPlain, StartsWithEvent, StartsWithNumber, StartsWithRecord, StartsWithRow, StartsWithTitle}
+use Rattle.device_rows.specs.Plain.{StartsWithTitles}
 use Rattle.device_rows.specs.Record.{event_of, four_of, is_numeral, numeral, version_of}
 use Rattle.device_rows.specs.declared.{event.RowEvent.RowEvent}
 use Rattle.device_rows.proofs.{NumeralFacts.digits-push, ShortFacts.short-row}
