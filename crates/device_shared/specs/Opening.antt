@@ -5,7 +5,7 @@ use Rattle.napi_calls.specs.{Instance.{IsNewSeat, callers_of}, declared.types.{C
 use Rattle.device_shared.specs.{declared.seats.Seats.Seats, Seats.{control_of, turn_ctx, poller_of, thread_of}}
 
 -- the three callers, in order, and the controller's seat
-pub record AreUnused (n : Napi) (callers : List Caller) (control : Pass) : Type 0 where
+pub record AreNewCallers (n : Napi) (callers : List Caller) (control : Pass) : Type 0 where
   pub three : callers_of n ≡ 3
   pub many : length callers ≡ 3
   pub each : (k : ℕ) (c : Caller) → slice_get callers k ≡ Some c → IsNewSeat n k c.pass

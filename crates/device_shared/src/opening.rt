@@ -1,7 +1,7 @@
 //! Opening a receive side.
 
 ghost use Rattle.std.specs.Prelude.{◌≡◌, length, vec_capacity};
-ghost use Rattle.device_shared.specs.Opening.{AreNew, AreUnused};
+ghost use Rattle.device_shared.specs.Opening.{AreNew, AreNewCallers};
 
 use crate::seats::{Seats, Turn};
 use crate::shared_receive::SharedReceive;
@@ -29,7 +29,7 @@ impl<R: Wait + Copy + Drop> From<R> for SharedOpener<R> {
 
 // Takes the three callers out of their list.
 fn new_seats(napi: &Napi, callers: &mut Vec<Caller>, control: Control<Off>) -> Seats
-    requires { AreUnused napi.now callers.old.items control.pass }
+    requires { AreNewCallers napi.now callers.old.items control.pass }
     ensures new { AreNew napi.now result control.state.ctx }
     ensures none { length callers.new.items ≡ 0 }
     ensures room { vec_capacity callers.new ≡ vec_capacity callers.old }
