@@ -10,46 +10,43 @@ use crate::gate::Gate;
 use crossbeam_utils::Backoff;
 use crossbeam_utils::sync::{Parker, Unparker};
 use std::alloc::{AllocError, Global};
-use std::marker::PhantomData;
 use std::sync::Wait;
 use std::sync::atomic::{AtomicBool, AtomicIn, Ordering, Rule};
 
-// A word that isn't 0 only if a thread could not be started.
-struct Refused;
+/// A flag: whether one of some threads could not be started.
+#[derive(Drop)]
+pub struct SpawnFailure {
+    flag: AtomicIn<SpawnFailure>,
+}
 
-impl Rule for Refused {
+impl Rule for SpawnFailure {
     ghost use Rattle.std.specs.Prelude.{◌≡◌, ◌⊎◌};
     ghost use Rattle.poll_tasks.specs.Refusals.{IsRefused};
 
+    // The flag is set only if a thread could not be started.
     ghost invariant = { λ n. (n ≡ 0) ⊎ IsRefused };
 }
 
-/// A flag: whether one of some threads could not be started.
-#[derive(Drop)]
-pub struct Refusal {
-    told: AtomicIn<Refused>,
-}
-
-impl Refusal {
+impl SpawnFailure {
     /// Creates a flag that isn't set.
-    pub fn new() -> Refusal {
-        Refusal {
-            told: AtomicIn::new(0),
+    pub fn new() -> SpawnFailure {
+        SpawnFailure {
+            flag: AtomicIn::new(0),
         }
     }
 
     /// Sets the flag: a thread could not be started.
-    pub fn tell(&self)
+    pub fn set(&self)
         requires { IsRefused }
     {
-        self.told.store(1, Ordering::SeqCst);
+        self.flag.store(1, Ordering::SeqCst);
     }
 
     /// Returns whether a thread could not be started.
-    pub fn is_told(&self) -> bool
+    pub fn is_set(&self) -> bool
         ensures { result ≡ true → IsRefused }
     {
-        self.told.load(Ordering::SeqCst) != 0
+        self.flag.load(Ordering::SeqCst) != 0
     }
 }
 
@@ -62,32 +59,30 @@ pub enum Stop {
     Shut,
 }
 
-// A word that isn't 0 only if the gate may return false.
-struct Shut<G>(PhantomData<G>);
-
-impl<G: Gate> Rule for Shut<G> {
-    ghost use Rattle.std.specs.Prelude.{◌≡◌, ◌⊎◌};
-
-    ghost invariant = { λ n. (n ≡ 0) ⊎ G.may_shut };
-}
-
 /// The flags that say why no further acts are made.
 #[derive(Drop)]
 pub struct StopFlags<G: Gate> {
     /// The thread of a poller could not be started. This is set before any worker begins.
-    pub unpolled: Refusal,
+    pub unpolled: SpawnFailure,
     /// A thread could not be started.
-    pub refused: Refusal,
+    pub refused: SpawnFailure,
     // 1 after the gate has returned false.
-    shut: AtomicIn<Shut<G>>,
+    shut: AtomicIn<StopFlags<G>>,
+}
+
+impl<G: Gate> Rule for StopFlags<G> {
+    ghost use Rattle.std.specs.Prelude.{◌≡◌, ◌⊎◌};
+
+    // `shut` is set only if the gate may return false.
+    ghost invariant = { λ n. (n ≡ 0) ⊎ G.may_shut };
 }
 
 impl<G: Gate> StopFlags<G> {
     /// Creates the flags of a run that isn't stopped.
     pub fn new() -> StopFlags<G> {
         StopFlags {
-            unpolled: Refusal::new(),
-            refused: Refusal::new(),
+            unpolled: SpawnFailure::new(),
+            refused: SpawnFailure::new(),
             shut: AtomicIn::new(0),
         }
     }
@@ -103,7 +98,7 @@ impl<G: Gate> StopFlags<G> {
     pub fn stop(&self) -> Option<Stop>
         ensures { IfSome result (IsStop G.may_shut) }
     {
-        if self.refused.is_told() {
+        if self.refused.is_set() {
             return Some(Stop::Refused);
         }
         if self.shut.load(Ordering::SeqCst) != 0 {
@@ -115,24 +110,24 @@ impl<G: Gate> StopFlags<G> {
 
 /// Wakes a poller, and signals it that nothing will be handed over any more.
 #[derive(Drop)]
-pub struct Bell {
+pub struct Waker {
     unparker: Unparker,
-    told: AtomicBool,
+    closed: AtomicBool,
 }
 
-impl Bell {
+impl Waker {
     /// Creates a waker, and the wait of its poller.
-    pub fn new(alloc: Global) -> Result<(Bell, Pause), AllocError>
+    pub fn new(alloc: Global) -> Result<(Waker, IdleWait), AllocError>
         ensures { IfOk result (λ r. Wakes r.0 r.1) }
     {
         let parker = Parker::new(alloc)?;
         let unparker = parker.unparker().clone()?;
-        let told = AtomicBool::new(false);
-        let pause = Pause {
+        let closed = AtomicBool::new(false);
+        let wait = IdleWait {
             parker,
             backoff: Backoff::new(),
         };
-        Ok((Bell { unparker, told }, pause))
+        Ok((Waker { unparker, closed }, wait))
     }
 
     /// Wakes the poller, or keeps it awake if it is about to sleep. Called after an instance was handed over.
@@ -141,28 +136,28 @@ impl Bell {
     }
 
     /// Signals the poller that nothing will be handed over any more.
-    pub fn tell(&self) {
-        self.told.store(true, Ordering::SeqCst);
+    pub fn close(&self) {
+        self.closed.store(true, Ordering::SeqCst);
         self.unparker.unpark();
     }
 
     /// Returns whether that was signalled.
-    pub fn is_told(&self) -> bool {
-        self.told.load(Ordering::SeqCst)
+    pub fn is_closed(&self) -> bool {
+        self.closed.load(Ordering::SeqCst)
     }
 }
 
 /// How a poller waits while there is nothing to poll: it spins and yields for a while, then it sleeps. A wake-up before the
 /// sleep is kept, so none is lost.
 #[derive(Drop)]
-pub struct Pause {
+pub struct IdleWait {
     parker: Parker,
     backoff: Backoff,
 }
 
-impl Pause {
+impl IdleWait {
     /// Something was polled.
-    pub fn is_over(&self) {
+    pub fn reset(&self) {
         self.backoff.reset();
     }
 

@@ -3,7 +3,7 @@ use Rattle.{poll_interrupts.specs.{Runs.HasRun, declared.station.{Finished.Finis
 use Rattle.{replay_text.specs.declared.fault.ReplayFault.{ReplayFault, TheVariants.RingTooSmall}, device_rows.specs.declared.row.Row.Row}
 use Rattle.replay_threads.specs.{ThreadsReport.{arrived, arrived_line, bytes, opened, side_lines}, declared.polled.Polled.Polled}
 use Rattle.std.specs.{List.{AllZip, find}, Prelude.{◌≡◌, ℕ, ◌+◌, ◌++◌, Bool, List, Option, Some, length, nat_lt, option_map}}
-use Rattle.{replay_words.specs.declared.settings.Settings.Settings, poll_workers.specs.Courses.{ArePolled, pace_of}}
+use Rattle.{replay_words.specs.declared.settings.Settings.Settings, poll_workers.specs.Courses.{ArePolled, limits_of}}
 use Rattle.device_script.specs.{ScriptShown.{Script, acts, after, answer, side_of}, Script.{has_thread, opening_of, rx_of, script_of}}
 
 -- the station of a device, before its acts
@@ -32,7 +32,7 @@ pub record AreRunBy (R : Type 0) (asked : ℕ → Type 0) (settings : Settings) 
   pub stations : List (Station Script)
   pub are : AllZip (IsStationOf rows) (opened rows) stations
   pub polled : ArePolled R asked
-      (pace_of settings.budget settings.weight settings.window) acts answer after settings.pollers stations ends
+      (limits_of settings.budget settings.weight settings.window) acts answer after settings.pollers stations ends
 
 -- its lines of the report
 abbrev pub end_lines : Finished Script → List ℕ
