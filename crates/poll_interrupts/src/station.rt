@@ -45,6 +45,6 @@ pub struct Closed {
     pub(crate) poller: Snapshot<Caller>,
     pub(crate) thread: Snapshot<Caller>,
     pub(crate) control: Snapshot<Control<Off>>,
-    ghost closed: { ∥ (ctx : RxCtx) × IsClosed napi.value
-        (worker.value ∷ poller.value ∷ thread.value ∷ []) control.value.pass ctx ∥₁ },
+    ghost closed: { ∥ ((ctx : RxCtx) × IsClosed napi.value
+        (worker.value ∷ poller.value ∷ thread.value ∷ []) control.value.pass ctx) ∥₁ },
 }

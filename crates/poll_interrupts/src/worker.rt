@@ -4,8 +4,8 @@ ghost use Rattle.std.specs.Prelude.{◌≡◌, ℕ, ◌+◌, ◌≤◌, ◌<◌,
 ghost use Rattle.rx_ring.specs.Ends.{SameIn, capacity_of, put_list};
 ghost use Rattle.napi_calls.specs.Instance.{IsSeatOf};
 ghost use Rattle.poll_interrupts.specs.Acts.{after_acts, arrivals, brings};
-ghost use Rattle.poll_interrupts.specs.Calls.{Acts, AllActs, AreSameHandles, HandsOver, Interrupts, IsPutLast, Lists, TurnsOff, TurnsOn, pass_of};
-ghost use Rattle.poll_interrupts.specs.Handles.{AreAtRest, AreHandlesOf};
+ghost use Rattle.poll_interrupts.specs.Calls.{Acts, AllActs, HandsOver, Interrupts, IsPutLast, Lists, TurnsOff, TurnsOn};
+ghost use Rattle.poll_interrupts.specs.Handles.{AreAtRest, AreHandlesOf, AreSameHandles, pass_of};
 ghost use Rattle.poll_tasks.specs.Asks.{WasLet};
 ghost use Rattle.poll_tasks.specs.Stops.{IsStop};
 

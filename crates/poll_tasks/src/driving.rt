@@ -7,6 +7,7 @@ ghost use Rattle.poll_tasks.specs.Tasks.{HasRoom};
 use crate::signals::{SpawnFailure, Waker};
 use crate::tasks::{Spawned, Task, join_all, spawn_all};
 use std::sync::Wait;
+use std::sync::atomic::{AtomicIn, Ordering};
 use std::thread;
 use std::thread::Threads;
 
@@ -29,8 +30,8 @@ pub fn drive<R, P, W, S>(
     tasks: Tasks<P, W, S>,
     room: Tasks<Spawned<P>, Spawned<W>, Spawned<S>>,
     wakers: &[Waker],
-    unpolled: &SpawnFailure,
-    refused: &SpawnFailure,
+    unpolled: &AtomicIn<SpawnFailure>,
+    refused: &AtomicIn<SpawnFailure>,
 ) -> Tasks<P, W, S>
 where
     R: Threads + Wait + Sync,
@@ -67,8 +68,8 @@ where
             } = room;
             spawn_all(scope, &mut threads, unpolled, &mut siding);
             spawn_all(scope, &mut pollers, unpolled, &mut polling);
-            if unpolled.is_set() {
-                refused.set();
+            if unpolled.load(Ordering::SeqCst) != 0 {
+                refused.store(1, Ordering::SeqCst);
             }
             spawn_all(scope, &mut workers, refused, &mut working);
             join_all(rt, &mut working, &mut workers);

@@ -1,8 +1,7 @@
 //! The signals between the threads of a run. Proofs rest on three facts: a stop has its reason, and a waker wakes the
 //! thread that it was created for.
 
-ghost use Rattle.std.specs.Prelude.{◌≡◌, true, IfOk, IfSome};
-ghost use Rattle.poll_tasks.specs.Refusals.{IsRefused};
+ghost use Rattle.std.specs.Prelude.{IfOk, IfSome};
 ghost use Rattle.poll_tasks.specs.Stops.{IsStop};
 ghost use Rattle.poll_tasks.specs.Wakers.{Wakes};
 
@@ -10,44 +9,27 @@ use crate::gate::Gate;
 use crossbeam_utils::Backoff;
 use crossbeam_utils::sync::{Parker, Unparker};
 use std::alloc::{AllocError, Global};
+use std::marker::PhantomData;
 use std::sync::Wait;
 use std::sync::atomic::{AtomicBool, AtomicIn, Ordering, Rule};
 
-/// A flag: whether one of some threads could not be started.
-#[derive(Drop)]
-pub struct SpawnFailure {
-    flag: AtomicIn<SpawnFailure>,
-}
+/// The rule of a flag that isn't 0 only if a thread could not be started.
+pub struct SpawnFailure;
 
 impl Rule for SpawnFailure {
     ghost use Rattle.std.specs.Prelude.{◌≡◌, ◌⊎◌};
     ghost use Rattle.poll_tasks.specs.Refusals.{IsRefused};
 
-    // The flag is set only if a thread could not be started.
     ghost invariant = { λ n. (n ≡ 0) ⊎ IsRefused };
 }
 
-impl SpawnFailure {
-    /// Creates a flag that isn't set.
-    pub fn new() -> SpawnFailure {
-        SpawnFailure {
-            flag: AtomicIn::new(0),
-        }
-    }
+// The rule of a flag that isn't 0 only if the gate may return false.
+struct Shut<G>(PhantomData<G>);
 
-    /// Sets the flag: a thread could not be started.
-    pub fn set(&self)
-        requires { IsRefused }
-    {
-        self.flag.store(1, Ordering::SeqCst);
-    }
+impl<G: Gate> Rule for Shut<G> {
+    ghost use Rattle.std.specs.Prelude.{◌≡◌, ◌⊎◌};
 
-    /// Returns whether a thread could not be started.
-    pub fn is_set(&self) -> bool
-        ensures { result ≡ true → IsRefused }
-    {
-        self.flag.load(Ordering::SeqCst) != 0
-    }
+    ghost invariant = { λ n. (n ≡ 0) ⊎ G.may_shut };
 }
 
 /// Why a thread's work ended early.
@@ -59,30 +41,23 @@ pub enum Stop {
     Shut,
 }
 
-/// The flags that say why no further acts are made.
+/// The flags that say why no further acts are made, each 0 or 1.
 #[derive(Drop)]
 pub struct StopFlags<G: Gate> {
     /// The thread of a poller could not be started. This is set before any worker begins.
-    pub unpolled: SpawnFailure,
+    pub unpolled: AtomicIn<SpawnFailure>,
     /// A thread could not be started.
-    pub refused: SpawnFailure,
-    // 1 after the gate has returned false.
-    shut: AtomicIn<StopFlags<G>>,
-}
-
-impl<G: Gate> Rule for StopFlags<G> {
-    ghost use Rattle.std.specs.Prelude.{◌≡◌, ◌⊎◌};
-
-    // `shut` is set only if the gate may return false.
-    ghost invariant = { λ n. (n ≡ 0) ⊎ G.may_shut };
+    pub refused: AtomicIn<SpawnFailure>,
+    // The gate has returned false.
+    shut: AtomicIn<Shut<G>>,
 }
 
 impl<G: Gate> StopFlags<G> {
     /// Creates the flags of a run that isn't stopped.
     pub fn new() -> StopFlags<G> {
         StopFlags {
-            unpolled: SpawnFailure::new(),
-            refused: SpawnFailure::new(),
+            unpolled: AtomicIn::new(0),
+            refused: AtomicIn::new(0),
             shut: AtomicIn::new(0),
         }
     }
@@ -98,7 +73,7 @@ impl<G: Gate> StopFlags<G> {
     pub fn stop(&self) -> Option<Stop>
         ensures { IfSome result (IsStop G.may_shut) }
     {
-        if self.refused.is_set() {
+        if self.refused.load(Ordering::SeqCst) != 0 {
             return Some(Stop::Refused);
         }
         if self.shut.load(Ordering::SeqCst) != 0 {

@@ -6,6 +6,7 @@ ghost use Rattle.poll_tasks.specs.Tasks.{HasRoom, IsSpawned};
 
 use crate::signals::{SpawnFailure, Stop};
 use std::snapshot::Snapshot;
+use std::sync::atomic::{AtomicIn, Ordering};
 use std::thread::{Promise, PromisedHandle, Scope, Threads};
 
 /// What one thread does. A task returns itself, so its results are in its own fields.
@@ -56,7 +57,7 @@ pub enum Spawned<J: Task> {
 pub fn spawn<'s, E, J: Task + Drop + Send + 's>(
     scope: &Scope<'s, E>,
     task: J,
-    refused: &SpawnFailure,
+    refused: &AtomicIn<SpawnFailure>,
 ) -> Spawned<J>
     ensures { IsSpawned J.gives task result }
 {
@@ -70,7 +71,7 @@ pub fn spawn<'s, E, J: Task + Drop + Send + 's>(
     match scope.spawn_with(promise, run) {
         Ok(handle) => Spawned::Running(handle),
         Err(not_started) => {
-            refused.set();
+            refused.store(1, Ordering::SeqCst);
             Spawned::Ended((not_started.value)())
         }
     }
@@ -80,7 +81,7 @@ pub fn spawn<'s, E, J: Task + Drop + Send + 's>(
 pub fn spawn_all<'s, E, J: Task + Drop + Send + 's>(
     scope: &Scope<'s, E>,
     tasks: &mut Vec<J>,
-    refused: &SpawnFailure,
+    refused: &AtomicIn<SpawnFailure>,
     spawned: &mut Vec<Spawned<J>>,
 )
     requires { HasRoom (vec_len tasks.old) spawned.old }

@@ -25,6 +25,7 @@ use poll_interrupts::{Device, Finished, Loose, Placed, Station, end_all, open_al
 use poll_tasks::{Gate, PollLimits, RunContext, Stop, StopFlags, Tasks, Waker, drive, first_stop};
 use std::alloc::{AllocError, Global};
 use std::sync::Wait;
+use std::sync::atomic::Ordering;
 use std::thread::Threads;
 
 // The parts of the instances after the threads have ended, and why the run ended early, if so.
@@ -223,5 +224,5 @@ where
         },
     };
     let came = run_all(&context, alloc, pollers as usize, stations);
-    run_result(came, flags.refused.is_set())
+    run_result(came, flags.refused.load(Ordering::SeqCst) != 0)
 }
