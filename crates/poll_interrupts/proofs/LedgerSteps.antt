@@ -190,7 +190,8 @@ of_itself : (a : WorkerHandles) (rx : RxIn) (thread : Bool) → IsOf (whose a rx
 of_itself a rx thread = record { caller = refl; controller = refl; places = refl }
 
 -- the seats stay the same
-pub all_same : {D : Type 0} (thread : Bool) (answer : D → ℕ → Act) (after : D → ℕ → D) (d : D) (n : ℕ) (a b : WorkerHandles) (first last : RxIn)
+pub all_same : {D : Type 0} (thread : Bool) (answer : D → ℕ → Act) (after : D → ℕ → D) (d : D) (n : ℕ) (a b : WorkerHandles)
+    (first last : RxIn)
     → AllActs thread answer after d n a b first last → AreSameHandles a b
 all_same thread answer after d n a b first last h =
     let all = all_add (whose a first thread) answer after d n a b first last h (of_itself a first thread) in
@@ -213,7 +214,8 @@ off_is (On control) after h = h.0
 off_is (Off control) after h = ap (λ c. is_on c) h
 
 -- the instance is turned on, acts are made, and it is turned off
-module _ (a acted : WorkerHandles) (on off : ControlState) (turned : TurnsOn a.threaded a.control on) (left : TurnsOff acted.control off) where
+module _ (a acted : WorkerHandles) (on off : ControlState) (turned : TurnsOn a.threaded a.control on)
+    (left : TurnsOff acted.control off) where
   pub same_handles : AreSameHandles (record a { control = on }) acted → AreSameHandles a (record acted { control = off })
   same_handles same = (same.0, off_same acted.control off left ∙ same.1 ∙ on_same a.threaded a.control on turned)
 

@@ -4,8 +4,9 @@ use Rattle.rx_ring.specs.{declared.{ends.RxIn.RxIn, packet.Packet.Packet}, Ends.
 use Rattle.{napi_model.specs.declared.{state.Seen.Seen, event.{Event.Event, Operation.Operation}}, napi_word.specs.declared.table.Pass.Pass}
 use Rattle.napi_calls.specs.{declared.answers.Sched.Sched, Calls.{Disables, Enables, Schedules}, Made.Made, Seats.own_list}
 use Rattle.{poll_list.specs.{declared.list_in.ListIn.ListIn, SharedList.pushed_by}, poll_interrupts.specs.declared.acts.Act.Act}
-use Rattle.poll_interrupts.specs.declared.{acts.Act.TheVariants.{Arrive, Disable, Enable, SetThreaded, Nothing}, worker.WorkerHandles.WorkerHandles}
-use Rattle.poll_interrupts.specs.{declared.worker.ControlState.{ControlState, TheVariants.{On, Off}}, Acts.after_acts, Handles.{is_on, pass_of}}
+use Rattle.poll_interrupts.specs.declared.acts.Act.TheVariants.{Arrive, Disable, Enable, SetThreaded, Nothing}
+use Rattle.poll_interrupts.specs.declared.worker.{WorkerHandles.WorkerHandles, ControlState.{ControlState, TheVariants.{On, Off}}}
+use Rattle.poll_interrupts.specs.{Acts.after_acts, Handles.{is_on, pass_of}}
 use Rattle.napi_model.specs.declared.state.Kind.TheVariants as kind
 use Rattle.napi_model.specs.declared.event.Operation.TheVariants as operation
 use Rattle.napi_calls.specs.declared.answers.Sched.TheVariants as sched

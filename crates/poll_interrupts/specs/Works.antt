@@ -4,7 +4,8 @@ use Rattle.{poll_tasks.specs.{Asks.WasLet, Stops.IsStop}, rx_ring.specs.{declare
 use Rattle.{rx_ring.specs.Ends.{capacity_of, put_list}, napi_calls.specs.{declared.types.Napi.Napi, Seats.{number_of, own_list}}}
 use Rattle.poll_interrupts.specs.declared.{acts.Act.Act, worker.{WorkerHandles.WorkerHandles, InterruptWorker.InterruptWorker}}
 use Rattle.poll_interrupts.specs.Acts.{after_acts}
-use Rattle.poll_interrupts.specs.{Acts.arrivals, Calls.Lists, Runs.{Ledger, Whose, WorksBy}, Handles.{AreAtRest, AreSameHandles, is_on, pass_of}}
+use Rattle.poll_interrupts.specs.{Acts.arrivals, Calls.Lists, Runs.{Ledger, Whose, WorksBy}}
+use Rattle.poll_interrupts.specs.Handles.{AreAtRest, AreSameHandles, is_on, pass_of}
 
 -- a worker's ledger, by its handles and the ring's input
 abbrev pub ledger_of : WorkerHandles → RxIn → Ledger

@@ -64,7 +64,8 @@ polls_there {R} seen before id weight once after place s e p =
     subst (λ at. MatchOption at (IsNowhere before once after) (IsPolledAt before weight once after))
     (e ∙ ap (λ l. position (λ (seat : Kept R PollHandle). seat.value.number == id) l) s) p
 
-pub polls_nowhere : {R : Type 0} (seen : List (Kept R PollHandle)) (before : HandleBench R) (id weight : ℕ) (once : Once) (after : HandleBench R)
+pub polls_nowhere : {R : Type 0} (seen : List (Kept R PollHandle)) (before : HandleBench R) (id weight : ℕ) (once : Once)
+    (after : HandleBench R)
     → seen ≡ vec_items before.seats → None ≡ position (λ seat. seat.value.number == id) seen → IsNowhere before once after
     → PollsSeat before id weight once after
 polls_nowhere {R} seen before id weight once after s e p =
@@ -72,7 +73,8 @@ polls_nowhere {R} seen before id weight once after s e p =
     (e ∙ ap (λ l. position (λ (seat : Kept R PollHandle). seat.value.number == id) l) s) p
 
 -- a run preserves the seats
-pub run_keeps : {R : Type 0} (weight : ℕ) (polls : List Poll) (before after : HandleBench R) → Chain (At PollsSeat weight) before polls after
+pub run_keeps : {R : Type 0} (weight : ℕ) (polls : List Poll) (before after : HandleBench R) → Chain
+    (At PollsSeat weight) before polls after
     → AreSameSeats (vec_items before.seats) (vec_items after.seats)
 run_keeps {R} weight [] before after c =
     subst (λ (x : HandleBench R). AreSameSeats (vec_items before.seats) (vec_items x.seats)) (sym c) (seats_stay (vec_items before.seats))

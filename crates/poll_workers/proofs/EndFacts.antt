@@ -51,7 +51,8 @@ all_given {R} {D} {G} pollers before after did long each k d low =
     (sym (zip_nil {A = InterruptWorker R D G} (λ p kept. IsSeatWith p kept) (vec_items (get_or after k d)) h.rest))
     ∙ h.gone d
 
-module _ {R D G : Type 0} (pollers : ℕ) (before : List (Vec (Kept R PollHandle))) (did : List (Outcome R D G)) (place : InterruptWorker R D G)
+module _ {R D G : Type 0} (pollers : ℕ) (before : List (Vec (Kept R PollHandle))) (did : List (Outcome R D G))
+    (place : InterruptWorker R D G)
     (left : List (InterruptWorker R D G)) where
   abbrev Goes : InterruptWorker R D G → Kept R PollHandle → Type 0
   Goes p kept = IsSeatWith p kept

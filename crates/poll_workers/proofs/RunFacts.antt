@@ -8,10 +8,12 @@ use Rattle.poll_interrupts.specs.{Runs.HasRun, Deals.{is_dealt, is_own, poller_b
 use Rattle.poll_interrupts.specs.{Runs.{Ledger, Whose, WorksBy, IsEnded, blank, controller_number, worker_number}}
 use Rattle.poll_interrupts.specs.{declared.station.Station.Station}
 use Rattle.poll_interrupts.specs.declared.{station.Finished.Finished}
-use Rattle.poll_interrupts.specs.declared.{worker.{InterruptWorker.InterruptWorker, InterruptHandler.InterruptHandler, WorkerHandles.WorkerHandles}}
+use Rattle.poll_interrupts.specs.declared.worker.{InterruptWorker.InterruptWorker, InterruptHandler.InterruptHandler}
+use Rattle.poll_interrupts.specs.declared.worker.WorkerHandles.{WorkerHandles}
 use Rattle.poll_interrupts.specs.{declared.{opening.{Loose.Loose, Placed.Placed}, acts.Act.Act}}
 use Rattle.poll_interrupts.specs.{Works.{IsDoneBy, IsWorked, ledger_of, whose}}
-use Rattle.poll_interrupts.specs.{Handles.{AreAtRest, is_on, pass_of}, Opens.{IsHome, IsInputOf, IsKeptLoose, IsKeptPartOf, IsKeptSideOf, IsLoose}}
+use Rattle.poll_interrupts.specs.Handles.{AreAtRest, is_on, pass_of}
+use Rattle.poll_interrupts.specs.Opens.{IsHome, IsInputOf, IsKeptLoose, IsKeptPartOf, IsKeptSideOf, IsLoose}
 use Rattle.poll_list.specs.declared.{list_in.ListIn.ListIn, shared.SharedList.SharedList}
 use Rattle.poll_tasks.proofs.ListFacts.{at_mapped, at_place, each_index, each_zip, zip_and}
 use Rattle.poll_tasks.proofs.ListFacts.{zip_both, zip_each, zip_empty, zip_filtered, zip_flip}
@@ -251,7 +253,8 @@ crew_is R asked limits lists pollers number (c ∷ cs) turns = turns (λ e. absu
 
 -- what the threads of a run return if none failed
 module _ {R D G : Type 0} (acts : D → ℕ) (answer : D → ℕ → Act) (after : D → ℕ → D) (answers : G → ℕ → ℕ → Bool → Type 0)
-    (context : RunContext R G) (lists : List (SharedList R)) (pollers : ℕ) (stations : List (Station D)) (loose left : List (Kept R (Loose D)))
+    (context : RunContext R G) (lists : List (SharedList R)) (pollers : ℕ) (stations : List (Station D)) (loose left : List (Kept R
+        (Loose D)))
     (opened : AllZip IsKeptLoose stations loose) (ran : HaveRun acts answer after answers context lists pollers loose left)
     (ends : List (Finished D)) (finish : AllZip IsKeptFinishOf left ends) where
   abbrev asked : ℕ → Type 0
@@ -339,7 +342,8 @@ module _ {R D G : Type 0} (acts : D → ℕ) (answer : D → ℕ → Act) (after
   }
 
 -- each station has a poller
-pub none_polled : {D : Type 0} (R : Type 0) (asked : ℕ → Type 0) (limits : PollLimits) (acts : D → ℕ) (answer : D → ℕ → Act) (after : D → ℕ → D)
+pub none_polled : {D : Type 0} (R : Type 0) (asked : ℕ → Type 0) (limits : PollLimits) (acts : D → ℕ) (answer : D → ℕ → Act)
+    (after : D → ℕ → D)
     (pollers : ℕ) → ArePolled R asked limits acts answer after pollers [] []
 none_polled R asked limits acts answer after pollers =
     record { lists = []; courses = []; stations_are = refl; ends_are = refl; each = tt; crews = λ number below. tt }
@@ -512,7 +516,8 @@ module _ {R D G : Type 0} {may_shut : Type 0} {answers : G → ℕ → ℕ → B
       let own : List (Kept R PollHandle) = filter (λ (s : Kept R PollHandle). by s.value.number) sat in
       let ends = vec_items after.served.bench.seats in
       let same : AreSameSeats own ends = subst (λ l. AreSameSeats l ends) p.seats_are (polled_keeps before after did) in
-      let Beside : InterruptWorker R D G → Kept R PollHandle → Type 0 = λ w s. (place : Kept R Placed) × IsBackAt place w × IsSeatAt place s in
+      let Beside : InterruptWorker R D G → Kept R PollHandle → Type 0 = λ w s. (place : Kept R Placed) × IsBackAt place w
+          × IsSeatAt place s in
       let both : AllZip Beside workers sat = zip_both _ _ _ _ _ (zip_flip _ _ _ back) at in
       let places : AllZip Beside (filter (λ (w : InterruptWorker R D G). by w.handler.number) workers) own =
       zip_filtered Beside _ _ workers sat (λ w s h. ap by (h.1.number ∙ sym h.2.number)) both in
@@ -564,7 +569,8 @@ module _ {R D G : Type 0} {may_shut : Type 0} {answers : G → ℕ → ℕ → B
       → IsKeptThreadFor context loose side → IsWiredSide lists wakers side
       → IsPolled has_no_thread TurnsAlone may_shut answers side thread → thread.stop ≡ None
       → (after : Caller) → thread.served.seat.value.caller ≡ Some after
-      → TurnsIfThread R (IsAsked answers context.gate.now) context.limits lists (length wakers) has loose.value.number loose.value.thread after
+      → TurnsIfThread R (IsAsked answers context.gate.now) context.limits lists
+          (length wakers) has loose.value.number loose.value.thread after
   turned_by loose side thread false has for wired p whole after is =
       some_is (sym is ∙ ap (λ (s : ThreadPoller R). s.seat.value.caller) (p.none (ap (λ b. not b) has)) ∙ for.seat.caller_is)
   turned_by loose side thread true has for wired p whole after is =

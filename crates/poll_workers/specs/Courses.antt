@@ -7,7 +7,7 @@ use Rattle.poll_interrupts.specs.declared.worker.InterruptWorker.{InterruptWorke
 use Rattle.poll_list.specs.{SharedList.{IsInOf, IsNewList, pushed_by}, declared.{list_in.ListIn.ListIn, shared.SharedList.SharedList}}
 use Rattle.std.specs.Prelude.{◌≡◌, ◌≢◌, ℕ, ◌<◌, Bool, List, [], ◌∷◌, Some, None, filter, is_some, length, map, MatchBool, vec_items}
 use Rattle.{std.specs.List.{All, AllByRecursion, AllZip}, napi_calls.specs.{Seats.own_list, declared.{kept.Kept.Kept, types.Caller.Caller}}}
-use Rattle.poll_interrupts.specs.{Seats.IsUnused, Calls.listings, Deals.{is_dealt, is_own, poller_by}}
+use Rattle.poll_interrupts.specs.{Handles.IsUnused, Calls.listings, Deals.{is_dealt, is_own, poller_by}}
 use Rattle.poll_interrupts.specs.{declared.{opening.Loose.Loose, acts.Act.Act, station.{Finished.Finished, Station.Station}}, Runs.HasRun}
 use Rattle.poll_interrupts.specs.Runs.{poller_number, thread_number}
 
@@ -79,7 +79,8 @@ module _ (R : Type 0) (asked : ℕ → Type 0) (limits : PollLimits) (lists : Li
     pub unused : IsUnused thread_number thread
     pub turns : TurnsIfThread course.station.thread course.station.number thread course.end.closed.thread.value
 
-module _ (R : Type 0) (asked : ℕ → Type 0) (limits : PollLimits) {D : Type 0} (acts : D → ℕ) (answer : D → ℕ → Act) (after : D → ℕ → D) where
+module _ (R : Type 0) (asked : ℕ → Type 0) (limits : PollLimits) {D : Type 0} (acts : D → ℕ) (answer : D → ℕ → Act) (after : D → ℕ
+    → D) where
   -- Each station has its course. Each poller polled its own stations: those whose number minus 1, modulo the count of pollers,
   -- is its number.
   pub record ArePolled (pollers : ℕ) (stations : List (Station D)) (ends : List (Finished D)) : Type 0 where

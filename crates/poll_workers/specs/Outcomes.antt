@@ -32,7 +32,8 @@ module _ {R D G : Type 0} where
     pub thread_of : IsSeatOf worker.handler.napi.now loose.thread.pass
 
 -- the next of a poller's seats was taken
-pub record TakesNext {R : Type 0} (before : List (Vec (Kept R PollHandle))) (k : ℕ) (seat : Kept R PollHandle) (after : List (Vec (Kept R PollHandle)))
+pub record TakesNext {R : Type 0} (before : List (Vec (Kept R PollHandle))) (k : ℕ) (seat : Kept R PollHandle) (after : List (Vec
+    (Kept R PollHandle)))
     : Type 0 where
   pub was : Vec (Kept R PollHandle)
   pub now : Vec (Kept R PollHandle)

@@ -4,8 +4,8 @@ use Rattle.poll_tasks.specs.{Tasks.HasRoom, Wakers.Wakes, declared.{signals.Wake
 use Rattle.poll_workers.specs.{declared.rooms.Rooms.Rooms, Spreads.{HaveOwn, IsBegin, IsNewEnd}}
 
 -- room for so many pollers and so many stations
-record HaveRoom {P W S : Type 0} (pollers count : ℕ) (tasks : Tasks P W S) : Type 0 where
-  pub pollers : HasRoom pollers tasks.pollers
+pub record HaveRoom {P W S : Type 0} (some count : ℕ) (tasks : Tasks P W S) : Type 0 where
+  pub pollers : HasRoom some tasks.pollers
   pub workers : HasRoom count tasks.workers
   pub threads : HasRoom count tasks.threads
 

@@ -32,7 +32,7 @@ use std::thread::Threads;
 type Ended<R, D> = (Vec<Kept<R, Loose<D>>>, Option<Stop>);
 
 // Returns why a run ended early, if so.
-fn stop_of_run<'t, 'p, 'n, R: Wait + Drop, D: Drop, G: Gate>(
+fn stop_of_run<'t, 'p, 'n, R: Wait + Drop + Copy, D: Device + Drop, G: Gate>(
     tasks: &RunTasks<'t, 'p, 'n, R, D, G>,
 ) -> Option<Stop>
     requires workers { All (λ w. IfSome w.stop (IsStop G.may_shut)) (vec_items tasks.now.workers) }
@@ -73,7 +73,7 @@ where
     ensures why { IfSome result.1 (IsStop G.may_shut) }
     ensures ran { result.1 ≡ None
         → HaveRun D.acts D.answer D.after G.answers context.now
-        (map (λ b. b.list) (vec_items rooms.begins)) (length wakers.now)
+        (map (λ b. b.list) (vec_items rooms.entry.begins)) (length wakers.now)
         (vec_items loose) (vec_items result.0) }
 {
     let Rooms {

@@ -172,18 +172,20 @@ pub(crate) fn spread<'t, 'p, 'n, R: Wait + Drop + Copy, D: Device + Drop, G: Gat
     ensures threads { AllZip (IsKeptThreadFor context.now) (vec_items loose)
         (vec_items result.tasks.threads) }
     // Each worker and each thread pushes into the list of its own poller, and wakes that one.
-    ensures wired_jobs { (lists : List (SharedList _)) → AreEndsOf lists (vec_items rooms.ends)
+    ensures wired_jobs { (lists : List (SharedList _))
+        → AreEndsOf lists (vec_items rooms.entry.ends)
         → AllByRecursion (IsWiredJob lists wakers.now) (vec_items result.tasks.workers) }
-    ensures wired_threads { (lists : List (SharedList _)) → AreEndsOf lists (vec_items rooms.ends)
+    ensures wired_threads { (lists : List (SharedList _))
+        → AreEndsOf lists (vec_items rooms.entry.ends)
         → AllByRecursion (IsWiredSide lists wakers.now) (vec_items result.tasks.threads) }
     ensures seats { (sat : List (Kept _ PollHandle)) × AllZip IsSeatAt placed.now sat
         × AllZip IsKeptSeatFor (vec_items loose) sat
         × HaveOwn (vec_len loose) (length wakers.now) sat (vec_items result.seats) }
     ensures len { length (vec_items result.seats) ≡ length wakers.now }
-    ensures pollers { (result.begins ≡ rooms.begins)
-        × (result.tasks.pollers ≡ rooms.tasks.pollers) }
-    ensures rest { (result.spawned ≡ rooms.spawned) × (result.left_seats ≡ rooms.left_seats)
-        × (result.left ≡ rooms.left) }
+    ensures pollers { (result.begins ≡ rooms.entry.begins)
+        × (result.tasks.pollers ≡ rooms.entry.tasks.pollers) }
+    ensures rest { (result.spawned ≡ rooms.entry.spawned)
+        × (result.left_seats ≡ rooms.entry.left_seats) × (result.left ≡ rooms.entry.left) }
 {
     let mut rooms = rooms;
     let mut places = placed;

@@ -10,7 +10,8 @@ use Rattle.{poll_tasks.{proofs.Zips.zip_push, specs.Refusals.IsRefused}, rx_ring
 use Rattle.device_script.proofs.{Rows.{filter-long, find-among, find-here, find-more, range-more}, ScriptFacts.{acts-made, arrivals-are}}
 use Rattle.device_script.specs.Script.{has_thread, is_act_of, is_open, is_rx, opening_of, openings_of, rx_of, script_of}
 use Rattle.{device_script.specs.ScriptShown.{Script, acts, after, answer}, poll_workers.specs.declared.fault.WorkFault.WorkFault}
-use Rattle.{poll_workers.specs.{Finishes.IsFinished, Courses.{ArePolled, limits_of}}, replay_words.specs.declared.settings.Settings.Settings}
+use Rattle.poll_workers.specs.{Finishes.IsFinished, Courses.{ArePolled, limits_of}}
+use Rattle.replay_words.specs.declared.settings.Settings.{Settings}
 use Rattle.replay_text.specs.declared.fault.ReplayFault.{ReplayFault, TheVariants.{OutputFailed, RingTooSmall}}
 use Rattle.replay_threads.specs.{ThreadsReport.{arrived, bytes, device_lines, is_opened, opened}, Stations.{AreRunBy, IsEndOf, IsStationOf}}
 use Rattle.replay_threads.specs.{Stations.{end_lines, is_small, polled_of, small_fault}, Answer.{IsOutside, IsPolled, IsToldAs, overflows}}

@@ -10,8 +10,10 @@ use Rattle.poll_workers.proofs.spreading.spread.Goals as goal
 
 pub loop-rest-init : goal.loop-rest-init
 loop-rest-init g c =
-    let no_jobs : vec_items c.args.rooms.tasks.workers ≡ [] = nil_from_length _ (grind (arith, common_steps, c.requires.rooms.tasks.workers.0)) in
-    let no_sides : vec_items c.args.rooms.tasks.threads ≡ [] = nil_from_length _ (grind (arith, common_steps, c.requires.rooms.tasks.threads.0)) in (
+    let no_jobs : vec_items c.args.rooms.tasks.workers ≡ [] = nil_from_length _ (grind
+        (arith, common_steps, c.requires.rooms.tasks.workers.0)) in
+    let no_sides : vec_items c.args.rooms.tasks.threads ≡ [] = nil_from_length _ (grind
+        (arith, common_steps, c.requires.rooms.tasks.threads.0)) in (
       [],
       [],
       [],
@@ -101,7 +103,8 @@ loop-rest-preserved g c =
             (sym c.split-job.ensures.seat.0.number) c.poller_of-poller.ensures.own in
             one_more _ _ _ _ _ now.own (within_of _ _ _ _ now.poller_count c.poller_of-poller.ensures.within refl) _ _ own
             c.seat_at.ensures);
-        poller_count = ap (λ l. length l) c.seat_at.ensures.rest ∙ length-set (vec_items c.loop-rest.rooms.seats) c.poller_of-poller.result _
+        poller_count = ap (λ l. length l) c.seat_at.ensures.rest ∙ length-set
+            (vec_items c.loop-rest.rooms.seats) c.poller_of-poller.result _
             ∙ now.poller_count;
         list_count = c.two_ends-both.ensures.len ∙ now.list_count;
         ends = c.two_ends-both.ensures.left _ (λ k d low. ends_of _ _ _ fewer (now.ends k d low));

@@ -18,7 +18,8 @@ invariant-loop-rest g l = (did : List (Kept g.row.R.Denot (Loose g.row.D.Denot))
           → AllByRecursion (IsWiredJob lists l.fn.wakers) (vec_items l.rooms.tasks.workers);
       wired_threads : (lists : List (SharedList g.row.R.Denot)) → AreEndsOf lists (vec_items l.fn.rooms.ends)
           → AllByRecursion (IsWiredSide lists l.fn.wakers) (vec_items l.rooms.tasks.threads);
-      are_ends : (lists : List (SharedList g.row.R.Denot)) → AreEndsOf lists (vec_items l.fn.rooms.ends) → AreEndsOf lists (vec_items l.rooms.ends);
+      are_ends : (lists : List (SharedList g.row.R.Denot)) → AreEndsOf lists (vec_items l.fn.rooms.ends) → AreEndsOf lists
+          (vec_items l.rooms.ends);
       seat_places : AllZip IsSeatAt here sat;
       sitting : AllZip IsKeptSeatFor did sat;
       thread_places : AllZip IsThreadAt here (vec_items l.rooms.tasks.threads);

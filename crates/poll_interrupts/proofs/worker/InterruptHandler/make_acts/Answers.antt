@@ -42,10 +42,10 @@ loop-k-init g c = record {
 
 pub returns-in-Some-clause-same : goal.returns-in-Some-clause-same
 returns-in-Some-clause-same g c =
-    all_same (is_some c.args.self.now.thread) g.D.Device.answer g.D.Device.after c.args.device.now c.loop-k.k c.args.handles c.loop-k.handles
-    c.args.rx.now c.loop-k.rx c.loop-k.invariant.acted
+    all_same (is_some c.args.self.now.thread) g.D.Device.answer g.D.Device.after c.args.device.now c.loop-k.k c.args.handles
+    c.loop-k.handles c.args.rx.now c.loop-k.rx c.loop-k.invariant.acted
 
 pub returns-clause-same : goal.returns-clause-same
 returns-clause-same g c =
-    all_same (is_some c.args.self.now.thread) g.D.Device.answer g.D.Device.after c.args.device.now c.loop-k.k c.args.handles c.loop-k.handles
-    c.args.rx.now c.loop-k.rx c.loop-k.invariant.acted
+    all_same (is_some c.args.self.now.thread) g.D.Device.answer g.D.Device.after c.args.device.now c.loop-k.k c.args.handles
+    c.loop-k.handles c.args.rx.now c.loop-k.rx c.loop-k.invariant.acted
