@@ -4,7 +4,7 @@ use Rattle.std.{proofs.{Common.{sym, ap, ◌∙◌, subst, append_assoc}, lemmas
 use Rattle.rx_ring.specs.{declared.{ends.RxIn.RxIn, packet.Packet.Packet}, Ends.{capacity_of, put_list}}
 use Rattle.{napi_model.specs.declared.event.Operation.Operation, napi_word.specs.declared.table.Pass.Pass}
 use Rattle.napi_calls.specs.{declared.{answers.Sched.Sched, types.Caller.Caller}, Calls.{Disables, Enables, Schedules}, Made.{Made, events}}
-use Rattle.{napi_calls.specs.{Made.looks, Seats.{number_of, own_list}}, poll_interrupts.specs.declared.acts.Act.Act}
+use Rattle.{napi_calls.specs.{Made.looks, Seats.{pass_number, own_list}}, poll_interrupts.specs.declared.acts.Act.Act}
 use Rattle.poll_interrupts.specs.declared.worker.{WorkerHandles.WorkerHandles, ControlState.{ControlState, TheVariants.{On, Off}}}
 use Rattle.poll_interrupts.specs.{Acts.after_acts, Handles.{AreSameHandles, is_on, pass_of}}
 use Rattle.poll_interrupts.specs.Calls.{Acts, AllActs, Arrives, GoesOn, HandsOver, Interrupts, TurnsOff, TurnsOn}
@@ -20,7 +20,7 @@ use Rattle.poll_interrupts.specs.declared.acts.Act.TheVariants as act
 
 -- between p and q the seat's own events grew by these operations
 abbrev Grew : Pass → List Operation → Pass → Type 0
-Grew p os q = (own_list q ≡ own_list p ++ events (number_of p) os) × (number_of q ≡ number_of p)
+Grew p os q = (own_list q ≡ own_list p ++ events (pass_number p) os) × (pass_number q ≡ pass_number p)
 
 made_grew : (p : Pass) (os : List Operation) (q : Pass) → Made p os q → Grew p os q
 made_grew p os q m = (m.grown, m.seat.number)
@@ -78,8 +78,8 @@ handles_of caller control threaded = record { caller = caller; control = control
 
 -- whose handles they are
 pub record IsOf (w : Whose) (handles : WorkerHandles) (rx : RxIn) : Type 0 where
-  pub caller : number_of handles.caller.pass ≡ w.caller
-  pub controller : number_of (pass_of handles.control) ≡ w.controller
+  pub caller : pass_number handles.caller.pass ≡ w.caller
+  pub controller : pass_number (pass_of handles.control) ≡ w.controller
   pub places : capacity_of rx ≡ w.places
 
 -- what was done with the handles
@@ -111,7 +111,7 @@ arrives w packet a b before after h power threaded places of = ⊎_elim
       ),
       record {
         caller = asked.2.1 ∙ of.caller;
-        controller = ap (λ p. number_of (pass_of p)) power ∙ of.controller;
+        controller = ap (λ p. pass_number (pass_of p)) power ∙ of.controller;
         places = places ∙ of.places;
       },
     ))
@@ -127,21 +127,21 @@ arrives w packet a b before after h power threaded places of = ⊎_elim
         },
       ),
       record {
-        caller = ap (λ p. number_of p) full.2 ∙ of.caller;
-        controller = ap (λ p. number_of (pass_of p)) power ∙ of.controller;
+        caller = ap (λ p. pass_number p) full.2 ∙ of.caller;
+        controller = ap (λ p. pass_number (pass_of p)) power ∙ of.controller;
         places = places ∙ of.places;
       },
     ))
     h
 
 still_of : (w : Whose) (a b : WorkerHandles) (before after : RxIn)
-    → number_of b.caller.pass ≡ number_of a.caller.pass → number_of (pass_of b.control) ≡ number_of (pass_of a.control)
+    → pass_number b.caller.pass ≡ pass_number a.caller.pass → pass_number (pass_of b.control) ≡ pass_number (pass_of a.control)
     → capacity_of after ≡ capacity_of before → IsOf w a before → IsOf w b after
 still_of w a b before after caller controller places of = grind (arith, common_steps)
 
 -- the controller's own events grew, and it is on now or isn't
 switched : (w : Whose) (a b : WorkerHandles) (before after : RxIn) (os : List Operation) (on : Bool)
-    → own_list (pass_of b.control) ≡ own_list (pass_of a.control) ++ events (number_of (pass_of a.control)) os → is_on b.control ≡ on
+    → own_list (pass_of b.control) ≡ own_list (pass_of a.control) ++ events (pass_number (pass_of a.control)) os → is_on b.control ≡ on
     → b.caller ≡ a.caller → b.threaded ≡ a.threaded → put_list after ≡ put_list before → IsOf w a before
     → ledger_of b after ≡ record (ledger_of a before) { controls = own_list (pass_of a.control) ++ events w.controller os; on = on }
 switched w a b before after os on grown now caller threaded put of = grind (arith, common_steps)
@@ -159,7 +159,7 @@ turns_off : (w : Whose) (caller : Caller) (set : Bool) (control : ControlState) 
 turns_off w caller set (On control) b before after h same threaded put places of =
     let grew = disables control.pass (pass_of b.control) h.1 in (
       (grew.0, grew.1, switched w (handles_of caller (On control) set) b before after grew.0 false grew.2.0 h.0 same threaded put of),
-      still_of w (handles_of caller (On control) set) b before after (ap (λ (c : Caller). number_of c.pass) same) grew.2.1 places of,
+      still_of w (handles_of caller (On control) set) b before after (ap (λ (c : Caller). pass_number c.pass) same) grew.2.1 places of,
     )
 turns_off w caller set (Off control) b before after h same threaded put places of = search (rules, same_ledger, still_of)
 
@@ -201,13 +201,13 @@ all_same thread answer after d n a b first last h =
 
 -- turned on or off, the seat stays the same
 on_same : (set : Bool) (before after : ControlState) → TurnsOn set before after
-    → number_of (pass_of after) ≡ number_of (pass_of before)
-on_same set (On control) after h = ap (λ c. number_of (pass_of c)) h
+    → pass_number (pass_of after) ≡ pass_number (pass_of before)
+on_same set (On control) after h = ap (λ c. pass_number (pass_of c)) h
 on_same set (Off control) after h = (enables set control.pass (pass_of after) h.1).2.1
 
-off_same : (before after : ControlState) → TurnsOff before after → number_of (pass_of after) ≡ number_of (pass_of before)
+off_same : (before after : ControlState) → TurnsOff before after → pass_number (pass_of after) ≡ pass_number (pass_of before)
 off_same (On control) after h = (disables control.pass (pass_of after) h.1).2.1
-off_same (Off control) after h = ap (λ c. number_of (pass_of c)) h
+off_same (Off control) after h = ap (λ c. pass_number (pass_of c)) h
 
 pub off_is : (before after : ControlState) → TurnsOff before after → is_on after ≡ false
 off_is (On control) after h = h.0

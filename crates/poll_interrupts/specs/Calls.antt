@@ -41,7 +41,7 @@ listings number (e ∷ es) = (if is_listing e.operation then number ∷ [] else 
 
 -- Between p and q the seat handed its instance to the list as many times as its number was pushed there, and nothing else was.
 pub record Lists {R : Type 0} (number : ℕ) (p q : Pass) (before after : ListIn R) : Type 0 where
-  pub same : list.SameIn before after
+  pub same : list.SameListIn before after
   pub did : List Event
   pub grown : own_list q ≡ own_list p ++ did
   pub pushed : pushed_by after ≡ pushed_by before ++ listings number did

@@ -1,6 +1,6 @@
 -- Whose instance a worker's handles are on.
 use Rattle.std.specs.Prelude.{◌≡◌, ℕ, Bool, true, false, []}
-use Rattle.napi_calls.specs.{declared.types.{Caller.Caller, Napi.Napi}, Instance.IsSeatOf, Seats.{number_of, own_list}}
+use Rattle.napi_calls.specs.{declared.types.{Caller.Caller, Napi.Napi}, Instance.IsSeatOf, Seats.{pass_number, own_list}}
 use Rattle.{napi_word.specs.declared.table.Pass.Pass, poll_interrupts.specs.Runs.{controller_number, worker_number}}
 use Rattle.poll_interrupts.specs.declared.worker.{ControlState.{ControlState, TheVariants.{On, Off}}, WorkerHandles.WorkerHandles}
 
@@ -21,17 +21,18 @@ AreAtRest napi handles = AreHandlesOf napi handles × (is_on handles.control ≡
 
 -- the same seats, by their numbers
 abbrev pub AreSameHandles : WorkerHandles → WorkerHandles → Type 0
-AreSameHandles a b = (number_of b.caller.pass ≡ number_of a.caller.pass) × (number_of (pass_of b.control) ≡ number_of (pass_of a.control))
+AreSameHandles a b = (pass_number b.caller.pass ≡ pass_number a.caller.pass)
+    × (pass_number (pass_of b.control) ≡ pass_number (pass_of a.control))
 
 -- a new caller: it has this number, and made no call
 pub record IsUnused (number : ℕ) (caller : Caller) : Type 0 where
-  pub number_is : number_of caller.pass ≡ number
+  pub number_is : pass_number caller.pass ≡ number
   pub nothing_done : own_list caller.pass ≡ []
 
 -- a worker's new handles on an instance with three callers: no call was made by them
 pub record AreUnused (handles : WorkerHandles) : Type 0 where
   pub caller : IsUnused worker_number handles.caller
   pub control : own_list (pass_of handles.control) ≡ []
-  pub number : number_of (pass_of handles.control) ≡ controller_number
+  pub number : pass_number (pass_of handles.control) ≡ controller_number
   pub off : is_on handles.control ≡ false
   pub unthreaded : handles.threaded ≡ false

@@ -1,7 +1,7 @@
 -- The contract of a worker, for its own station.
 use Rattle.std.specs.Prelude.{◌≡◌, ℕ, ◌+◌, ◌≤◌, ◌++◌, Bool, None, IfSome, is_some, length}
 use Rattle.{poll_tasks.specs.{Asks.WasLet, Stops.IsStop}, rx_ring.specs.{declared.ends.RxIn.RxIn, Ends.SameIn}}
-use Rattle.{rx_ring.specs.Ends.{capacity_of, put_list}, napi_calls.specs.{declared.types.Napi.Napi, Seats.{number_of, own_list}}}
+use Rattle.{rx_ring.specs.Ends.{capacity_of, put_list}, napi_calls.specs.{declared.types.Napi.Napi, Seats.{pass_number, own_list}}}
 use Rattle.poll_interrupts.specs.declared.{acts.Act.Act, worker.{WorkerHandles.WorkerHandles, InterruptWorker.InterruptWorker}}
 use Rattle.poll_interrupts.specs.Acts.{after_acts}
 use Rattle.poll_interrupts.specs.{Acts.arrivals, Calls.Lists, Runs.{Ledger, Whose, WorksBy}}
@@ -20,8 +20,8 @@ ledger_of handles rx = record {
 -- the owner of that ledger
 abbrev pub whose : WorkerHandles → RxIn → Bool → Whose
 whose handles rx thread = record {
-  caller = number_of handles.caller.pass;
-  controller = number_of (pass_of handles.control);
+  caller = pass_number handles.caller.pass;
+  controller = pass_number (pass_of handles.control);
   places = capacity_of rx;
   thread = thread;
 }

@@ -10,7 +10,7 @@ ghost use Rattle.poll_tasks.specs.Asks.{WasLet};
 ghost use Rattle.poll_tasks.specs.Stops.{IsStop};
 
 use crate::acts::{Act, Device};
-use napi_calls::{Between, Caller, Control, Granted, Kept, Napi, Off, On, Sched};
+use napi_calls::{Between, Caller, Control, DropBomb, Granted, Napi, Off, On, Sched};
 use napi_model::Kind;
 use poll_list::ListIn;
 use poll_tasks::{Gate, RunContext, Stop, Task, Waker};
@@ -255,7 +255,7 @@ pub struct InterruptWorker<'t, 'p, 'n, R: Wait + Drop, D, G: Gate> {
     /// The input of the device's receive ring.
     pub rx: RxIn,
     /// Its handles on the instance, which is off.
-    pub handles: Kept<R, WorkerHandles>,
+    pub handles: DropBomb<R, WorkerHandles>,
     /// Why not all acts were made, if so.
     pub stop: Option<Stop>,
     ghost of: { AreAtRest handler.napi.now handles.value },
@@ -305,7 +305,7 @@ impl<'t, 'p, 'n, R: Wait + Copy + Drop, D: Device + Drop, G: Gate> Task
             list,
             device,
             rx,
-            handles: Kept::new(context.rt, handles),
+            handles: DropBomb::new(context.rt, handles),
             stop,
         }
     }

@@ -5,7 +5,7 @@ ghost use Rattle.poll_tasks.specs.Limits.{IsLawful};
 
 use crate::handle::PollHandle;
 use crate::poller::Serves;
-use napi_calls::Kept;
+use napi_calls::DropBomb;
 use poll_list::SharedList;
 use poll_runs::{Bench, BusyReport, Next, Once, RunReport, ThreadReport, run_softirq};
 use poll_tasks::PollLimits;
@@ -17,12 +17,12 @@ use std::sync::Wait;
 pub struct HandleBench<'n, R: Wait + Drop> {
     rt: R,
     /// The seats.
-    pub seats: Vec<Kept<R, PollHandle<'n>>>,
+    pub seats: Vec<DropBomb<R, PollHandle<'n>>>,
     batch: Batch,
 }
 
 // Returns the place of the seat at the instance with this number.
-fn find<'n, R: Wait + Drop>(seats: &[Kept<R, PollHandle<'n>>], number: u32) -> Option<usize>
+fn find<'n, R: Wait + Drop>(seats: &[DropBomb<R, PollHandle<'n>>], number: u32) -> Option<usize>
     ensures { result ≡ position (λ seat. seat.value.number == number) seats.now }
 {
     seats.iter().position(|seat| seat.value.number == number)
@@ -71,7 +71,7 @@ impl<'n, R: Wait + Drop> ListPoller<'n, R> {
     pub fn new(
         rt: R,
         list: SharedList<R>,
-        seats: Vec<Kept<R, PollHandle<'n>>>,
+        seats: Vec<DropBomb<R, PollHandle<'n>>>,
         limits: PollLimits,
     ) -> Self
         requires { IsLawful limits }
@@ -91,7 +91,7 @@ impl<'n, R: Wait + Drop> ListPoller<'n, R> {
     }
 
     /// Returns the seats.
-    pub fn leave(self) -> Vec<Kept<R, PollHandle<'n>>>
+    pub fn leave(self) -> Vec<DropBomb<R, PollHandle<'n>>>
         ensures { result ≡ self.entry.bench.seats }
     {
         let ListPoller {

@@ -3,7 +3,7 @@
 ghost use Rattle.std.specs.Prelude.{◌≡◌, ◌≤◌, ◌<◌, ◌+◌, ℕ, [], List, IfOk, length, map, slice_index_or, vec_items, vec_len, vec_capacity};
 ghost use Rattle.std.specs.Global.{Vec};
 ghost use Rattle.std.specs.List.{All, AllByRecursion, AllZip};
-ghost use Rattle.napi_calls.specs.declared.kept.Kept.{Kept};
+ghost use Rattle.napi_calls.specs.declared.kept.DropBomb.{DropBomb};
 ghost use Rattle.poll_seats.specs.declared.handle.PollHandle.{PollHandle};
 ghost use Rattle.poll_tasks.specs.Tasks.{HasRoom};
 ghost use Rattle.poll_list.specs.declared.shared.SharedList.{SharedList};
@@ -11,7 +11,7 @@ ghost use Rattle.poll_tasks.specs.Wakers.{Wakes};
 ghost use Rattle.poll_tasks.specs.Limits.{IsLawful};
 ghost use Rattle.poll_workers.specs.Spreads.{AreEndsOf, ArePollers, HaveOwn, IsBegin, IsEndOf, IsNewEnd, TakesSeat};
 
-use napi_calls::Kept;
+use napi_calls::DropBomb;
 use poll_list::{ListIn, SharedList, shared_list};
 use poll_seats::{ListPoller, PollHandle, Poller, ThreadPoller};
 use poll_tasks::{Gate, IdleWait, RunContext, Waker};
@@ -89,7 +89,7 @@ pub(crate) fn seats_of<'n, R: Wait + Drop + Copy>(
     alloc: Global,
     pollers: usize,
     count: usize,
-) -> Result<Vec<Vec<Kept<R, PollHandle<'n>>>>, AllocError>
+) -> Result<Vec<Vec<DropBomb<R, PollHandle<'n>>>>, AllocError>
     ensures seats { IfOk result (λ r. (n : ℕ) → HaveOwn count n [] (vec_items r)) }
     ensures len { IfOk result (λ r. length (vec_items r) ≡ pollers) }
 {
@@ -102,12 +102,13 @@ pub(crate) fn seats_of<'n, R: Wait + Drop + Copy>(
 
 /// Gives a poller one more seat. Requires room for it.
 pub(crate) fn seat_at<'n, R: Wait + Drop>(
-    seats: &mut Vec<Vec<Kept<R, PollHandle<'n>>>>,
+    seats: &mut Vec<Vec<DropBomb<R, PollHandle<'n>>>>,
     poller: usize,
-    seat: Kept<R, PollHandle<'n>>,
+    seat: DropBomb<R, PollHandle<'n>>,
 )
     requires within { poller < length (vec_items seats.old) }
-    requires room { (own : Vec (Kept _ _)) → slice_index_or (vec_items seats.old) poller own ≡ own
+    requires room { (own : Vec (DropBomb _ _))
+        → slice_index_or (vec_items seats.old) poller own ≡ own
         → vec_len own < vec_capacity own }
     ensures { TakesSeat (vec_items seats.old) poller seat.entry (vec_items seats.new) }
 {
@@ -141,7 +142,7 @@ pub(crate) fn pollers_of<'t, 'p, 'n, R: Wait + Drop + Copy, G: Gate>(
     context: &'t RunContext<'t, R, G>,
     wakers: &'p [Waker],
     begins: Vec<Begin<R>>,
-    seats: Vec<Vec<Kept<R, PollHandle<'n>>>>,
+    seats: Vec<Vec<DropBomb<R, PollHandle<'n>>>>,
     room: Vec<OwnPoller<'t, 'p, 'n, R, G>>,
 ) -> Vec<OwnPoller<'t, 'p, 'n, R, G>>
     requires wakers { length (vec_items begins) ≡ length wakers.now }
@@ -151,7 +152,7 @@ pub(crate) fn pollers_of<'t, 'p, 'n, R: Wait + Drop + Copy, G: Gate>(
     requires begins { AllByRecursion IsBegin (vec_items begins) }
     requires wakes { AllZip (λ waker begin. Wakes waker begin.wait) wakers.now (vec_items begins) }
     requires limits { IsLawful context.now.limits }
-    ensures pollers { (count n : ℕ) (sat : List (Kept _ PollHandle))
+    ensures pollers { (count n : ℕ) (sat : List (DropBomb _ PollHandle))
         → HaveOwn count n sat (vec_items seats.entry)
         → ArePollers context.now wakers.now n sat (vec_items result) }
     ensures lists { map (λ p. p.served.list) (vec_items result)

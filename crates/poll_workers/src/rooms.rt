@@ -4,7 +4,7 @@ ghost use Rattle.std.specs.Prelude.{◌≡◌, ◌≤◌, IfOk, length, vec_item
 ghost use Rattle.poll_workers.specs.Rooms.{AreRooms};
 
 use crate::pollers::{Begin, OwnPoller, OwnThread, begins_of, seats_of};
-use napi_calls::Kept;
+use napi_calls::DropBomb;
 use poll_interrupts::{InterruptWorker, Loose};
 use poll_list::ListIn;
 use poll_seats::PollHandle;
@@ -22,9 +22,9 @@ pub(crate) struct Rooms<'n, R: Wait + Drop, P: Task + Drop, W: Task + Drop, S: T
     pub(crate) tasks: Tasks<P, W, S>,
     pub(crate) spawned: Tasks<Spawned<P>, Spawned<W>, Spawned<S>>,
     /// The seats of each poller.
-    pub(crate) seats: Vec<Vec<Kept<R, PollHandle<'n>>>>,
-    pub(crate) left_seats: Vec<Vec<Kept<R, PollHandle<'n>>>>,
-    pub(crate) left: Vec<Kept<R, Loose<D>>>,
+    pub(crate) seats: Vec<Vec<DropBomb<R, PollHandle<'n>>>>,
+    pub(crate) left_seats: Vec<Vec<DropBomb<R, PollHandle<'n>>>>,
+    pub(crate) left: Vec<DropBomb<R, Loose<D>>>,
 }
 
 /// The same for the threads of a run.

@@ -20,7 +20,7 @@ use crate::gathering::{RunTasks, gather, seats_left};
 use crate::pollers::pollers_of;
 use crate::rooms::{Rooms, RunRooms, rooms_of};
 use crate::spreading::spread;
-use napi_calls::Kept;
+use napi_calls::DropBomb;
 use poll_interrupts::{Device, Finished, Loose, Placed, Station, end_all, open_all};
 use poll_tasks::{Gate, PollLimits, RunContext, Stop, StopFlags, Tasks, Waker, drive, first_stop};
 use std::alloc::{AllocError, Global};
@@ -29,7 +29,7 @@ use std::sync::atomic::Ordering;
 use std::thread::Threads;
 
 // The parts of the instances after the threads have ended, and why the run ended early, if so.
-type Ended<R, D> = (Vec<Kept<R, Loose<D>>>, Option<Stop>);
+type Ended<R, D> = (Vec<DropBomb<R, Loose<D>>>, Option<Stop>);
 
 // Returns why a run ended early, if so.
 fn stop_of_run<'t, 'p, 'n, R: Wait + Drop + Copy, D: Device + Drop, G: Gate>(
@@ -57,8 +57,8 @@ fn run_threads<'t, 'p, 'n, R, D, G>(
     context: &'t RunContext<'t, R, G>,
     wakers: &'p [Waker],
     rooms: RunRooms<'t, 'p, 'n, R, D, G>,
-    placed: &'n [Kept<R, Placed>],
-    loose: Vec<Kept<R, Loose<D>>>,
+    placed: &'n [DropBomb<R, Placed>],
+    loose: Vec<DropBomb<R, Loose<D>>>,
 ) -> Ended<R, D>
 where
     R: Threads + Wait + Copy + Drop + Send + Sync,

@@ -5,7 +5,7 @@ ghost use Rattle.std.specs.List.{AllByRecursion, AllZip};
 ghost use Rattle.napi_calls.specs.Instance.{IsSeatOf};
 ghost use Rattle.poll_list.specs.declared.shared.SharedList.{SharedList};
 ghost use Rattle.poll_seats.specs.declared.handle.PollHandle.{PollHandle};
-ghost use Rattle.napi_calls.specs.declared.kept.Kept.{Kept};
+ghost use Rattle.napi_calls.specs.declared.kept.DropBomb.{DropBomb};
 ghost use Rattle.poll_interrupts.specs.Opens.{IsKeptSideOf, IsSideOf};
 ghost use Rattle.poll_tasks.specs.Limits.{IsLawful};
 ghost use Rattle.poll_workers.specs.Spreads.{AreEndsOf, HaveOwn, IsJobAt, IsJobOf, IsKeptJobOf, IsKeptSeatFor, IsKeptThreadFor, IsSeatAt, IsSeatFor, IsThreadAt, IsThreadFor, IsWiredJob, IsWiredSide};
@@ -14,7 +14,7 @@ ghost use Rattle.poll_workers.specs.Rooms.{AreRooms};
 
 use crate::pollers::{OwnThread, seat_at, two_ends};
 use crate::rooms::RunRooms;
-use napi_calls::{Caller, Kept};
+use napi_calls::{Caller, DropBomb};
 use poll_interrupts::{Device, InterruptHandler, InterruptWorker, Loose, Placed, poller_of};
 use poll_list::ListIn;
 use poll_seats::{PollHandle, Poller, ThreadPoller};
@@ -73,7 +73,7 @@ fn seat_of<'n, R: Wait + Drop + Copy>(
     placed: &'n Placed,
     number: u32,
     caller: Caller,
-) -> Kept<R, PollHandle<'n>>
+) -> DropBomb<R, PollHandle<'n>>
     requires { IsSeatOf placed.now.napi caller.pass }
     ensures number { result.value.number ≡ number }
     ensures napi { result.value.napi.now ≡ placed.now.napi }
@@ -81,7 +81,7 @@ fn seat_of<'n, R: Wait + Drop + Copy>(
     ensures waker { IfSome result.value.thread (λ b. b.now ≡ placed.now.waker) }
     ensures caller { result.value.caller ≡ Some caller }
 {
-    Kept::new(
+    DropBomb::new(
         rt,
         PollHandle {
             number,
@@ -96,12 +96,12 @@ fn seat_of<'n, R: Wait + Drop + Copy>(
 fn split<'t, 'p, 'n, R: Wait + Drop + Copy, D: Drop, G: Gate>(
     context: &'t RunContext<'t, R, G>,
     waker: &'p Waker,
-    placed: &'n Kept<R, Placed>,
+    placed: &'n DropBomb<R, Placed>,
     loose: Loose<D>,
     ends: (ListIn<R>, ListIn<R>),
 ) -> (
     InterruptWorker<'t, 'p, 'n, R, D, G>,
-    Kept<R, PollHandle<'n>>,
+    DropBomb<R, PollHandle<'n>>,
     OwnThread<'t, 'p, 'n, R, G>,
 )
     requires side { IsSideOf loose placed.now.value }
@@ -131,7 +131,7 @@ fn split<'t, 'p, 'n, R: Wait + Drop + Copy, D: Drop, G: Gate>(
         list,
         device,
         rx,
-        handles: Kept::new(rt, handles),
+        handles: DropBomb::new(rt, handles),
         stop: None,
     };
     let seat = seat_of(rt, &placed.value, number, poller);
@@ -157,8 +157,8 @@ fn split<'t, 'p, 'n, R: Wait + Drop + Copy, D: Drop, G: Gate>(
 pub(crate) fn spread<'t, 'p, 'n, R: Wait + Drop + Copy, D: Device + Drop, G: Gate>(
     context: &'t RunContext<'t, R, G>,
     wakers: &'p [Waker],
-    placed: &'n [Kept<R, Placed>],
-    loose: Vec<Kept<R, Loose<D>>>,
+    placed: &'n [DropBomb<R, Placed>],
+    loose: Vec<DropBomb<R, Loose<D>>>,
     rooms: RunRooms<'t, 'p, 'n, R, D, G>,
 ) -> RunRooms<'t, 'p, 'n, R, D, G>
     requires sides { AllZip IsKeptSideOf (vec_items loose) placed.now }
@@ -178,7 +178,7 @@ pub(crate) fn spread<'t, 'p, 'n, R: Wait + Drop + Copy, D: Device + Drop, G: Gat
     ensures wired_threads { (lists : List (SharedList _))
         → AreEndsOf lists (vec_items rooms.entry.ends)
         → AllByRecursion (IsWiredSide lists wakers.now) (vec_items result.tasks.threads) }
-    ensures seats { (sat : List (Kept _ PollHandle)) × AllZip IsSeatAt placed.now sat
+    ensures seats { (sat : List (DropBomb _ PollHandle)) × AllZip IsSeatAt placed.now sat
         × AllZip IsKeptSeatFor (vec_items loose) sat
         × HaveOwn (vec_len loose) (length wakers.now) sat (vec_items result.seats) }
     ensures len { length (vec_items result.seats) ≡ length wakers.now }

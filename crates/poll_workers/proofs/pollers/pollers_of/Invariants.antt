@@ -1,12 +1,12 @@
 use Rattle.std.proofs.Common.{◌≡◌, ◌+◌, ◌≤◌, ◌++◌, ℕ, length, vec_capacity, vec_items, List, map}
 use Rattle.std.specs.{Vec.Iter.{into_iter_items, into_iter_len}, List.{AllByRecursion, AllZip}, Global.Vec}
 use Rattle.poll_tasks.specs.{Limits.IsLawful, Wakers.Wakes, declared.signals.Waker.Waker}
-use Rattle.napi_calls.specs.declared.kept.Kept.{Kept}
+use Rattle.napi_calls.specs.declared.kept.DropBomb.{DropBomb}
 use Rattle.{poll_seats.specs.declared.handle.PollHandle.PollHandle, poll_workers.specs.Spreads.{ArePollers, HaveOwn, IsBegin}}
 use Rattle.poll_workers.proofs.pollers.pollers_of.Given as goal
 
 abbrev pub invariant-loop-begin : goal.invariant-loop-begin
-invariant-loop-begin g l = (did : List (Vec (Kept g.row.R.Denot PollHandle))) × (rung : List Waker) × record {
+invariant-loop-begin g l = (did : List (Vec (DropBomb g.row.R.Denot PollHandle))) × (rung : List Waker) × record {
   whole : did ++ into_iter_items l.seats ≡ vec_items l.fn.seats;
   count : length did ≡ length (vec_items l.pollers);
   left : length (vec_items l.pollers) + into_iter_len l.begins ≡ length l.fn.wakers;
@@ -22,7 +22,7 @@ invariant-loop-begin g l = (did : List (Vec (Kept g.row.R.Denot PollHandle))) ×
   as_many : into_iter_len l.seats ≡ into_iter_len l.begins;
   few : length l.fn.wakers ≤ 8;
   room : length l.fn.wakers ≤ vec_capacity l.pollers;
-  pollers : (count n : ℕ) (sat : List (Kept g.row.R.Denot PollHandle))
+  pollers : (count n : ℕ) (sat : List (DropBomb g.row.R.Denot PollHandle))
       → HaveOwn count n sat (vec_items l.fn.seats) → ArePollers l.context l.fn.wakers n sat (vec_items l.pollers);
 }
 

@@ -11,9 +11,9 @@ use Rattle.poll_workers.proofs.spreading.spread.Goals as goal
 pub loop-rest-init : goal.loop-rest-init
 loop-rest-init g c =
     let no_jobs : vec_items c.args.rooms.tasks.workers ≡ [] = nil_from_length _ (grind
-        (arith, common_steps, c.requires.rooms.tasks.workers.0)) in
+    (arith, common_steps, c.requires.rooms.tasks.workers.0)) in
     let no_sides : vec_items c.args.rooms.tasks.threads ≡ [] = nil_from_length _ (grind
-        (arith, common_steps, c.requires.rooms.tasks.threads.0)) in (
+    (arith, common_steps, c.requires.rooms.tasks.threads.0)) in (
       [],
       [],
       [],
