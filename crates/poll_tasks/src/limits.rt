@@ -8,7 +8,7 @@ use crate::signals::{Stop, StopFlags};
 
 /// How pollers poll.
 #[derive(Clone, Copy, Debug, PartialEq, Eq)]
-pub struct Pace {
+pub struct PollLimits {
     /// The packets after which a polling run ends, 1 to 65535 (`netdev_budget`).
     pub budget: u32,
     /// The most packets of one poll, 1 to 64 (`struct napi_struct`, `weight`).
@@ -19,7 +19,7 @@ pub struct Pace {
 
 /// What all threads of a run share.
 #[derive(Drop)]
-pub struct Setting<'t, R, G: Gate> {
+pub struct RunContext<'t, R, G: Gate> {
     /// The runtime: waits, and starts threads.
     pub rt: R,
     /// The check before each act.
@@ -27,10 +27,10 @@ pub struct Setting<'t, R, G: Gate> {
     /// The flags that say why no further acts are made.
     pub flags: &'t StopFlags<G>,
     /// How pollers poll.
-    pub pace: Pace,
+    pub limits: PollLimits,
 }
 
-impl<'t, R, G: Gate> Setting<'t, R, G> {
+impl<'t, R, G: Gate> RunContext<'t, R, G> {
     /// Asks the gate before an act, or when a poller starts. If it returns false, the run stops.
     pub fn ask(&self, by: u32, act: u32) -> Option<Stop>
         ensures open { result ≡ None → G.answers self.now.gate.now by act true }

@@ -1,5 +1,5 @@
 use Rattle.{std.proofs.Common.{rules, refl}, poll_seats.proofs.SeatFacts.{polls_nowhere, polls_there}}
-use Rattle.poll_seats.proofs.list_poller.SeatBenchBench.poll_once.Goals as goal
+use Rattle.poll_seats.proofs.list_poller.HandleBenchBench.poll_once.Goals as goal
 
 pub returns-in-Some-clause-leads : goal.returns-in-Some-clause-leads
 returns-in-Some-clause-leads g c =

@@ -8,25 +8,25 @@ use napi_calls::{Caller, Napi};
 use napi_model::Kind;
 use poll_runs::{Next, Once, ThreadReport};
 use poll_shared::{poll_instance, poll_instance_by_thread};
-use poll_tasks::Bell;
+use poll_tasks::Waker;
 use rx_ring::Batch;
 use std::mem;
 use std::sync::Wait;
 
 /// A poller's handle on one instance. A linear value: it can't be dropped.
-pub struct Seat<'n> {
+pub struct PollHandle<'n> {
     /// The device's number.
     pub number: u32,
     /// The instance.
     pub napi: &'n Napi,
     /// The waker of the instance's own thread, if it has one.
-    pub thread: Option<&'n Bell>,
+    pub thread: Option<&'n Waker>,
     /// The caller that polls, absent only during a poll.
     pub caller: Option<Caller>,
     ghost of: { ForSome caller (λ c. IsSeatOf napi.now c.pass) },
 }
 
-impl<'n> Seat<'n> {
+impl<'n> PollHandle<'n> {
     ghost use Rattle.std.specs.Prelude.{◌≡◌, ◌≤◌, IsSome, Some, is_some};
     ghost use Rattle.poll_seats.specs.Polled.{Polls, PollsByThread};
     ghost use Rattle.poll_seats.specs.SeatKeeping.{IsSameSeat};
@@ -52,7 +52,7 @@ impl<'n> Seat<'n> {
         ensures of { IsSeatOf self.entry.napi.now result.pass }
         ensures caller { self.entry.caller ≡ Some result }
     {
-        let Seat {
+        let PollHandle {
             number: _,
             napi: _,
             thread: _,
@@ -86,9 +86,9 @@ impl<'n> Seat<'n> {
         );
         self.sit(caller);
         if once.next == Next::Again(Kind::Thread)
-            && let Some(bell) = self.thread
+            && let Some(waker) = self.thread
         {
-            bell.wake();
+            waker.wake();
         }
         once
     }
