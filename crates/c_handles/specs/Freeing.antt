@@ -14,7 +14,8 @@ abbrev pub is_off : Power → Bool
 is_off (power.Off c) = true
 is_off _ = false
 
--- no other object depends on it: a seat that owns nothing, the controller of a disabled instance, a list without a run, a ring
+-- no other object depends on it: a seat that owns nothing, the controller of a disabled instance, a list without a run, a driver,
+-- a ring
 abbrev pub is_freeable : Body → Bool
 is_freeable (body.Seat s) = rests s.hold
 is_freeable (body.Controller c) = is_off c.power

@@ -4,6 +4,7 @@ ghost use Rattle.rx_ring.specs.Ends.{IsOneRing};
 use crate::input::Input;
 use crate::lister::Lister;
 use crate::seat::{Controller, Seat};
+use driver_core::Driver;
 use rx_ring::RxCtx;
 use std::alloc::Global;
 use tx_ring::TxRing;
@@ -30,6 +31,8 @@ pub enum Body {
     Ctx(RxCtx),
     /// A poll list.
     List(Box<Lister, Global>),
+    /// A driver.
+    Driver(Box<Driver, Global>),
     /// A caller of a shared instance.
     Seat(Seat),
     /// The controller of a shared instance.

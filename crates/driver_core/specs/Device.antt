@@ -118,18 +118,17 @@ opened d = at (opened_at d.stage) d.missed
 abbrev pub stopped : Device → Device
 stopped d = at (stopped_at d.stage) d.missed
 
+-- what was to be done at its card was done; a look found packets or none
+abbrev pub did : Chore → Bool → Device → Device
+did Mask has_more d = masked d
+did Unmask has_more d = unmasked d
+did Look has_more d = looked has_more d
+
 -- after a poll, and how the poll ends
 abbrev pub polled : Bool → Device → Device × Next
 polled full d = polled_at full (is_stopping d.stage) d.missed
 
 -- ---- words of clauses
-
--- an interrupt asks for a poll, which is granted
-abbrev pub IsGranted : Stage → Type 0
-IsGranted Unmasking = Unit {0}
-IsGranted Looking = Unit {0}
-IsGranted Armed = Unit {0}
-IsGranted _ = ⊥
 
 abbrev pub is_listed : Stage → Bool
 is_listed (Listed stopping) = true

@@ -1,5 +1,6 @@
--- A device with its card, the thread that drives it, and packets that arrive. What `Driver::next` says is done in three steps, and
--- between any two of them packets may arrive and the card may interrupt.
+-- A device with its card, the thread that drives it, and packets that arrive. What `Driver::next` says is done in three steps. Between
+-- any two of them packets may arrive, the card may interrupt, the device may be opened and stopped, and the thread may forget what it
+-- was about, done or not, and ask again. A report under a number that isn't due changes nothing, so it is no event.
 use Rattle.std.specs.Prelude.{◌≡◌, ◌⊎◌, ◌||◌, ℕ, ◌+◌, ◌-◌, zero, suc, Bool, true, false, not, List, [], ◌∷◌, if◌then◌else◌}
 use Rattle.driver_core.specs.Device.{at, interrupted, looked, masked, opened, polled, stopped, unmasked}
 use Rattle.driver_core.specs.declared.device.{Device.Device}
@@ -38,6 +39,8 @@ pub data Event : Type 0 where
   acts : ℕ → Bool → Event
   -- it is reported
   reports : Event
+  -- the thread asks again, without a report
+  forgets : Event
   opens : Event
   stops : Event
 
@@ -88,11 +91,6 @@ told (saw more) d = looked more d
 told (took full) d = (polled full d).0
 told hand d = d
 
--- it is opened and stopped between two things that `next` says
-abbrev pub controlled : Hand → (Device → Device) → Device → Device
-controlled free change d = change d
-controlled hand change d = d
-
 abbrev pub world_step : Event → World → World
 world_step arrives w = record w { packets = w.packets + 1; interrupting = w.interrupting || not w.masked }
 world_step interrupts w = record w { device = (if w.interrupting then interrupted w.device else w.device); interrupting = false }
@@ -103,8 +101,9 @@ world_step (acts taken full) w = record w {
   packets = packets_after taken w.hand w.packets;
 }
 world_step reports w = record w { hand = is_told w.hand; device = told w.hand w.device }
-world_step opens w = record w { device = controlled w.hand opened w.device }
-world_step stops w = record w { device = controlled w.hand stopped w.device }
+world_step forgets w = record w { hand = free }
+world_step opens w = record w { device = opened w.device }
+world_step stops w = record w { device = stopped w.device }
 
 abbrev pub world_after : List Event → World → World
 world_after [] w = w
