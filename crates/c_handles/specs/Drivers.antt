@@ -29,17 +29,40 @@ pub record IsNewDriver (devices budget weight window : ℕ) (d : Driver) : Type 
 abbrev pub no_run : FqRunReport
 no_run = record { polls = 0; work = 0; squeezed = false }
 
-abbrev pub todo_by : ℕ → ℕ → ℕ → ℕ → ℕ → FqRunReport → FqTodo
-todo_by size number what device most run =
-    record { size = size; number = number; what = what; device = device; most = most; packets = 0; run = run }
+-- its number in C
+abbrev pub what_in : What → ℕ
+what_in Sleep = 0
+what_in (Mask id) = 1
+what_in (Unmask id) = 2
+what_in (Look id) = 3
+what_in (Fetch id most) = 4
+what_in (Ended report) = 5
+
+abbrev pub device_in : What → ℕ
+device_in (Mask id) = id
+device_in (Unmask id) = id
+device_in (Look id) = id
+device_in (Fetch id most) = id
+device_in _ = 0
+
+abbrev pub most_in : What → ℕ
+most_in (Fetch id most) = most
+most_in _ = 0
+
+abbrev pub run_in : What → FqRunReport
+run_in (Ended r) = record { polls = r.polls; work = r.work; squeezed = r.squeezed }
+run_in _ = no_run
 
 abbrev pub todo_in : ℕ → ℕ → What → FqTodo
-todo_in size number Sleep = todo_by size number 0 0 0 no_run
-todo_in size number (Mask id) = todo_by size number 1 id 0 no_run
-todo_in size number (Unmask id) = todo_by size number 2 id 0 no_run
-todo_in size number (Look id) = todo_by size number 3 id 0 no_run
-todo_in size number (Fetch id most) = todo_by size number 4 id most no_run
-todo_in size number (Ended r) = todo_by size number 5 0 0 (record { polls = r.polls; work = r.work; squeezed = r.squeezed })
+todo_in size number what = record {
+  size = size;
+  number = number;
+  what = what_in what;
+  device = device_in what;
+  most = most_in what;
+  packets = 0;
+  run = run_in what;
+}
 
 -- the driver says this, which is due; the same again until it is reported or isn't due any more, and otherwise under a new number
 pub record Says (size : ℕ) (d : Driver) (todo : FqTodo) (e : Driver) : Type 0 where

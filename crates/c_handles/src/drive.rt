@@ -1,8 +1,8 @@
 //! The calls of a driver, by their statuses.
 
-ghost use Rattle.std.specs.Prelude.{◌≡◌, ◌≤◌, ◌<◌, length};
+ghost use Rattle.std.specs.Prelude.{◌≡◌, length, nat_lt};
 ghost use Rattle.driver_core.specs.Driver.{devices_of};
-ghost use Rattle.c_handles.specs.Drivers.{reply_status, shown_of, state_in, todo_in, no_run, IsDone, IsInterrupt, IsNext, IsOpen, IsReported, IsShow, IsStop, Says};
+ghost use Rattle.c_handles.specs.Drivers.{device_in, most_in, reply_status, run_in, shown_of, state_in, todo_in, what_in, IsDone, IsInterrupt, IsNext, IsOpen, IsReported, IsShow, IsStop};
 
 use crate::lister::FqRunReport;
 use crate::status;
@@ -54,33 +54,59 @@ const NO_RUN: FqRunReport = FqRunReport {
     squeezed: false,
 };
 
+// The number of what is to be done (`enum fq_what`).
+fn what_in(what: What) -> u32
+    ensures { result ≡ what_in what }
+{
+    match what {
+        What::Sleep => 0,
+        What::Mask(_) => 1,
+        What::Unmask(_) => 2,
+        What::Look(_) => 3,
+        What::Fetch(_, _) => 4,
+        What::Ended(_) => 5,
+    }
+}
+
+// The device at which it is to be done, and the packets that a fetch may take.
+fn where_in(what: What) -> (u32, u32)
+    ensures device { result.0 ≡ device_in what }
+    ensures most { result.1 ≡ most_in what }
+{
+    match what {
+        What::Mask(device) | What::Unmask(device) | What::Look(device) => (device, 0),
+        What::Fetch(device, most) => (device, most),
+        What::Sleep | What::Ended(_) => (0, 0),
+    }
+}
+
+// The report of the run that ended.
+fn run_in(what: What) -> FqRunReport
+    ensures { result ≡ run_in what }
+{
+    match what {
+        What::Ended(report) => FqRunReport {
+            polls: report.polls,
+            work: report.work,
+            squeezed: report.squeezed,
+        },
+        _ => NO_RUN,
+    }
+}
+
 // What the driver says, as C has it.
 fn todo_in(size: usize, todo: Todo) -> FqTodo
     ensures { result ≡ todo_in size todo.number todo.what }
 {
-    let (what, device, most, run) = match todo.what {
-        What::Sleep => (0, 0, 0, NO_RUN),
-        What::Mask(device) => (1, device, 0, NO_RUN),
-        What::Unmask(device) => (2, device, 0, NO_RUN),
-        What::Look(device) => (3, device, 0, NO_RUN),
-        What::Fetch(device, most) => (4, device, most, NO_RUN),
-        What::Ended(report) => {
-            let run = FqRunReport {
-                polls: report.polls,
-                work: report.work,
-                squeezed: report.squeezed,
-            };
-            (5, 0, 0, run)
-        }
-    };
+    let (device, most) = where_in(todo.what);
     FqTodo {
         size,
         number: todo.number,
-        what,
+        what: what_in(todo.what),
         device,
         most,
         packets: 0,
-        run,
+        run: run_in(todo.what),
     }
 }
 

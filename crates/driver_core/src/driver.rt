@@ -46,7 +46,7 @@ fn new_counts(alloc: Global, devices: usize) -> Result<Vec<PollCounts>, AllocErr
 }
 
 impl Driver {
-    ghost use Rattle.std.specs.Prelude.{◌↔◌, ◌∷◌, ◌++◌, None, Some, List, [], IsOk, IsSome, IfErr, IfNone, IfSome, OnOk, OnErr};
+    ghost use Rattle.std.specs.Prelude.{◌↔◌, ◌≢◌, ◌∷◌, ◌++◌, None, Some, List, [], IsOk, IsSome, IfErr, IfNone, IfSome, OnOk, OnErr};
     ghost use Rattle.poll_runs.specs.Polls.{Poll};
     ghost use Rattle.napi_model.specs.Step.{schedule_reply};
     ghost use Rattle.driver_core.specs.declared.todo.{Refused.TheVariants.{TooMany}, What.TheVariants.{Ended}};
@@ -102,7 +102,6 @@ impl Driver {
     }
 
     // A device is so now. What was said of it and isn't due any more is forgotten.
-    #[tactic(auto, using(crate::proofs::QueueFacts::put_same, crate::proofs::QueueFacts::put_asked))]
     fn put(&mut self, device: u32, to: Device)
         requires range { device < length (devices_of self.old) }
         requires listed { is_listed to.stage ≡ is_listed (stage_of self.old device) }
@@ -305,6 +304,7 @@ impl Driver {
         ensures due { IfSome result (λ todo. IsDue self.now todo.what) }
         ensures number { IfSome result (λ todo. todo.number ≡ number_of self.now) }
         ensures free { IfSome result (λ _. ¬ IsFree self.now) }
+        ensures more { IfSome result (λ todo. (report : _) → todo.what ≢ Ended report) }
     {
         if let Some(device) = self.run.asked() {
             return Some(self.todo(What::Fetch(device, self.limits.weight)));

@@ -1,6 +1,7 @@
 //! What a driver has to do.
 
-ghost use Rattle.std.specs.Prelude.{◌≡◌};
+ghost use Rattle.std.specs.Prelude.{◌≡◌, ◌≢◌};
+ghost use Rattle.driver_core.specs.declared.todo.What.TheVariants.{Ended};
 ghost use Rattle.driver_core.specs.Todo.{what_of};
 
 use crate::device::Chore;
@@ -49,7 +50,8 @@ pub enum Refused {
 
 // What is to be done at the card of a device.
 pub(crate) fn what_of(device: u32, chore: Chore) -> What
-    ensures { result ≡ what_of device chore }
+    ensures what { result ≡ what_of device chore }
+    ensures more { (report : _) → result ≢ Ended report }
 {
     match chore {
         Chore::Mask => What::Mask(device),

@@ -1,5 +1,5 @@
 use Rattle.std.specs.Prelude.{◌==◌}
-use Rattle.std.proofs.Common.{◌≡◌, ◌∙◌, ◌≤◌, ◌+◌, ℕ, None, Some, List, length, sym, subst, arith}
+use Rattle.std.proofs.Common.{◌≡◌, ◌∙◌, ◌≤◌, ◌+◌, None, Some, List, length, sym, subst, arith}
 use Rattle.std.proofs.lemmas.{List.Sums.count_by-le-length}
 use Rattle.poll_runs.specs.Driven.{held}
 use Rattle.driver_core.specs.{Device.is_listed, Queue.IsQueue, declared.device.Device.Device}
