@@ -2,7 +2,7 @@
 
 ghost use Rattle.std.specs.Prelude.{◌≡◌, length, nat_lt};
 ghost use Rattle.driver_core.specs.Driver.{devices_of};
-ghost use Rattle.c_handles.specs.Drivers.{device_in, most_in, reply_status, run_in, shown_of, state_in, todo_in, what_in, IsDone, IsInterrupt, IsNext, IsOpen, IsReported, IsShow, IsStop};
+ghost use Rattle.c_handles.specs.Drivers.{device_in, most_in, reply_status, run_in, shown_of, state_in, todo_in, what_in, IsDone, IsInterrupt, IsNext, IsOpen, IsReported, IsShow, IsStop, Says};
 
 use crate::lister::FqRunReport;
 use crate::status;
@@ -110,6 +110,14 @@ fn todo_in(size: usize, todo: Todo) -> FqTodo
     }
 }
 
+// What is to be done next, as C has it.
+fn say(driver: &mut Driver, size: usize) -> FqTodo
+    ensures { Says size driver.old result driver.new }
+{
+    let todo = driver.next();
+    todo_in(size, todo)
+}
+
 /// Sets `todo` to what is to be done next (`Driver::next`).
 pub fn next(driver: &mut Driver, todo: &mut FqTodo) -> u32
     ensures { IsNext todo.old todo.new driver.old result driver.new }
@@ -117,7 +125,7 @@ pub fn next(driver: &mut Driver, todo: &mut FqTodo) -> u32
     if todo.size < size_of::<FqTodo>() {
         return status::BAD_SIZE;
     }
-    *todo = todo_in(todo.size, driver.next());
+    *todo = say(driver, todo.size);
     status::OK
 }
 

@@ -204,6 +204,7 @@ impl Driver {
         ensures when { IsOk result ↔ IsReport number packets self.old }
         ensures ok { OnOk result (Reports packets self.old self.new) }
         ensures free { OnOk result (IsFree self.new) }
+        ensures len { length (devices_of self.new) ≡ length (devices_of self.old) }
         ensures going { (start : List _) (polls : List Poll) (id : _) → polled_in self.old ≡ Some id
             → IsRunning start polls self.old → OnOk result
             (IsRunning start (polls ++ poll_of id packets self.old ∷ []) self.new) }

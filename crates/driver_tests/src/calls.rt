@@ -23,7 +23,7 @@ fn one_device(rt: HostRuntime) -> Result<(), Fail> {
     let unmask = driver.next();
     assert_eq!(rt; unmask.what, What::Unmask(1));
     assert_eq!(rt; driver.next(), unmask);
-    assert_eq!(rt; driver.done(unmask.number + 1, 0), Err(Refused::NotDue));
+    assert_eq!(rt; driver.done(unmask.number.wrapping_add(1), 0), Err(Refused::NotDue));
     assert_eq!(rt; driver.done(unmask.number, 0), Ok(()));
     assert_eq!(rt; driver.done(unmask.number, 0), Err(Refused::NotDue));
     let look = driver.next();
@@ -36,7 +36,13 @@ fn one_device(rt: HostRuntime) -> Result<(), Fail> {
     assert_eq!(rt; fetch.what, What::Fetch(1, 64));
     assert_eq!(rt; driver.done(fetch.number, 65), Err(Refused::TooMany));
     assert_eq!(rt; driver.done(fetch.number, 64), Ok(()));
-    assert_eq!(rt; driver.counts(1), PollCounts { polls: 1, packets: 64 });
+    assert_eq!(rt;
+        driver.counts(1),
+        PollCounts {
+            polls: 1,
+            packets: 64
+        }
+    );
     assert!(rt; driver.device(1).is_scheduled() && !driver.device(1).is_stopping());
     assert_eq!(rt; driver.stop(1), Ok(()));
     assert_eq!(rt; driver.interrupt(1), Prep::Disabled);
