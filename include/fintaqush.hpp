@@ -770,6 +770,39 @@ struct NoReport {
     return report;
 }
 
+// The settings of the machine, at first the defaults of napi_machine.
+struct MachineSettings : fq_machine_settings {
+    MachineSettings() noexcept : fq_machine_settings{} { detail::made(fq_machine_usual(this, sizeof(fq_machine_settings))); }
+};
+
+// Why the machine returned no report: its status; for FQ_BAD_SETTING which one, from 1; for FQ_BAD_ARRIVALS the number of the fault of
+// the arrivals, its row, and the message of napi_machine.
+struct MachineFault {
+    std::uint32_t status, setting, fault;
+    std::uint64_t row;
+    std::string message;
+};
+
+// Runs the machine on arrivals (napi_machine), and returns its report.
+[[nodiscard]] inline std::variant<std::string, MachineFault> machine(std::string_view arrivals, const fq_machine_settings &settings = MachineSettings()) {
+    const std::uint8_t none = 0;
+    const std::uint8_t *bytes = arrivals.empty() ? &none : reinterpret_cast<const std::uint8_t *>(arrivals.data());
+    std::string report(4096, '\0');
+    fq_machine_ran ran{};
+    ran.size = sizeof ran;
+    const auto run = [&] {
+        return fq_machine(&settings, bytes, arrivals.size(), reinterpret_cast<std::uint8_t *>(report.data()), report.size(), &ran);
+    };
+    std::uint32_t said = run();
+    if (said == FQ_NO_ROOM) {
+        report.resize(ran.length);
+        said = run();
+    }
+    if (said != FQ_OK) return MachineFault{said, ran.setting, ran.fault, ran.row, ran.message};
+    report.resize(ran.length);
+    return report;
+}
+
 } // namespace fintaqush
 
 #endif

@@ -22,6 +22,7 @@ KNOWN = {
     "fq_list_new": ("run", "poll lists and polling runs"),
     "fq_word_raise": ("word", "a word of pending bits"),
     "fq_replay": ("replay", "the replay of a trace"),
+    "fq_machine_usual": ("machine", "the receiving machine in time"),
 }
 BANNER = re.compile(r"/\* ---- (.*?)\*/", re.S)
 # The comment of the first declaration that is of a group.

@@ -92,9 +92,19 @@ class Replayed(ctypes.Structure):
     _fields_ = [("length", size), ("fault", u32), ("row", u32)]
 
 
+class MachineSettings(ctypes.Structure):
+    _fields_ = [("size", size)] + [(name, u32) for name in (
+        "processors", "queues", "ring", "socket", "backlog", "budget", "weight", "window", "time_limit", "rx_nsecs", "rx_frames",
+        "defer_hard_irqs", "gro_flush_timeout", "threaded", "apart", "app_wake", "interrupt", "poll", "packet", "use_time", "wake")]
+
+
+class MachineRan(ctypes.Structure):
+    _fields_ = [("size", size), ("length", size), ("row", u64), ("fault", u32), ("setting", u32), ("message", ctypes.c_char * 64)]
+
+
 # The structs whose size the library returns, by their numbers in `enum fq_struct`; then all structs.
 NUMBERS = {Handle: 0, Dql: 1, DqlMade: 2, Napi: 3, Packet: 4, Counts: 5, RingShown: 7, TxShown: 8, Answers: 9, RunReport: 10}
-STRUCTS = {*NUMBERS, Settings, Replayed}
+STRUCTS = {*NUMBERS, Settings, Replayed, MachineSettings, MachineRan}
 
 try:
     # A short call keeps the interpreter's lock, and a long one releases it.
@@ -196,6 +206,9 @@ run_polled = declare("run_polled", list=Handle, work=u32, next=u32)
 run_end = declare("run_end", list=Handle, report=RunReport)
 replay = declare("replay", u32, _long, settings=Settings, trace=ctypes.c_char_p, len=size, report=ctypes.c_char_p, room=size,
                  replayed=Replayed)
+machine_usual = declare("machine_usual", settings=MachineSettings, size=size)
+machine = declare("machine", u32, _long, settings=MachineSettings, arrivals=ctypes.c_char_p, len=size, report=ctypes.c_char_p, room=size,
+                  ran=MachineRan)
 
 
 def message(status: int) -> str:
@@ -239,6 +252,14 @@ def differences() -> Iterator[str]:
     said = replay(Settings(300, 64, 1024), b"?", 1, b"", 0, replayed)
     if (said, replayed.length, replayed.fault, replayed.row) != (Status.BAD_TRACE, 0, 1, 0):
         yield "fq_replayed"
+    asked, ran = MachineSettings(), MachineRan(ctypes.sizeof(MachineRan))
+    machine_usual(asked, ctypes.sizeof(asked))
+    asked.wake = 10**9 + 1
+    if (asked.weight, machine(asked, b"?", 1, b"", 0, ran), ran.setting) != (64, Status.BAD_SETTING, 21):
+        yield "fq_machine_settings"
+    asked.wake = 0
+    if (machine(asked, b"?", 1, b"", 0, ran), ran.fault, ran.row, ran.message[:15]) != (Status.BAD_ARRIVALS, 1, 0, b"arrivals fault "):
+        yield "fq_machine_ran"
 
 
 if wrong := list(differences()):

@@ -12,6 +12,7 @@
 //! - [`TxRing`]: a transmit ring under a byte queue limit.
 //! - [`List`]: a poll list, and runs over it.
 //! - [`replay`]: the whole replay of a trace, on one thread.
+//! - [`machine`](fn@machine): the receiving machine, from arrivals to latencies.
 //!
 //! Every value may be sent to another thread, and none but a [`Word`] may be used by two at a time
 //! (`Send`, not `Sync`): the library wants one call at a time on an object.
@@ -53,6 +54,7 @@ mod dql;
 mod fault;
 mod handle;
 mod list;
+mod machine;
 mod packets;
 mod polling;
 mod replay;
@@ -72,6 +74,7 @@ pub use control::{Control, Marked, Mode, Off, On};
 pub use dql::Dql;
 pub use fault::Fault;
 pub use list::{List, Polled, Pushes, RunReport};
+pub use machine::{machine, MachineFault, MachineSettings};
 pub use packets::{Answers, Batch, Counts, Packet, RingShown, Totals, Weight};
 pub use polling::Polling;
 pub use replay::{replay, NoReport, Settings};

@@ -55,6 +55,9 @@ statuses! {
     FQ_BAD_NEXT = 118,
     FQ_BAD_WORK = 119,
     FQ_BAD_TRACE = 120,
+    FQ_BAD_SIZE = 122,
+    FQ_BAD_SETTING = 123,
+    FQ_BAD_ARRIVALS = 124,
 }
 
 /// Room for each text of the library, with the 0 after it.
@@ -318,6 +321,74 @@ pub struct fq_replayed {
     pub row: u32,
 }
 
+/// The settings of the machine. Times are in nanoseconds; a flag is 0 or 1.
+#[repr(C)]
+#[derive(Clone, Copy, Debug, PartialEq, Eq)]
+pub struct fq_machine_settings {
+    /// The size of this struct.
+    pub size: usize,
+    /// Processors, 1 to 64.
+    pub processors: u32,
+    /// Queues of a device, 1 to 64.
+    pub queues: u32,
+    /// Packets that a ring holds, 1 to 65536.
+    pub ring: u32,
+    /// Packets that a processor's socket holds, 1 to 65536.
+    pub socket: u32,
+    /// Flag: the backlog of a processor.
+    pub backlog: u32,
+    /// Packets that a run polls, 0 to 65535; 0: an interrupt for each packet.
+    pub budget: u32,
+    /// Packets that one poll takes at most, 1 to 64.
+    pub weight: u32,
+    /// Polls that a run makes, 1 to 65535.
+    pub window: u32,
+    /// The time after which a run ends, from 1.
+    pub time_limit: u32,
+    /// The time from a packet to its interrupt.
+    pub rx_nsecs: u32,
+    /// Packets at which the interrupt comes earlier, 0 to 65535.
+    pub rx_frames: u32,
+    /// Polls without packets before interrupts are enabled again, 0 to 65535.
+    pub defer_hard_irqs: u32,
+    /// The time between such polls.
+    pub gro_flush_timeout: u32,
+    /// Flag: threads poll.
+    pub threaded: u32,
+    /// Flag: the application has a processor of its own.
+    pub apart: u32,
+    /// What waking the application there takes.
+    pub app_wake: u32,
+    /// What an interrupt takes.
+    pub interrupt: u32,
+    /// What a poll takes without its packets.
+    pub poll: u32,
+    /// What a packet takes in a poll.
+    pub packet: u32,
+    /// What the application takes for a packet.
+    pub use_time: u32,
+    /// What waking an idle processor takes.
+    pub wake: u32,
+}
+
+/// The result of a run of the machine besides its status.
+#[repr(C)]
+#[derive(Clone, Copy, Debug, PartialEq, Eq)]
+pub struct fq_machine_ran {
+    /// The size of this struct.
+    pub size: usize,
+    /// The length of the report in bytes, even if there is no room for it; 0 if there is none.
+    pub length: usize,
+    /// The row that the fault of the arrivals names; 0 if it names none.
+    pub row: u64,
+    /// The number of that fault; 0 if they have none.
+    pub fault: u32,
+    /// The setting that is out of its range, from 1; 0 if none is.
+    pub setting: u32,
+    /// The message of that fault, with a 0 after it.
+    pub message: [c_char; 64],
+}
+
 #[allow(missing_docs)] // include/fintaqush.h is the reference
 extern "C" {
     pub fn fq_version(to: *mut c_char, room: usize) -> usize;
@@ -437,6 +508,16 @@ extern "C" {
         report: *mut u8,
         room: usize,
         replayed: *mut fq_replayed,
+    ) -> u32;
+
+    pub fn fq_machine_usual(settings: *mut fq_machine_settings, size: usize) -> u32;
+    pub fn fq_machine(
+        settings: *const fq_machine_settings,
+        arrivals: *const u8,
+        len: usize,
+        report: *mut u8,
+        room: usize,
+        ran: *mut fq_machine_ran,
     ) -> u32;
 }
 

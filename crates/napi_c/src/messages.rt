@@ -16,7 +16,7 @@ fn message_of(status: u32) -> &'static [u8] {
     match status {
         1..=4 => limit_fault(status),
         16..=29 => found(status),
-        100..=120 => refused(status),
+        100..=124 => refused(status),
         0 => b"done",
         _ => b"?",
     }
@@ -65,6 +65,9 @@ fn refused(status: u32) -> &'static [u8] {
         118 => b"how a poll ended is 0 to 4 (enum fq_next)",
         119 => b"a poll told of more packets than the weight",
         120 => b"the bytes are no trace, or a row of it can't be played",
+        122 => b"the size of a struct isn't one that this library knows",
+        123 => b"a setting of the machine is out of its range",
+        124 => b"the bytes are no arrivals",
         _ => b"?",
     }
 }
