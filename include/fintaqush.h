@@ -84,6 +84,7 @@ enum fq_status FQ_NUMBER {
     FQ_DONE = 27,      /* run: no device is left to poll */
     FQ_STOPPED = 28,   /* send: the limit has stopped the queue */
     FQ_MORE_THAN_SENT = 29, /* done: more packets than the transmit ring holds */
+    FQ_NOT_DUE = 30,        /* driver: this isn't due, and nothing has changed */
 
     FQ_NOT_ALLOWED = 100,   /* the object's state doesn't allow this call */
     FQ_BAD_KIND = 101,      /* not a number of enum fq_kind */
@@ -98,6 +99,7 @@ enum fq_status FQ_NUMBER {
     FQ_BAD_NEXT = 118,      /* not a number of enum fq_next */
     FQ_BAD_WORK = 119,      /* run: more packets than the weight */
     FQ_BAD_TRACE = 120,     /* replay: the bytes aren't a trace, or a row of it can't be processed */
+    FQ_BAD_DEVICE = 121,    /* driver: not a number of one of its devices */
     FQ_BAD_SIZE = 122,      /* the size of a struct isn't one that this library knows */
     FQ_BAD_SETTING = 123,   /* machine: a setting is out of its range */
     FQ_BAD_ARRIVALS = 124   /* machine: the bytes aren't arrivals */
@@ -116,7 +118,8 @@ FQ_NONNULL size_t fq_fault_text(uint32_t fault, char *to, size_t room);
  * of one in bytes, so that bindings can check theirs; 0 for an unknown number. */
 enum fq_struct FQ_NUMBER {
     FQ_STRUCT_HANDLE = 0, FQ_STRUCT_DQL = 1, FQ_STRUCT_DQL_MADE = 2, FQ_STRUCT_NAPI = 3, FQ_STRUCT_PACKET = 4, FQ_STRUCT_COUNTS = 5,
-    FQ_STRUCT_TOTALS = 6, FQ_STRUCT_RING_SHOWN = 7, FQ_STRUCT_TX_SHOWN = 8, FQ_STRUCT_ANSWERS = 9, FQ_STRUCT_RUN_REPORT = 10
+    FQ_STRUCT_TOTALS = 6, FQ_STRUCT_RING_SHOWN = 7, FQ_STRUCT_TX_SHOWN = 8, FQ_STRUCT_ANSWERS = 9, FQ_STRUCT_RUN_REPORT = 10,
+    FQ_STRUCT_TODO = 11, FQ_STRUCT_DEVICE_SHOWN = 12
 };
 size_t fq_struct_size(uint32_t which);
 
@@ -142,6 +145,7 @@ static inline const char *fq_status_name(uint32_t status) {
     case FQ_DONE: return "FQ_DONE";
     case FQ_STOPPED: return "FQ_STOPPED";
     case FQ_MORE_THAN_SENT: return "FQ_MORE_THAN_SENT";
+    case FQ_NOT_DUE: return "FQ_NOT_DUE";
     case FQ_NOT_ALLOWED: return "FQ_NOT_ALLOWED";
     case FQ_BAD_KIND: return "FQ_BAD_KIND";
     case FQ_BAD_HANDLE: return "FQ_BAD_HANDLE";
@@ -155,6 +159,7 @@ static inline const char *fq_status_name(uint32_t status) {
     case FQ_BAD_NEXT: return "FQ_BAD_NEXT";
     case FQ_BAD_WORK: return "FQ_BAD_WORK";
     case FQ_BAD_TRACE: return "FQ_BAD_TRACE";
+    case FQ_BAD_DEVICE: return "FQ_BAD_DEVICE";
     case FQ_BAD_SIZE: return "FQ_BAD_SIZE";
     case FQ_BAD_SETTING: return "FQ_BAD_SETTING";
     case FQ_BAD_ARRIVALS: return "FQ_BAD_ARRIVALS";
@@ -630,6 +635,97 @@ FQ_CHECKED enum fq_status fq_run_polled(struct fq_handle *list, uint32_t work, u
 /* Ends the run, and sets *report. The numbers that weren't polled, and those to be polled again, are on the list. Returns FQ_OK;
  * FQ_NOT_ALLOWED. */
 FQ_CHECKED enum fq_status fq_run_end(struct fq_handle *FQ_RESTRICT list, struct fq_run_report *FQ_RESTRICT report);
+
+/* ---- A driver of up to 64 devices on one thread: their instances, the poll list and the runs over it. It does no input or output and
+ * calls nothing back: fq_driver_next says what has to be done at a card, and fq_driver_done reports that it was done:
+ *
+ *     struct fq_todo todo = FQ_TODO_INIT;
+ *     for (fq_driver_next(&driver, &todo); todo.what != FQ_TODO_SLEEP; fq_driver_done(&driver, &todo)) {
+ *         switch (todo.what) {
+ *         case FQ_TODO_MASK: mask(todo.device); break;
+ *         case FQ_TODO_UNMASK: unmask(todo.device); break;
+ *         case FQ_TODO_LOOK: todo.packets = has_packets(todo.device); break;
+ *         case FQ_TODO_FETCH: todo.packets = fetch(todo.device, todo.most); break;
+ *         }
+ *     }
+ *     (now wait for the next interrupt, report it by fq_driver_interrupt, and begin again)
+ *
+ * Any order of calls is safe: what isn't due returns FQ_NOT_DUE and changes nothing. It says to sleep only if each device is closed, or
+ * its card was unmasked, was looked at after that and had no packets, and nothing is on the poll list. So no packet waits unseen if the
+ * card interrupts for each packet that arrives while it is unmasked, even if it forgets those that arrive while it is masked (edges).
+ * Packets stay with the caller: they are in the card until a fetch takes them.
+ *
+ * Only one thread uses a driver at a time. If interrupts come on another thread, raise a bit in a struct fq_word there, and report each
+ * bit that the driver's thread takes from it. */
+
+/* What has to be done. After FQ_TODO_SLEEP and FQ_TODO_ENDED there is nothing to report, and fq_driver_done does what fq_driver_next
+ * does. */
+enum fq_what FQ_NUMBER {
+    FQ_TODO_SLEEP = 0,  /* nothing, until the next interrupt, open or stop */
+    FQ_TODO_MASK = 1,   /* mask the interrupt of the device's card */
+    FQ_TODO_UNMASK = 2, /* unmask it */
+    FQ_TODO_LOOK = 3,   /* look whether the card has packets, and set `packets` to how many, or to 1 if it has any, or to 0 */
+    FQ_TODO_FETCH = 4,  /* take packets from the card, at most `most` of them, deliver them, and set `packets` to how many */
+    FQ_TODO_ENDED = 5   /* a run ended, with the report `run` (net_rx_action): do other work first if there is some */
+};
+
+struct fq_todo {
+    size_t size;              /* sizeof(struct fq_todo): set by the caller, once (FQ_TODO_INIT), since the struct may grow */
+    uint64_t number;          /* which thing this is; a report counts only if it names the last thing that is still to be done. 0: none */
+    uint32_t what;            /* enum fq_what */
+    uint32_t device;          /* 0 for FQ_TODO_SLEEP and FQ_TODO_ENDED */
+    uint32_t most;            /* the packets that a fetch may take, the driver's weight; 0 for anything else */
+    uint32_t packets;         /* 0 at first; the caller sets it after a look and a fetch */
+    struct fq_run_report run; /* of the run that ended; all 0 for anything else */
+};
+
+#define FQ_TODO_INIT {sizeof(struct fq_todo), 0, FQ_TODO_SLEEP, 0, 0, 0, {0, 0, false}}
+
+/* Makes a driver of 1 to 64 devices, all closed, their cards masked. Budget, weight and window are those of fq_run_begin. fq_free frees
+ * it if all its devices are closed. Returns FQ_OK; FQ_IN_USE; FQ_BAD_COUNT; FQ_BAD_WEIGHT; FQ_BAD_BUDGET; FQ_OUT_OF_MEMORY. */
+FQ_CHECKED enum fq_status fq_driver_new(struct fq_handle *driver, uint32_t devices, uint32_t budget, uint32_t weight, uint32_t window);
+
+/* Opens a closed device (napi_enable): its card will be unmasked and looked at, so that packets which came before are polled too.
+ * Returns FQ_OK; FQ_NOT_DUE if it isn't closed; FQ_BAD_DEVICE; FQ_BAD_HANDLE. */
+FQ_CHECKED enum fq_status fq_driver_open(struct fq_handle *driver, uint32_t device);
+
+/* Stops an open device (napi_disable). Polls that were requested are still made, its card is masked, and then it is closed, which
+ * fq_driver_show shows. Packets that stay in the card are polled after the next open. Returns FQ_OK; FQ_NOT_DUE if it is closed or
+ * being stopped; FQ_BAD_DEVICE; FQ_BAD_HANDLE. */
+FQ_CHECKED enum fq_status fq_driver_stop(struct fq_handle *driver, uint32_t device);
+
+/* Reports an interrupt of a card (napi_schedule), at any time, also between fq_driver_next and fq_driver_done. Returns FQ_GRANTED: a
+ * poll was requested, and fq_driver_next says what to do, first to mask the card; FQ_MISSED: a poll is requested already, and one more
+ * follows, or the device is closed; FQ_DISABLED: it is being stopped; FQ_BAD_DEVICE; FQ_BAD_HANDLE. It may be called too often: an
+ * interrupt without packets costs one empty poll. */
+FQ_CHECKED enum fq_status fq_driver_interrupt(struct fq_handle *driver, uint32_t device);
+
+/* Sets *todo to what has to be done now. It says the same, with the same number, until that is reported or is no longer due. Returns
+ * FQ_OK; FQ_BAD_SIZE if todo->size is too small, and *todo is unchanged; FQ_BAD_HANDLE, and *todo says to sleep. The status may be
+ * ignored if `size` and handle are right. */
+FQ_NONNULL enum fq_status fq_driver_next(struct fq_handle *FQ_RESTRICT driver, struct fq_todo *FQ_RESTRICT todo);
+
+/* Reports that what *todo says was done, with todo->packets, and then sets *todo like fq_driver_next. Only todo->number and
+ * todo->packets are read. Returns FQ_OK; FQ_NOT_DUE: the driver asks for something else by now, because of an interrupt, an open, a stop
+ * or an earlier report, so nothing was reported, but *todo is set to what has to be done now, and the status may be ignored; FQ_BAD_WORK
+ * if a fetch took more than `most`: nothing was reported, and *todo says the same again; FQ_BAD_SIZE and FQ_BAD_HANDLE like
+ * fq_driver_next. */
+FQ_NONNULL enum fq_status fq_driver_done(struct fq_handle *FQ_RESTRICT driver, struct fq_todo *FQ_RESTRICT todo);
+
+enum fq_device_state FQ_NUMBER { FQ_DEVICE_CLOSED = 0, FQ_DEVICE_OPEN = 1, FQ_DEVICE_STOPPING = 2 };
+
+struct fq_device_shown {
+    size_t size;      /* sizeof(struct fq_device_shown): set by the caller */
+    uint32_t state;   /* enum fq_device_state */
+    bool scheduled;   /* a poll is requested, and isn't completed (NAPI_STATE_SCHED); set for a closed device too, as in the kernel */
+    bool missed;      /* an interrupt came meanwhile (NAPI_STATE_MISSED) */
+    uint64_t polls;   /* fetches that were reported; saturates */
+    uint64_t packets; /* the packets of these; saturates */
+};
+
+/* Sets *shown to the state of a device and the counts of its polls. Returns FQ_OK; FQ_BAD_SIZE if shown->size is too small;
+ * FQ_BAD_DEVICE; FQ_BAD_HANDLE. *shown is unchanged unless it returns FQ_OK. */
+FQ_CHECKED enum fq_status fq_driver_show(struct fq_handle *FQ_RESTRICT driver, uint32_t device, struct fq_device_shown *FQ_RESTRICT shown);
 
 /* ---- A word of pending bits. Only its poller uses a list: another thread raises the bit of a device in such a word, and wakes the
  * poller, which takes all bits and pushes their numbers. All operations are sequentially consistent. */

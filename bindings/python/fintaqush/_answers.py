@@ -25,6 +25,7 @@ class Status(enum.IntEnum):
     DONE = 27
     STOPPED = 28
     MORE_THAN_SENT = 29
+    NOT_DUE = 30
     NOT_ALLOWED = 100
     BAD_KIND = 101
     BAD_HANDLE = 110
@@ -38,6 +39,7 @@ class Status(enum.IntEnum):
     BAD_NEXT = 118
     BAD_WORK = 119
     BAD_TRACE = 120
+    BAD_DEVICE = 121
     BAD_SIZE = 122
     BAD_SETTING = 123
     BAD_ARRIVALS = 124
@@ -56,6 +58,23 @@ class Next(enum.IntEnum):
     AGAIN_THREAD = 2
     REPOLL = 3
     ABSENT = 4
+
+
+class What(enum.IntEnum):
+    """What a driver has to do (`enum fq_what`)."""
+    SLEEP = 0
+    MASK = 1
+    UNMASK = 2
+    LOOK = 3
+    FETCH = 4
+    ENDED = 5
+
+
+class DeviceState(enum.IntEnum):
+    """Whether a device of a driver is open (`enum fq_device_state`)."""
+    CLOSED = 0
+    OPEN = 1
+    STOPPING = 2
 
 
 class Word(enum.IntFlag):

@@ -11,6 +11,7 @@
 //! - [`Word`]: pending bits, which other threads raise for a list's poller.
 //! - [`TxRing`]: a transmit ring under a byte queue limit.
 //! - [`List`]: a poll list, and runs over it.
+//! - [`Driver`]: the driver of up to 64 devices on one thread, which says what has to be done at a card.
 //! - [`replay`]: the whole replay of a trace, on one thread.
 //! - [`machine`](fn@machine): the receiving machine, from arrivals to latencies.
 //!
@@ -51,6 +52,7 @@ mod caller;
 mod card;
 mod control;
 mod dql;
+mod driver;
 mod fault;
 mod handle;
 mod list;
@@ -72,6 +74,7 @@ pub use caller::{Caller, Granted};
 pub use card::{Card, Look, Poll};
 pub use control::{Control, Marked, Mode, Off, On};
 pub use dql::Dql;
+pub use driver::{Cards, DeviceShown, DeviceState, Driver, Todo, What};
 pub use fault::Fault;
 pub use list::{List, Polled, Pushes, RunReport};
 pub use machine::{machine, MachineFault, MachineSettings};
