@@ -640,13 +640,14 @@ FQ_CHECKED enum fq_status fq_run_end(struct fq_handle *FQ_RESTRICT list, struct 
  * calls nothing back: fq_driver_next says what has to be done at a card, and fq_driver_done reports that it was done:
  *
  *     struct fq_todo todo = FQ_TODO_INIT;
- *     for (fq_driver_next(&driver, &todo); todo.what != FQ_TODO_SLEEP; fq_driver_done(&driver, &todo)) {
+ *     while (fq_driver_next(&driver, &todo), todo.what != FQ_TODO_SLEEP) {
  *         switch (todo.what) {
  *         case FQ_TODO_MASK: mask(todo.device); break;
  *         case FQ_TODO_UNMASK: unmask(todo.device); break;
  *         case FQ_TODO_LOOK: todo.packets = has_packets(todo.device); break;
  *         case FQ_TODO_FETCH: todo.packets = fetch(todo.device, todo.most); break;
  *         }
+ *         fq_driver_done(&driver, &todo);
  *     }
  *     (now wait for the next interrupt, report it by fq_driver_interrupt, and begin again)
  *
@@ -658,8 +659,7 @@ FQ_CHECKED enum fq_status fq_run_end(struct fq_handle *FQ_RESTRICT list, struct 
  * Only one thread uses a driver at a time. If interrupts come on another thread, raise a bit in a struct fq_word there, and report each
  * bit that the driver's thread takes from it. */
 
-/* What has to be done. After FQ_TODO_SLEEP and FQ_TODO_ENDED there is nothing to report, and fq_driver_done does what fq_driver_next
- * does. */
+/* What has to be done. After FQ_TODO_SLEEP and FQ_TODO_ENDED there is nothing to report, and fq_driver_done does nothing. */
 enum fq_what FQ_NUMBER {
     FQ_TODO_SLEEP = 0,  /* nothing, until the next interrupt, open or stop */
     FQ_TODO_MASK = 1,   /* mask the interrupt of the device's card */
@@ -671,7 +671,7 @@ enum fq_what FQ_NUMBER {
 
 struct fq_todo {
     size_t size;              /* sizeof(struct fq_todo): set by the caller, once (FQ_TODO_INIT), since the struct may grow */
-    uint64_t number;          /* which thing this is; a report counts only if it names the last thing that is still to be done. 0: none */
+    uint64_t number;          /* by which it is reported: each thing that is said has another one; 0 if there is nothing to report */
     uint32_t what;            /* enum fq_what */
     uint32_t device;          /* 0 for FQ_TODO_SLEEP and FQ_TODO_ENDED */
     uint32_t most;            /* the packets that a fetch may take, the driver's weight; 0 for anything else */
@@ -705,13 +705,14 @@ FQ_CHECKED enum fq_status fq_driver_interrupt(struct fq_handle *driver, uint32_t
  * ignored if `size` and handle are right. */
 FQ_NONNULL enum fq_status fq_driver_next(struct fq_handle *FQ_RESTRICT driver, struct fq_todo *FQ_RESTRICT todo);
 
-/* Reports that what *todo says was done, with todo->packets, and then sets *todo like fq_driver_next. Only todo->number and
- * todo->packets are read. Returns FQ_OK; FQ_NOT_DUE: the driver asks for something else by now, because of an interrupt, an open, a stop
- * or an earlier report, so nothing was reported, but *todo is set to what has to be done now, and the status may be ignored; FQ_BAD_WORK
- * if a fetch took more than `most`: nothing was reported, and *todo says the same again; FQ_BAD_SIZE and FQ_BAD_HANDLE like
- * fq_driver_next. */
-FQ_NONNULL enum fq_status fq_driver_done(struct fq_handle *FQ_RESTRICT driver, struct fq_todo *FQ_RESTRICT todo);
+/* Reports that what *todo says was done, with todo->packets; only todo->number and todo->packets are read. Do it before the next call of
+ * fq_driver_next, or not at all: what isn't reported is said again. Returns FQ_OK; FQ_NOT_DUE: the driver doesn't wait for this report
+ * any more, because of an interrupt, an open, a stop or an earlier report, and fq_driver_next says what is due instead, so the status may
+ * be ignored; FQ_BAD_WORK if a fetch took more than `most`; FQ_BAD_SIZE if todo->size is too small; FQ_BAD_HANDLE. Nothing changes unless
+ * it returns FQ_OK. */
+FQ_NONNULL enum fq_status fq_driver_done(struct fq_handle *FQ_RESTRICT driver, const struct fq_todo *FQ_RESTRICT todo);
 
+/* The states of a device. */
 enum fq_device_state FQ_NUMBER { FQ_DEVICE_CLOSED = 0, FQ_DEVICE_OPEN = 1, FQ_DEVICE_STOPPING = 2 };
 
 struct fq_device_shown {

@@ -768,22 +768,21 @@ public:
     // Reports an interrupt of a card: FQ_GRANTED, FQ_MISSED, FQ_DISABLED or FQ_BAD_DEVICE.
     Status interrupt(std::uint32_t device) { return Status(fq_driver_interrupt(at_.raw(), device)); }
 
-    // Returns what has to be done now. It stays the same until it is reported or is no longer due.
+    // Returns what has to be done now. What isn't reported is said again.
     [[nodiscard]] Todo next() {
         Todo todo FQ_TODO_INIT;
         fq_driver_next(at_.raw(), &todo);
         return todo;
     }
-    // Reports that it was done, after a look and a fetch with todo.packets, and sets todo to what has to be done then. Returns FQ_OK;
-    // FQ_NOT_DUE if it wasn't due any more; FQ_BAD_WORK if a fetch took more than todo.most.
-    Status done(Todo &todo) { return Status(fq_driver_done(at_.raw(), &todo)); }
+    // Reports that it was done, after a look and a fetch with todo.packets. Returns FQ_OK; FQ_NOT_DUE if it wasn't due any more;
+    // FQ_BAD_WORK if a fetch took more than todo.most.
+    Status done(const Todo &todo) { return Status(fq_driver_done(at_.raw(), &todo)); }
 
     // Does one thing at a card: calls mask(device), unmask(device), look(device), which returns whether it has packets, or
     // fetch(device, most), which takes and delivers packets and returns how many. Returns what was done, or that there is nothing to do,
     // or that a run ended. If a call throws, nothing is reported, and the same is due again.
     template <class Cards>
     Todo step(Cards &cards) {
-        if (after_.what == FQ_TODO_ENDED) return std::exchange(after_, Todo FQ_TODO_INIT);
         Todo todo = next();
         switch (todo.what) {
         case FQ_TODO_MASK: cards.mask(todo.device); break;
@@ -792,8 +791,7 @@ public:
         case FQ_TODO_FETCH: todo.packets = cards.fetch(todo.device, todo.most); break;
         default: return todo;
         }
-        after_ = todo;
-        done(after_);
+        done(todo);
         return todo;
     }
 
@@ -808,7 +806,6 @@ public:
 private:
     explicit Driver(Handle &&at) noexcept : at_(std::move(at)) {}
     Handle at_;
-    Todo after_ FQ_TODO_INIT; // of the last step, for the end of a run, which is said once
 };
 
 // Why a replay returned no report: its status, and for FQ_BAD_TRACE the number of the trace's fault (fq_fault_name) and its row.

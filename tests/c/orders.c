@@ -61,8 +61,8 @@ static struct fq_todo act(void) {
     return todo;
 }
 
-static void report(struct fq_todo todo) {
-    const enum fq_status said = fq_driver_done(&driver, &todo);
+static void report(const struct fq_todo *todo) {
+    const enum fq_status said = fq_driver_done(&driver, todo);
     must(said == FQ_OK || said == FQ_NOT_DUE, "a report");
 }
 
@@ -72,7 +72,7 @@ static void stray(void) {
     struct fq_todo todo = kept;
     todo.number = number, todo.packets = any(70);
     const enum fq_status said = fq_driver_done(&driver, &todo);
-    must(said == FQ_NOT_DUE || (said == FQ_OK && number == 0), "a stray report");
+    must(said == FQ_NOT_DUE || (number == 0 && said == FQ_OK), "a stray report");
     must(fq_driver_interrupt(&driver, DEVICES + any(9)) == FQ_BAD_DEVICE, "no device");
     todo.size = any(8);
     must(fq_driver_next(&driver, &todo) == FQ_BAD_SIZE, "a bad size");
@@ -88,9 +88,9 @@ static void step(void) {
     case 3: if (any(6) == 0) must(fq_driver_stop(&driver, device) < FQ_NOT_ALLOWED, "a stop"); break;
     case 4: must(fq_driver_open(&driver, device) < FQ_NOT_ALLOWED, "an open"); break;
     case 5: kept = act(); break;
-    case 6: report(kept); break;
+    case 6: report(&kept); break;
     case 7: if (any(4) == 0) stray(); break;
-    default: kept = act(), report(kept);
+    default: kept = act(), report(&kept);
     }
     if (card->late && any(4) == 0) card->masked = true, card->late = false;
 }
@@ -102,7 +102,7 @@ static bool hangs(void) {
         must(turns < SETTLED, "it never sleeps");
         for (struct fq_todo todo = act(); todo.what != FQ_TODO_SLEEP; todo = act()) {
             must(turns++ < SETTLED, "it never sleeps");
-            report(todo);
+            report(&todo);
         }
         raised = false;
         for (uint32_t i = 0; i < DEVICES; i++) {

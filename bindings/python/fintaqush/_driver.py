@@ -58,7 +58,6 @@ class Driver(_Owned):
 
     def __init__(self, devices: int, budget: int = 300, weight: int = 64, window: int = 1024) -> None:
         super().__init__(c.driver_new, devices, budget, weight, window)
-        self._after = Todo()  # of the last step, for the end of a run, which is said once
 
     def open(self, device: int) -> bool:
         """Opens a closed device (`napi_enable`); returns False if it isn't closed. BAD_DEVICE."""
@@ -74,23 +73,20 @@ class Driver(_Owned):
         return Status(c.driver_interrupt(self._at, device))
 
     def next(self) -> Todo:
-        """Returns what has to be done now. It stays the same until it is reported or is no longer due."""
+        """Returns what has to be done now. What isn't reported is said again."""
         todo = Todo()
         c.driver_next(self._at, todo._raw)
         return todo
 
     def done(self, todo: Todo, packets: int = 0) -> bool:
-        """Reports that it was done, with the packets of a look or a fetch, and sets `todo` to what has to be done then. Returns False if
-        something else is due by now. BAD_WORK if a fetch took more than `most`; then the same is due again."""
+        """Reports that it was done, with the packets of a look or a fetch. Returns False if the driver doesn't wait for this report any
+        more. BAD_WORK if a fetch took more than `most`."""
         todo._raw.packets = c.number(packets, "packets")
         return bool(c.driver_done(self._at, todo._raw) == Status.OK)
 
     def step(self, cards: Cards) -> What:
         """Does one thing at a card, reports it, and returns what was done; SLEEP if nothing has to be, ENDED if a run ended. If a call
         raises, nothing is reported, and the same is due again."""
-        if self._after.what is What.ENDED:
-            self._after = Todo()
-            return What.ENDED
         todo, packets = self.next(), 0
         what = todo.what
         if what is What.MASK:
@@ -103,7 +99,6 @@ class Driver(_Owned):
             packets = cards.fetch(todo.device, todo.most)
         else:
             return what
-        self._after = todo
         self.done(todo, packets)
         return what
 

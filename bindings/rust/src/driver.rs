@@ -136,8 +136,6 @@ pub struct DeviceShown {
 #[derive(Debug)]
 pub struct Driver {
     at: Handle,
-    // the end of a run that the last step led to, which is said once
-    ended: Option<What>,
 }
 
 impl Driver {
@@ -150,7 +148,7 @@ impl Driver {
         // SAFETY: only this call has the handle.
         let said = unsafe { sys::fq_driver_new(at.raw(), devices, budget, weight, window) };
         Fault::unless_made(said)?;
-        Ok(Driver { at, ended: None })
+        Ok(Driver { at })
     }
 
     /// Opens a closed device (`napi_enable`). Fails with [`NOT_DUE`](Fault::NOT_DUE) if it isn't closed, with
@@ -177,7 +175,7 @@ impl Driver {
         }
     }
 
-    /// Returns what has to be done now. It stays the same until it is reported or is no longer due.
+    /// Returns what has to be done now. What isn't reported is said again.
     pub fn next(&mut self) -> Todo {
         let mut todo = Todo::NONE;
         // SAFETY: only this driver has the handle, and what is to be done is elsewhere.
@@ -187,23 +185,20 @@ impl Driver {
         }
     }
 
-    /// Reports that it was done, with the packets of a look or a fetch, and sets `todo` to what has to be done then. Nothing is
-    /// reported if it fails: with [`NOT_DUE`](Fault::NOT_DUE) if something else is due by now, because of an interrupt, an open, a
-    /// stop or an earlier report; with [`BAD_WORK`](Fault::BAD_WORK) if a fetch took too many packets.
-    pub fn done(&mut self, todo: &mut Todo, packets: u32) -> Result<(), Fault> {
-        todo.raw.packets = packets;
-        // SAFETY: only this driver has the handle, and what is to be done is elsewhere.
-        Fault::unless_made(unsafe { sys::fq_driver_done(self.at.raw(), &mut todo.raw) })
+    /// Reports that it was done, with the packets of a look or a fetch. Nothing is reported if it fails: with
+    /// [`NOT_DUE`](Fault::NOT_DUE) if the driver doesn't wait for this report any more, because of an interrupt, an open, a stop or
+    /// an earlier report; with [`BAD_WORK`](Fault::BAD_WORK) if a fetch took too many packets.
+    pub fn done(&mut self, todo: Todo, packets: u32) -> Result<(), Fault> {
+        let raw = sys::fq_todo { packets, ..todo.raw };
+        // SAFETY: only this driver has the handle, and what was done is elsewhere.
+        Fault::unless_made(unsafe { sys::fq_driver_done(self.at.raw(), &raw) })
     }
 
     /// Does one thing at a card, reports it, and returns what was done; [`What::Sleep`] if nothing has to be, [`What::Ended`] if a run
     /// ended. If a call of the card panics, nothing is reported, and the same is due again; so it is if a fetch returns too many
     /// packets.
     pub fn step<C: Cards>(&mut self, cards: &mut C) -> What {
-        if let Some(ended) = self.ended.take() {
-            return ended;
-        }
-        let mut todo = self.next();
+        let todo = self.next();
         let what = todo.what();
         let packets = match what {
             What::Sleep | What::Ended(_) => return what,
@@ -218,8 +213,7 @@ impl Driver {
             What::Look(device) => u32::from(cards.look(device)),
             What::Fetch { device, most } => cards.fetch(device, most),
         };
-        let _ = self.done(&mut todo, packets);
-        self.ended = Some(todo.what()).filter(|after| matches!(after, What::Ended(_)));
+        let _ = self.done(todo, packets);
         what
     }
 

@@ -67,11 +67,7 @@ fn asked_by(asked: &FqMachineSettings) -> Result<Settings, u32>
 }
 
 // Returns the report of arrivals.
-fn report_of(
-    alloc: Global,
-    settings: &Settings,
-    arrivals: &[u8],
-) -> Result<Vec<u8>, MachineFault>
+fn report_of(alloc: Global, settings: &Settings, arrivals: &[u8]) -> Result<Vec<u8>, MachineFault>
     ensures report { IfOk result (λ text. IsReportOf settings.now arrivals.now text.items) }
     ensures fault { IfErr result
         (λ fault. IsOutside fault ⊎ IsFaultOf settings.now arrivals.now fault) }
