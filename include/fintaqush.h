@@ -17,9 +17,9 @@
  * No call blocks, sleeps, locks or starts a thread. fq_seat_interrupt, fq_seat_interrupt_masked, fq_seat_request, fq_seat_end,
  * fq_seat_end_watched, fq_seat_end_unmasked, fq_control_step and fq_control_open try again as long as an attempt returns FQ_CHANGED,
  * because another thread changed the instance: some thread always makes progress, but the number of attempts has no bound. fq_ring_new,
- * fq_ring_split, fq_tx_new, fq_list_new, fq_shared_new, fq_shared_bare, fq_replay and fq_machine allocate memory, after they have
- * checked their arguments; if an allocation fails, they free what they allocated, and nothing has changed. fq_free, fq_abandon and
- * fq_ring_finish free memory. No other call allocates or frees.
+ * fq_ring_split, fq_tx_new, fq_list_new, fq_shared_new, fq_shared_bare, fq_driver_new, fq_replay and fq_machine allocate memory, after
+ * they have checked their arguments; if an allocation fails, they free what they allocated, and nothing has changed. fq_free,
+ * fq_abandon and fq_ring_finish free memory. No other call allocates or frees.
  *
  * Memory order: what a thread wrote before it put a packet is visible to the thread whose poll returns that packet. A poll frees the
  * places of the packets that it returns, all at once: what was done before that poll is visible to the put that finds one of them free.

@@ -20,6 +20,7 @@ KNOWN = {
     "fq_tx_new": ("tx", "transmit rings under a byte queue limit"),
     "fq_shared_new": ("shared", "instances that threads share"),
     "fq_list_new": ("run", "poll lists and polling runs"),
+    "fq_driver_new": ("driver", "a driver of up to 64 devices on one thread"),
     "fq_word_raise": ("word", "a word of pending bits"),
     "fq_replay": ("replay", "the replay of a trace"),
     "fq_machine_usual": ("machine", "the receiving machine in time"),

@@ -189,7 +189,10 @@ impl Driver {
     /// [`NOT_DUE`](Fault::NOT_DUE) if the driver doesn't wait for this report any more, because of an interrupt, an open, a stop or
     /// an earlier report; with [`BAD_WORK`](Fault::BAD_WORK) if a fetch took too many packets.
     pub fn done(&mut self, todo: Todo, packets: u32) -> Result<(), Fault> {
-        let raw = sys::fq_todo { packets, ..todo.raw };
+        let raw = sys::fq_todo {
+            packets,
+            ..todo.raw
+        };
         // SAFETY: only this driver has the handle, and what was done is elsewhere.
         Fault::unless_made(unsafe { sys::fq_driver_done(self.at.raw(), &raw) })
     }
