@@ -18,12 +18,12 @@ mod sharing;
 pub mod status;
 
 pub use answers::FqAnswers;
-pub use body::{Body, Ring};
+pub use body::{Object, Ring};
 pub use handle::FqHandle;
-pub use hold::{Hold, SeatCall};
-pub use input::{FqRingShown, Input};
+pub use hold::{CallerState, SeatCall};
+pub use input::{FqRingShown, RingInput};
 pub use kind::kind_of;
-pub use lister::{FqRunReport, Lister};
-pub use power::{ControlCall, Power};
-pub use seat::{Controller, Seat, Shared};
+pub use lister::{FqRunReport, ListObject};
+pub use power::{ControlCall, ControlState};
+pub use seat::{CallerObject, Controller, Shared};
 pub use sharing::is_sent;

@@ -6,7 +6,7 @@ ghost use Rattle.napi_calls.specs.Instance.{IsNewSeat, IsSeatOf, callers_of};
 ghost use Rattle.calls_tests.specs.CallCounts.{Calls, HasCalled, HoldCalls, is_schedule, is_take};
 
 use crate::bed::enabled;
-use napi_calls::{Caller, Completed, Control, Kept, Napi, Off, On, Polling, Sched};
+use napi_calls::{Caller, Completed, Control, DropBomb, Napi, Off, On, Polling, Sched};
 use napi_model::Kind;
 use rx_ring::{Batch, Packet, RxCtx, RxIn, ring};
 use std::alloc::Global;
@@ -219,10 +219,10 @@ fn play<R: Threads + Wait + Copy + Drop + Send>(
     let (first, second, poller) = callers;
     let halves = AtomicU64::new(0);
     let done = AtomicU64::new(0);
-    let first = Kept::new(rt, first);
-    let second = Kept::new(rt, second);
-    let poller = Kept::new(rt, poller);
-    let control = Kept::new(rt, control);
+    let first = DropBomb::new(rt, first);
+    let second = DropBomb::new(rt, second);
+    let poller = DropBomb::new(rt, poller);
+    let control = DropBomb::new(rt, control);
     let (half, end) = (&halves, &done);
     let ((first, second), (poller, control)) = thread::join(
         &rt,

@@ -1,12 +1,12 @@
 //! The driver of up to 64 devices.
 
 ghost use Rattle.std.specs.Prelude.{◌≡◌, ◌≤◌, ◌<◌, false, true, length, IfOk, replicate};
-ghost use Rattle.driver_core.specs.Device.{at};
+ghost use Rattle.driver_core.specs.Device.{in_stage};
 ghost use Rattle.driver_core.specs.declared.device.Stage.TheVariants.{Closed};
 ghost use Rattle.poll_runs.specs.Steps.{HoldsNothing};
 ghost use Rattle.driver_core.specs.Queue.{HasLimits, IsQueue};
 
-use crate::device::{Device, Stage};
+use crate::device::{DriverDevice, Stage};
 use crate::limits::Limits;
 use crate::todo::{NotDue, Todo, first_chore, todo_of};
 use poll_runs::{Once, PlainList, PollList, PollingRun};
@@ -16,7 +16,7 @@ use std::alloc::{AllocError, Global};
 /// [`next`](Driver::next) says what is to be done, and the other calls report what happened.
 #[derive(Drop)]
 pub struct Driver {
-    devices: Vec<Device>,
+    devices: Vec<DriverDevice>,
     list: PlainList,
     run: PollingRun,
     runs: bool,
@@ -28,10 +28,10 @@ pub struct Driver {
 }
 
 // So many closed devices.
-fn new_devices(alloc: Global, count: usize) -> Result<Vec<Device>, AllocError>
-    ensures { IfOk result (λ devices. devices.items ≡ replicate count (at Closed false)) }
+fn new_devices(alloc: Global, count: usize) -> Result<Vec<DriverDevice>, AllocError>
+    ensures { IfOk result (λ devices. devices.items ≡ replicate count (in_stage Closed false)) }
 {
-    Ok(vec![in alloc; Device::NEW; count]?)
+    Ok(vec![in alloc; DriverDevice::NEW; count]?)
 }
 
 impl Driver {
@@ -39,8 +39,8 @@ impl Driver {
     ghost use Rattle.driver_core.specs.declared.todo.Todo.{Todo};
     ghost use Rattle.poll_runs.specs.Polls.{Poll};
     ghost use Rattle.driver_core.specs.declared.device.Stage.TheVariants.{Looking, Unmasking};
-    ghost use Rattle.driver_core.specs.Device.{interrupted, looked, masked, opened, polled, stopped, unmasked, IsGranted, IsMasking, MayStop};
-    ghost use Rattle.driver_core.specs.Driver.{device_of, devices_of, polled_in, poll_of, stage_of, is_running, limits_of, list_of, AreClosed, Ends, HandsOver, IsDue, IsEnded, IsIdle, IsRunning, Puts};
+    ghost use Rattle.driver_core.specs.Device.{after_interrupt, after_look, masked, after_open, after_driver_poll, after_stop, unmasked, IsGranted, IsMasking, MayStop};
+    ghost use Rattle.driver_core.specs.Driver.{device_of, driver_devices, polled_device, poll_of, stage_of, is_running, limits_of, list_of, AreClosed, Ends, PutsOnList, IsDue, IsDriverReport, IsIdle, IsRunning, PutsDevice};
 
     /// Creates a driver of so many devices, at most 64, all closed.
     pub fn new(alloc: Global, devices: u32, limits: Limits) -> Result<Driver, AllocError>
@@ -61,15 +61,15 @@ impl Driver {
 
     /// The number of its devices, at most 64.
     pub fn len(&self) -> usize
-        ensures len { result ≡ length (devices_of self.now) }
+        ensures len { result ≡ length (driver_devices self.now) }
         ensures few { result ≤ 64 }
     {
         self.devices.len()
     }
 
     /// A device, by its number.
-    pub fn device(&self, device: u32) -> Device
-        requires { device < length (devices_of self.now) }
+    pub fn device(&self, device: u32) -> DriverDevice
+        requires { device < length (driver_devices self.now) }
         ensures { result ≡ device_of self.now device }
     {
         self.devices[device as usize]
@@ -79,9 +79,9 @@ impl Driver {
     /// masking it, call [`masked`](Driver::masked).
     #[tactic(auto, using(crate::proofs::QueueFacts::put_same))]
     pub fn interrupt(&mut self, device: u32) -> bool
-        requires { device < length (devices_of self.old) }
+        requires { device < length (driver_devices self.old) }
         ensures mask { IsTrue result ↔ IsGranted (stage_of self.old device) }
-        ensures puts { Puts device (interrupted (device_of self.old device)) self.old
+        ensures puts { PutsDevice device (after_interrupt (device_of self.old device)) self.old
             self.new }
     {
         let before = self.devices[device as usize];
@@ -93,9 +93,9 @@ impl Driver {
     /// granted goes onto the poll list (`____napi_schedule`), and one that was stopped is closed.
     #[tactic(auto, using(crate::proofs::QueueFacts::put_same, crate::proofs::QueueFacts::put_new, crate::proofs::QueueFacts::room))]
     pub fn masked(&mut self, device: u32) -> Result<(), NotDue>
-        requires { device < length (devices_of self.old) }
+        requires { device < length (driver_devices self.old) }
         ensures when { IsOk result ↔ IsMasking (stage_of self.old device) }
-        ensures ok { OnOk result (HandsOver device (masked (device_of self.old device))
+        ensures ok { OnOk result (PutsOnList device (masked (device_of self.old device))
             self.old self.new) }
         ensures err { OnErr result (self.new ≡ self.old) }
     {
@@ -114,9 +114,9 @@ impl Driver {
     /// Reports that the card was unmasked, as [`Todo::Unmask`] said.
     #[tactic(auto, using(crate::proofs::QueueFacts::put_same))]
     pub fn unmasked(&mut self, device: u32) -> Result<(), NotDue>
-        requires { device < length (devices_of self.old) }
+        requires { device < length (driver_devices self.old) }
         ensures when { IsOk result ↔ (stage_of self.old device ≡ Unmasking) }
-        ensures ok { OnOk result (Puts device (unmasked (device_of self.old device))
+        ensures ok { OnOk result (PutsDevice device (unmasked (device_of self.old device))
             self.old self.new) }
         ensures err { OnErr result (self.new ≡ self.old) }
     {
@@ -131,10 +131,10 @@ impl Driver {
     /// Reports whether the card has packets, as [`Todo::Look`] asked.
     #[tactic(auto, using(crate::proofs::QueueFacts::put_same))]
     pub fn looked(&mut self, device: u32, has_more: bool) -> Result<(), NotDue>
-        requires { device < length (devices_of self.old) }
+        requires { device < length (driver_devices self.old) }
         ensures when { IsOk result ↔ (stage_of self.old device ≡ Looking) }
         ensures ok { OnOk result
-            (Puts device (looked has_more (device_of self.old device)) self.old
+            (PutsDevice device (after_look has_more (device_of self.old device)) self.old
             self.new) }
         ensures err { OnErr result (self.new ≡ self.old) }
     {
@@ -149,9 +149,9 @@ impl Driver {
     /// Opens a device that is closed (`napi_enable`).
     #[tactic(auto, using(crate::proofs::QueueFacts::put_same))]
     pub fn open(&mut self, device: u32) -> Result<(), NotDue>
-        requires { device < length (devices_of self.old) }
+        requires { device < length (driver_devices self.old) }
         ensures when { IsOk result ↔ (stage_of self.old device ≡ Closed) }
-        ensures ok { OnOk result (Puts device (opened (device_of self.old device))
+        ensures ok { OnOk result (PutsDevice device (after_open (device_of self.old device))
             self.old self.new) }
         ensures err { OnErr result (self.new ≡ self.old) }
     {
@@ -167,9 +167,9 @@ impl Driver {
     /// made.
     #[tactic(auto, using(crate::proofs::QueueFacts::put_same))]
     pub fn stop(&mut self, device: u32) -> Result<(), NotDue>
-        requires { device < length (devices_of self.old) }
+        requires { device < length (driver_devices self.old) }
         ensures when { IsOk result ↔ MayStop (stage_of self.old device) }
-        ensures ok { OnOk result (Puts device (stopped (device_of self.old device))
+        ensures ok { OnOk result (PutsDevice device (after_stop (device_of self.old device))
             self.old self.new) }
         ensures err { OnErr result (self.new ≡ self.old) }
     {
@@ -185,9 +185,9 @@ impl Driver {
     /// `napi_complete_done`).
     #[tactic(auto, using(crate::proofs::QueueFacts::polled_keeps, crate::proofs::QueueFacts::polled_listed, crate::proofs::QueueFacts::asked_is_listed, crate::proofs::QueueFacts::asked_in_range))]
     pub fn fetched(&mut self, device: u32, packets: u32) -> Result<(), NotDue>
-        requires { device < length (devices_of self.old) }
+        requires { device < length (driver_devices self.old) }
         ensures when { IsOk result
-            ↔ (polled_in self.old ≡ Some device) × (packets ≤ (limits_of self.old).weight) }
+            ↔ (polled_device self.old ≡ Some device) × (packets ≤ (limits_of self.old).weight) }
         ensures ok { OnOk result (Ends device packets self.old self.new) }
         ensures going { (start : List _) (polls : List Poll) → IsRunning start polls self.old
             → OnOk result
@@ -211,9 +211,9 @@ impl Driver {
     // Begins a run, if none is under way.
     #[tactic(auto, using(crate::proofs::QueueFacts::begin_keeps))]
     fn begin(&mut self)
-        requires rests { polled_in self.old ≡ None }
+        requires rests { polled_device self.old ≡ None }
         ensures devices { self.new.devices ≡ self.old.devices }
-        ensures rests { polled_in self.new ≡ None }
+        ensures rests { polled_device self.new ≡ None }
         ensures limits { self.new.limits ≡ self.old.limits }
         ensures runs { is_running self.new ≡ true }
         ensures going { (start : List _) (polls : List Poll) → IsRunning start polls self.old
@@ -235,7 +235,7 @@ impl Driver {
     // The next poll of the run, or its end.
     #[tactic(auto, using(crate::proofs::QueueFacts::next_keeps, crate::proofs::QueueFacts::finish_keeps, crate::proofs::QueueFacts::asked_is_listed, crate::proofs::QueueFacts::asked_in_range))]
     fn advance(&mut self) -> Todo
-        requires rests { polled_in self.old ≡ None }
+        requires rests { polled_device self.old ≡ None }
         requires runs { is_running self.old ≡ true }
         ensures due { IsDue self.new result }
         ensures devices { self.new.devices ≡ self.old.devices }
@@ -244,7 +244,7 @@ impl Driver {
             → is_running self.new ≡ true → IsRunning start polls self.new }
         ensures ended { (start : List _) (polls : List Poll) (report : _)
             → result ≡ Todo.Ended report → IsRunning start polls self.old
-            → IsEnded (limits_of self.old) start polls self.new report }
+            → IsDriverReport (limits_of self.old) start polls self.new report }
     {
         match self.run.next(&mut self.list) {
             Some(device) => Todo::Fetch(device, self.limits.weight),
@@ -259,7 +259,7 @@ impl Driver {
     #[tactic(auto, using(crate::proofs::QueueFacts::all_rest, crate::proofs::QueueFacts::asked_is_listed, crate::proofs::QueueFacts::asked_in_range))]
     pub fn next(&mut self) -> Todo
         ensures due { IsDue self.new result }
-        ensures devices { devices_of self.new ≡ devices_of self.old }
+        ensures devices { driver_devices self.new ≡ driver_devices self.old }
         ensures limits { limits_of self.new ≡ limits_of self.old }
 
         // The runs are polling runs over the list, as long as no device is put on it meanwhile.
@@ -269,9 +269,9 @@ impl Driver {
             → is_running self.new ≡ true → IsRunning start polls self.new }
         ensures ended { (start : List _) (polls : List Poll) (report : _)
             → result ≡ Todo.Ended report → IsRunning start polls self.old
-            → IsEnded (limits_of self.old) start polls self.new report }
+            → IsDriverReport (limits_of self.old) start polls self.new report }
         ensures whole { (report : _) → result ≡ Todo.Ended report → is_running self.old ≡ false
-            → IsEnded (limits_of self.old) (list_of self.old) [] self.new report }
+            → IsDriverReport (limits_of self.old) (list_of self.old) [] self.new report }
     {
         if let Some(device) = self.run.asked() {
             return Todo::Fetch(device, self.limits.weight);

@@ -1,7 +1,8 @@
 //! The core of a driver that polls up to 64 devices by NAPI's rules on one thread.
 //!
 //! [`Driver`] owns the instances, the poll list and the runs over it, and does no input or output: [`Driver::next`] says what is
-//! to be done at a card, and the other calls report what happened. `specs/Device` has the rule of one device, `specs/World` a card
+//! to be done at a card, and the other calls report what happened. `specs/DriverDevice` has the rule of one device, `specs/World` a
+//! card
 //! and a thread that drives it.
 #![tactic(auto)]
 
@@ -11,7 +12,7 @@ mod laws;
 mod limits;
 mod todo;
 
-pub use device::{Chore, Device, Stage};
+pub use device::{Chore, DriverDevice, Stage};
 pub use driver::Driver;
 pub use laws::{calls_are_legal, listed_is_masked, no_packet_waits_unseen};
 pub use limits::Limits;

@@ -7,7 +7,7 @@ ghost use Rattle.driver_core.specs.Queue.{device_at};
 ghost use Rattle.driver_core.specs.Todo.{todo_of};
 ghost use Rattle.driver_core.specs.declared.device.Chore.{Chore};
 
-use crate::device::{Chore, Device};
+use crate::device::{Chore, DriverDevice};
 use poll_runs::RunReport;
 
 /// What a driver has to do next, for one of its devices by number.
@@ -33,7 +33,7 @@ pub enum Todo {
 pub struct NotDue;
 
 // The first device at whose card something is to be done, and what.
-pub(crate) fn first_chore(devices: &[Device]) -> Option<(u32, Chore)>
+pub(crate) fn first_chore(devices: &[DriverDevice]) -> Option<(u32, Chore)>
     requires { length devices.now ≤ 64 }
     ensures none { IfNone result (All (λ device. chore_at device.stage ≡ None) devices.now) }
     ensures range { IfSome result (λ found. found.0 < length devices.now) }

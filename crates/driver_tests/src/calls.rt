@@ -1,6 +1,6 @@
 //! Each call once, by hand.
 
-use driver_core::{Device, Driver, Limits, NotDue, Stage, Todo};
+use driver_core::{Driver, DriverDevice, Limits, NotDue, Stage, Todo};
 use std::test::Fail;
 
 const LIMITS: Limits = Limits {
@@ -14,7 +14,7 @@ const LIMITS: Limits = Limits {
 fn one_device(rt: HostRuntime) -> Result<(), Fail> {
     let mut driver = Driver::new(rt.alloc(), 2, LIMITS)?;
     assert_eq!(rt; driver.len(), 2);
-    assert_eq!(rt; driver.device(1), Device::NEW);
+    assert_eq!(rt; driver.device(1), DriverDevice::NEW);
     assert_eq!(rt; driver.next(), Todo::Sleep);
     assert!(rt; !driver.interrupt(1), "it is closed");
     assert_eq!(rt; driver.open(1), Ok(()));

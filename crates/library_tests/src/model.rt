@@ -1,7 +1,7 @@
 //! A worked list of events, and the state words.
 
 ghost use Rattle.std.specs.Prelude.{◌≡◌};
-ghost use Rattle.napi_model.specs.Serial.{controller_of};
+ghost use Rattle.napi_model.specs.Serial.{serial_controller};
 ghost use Rattle.library_tests.specs.declared.model.TheConstants.{CONTROLLER};
 
 use napi_model::{
@@ -18,7 +18,7 @@ const CONTROLLER: u32 = 2;
 #[derive(Drop)]
 struct Instance {
     napi: SerialNapi,
-    ghost controlled: { controller_of napi ≡ CONTROLLER },
+    ghost controlled: { serial_controller napi ≡ CONTROLLER },
 }
 
 impl Instance {

@@ -1,11 +1,11 @@
 -- The settings of the machine for C, with their ranges.
 use Rattle.std.specs.Prelude.{◌≡◌, ℕ, [], ◌∷◌, List, if◌then◌else◌}
-use Rattle.machine_words.specs.declared.settings.Settings.{Settings}
+use Rattle.machine_words.specs.declared.settings.MachineSettings.{MachineSettings}
 use Rattle.machine_c.specs.Ranges.{IsOutAt}
 use Rattle.machine_c.specs.declared.{ranges.Range.Range, settings.FqMachineSettings.FqMachineSettings}
 
 -- these settings are asked for; a flag is 0 or 1
-pub record Asks (asked : FqMachineSettings) (s : Settings) : Type 0 where
+pub record Asks (asked : FqMachineSettings) (s : MachineSettings) : Type 0 where
   pub processors : s.processors ≡ asked.processors
   pub queues : s.queues ≡ asked.queues
   pub ring : s.ring ≡ asked.ring

@@ -1,8 +1,8 @@
 //! A whole run of the machine, from the caller's bytes into the caller's bytes.
 
 ghost use Rattle.std.specs.Prelude.{◌≡◌, ◌≢◌, ◌+◌, ◌<◌, ◌≤◌, ◌⊎◌, ◌↔◌, ◌++◌, ◌∷◌, [], ℕ, List, IfOk, IfErr, length, string_bytes, take};
-ghost use Rattle.machine_report.specs.Answer.{IsReportOf, IsFaultOf};
-ghost use Rattle.machine_report.specs.Fault.{IsOutside, IsWantOfMemory, line_of};
+ghost use Rattle.machine_report.specs.Answer.{IsReportOf, IsArrivalsFault};
+ghost use Rattle.machine_report.specs.Fault.{IsMachineOutside, IsMachineOutOfMemory, machine_fault_line};
 ghost use Rattle.machine_c.specs.Faults.{fault_status};
 ghost use Rattle.machine_c.specs.Machine.{HasSizes, IsReport, IsFault, LacksMemory, Tells};
 ghost use Rattle.machine_c.specs.Settings.{Asks, IsOut};
@@ -13,7 +13,7 @@ use crate::ranges::first_out;
 use crate::settings::{FqMachineSettings, ranges_of, settings_of};
 use crate::status;
 use machine_report::{MachineFault, fault_line, run_machine};
-use machine_words::Settings;
+use machine_words::MachineSettings;
 use std::alloc::Global;
 use std::mem::size_of;
 
@@ -55,7 +55,7 @@ impl FqMachineRan {
 }
 
 // Returns the settings that are asked for, or which of them is out of its range.
-fn asked_by(asked: &FqMachineSettings) -> Result<Settings, u32>
+fn asked_by(asked: &FqMachineSettings) -> Result<MachineSettings, u32>
     ensures asked { IfOk result (λ s. Asks asked.now s) }
     ensures out { IfErr result (λ number. IsOut asked.now number) }
 {
@@ -67,10 +67,14 @@ fn asked_by(asked: &FqMachineSettings) -> Result<Settings, u32>
 }
 
 // Returns the report of arrivals.
-fn report_of(alloc: Global, settings: &Settings, arrivals: &[u8]) -> Result<Vec<u8>, MachineFault>
+fn report_of(
+    alloc: Global,
+    settings: &MachineSettings,
+    arrivals: &[u8],
+) -> Result<Vec<u8>, MachineFault>
     ensures report { IfOk result (λ text. IsReportOf settings.now arrivals.now text.items) }
     ensures fault { IfErr result
-        (λ fault. IsOutside fault ⊎ IsFaultOf settings.now arrivals.now fault) }
+        (λ fault. IsMachineOutside fault ⊎ IsArrivalsFault settings.now arrivals.now fault) }
 {
     let mut text = Vec::new(alloc);
     match run_machine(alloc, arrivals, &mut text, settings) {
@@ -109,8 +113,9 @@ fn put_message(line: &[u8], message: &mut [u8])
 
 // Returns the message of an error, with its line feed.
 fn message_of(alloc: Global, fault: &MachineFault) -> Result<String, MachineFault>
-    ensures line { IfOk result (λ line. string_bytes line ≡ line_of fault.now ++ 10 ∷ []) }
-    ensures memory { IfErr result IsWantOfMemory }
+    ensures line { IfOk result (λ line. string_bytes line
+        ≡ machine_fault_line fault.now ++ 10 ∷ []) }
+    ensures memory { IfErr result IsMachineOutOfMemory }
 {
     Ok(fault_line(alloc, fault)?)
 }

@@ -2,7 +2,7 @@
 
 ghost use Rattle.std.specs.Prelude.{◌≡◌, ◌≢◌, ◌↔◌};
 ghost use Rattle.std.specs.List.{All};
-ghost use Rattle.machine_words.specs.declared.settings.Settings.{Settings};
+ghost use Rattle.machine_words.specs.declared.settings.MachineSettings.{MachineSettings};
 ghost use Rattle.machine_words.specs.Usual.{IsUsual};
 ghost use Rattle.machine_c.specs.Ranges.{IsIn};
 ghost use Rattle.machine_c.specs.Settings.{Asks, ranges_of};
@@ -12,12 +12,12 @@ use crate::ranges::{Range, within};
 use crate::status;
 use machine_words::{
     MOST_BUDGET, MOST_DEFERRALS, MOST_FRAMES, MOST_PLACES, MOST_PROCESSORS, MOST_QUEUES, MOST_TIME,
-    MOST_WEIGHT, MOST_WINDOW, Settings,
+    MOST_WEIGHT, MOST_WINDOW, MachineSettings,
 };
 use std::mem::size_of;
 
 /// The settings of the machine: `struct fq_machine_settings`. Times are in nanoseconds. Each setting is that of
-/// `machine_words::Settings`, with its range; a flag is 0 or 1.
+/// `machine_words::MachineSettings`, with its range; a flag is 0 or 1.
 #[repr(C)]
 #[derive(Clone, Copy)]
 pub struct FqMachineSettings {
@@ -105,11 +105,11 @@ pub(crate) fn ranges_of(asked: &FqMachineSettings) -> [Range; SETTINGS]
 }
 
 /// Returns the machine that is asked for.
-pub(crate) fn settings_of(asked: &FqMachineSettings) -> Settings
+pub(crate) fn settings_of(asked: &FqMachineSettings) -> MachineSettings
     requires { All IsIn (ranges_of asked.now) }
     ensures { Asks asked.now result }
 {
-    Settings {
+    MachineSettings {
         processors: asked.processors,
         queues: asked.queues,
         ring: asked.ring,
@@ -135,7 +135,7 @@ pub(crate) fn settings_of(asked: &FqMachineSettings) -> Settings
 }
 
 // Returns what asks for a machine.
-fn asking(settings: &Settings) -> FqMachineSettings
+fn asking(settings: &MachineSettings) -> FqMachineSettings
     ensures asks { Asks result settings.now }
     ensures size { result.size ≡ FqMachineSettings.SIZE }
 {
@@ -165,11 +165,12 @@ fn asking(settings: &Settings) -> FqMachineSettings
     }
 }
 
-/// Sets all settings to their defaults, like `Settings::default`, in a struct of `size` bytes, which it also sets. Returns ok, or bad
+/// Sets all settings to their defaults, like `MachineSettings::default`, in a struct of `size` bytes, which it also sets. Returns
+/// ok, or bad
 /// size, and nothing is written.
 #[unsafe(no_mangle)]
 pub extern "C" fn fq_machine_usual(settings: &mut FqMachineSettings, size: usize) -> u32
-    ensures usual { result ≡ OK → (s : Settings) × IsUsual s × Asks settings.new s }
+    ensures usual { result ≡ OK → (s : MachineSettings) × IsUsual s × Asks settings.new s }
     ensures size { result ≡ OK → settings.new.size ≡ 96 }
     ensures status { result ≢ OK → result ≡ BAD_SIZE }
     ensures when { (result ≡ OK) ↔ (size ≡ 96) }
@@ -178,7 +179,7 @@ pub extern "C" fn fq_machine_usual(settings: &mut FqMachineSettings, size: usize
     if size != FqMachineSettings::SIZE {
         return status::BAD_SIZE;
     }
-    let usual = Settings::default();
+    let usual = MachineSettings::default();
     *settings = asking(&usual);
     status::OK
 }

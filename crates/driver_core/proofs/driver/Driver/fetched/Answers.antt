@@ -1,7 +1,7 @@
 use Rattle.std.specs.Prelude.{◌==◌}
 use Rattle.std.proofs.Common.{◌≡◌, ◌∙◌, None, Some, sym, arith, rules}
 use Rattle.std.proofs.Math.ListN.{length-set}
-use Rattle.driver_core.specs.Device.{is_listed}
+use Rattle.driver_core.specs.Device.{stage_is_listed}
 use Rattle.driver_core.proofs.QueueFacts.{comes_back, polled_keeps, polled_listed}
 use Rattle.driver_core.proofs.driver.Driver.fetched.Goals as goal
 
@@ -9,7 +9,7 @@ pub invariant_of-self : goal.invariant_of-self
 invariant_of-self c =
     let self = c.args.self.now in
     let asked : self.run.asked ≡ Some c.args.device = search rules in
-    let back : is_listed c.polled-next.result.0.stage ≡ comes_back c.polled-next.result.1 =
+    let back : stage_is_listed c.polled-next.result.0.stage ≡ comes_back c.polled-next.result.1 =
     rw c.polled-next.ensures (polled_listed (c.args.packets == self.limits.weight) c.index-before.result.now) in
     record {
       few = omega (arith, self.few, length-set self.devices.items c.args.device c.polled-next.result.0);
