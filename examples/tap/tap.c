@@ -30,7 +30,9 @@ struct queue {
     alignas(128) struct fq_handle ring; /* the input of its ring; from here on used by the card thread */
     uint64_t next;
     unsigned long read, full;
+    _Atomic uint64_t put; /* packets in its ring so far, which the poller reads too */
     alignas(128) struct fq_handle out; /* the poll end; from here on used by the poller */
+    uint64_t taken;
     unsigned long granted, missed, disabled, packets, polls, again, drained;
     struct sender sender;
 };
@@ -85,6 +87,7 @@ static void card(struct queue *queue) {
         }
         must("put", said, FQ_OK);
         queue->next = (queue->next + 1) % (set.ring + WEIGHT + 1);
+        queue->put++;
         if (!set.mask) interrupt(queue);
     }
     if (set.mask) interrupt(queue);
@@ -114,6 +117,7 @@ static size_t poll_ring(struct queue *queue, size_t most) {
     size_t count;
     must("poll", fq_ring_poll(&queue->out, most, packets, WEIGHT, &count), FQ_OK);
     for (size_t i = 0; i < count; i++) use(queue, queue->frames[packets[i].number], packets[i].bytes);
+    queue->taken += count;
     return count;
 }
 
@@ -127,8 +131,8 @@ static uint32_t fetch(struct queue *queue, uint32_t most) {
     return (uint32_t)count;
 }
 
-/* Does what is due, until a run ends; returns false if nothing is. Without --mask each frame interrupts, and with it epoll reports at
- * once what came before it was armed: so no look finds more. */
+/* Does what is due, until a run ends; returns false if nothing is. What is still in the device epoll reports when it is armed. A trace has
+ * no row for a look: what came while a queue was stopped is polled after the next packet there. */
 static bool run(void) {
     struct fq_todo todo = FQ_TODO_INIT;
     for (uint64_t bits = fq_word_take(&interrupted); bits; bits &= bits - 1) report(&queues[__builtin_ctzll(bits)]);
@@ -136,6 +140,7 @@ static bool run(void) {
         struct queue *queue = &queues[todo.device];
         if (todo.what == FQ_TODO_FETCH) todo.packets = fetch(queue, todo.most);
         if (todo.what == FQ_TODO_UNMASK && set.mask) arm(queue, EPOLL_CTL_MOD);
+        if (todo.what == FQ_TODO_LOOK) todo.packets = queue->put != queue->taken && !trace.file;
         fq_driver_done(&driver, &todo);
     }
     if (todo.what == FQ_TODO_ENDED) row(&trace, now_ms(), 0, "softirq", 0), runs++, squeezed += todo.run.squeezed;

@@ -1,7 +1,7 @@
 -- The arguments and results of a run of the machine for C.
-use Rattle.std.specs.Prelude.{◌≡◌, ◌<◌, ◌⊎◌, ◌++◌, [], ◌∷◌, ℕ, List, length, take}
+use Rattle.std.specs.Prelude.{◌≡◌, ◌⊎◌, ℕ, List}
 use Rattle.machine_words.specs.declared.settings.MachineSettings.{MachineSettings}
-use Rattle.machine_report.specs.{Answer.{IsReportOf, IsArrivalsFault}, Fault.{IsMachineOutside, machine_fault_line, machine_fault_number}}
+use Rattle.machine_report.specs.{Answer.{IsReportOf, IsArrivalsFault}, Fault.{IsMachineOutside, machine_fault_number}}
 use Rattle.machine_report.specs.declared.fault.MachineFault.{MachineFault}
 use Rattle.machine_c.specs.{Faults.{fault_status, row_of}, Settings.Asks, Status.OUT_OF_MEMORY}
 use Rattle.machine_c.specs.declared.{machine.FqMachineRan.FqMachineRan, settings.FqMachineSettings.FqMachineSettings}
@@ -23,10 +23,8 @@ abbrev pub LacksMemory : FqMachineSettings → List ℕ → Type 0
 LacksMemory asked bytes = (fault : MachineFault) × (fault_status fault ≡ OUT_OF_MEMORY)
     × (IsMachineOutside fault ⊎ IsFault asked bytes fault)
 
--- an error is reported by its number, its row and its message, which ends with a 0; and there is no report
+-- an error is reported by its number and its row, and there is no report
 pub record Tells (fault : MachineFault) (ran : FqMachineRan) : Type 0 where
   pub number : ran.fault ≡ machine_fault_number fault
   pub row : ran.row ≡ row_of fault
-  pub message : length (machine_fault_line fault) < 64
-      → take (length (machine_fault_line fault) + 1) ran.message ≡ machine_fault_line fault ++ 0 ∷ []
   pub length : ran.length ≡ 0

@@ -2,7 +2,7 @@
 
 ghost use Rattle.std.specs.Prelude.{◌≡◌, ◌≢◌, ◌+◌, ◌<◌, ◌≤◌, ◌⊎◌, ◌↔◌, ◌++◌, ◌∷◌, [], ℕ, List, IfOk, IfErr, length, string_bytes, take};
 ghost use Rattle.machine_report.specs.Answer.{IsReportOf, IsArrivalsFault};
-ghost use Rattle.machine_report.specs.Fault.{IsMachineOutside, IsMachineOutOfMemory, machine_fault_line};
+ghost use Rattle.machine_report.specs.Fault.{IsMachineOutside, IsMachineOutOfMemory};
 ghost use Rattle.machine_c.specs.Faults.{fault_status};
 ghost use Rattle.machine_c.specs.Machine.{HasSizes, IsReport, IsFault, LacksMemory, Tells};
 ghost use Rattle.machine_c.specs.Settings.{Asks, IsOut};
@@ -98,45 +98,44 @@ fn put_report(text: &[u8], report: &mut [u8], ran: &mut FqMachineRan) -> u32
     status::OK
 }
 
-// Puts the message of an error, without its line feed, and a 0 into an array, if there is room for both.
-fn put_message(line: &[u8], message: &mut [u8])
-    requires { 1 ≤ length line.now }
-    ensures { length line.now ≤ length message.old → (text : List ℕ) → (end : ℕ)
-        → line.now ≡ text ++ end ∷ [] → take (length line.now) message.new ≡ text ++ 0 ∷ [] }
+// Puts a message into an array of zeros, if there is room for it and a 0 after it.
+fn put_message(text: &[u8], message: &mut [u8])
+    ensures { length text.now < length message.old → take (length text.now) message.new ≡ text.now }
 {
-    let end = line.len() - 1;
-    if line.len() <= message.len() {
-        message[..end].copy_from_slice(&line[..end]);
-        message[end] = 0;
+    if text.len() < message.len() {
+        message[..text.len()].copy_from_slice(text);
     }
 }
 
 // Returns the message of an error, with its line feed.
 fn message_of(alloc: Global, fault: &MachineFault) -> Result<String, MachineFault>
-    ensures line { IfOk result (λ line. string_bytes line
-        ≡ machine_fault_line fault.now ++ 10 ∷ []) }
     ensures memory { IfErr result IsMachineOutOfMemory }
 {
     Ok(fault_line(alloc, fault)?)
 }
 
-// Reports an error of the arrivals by its numbers and its message.
+// Reports an error of the arrivals by its numbers and its message, which is without its line feed.
 fn tell(alloc: Global, fault: &MachineFault, ran: &mut FqMachineRan) -> u32
-    ensures told { result ≡ BAD_ARRIVALS → (fault_status fault.now ≡ BAD_ARRIVALS) × Tells fault.now ran.new }
+    ensures told { result ≡ BAD_ARRIVALS
+        → (fault_status fault.now ≡ BAD_ARRIVALS) × Tells fault.now ran.new
+        × (ran.new.setting ≡ 0) }
     ensures untold { result ≢ BAD_ARRIVALS → (result ≡ OUT_OF_MEMORY) × (ran.new ≡ ran.old)
-        × (fault_status fault.now ≡ OUT_OF_MEMORY ⊎ IsRefused) }
+        × ((fault_status fault.now ≡ OUT_OF_MEMORY)
+        ⊎ ((why : MachineFault) × IsMachineOutOfMemory why)) }
 {
     if fault_status(fault) != status::BAD_ARRIVALS {
         return status::OUT_OF_MEMORY;
     }
-    let Ok(line) = message_of(alloc, fault) else {
-        return status::OUT_OF_MEMORY;
-    };
-    *ran = FqMachineRan::none();
-    ran.fault = u32::from(fault.number());
-    ran.row = row_of(fault);
-    put_message(line.as_bytes(), &mut ran.message);
-    status::BAD_ARRIVALS
+    match message_of(alloc, fault) {
+        Ok(line) => {
+            *ran = FqMachineRan::none();
+            ran.fault = u32::from(fault.number());
+            ran.row = row_of(fault);
+            put_message(line.as_str().trim_end().as_bytes(), &mut ran.message);
+            status::BAD_ARRIVALS
+        }
+        Err(_) => status::OUT_OF_MEMORY,
+    }
 }
 
 /// Like `run_machine`, from the bytes of arrivals into an array: the report is the first `length` bytes of it. Returns ok; no room,
