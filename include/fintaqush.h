@@ -17,9 +17,9 @@
  * No call blocks, sleeps, locks or starts a thread. fq_seat_interrupt, fq_seat_interrupt_masked, fq_seat_request, fq_seat_end,
  * fq_seat_end_watched, fq_seat_end_unmasked, fq_control_step and fq_control_open try again as long as an attempt returns FQ_CHANGED,
  * because another thread changed the instance: some thread always makes progress, but the number of attempts has no bound. fq_ring_new,
- * fq_ring_split, fq_tx_new, fq_list_new, fq_driver_new, fq_shared_new, fq_shared_bare and fq_replay allocate memory, after they have
- * checked their arguments; if an allocation fails, they free what they allocated, and nothing has changed. fq_free, fq_abandon and
- * fq_ring_finish free memory. No other call allocates or frees.
+ * fq_ring_split, fq_tx_new, fq_list_new, fq_driver_new, fq_shared_new, fq_shared_bare, fq_replay and fq_machine allocate memory, after
+ * they have checked their arguments; if an allocation fails, they free what they allocated, and nothing has changed. fq_free,
+ * fq_abandon and fq_ring_finish free memory. No other call allocates or frees.
  *
  * Memory order: what a thread wrote before it put a packet is visible to the thread whose poll returns that packet. A poll frees the
  * places of the packets that it returns, all at once: what was done before that poll is visible to the put that finds one of them free.
@@ -32,10 +32,10 @@
 #include <stddef.h>
 #include <stdint.h>
 
-#define FQ_VERSION "1.0.0"
+#define FQ_VERSION "1.1.0"
 /* The same as numbers, for example for #if FQ_VERSION_NUMBER >= 10100, which asks for 1.1.0 or later. */
 #define FQ_VERSION_MAJOR 1
-#define FQ_VERSION_MINOR 0
+#define FQ_VERSION_MINOR 1
 #define FQ_VERSION_PATCH 0
 #define FQ_VERSION_NUMBER (FQ_VERSION_MAJOR * 10000 + FQ_VERSION_MINOR * 100 + FQ_VERSION_PATCH)
 
@@ -84,7 +84,7 @@ enum fq_status FQ_NUMBER {
     FQ_DONE = 27,      /* run: no device is left to poll */
     FQ_STOPPED = 28,   /* send: the limit has stopped the queue */
     FQ_MORE_THAN_SENT = 29, /* done: more packets than the transmit ring holds */
-    FQ_NOT_DUE = 30,   /* driver: this isn't due */
+    FQ_NOT_DUE = 30,        /* driver: this isn't due, and nothing has changed */
 
     FQ_NOT_ALLOWED = 100,   /* the object's state doesn't allow this call */
     FQ_BAD_KIND = 101,      /* not a number of enum fq_kind */
@@ -93,14 +93,16 @@ enum fq_status FQ_NUMBER {
     FQ_OUT_OF_MEMORY = 112,
     FQ_BAD_CAPACITY = 113,  /* rings: 1 to 65536 */
     FQ_BAD_WEIGHT = 114,    /* 1 to 64 */
-    FQ_NO_ROOM = 115,       /* poll: the array is shorter than the weight; replay: than the report */
+    FQ_NO_ROOM = 115,       /* poll: the array is shorter than the weight; replay, machine: than the report */
     FQ_BAD_BUDGET = 116,    /* run, replay: budget and window are 1 to 65535 */
     FQ_BAD_COUNT = 117,     /* shared instance: 2 to 8 seats; driver: 1 to 64 devices */
     FQ_BAD_NEXT = 118,      /* not a number of enum fq_next */
     FQ_BAD_WORK = 119,      /* run, driver: more packets than the weight */
     FQ_BAD_TRACE = 120,     /* replay: the bytes aren't a trace, or a row of it can't be processed */
     FQ_BAD_DEVICE = 121,    /* driver: not a number of one of its devices */
-    FQ_BAD_SIZE = 122       /* the `size` of a struct isn't one that the library knows */
+    FQ_BAD_SIZE = 122,      /* the size of a struct isn't one that this library knows */
+    FQ_BAD_SETTING = 123,   /* machine: a setting is out of its range */
+    FQ_BAD_ARRIVALS = 124   /* machine: the bytes aren't arrivals */
 };
 
 /* Each call writes a text into an array of `room` bytes, with a terminating 0: the library's FQ_VERSION; the name of a status, and its
@@ -112,8 +114,8 @@ FQ_NONNULL size_t fq_status_text(uint32_t status, char *to, size_t room);
 FQ_NONNULL size_t fq_status_message(uint32_t status, char *to, size_t room);
 FQ_NONNULL size_t fq_fault_text(uint32_t fault, char *to, size_t room);
 
-/* The structs that calls read and write, except those of fq_replay. fq_struct_size returns the size of one in bytes, so that bindings
- * can check theirs; 0 for an unknown number. */
+/* The structs that calls read and write, except those of fq_replay and those that begin with their size. fq_struct_size returns the size
+ * of one in bytes, so that bindings can check theirs; 0 for an unknown number. */
 enum fq_struct FQ_NUMBER {
     FQ_STRUCT_HANDLE = 0, FQ_STRUCT_DQL = 1, FQ_STRUCT_DQL_MADE = 2, FQ_STRUCT_NAPI = 3, FQ_STRUCT_PACKET = 4, FQ_STRUCT_COUNTS = 5,
     FQ_STRUCT_TOTALS = 6, FQ_STRUCT_RING_SHOWN = 7, FQ_STRUCT_TX_SHOWN = 8, FQ_STRUCT_ANSWERS = 9, FQ_STRUCT_RUN_REPORT = 10,
@@ -159,6 +161,8 @@ static inline const char *fq_status_name(uint32_t status) {
     case FQ_BAD_TRACE: return "FQ_BAD_TRACE";
     case FQ_BAD_DEVICE: return "FQ_BAD_DEVICE";
     case FQ_BAD_SIZE: return "FQ_BAD_SIZE";
+    case FQ_BAD_SETTING: return "FQ_BAD_SETTING";
+    case FQ_BAD_ARRIVALS: return "FQ_BAD_ARRIVALS";
     }
     return "?";
 }
@@ -775,6 +779,54 @@ static inline const char *fq_fault_name(uint32_t fault) {
         "OpenTwice", "WrongState", "TooManyRows", "ReadFailed", "OutOfMemory", "Pending"};
     return fault < sizeof names / sizeof names[0] ? names[fault] : "?";
 }
+
+/* ---- The machine (napi_machine): arrivals of packets in, a report of latencies, drops and processor time out, by Linux's rules and
+ * timers. docs/FORMATS.md describes arrivals and report, docs/TIMING.md the rules. */
+
+/* Times are in nanoseconds, at most 1000000000. A flag is 0 or 1. */
+struct fq_machine_settings {
+    size_t size;                /* sizeof(struct fq_machine_settings), which fq_machine_usual sets */
+    uint32_t processors;        /* 1 to 64; queue q belongs to processor (q - 1) mod processors */
+    uint32_t queues;            /* queues of a device, 1 to 64, chosen by the flow (ethtool -L) */
+    uint32_t ring;              /* packets that a ring holds, 1 to 65536 (ethtool -G); with a backlog net.core.netdev_max_backlog plus 1 */
+    uint32_t socket;            /* packets that a processor's socket holds, 1 to 65536 (SO_RCVBUF) */
+    uint32_t backlog;           /* flag: the backlog of a processor, as of RPS (process_backlog) */
+    uint32_t budget;            /* packets that a run polls, 0 to 65535 (net.core.netdev_budget); 0: an interrupt for each packet */
+    uint32_t weight;            /* packets that one poll takes at most, 1 to 64; of a backlog net.core.dev_weight */
+    uint32_t window;            /* polls that a run makes, 1 to 65535; Linux has no such limit */
+    uint32_t time_limit;        /* the time after which a run ends, from 1 (net.core.netdev_budget_usecs, in us there) */
+    uint32_t rx_nsecs;          /* from a packet to its interrupt (ethtool -C rx-usecs, in us there) */
+    uint32_t rx_frames;         /* packets at which it comes earlier, 0 to 65535; 0: none (ethtool -C rx-frames) */
+    uint32_t defer_hard_irqs;   /* polls without packets before interrupts are enabled again, 0 to 65535 (napi_defer_hard_irqs) */
+    uint32_t gro_flush_timeout; /* the time between such polls (gro_flush_timeout) */
+    uint32_t threaded;          /* flag: threads poll (/sys/class/net/DEV/threaded) */
+    uint32_t apart;             /* flag: the application has a processor of its own (taskset) */
+    uint32_t app_wake;          /* what waking the application there takes */
+    uint32_t interrupt;         /* what an interrupt takes */
+    uint32_t poll;              /* what a poll takes without its packets */
+    uint32_t packet;            /* what a packet takes in a poll */
+    uint32_t use_time;          /* what the application takes for a packet */
+    uint32_t wake;              /* what waking an idle processor takes */
+};
+
+struct fq_machine_ran {
+    size_t size;      /* sizeof(struct fq_machine_ran), which the caller sets */
+    size_t length;    /* the length of the report in bytes, even if there is no room for it; 0 if there is none */
+    uint64_t row;     /* the row that the fault of the arrivals names, counted from 1; 0 if it names none */
+    uint32_t fault;   /* the number of that fault, 1 to 8; 0 if they have none */
+    uint32_t setting; /* the setting that is out of its range: 1 for processors, 2 for queues ..; 0 if none is */
+    char message[64]; /* the message of the fault of the arrivals, as napi_machine prints it, with a terminating 0; otherwise empty */
+};
+
+/* Sets all settings to the defaults of napi_machine, in a struct of `size` bytes: call it with sizeof *settings, and then set others.
+ * Returns FQ_OK; FQ_BAD_SIZE, and the struct is unchanged. */
+FQ_CHECKED enum fq_status fq_machine_usual(struct fq_machine_settings *settings, size_t size);
+/* Runs the machine on arrivals of `len` bytes, and writes its report to an array of `room` bytes. Returns FQ_BAD_SIZE if a struct's
+ * `size` isn't set, and *ran is unchanged; FQ_BAD_SETTING, and ran->setting says which; FQ_OUT_OF_MEMORY; FQ_BAD_ARRIVALS, and
+ * ran->fault, ran->row and ran->message say why; FQ_NO_ROOM, and ran->length is the room that the report needs; FQ_OK, and the first
+ * ran->length bytes of the array are the report, with no terminating 0. The array is unchanged unless it returns FQ_OK. For empty
+ * arrivals or an empty array the pointer still points to some byte. */
+FQ_CHECKED enum fq_status fq_machine(const struct fq_machine_settings *FQ_RESTRICT settings, const uint8_t *FQ_RESTRICT arrivals, size_t len, uint8_t *FQ_RESTRICT report, size_t room, struct fq_machine_ran *FQ_RESTRICT ran);
 
 #ifdef __cplusplus
 }

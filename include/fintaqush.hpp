@@ -746,6 +746,68 @@ private:
     Handle at_;
 };
 
+using Todo = fq_todo;
+using DeviceShown = fq_device_shown;
+
+// A driver of up to 64 devices on one thread: their instances, the poll list and the runs over it. It says what has to be done at a card,
+// and no order of calls leaves a packet unseen.
+class [[nodiscard]] Driver {
+public:
+    // Makes a driver, all devices closed; returns nullopt if there aren't 1 to 64 of them, budget or window isn't 1 to 65535, or memory
+    // runs out.
+    [[nodiscard]] static std::optional<Driver> make(std::uint32_t devices, std::uint32_t budget = 300, Weight weight = Weight(),
+                                                    std::uint32_t window = 1024) {
+        Handle at;
+        if (fq_driver_new(at.raw(), devices, budget, std::uint32_t(weight.get()), window) != FQ_OK) return std::nullopt;
+        return std::optional<Driver>(Driver(std::move(at)));
+    }
+
+    // Opens a closed device, and stops an open one (fq_driver_open, fq_driver_stop): FQ_OK, FQ_NOT_DUE or FQ_BAD_DEVICE.
+    Status open(std::uint32_t device) { return Status(fq_driver_open(at_.raw(), device)); }
+    Status stop(std::uint32_t device) { return Status(fq_driver_stop(at_.raw(), device)); }
+    // Reports an interrupt of a card: FQ_GRANTED, FQ_MISSED, FQ_DISABLED or FQ_BAD_DEVICE.
+    Status interrupt(std::uint32_t device) { return Status(fq_driver_interrupt(at_.raw(), device)); }
+
+    // Returns what has to be done now. What isn't reported is said again.
+    [[nodiscard]] Todo next() {
+        Todo todo FQ_TODO_INIT;
+        fq_driver_next(at_.raw(), &todo);
+        return todo;
+    }
+    // Reports that it was done, after a look and a fetch with todo.packets. Returns FQ_OK; FQ_NOT_DUE if it wasn't due any more;
+    // FQ_BAD_WORK if a fetch took more than todo.most.
+    Status done(const Todo &todo) { return Status(fq_driver_done(at_.raw(), &todo)); }
+
+    // Does one thing at a card: calls mask(device), unmask(device), look(device), which returns whether it has packets, or
+    // fetch(device, most), which takes and delivers packets and returns how many. Returns what was done, or that there is nothing to do,
+    // or that a run ended. If a call throws, nothing is reported, and the same is due again.
+    template <class Cards>
+    Todo step(Cards &cards) {
+        Todo todo = next();
+        switch (todo.what) {
+        case FQ_TODO_MASK: cards.mask(todo.device); break;
+        case FQ_TODO_UNMASK: cards.unmask(todo.device); break;
+        case FQ_TODO_LOOK: todo.packets = cards.look(todo.device); break;
+        case FQ_TODO_FETCH: todo.packets = cards.fetch(todo.device, todo.most); break;
+        default: return todo;
+        }
+        done(todo);
+        return todo;
+    }
+
+    // Returns the state of a device and the counts of its polls; nullopt for a number of none.
+    [[nodiscard]] std::optional<DeviceShown> shown(std::uint32_t device) {
+        DeviceShown shown{};
+        shown.size = sizeof shown;
+        if (fq_driver_show(at_.raw(), device, &shown) != FQ_OK) return std::nullopt;
+        return shown;
+    }
+
+private:
+    explicit Driver(Handle &&at) noexcept : at_(std::move(at)) {}
+    Handle at_;
+};
+
 // Why a replay returned no report: its status, and for FQ_BAD_TRACE the number of the trace's fault (fq_fault_name) and its row.
 struct NoReport {
     std::uint32_t status, fault, row;
@@ -767,6 +829,39 @@ struct NoReport {
     }
     if (said != FQ_OK) return NoReport{said, replayed.fault, replayed.row};
     report.resize(replayed.length);
+    return report;
+}
+
+// The settings of the machine, at first the defaults of napi_machine.
+struct MachineSettings : fq_machine_settings {
+    MachineSettings() noexcept : fq_machine_settings{} { detail::made(fq_machine_usual(this, sizeof(fq_machine_settings))); }
+};
+
+// Why the machine returned no report: its status; for FQ_BAD_SETTING which one, from 1; for FQ_BAD_ARRIVALS the number of the fault of
+// the arrivals, its row, and the message of napi_machine.
+struct MachineFault {
+    std::uint32_t status, setting, fault;
+    std::uint64_t row;
+    std::string message;
+};
+
+// Runs the machine on arrivals (napi_machine), and returns its report.
+[[nodiscard]] inline std::variant<std::string, MachineFault> machine(std::string_view arrivals, const fq_machine_settings &settings = MachineSettings()) {
+    const std::uint8_t none = 0;
+    const std::uint8_t *bytes = arrivals.empty() ? &none : reinterpret_cast<const std::uint8_t *>(arrivals.data());
+    std::string report(4096, '\0');
+    fq_machine_ran ran{};
+    ran.size = sizeof ran;
+    const auto run = [&] {
+        return fq_machine(&settings, bytes, arrivals.size(), reinterpret_cast<std::uint8_t *>(report.data()), report.size(), &ran);
+    };
+    std::uint32_t said = run();
+    if (said == FQ_NO_ROOM) {
+        report.resize(ran.length);
+        said = run();
+    }
+    if (said != FQ_OK) return MachineFault{said, ran.setting, ran.fault, ran.row, ran.message};
+    report.resize(ran.length);
     return report;
 }
 

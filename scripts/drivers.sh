@@ -107,12 +107,11 @@ plant() {
 
 # mistakes: of a driver, in code that it shares with others
 mistakes() {
-    mistake 'a mask behind the hand-over' '3000 pings are answered' driver/driver.h 'fq_seat_interrupt_masked(seat, FQ_LIST, &device->card)' \
-        'fq_seat_interrupt(seat, FQ_LIST)' '&& !one_thread) wake_poller();' \
-        '&& !one_thread) wake_poller();
-    if (said == FQ_GRANTED && seat == &device->interrupt) usleep(2000), device->card.mask(device);'
+    mistake 'a mask that comes too late' '3000 pings are answered' driver/driver.h 'case FQ_TODO_UNMASK: device->unmask(device); break;' \
+        'case FQ_TODO_UNMASK: device->unmask(device), device->mask(device); break;'
     mistake 'a completion told twice' '3000 pings are answered' driver/driver.h 'must("done", ' \
         'must("once", fq_tx_done(&device->limit, count, now_ms()), FQ_OK);
     must("done", '
-    mistake 'no poll behind an enable' 'both ways under load' driver/driver.h 'if (device->on) request(' 'if (false) request('
+    mistake 'an interrupt that is not reported' '3000 pings are answered' driver/driver.h 'device->interrupts++, fq_word_raise' \
+        '++device->interrupts % 64 && fq_word_raise'
 }

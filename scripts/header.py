@@ -23,6 +23,7 @@ KNOWN = {
     "fq_driver_new": ("driver", "a driver of up to 64 devices on one thread"),
     "fq_word_raise": ("word", "a word of pending bits"),
     "fq_replay": ("replay", "the replay of a trace"),
+    "fq_machine_usual": ("machine", "the receiving machine in time"),
 }
 BANNER = re.compile(r"/\* ---- (.*?)\*/", re.S)
 # The comment of the first declaration that is of a group.

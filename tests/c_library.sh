@@ -52,10 +52,10 @@ header_numbers() {
         print w[1], w[2] } /^};/ { on = 0 }' "$header" | sort
 }
 
-proved_numbers() { awk '/^[A-Z_]+ = [0-9]+$/ { print $1, $3 }' "$top"/crates/{c_handles,replay_c}/specs/Status.antt | sort; }
+proved_numbers() { awk '/^[A-Z_]+ = [0-9]+$/ { print $1, $3 }' "$top"/crates/{c_handles,replay_c,machine_c}/specs/Status.antt | sort; }
 
 code_numbers() {
-    sed -n 's/^pub\((crate)\)\{0,1\} const \([A-Z_]*\): u32 = \([0-9]*\);$/\2 \3/p' "$top"/crates/{c_handles,replay_c}/src/status.rt | sort -u
+    sed -n 's/^pub\((crate)\)\{0,1\} const \([A-Z_]*\): u32 = \([0-9]*\);$/\2 \3/p' "$top"/crates/{c_handles,replay_c,machine_c}/src/status.rt | sort -u
 }
 
 each_number_once() { ! header_numbers | awk '{ print $2 }' | sort | uniq -d | grep .; }
@@ -151,6 +151,12 @@ echo 'a driver never sleeps with work left' > "$scratch/drove"
 check 'driver.c compiles' compile gcc "$top/tests/c/driver.c" "$scratch/drives" -O2
 check 'random calls of drivers' compared "$scratch/drove" "$scratch/drives"
 check 'random calls of drivers, another seed' compared "$scratch/drove" "$scratch/drives" "${1:-4711}"
+# ---- a driver, in random orders of calls
+
+echo 'no order hangs, and each mistake does' > "$scratch/ordered"
+check 'orders.c compiles' compile gcc "$top/tests/c/orders.c" "$scratch/orders" -O2
+check 'a driver in random orders' compared "$scratch/ordered" "$scratch/orders" 100000 1
+check 'a driver in random orders, another seed' compared "$scratch/ordered" "$scratch/orders" 100000 "${1:-4711}"
 
 # ---- each allocation fails in turn
 
@@ -238,6 +244,62 @@ else
     check 'napi_serial, which the replay is compared with' eval 'cat "$scratch/build.log"; false'
 fi
 
+# ---- the machine, compared with the tool
+
+# as_napi_machine ARRIVALS NAME=VALUE ..: the same report, message and status as napi_machine's.
+as_napi_machine() {
+    local arrivals=$1 wanted=0 status=0
+    shift
+    timeout 600 "$top/crates/napi_machine/out/napi_machine" "${@/#/--}" < "$arrivals" > "$scratch/wanted" 2> "$scratch/wanted.line" || wanted=$?
+    timeout 600 "$scratch/machine" "$@" < "$arrivals" > "$scratch/printed" 2> "$scratch/line" || status=$?
+    [ "$status" = "$wanted" ] && cmp "$scratch/printed" "$scratch/wanted" && diff "$scratch/line" "$scratch/wanted.line"
+}
+
+each_cut_as_napi_machine() {
+    local bytes
+    for bytes in $(seq 0 "$(wc -c < "$top/crates/napi_machine/stdin")"); do
+        head -c "$bytes" "$top/crates/napi_machine/stdin" > "$scratch/cut.csv"
+        as_napi_machine "$scratch/cut.csv" || { echo "cut behind byte $bytes"; return 1; }
+    done
+}
+
+# each setting has its number, and its range is that of napi_machine's option
+refuses_machine_settings() {
+    local name least most number=0
+    while read -r name least most; do
+        number=$((number + 1))
+        for value in $((least - 1)) $((most + 1)); do
+            [ "$value" != -1 ] || continue
+            "$scratch/machine" "$name=$value" < "$top/crates/napi_machine/stdin" > "$scratch/printed" 2> "$scratch/line"
+            [ "$? $(cat "$scratch/line")" = "1 FQ_BAD_SETTING $number" ] && [ ! -s "$scratch/printed" ] || { echo "$name=$value"; return 1; }
+        done
+        for value in "$least" "$most"; do as_napi_machine "$top/crates/napi_machine/stdin" "$name=$value" || { echo "$name=$value"; return 1; }; done
+    done < <(python3 -c 'import sys; sys.path.insert(0, sys.argv[1]); import machine_report
+for name, (least, most, _) in machine_report.OPTIONS.items(): print(name, least, most)' "$top/tools")
+    [ "$number" = 21 ]
+}
+
+{ echo 'moment,device,bytes' && awk 'BEGIN { for (i = 0; i < 20000; i++) print i * 900, i % 7 + 1, i % 1400 + 60 }' OFS=, ; } > "$scratch/arrivals.csv"
+{ echo 'moment,device,bytes,flow' && awk 'BEGIN { for (i = 0; i < 5000; i++) print i * 700, 1, 60, i % 11 }' OFS=, ; } > "$scratch/flows.csv"
+printf 'moment,device,bytes\n5,1,60\n4,1,60\n' > "$scratch/falls.csv"
+printf 'moment,device,bytes\n5,65,60\n' > "$scratch/far.csv"
+printf 'moment,device,bytes\n' > "$scratch/none.csv"
+if "$top/scripts/build.sh" napi_machine > "$scratch/log" 2>&1; then
+    check 'the machine compiles' compile gcc "$top/tests/c/machine.c" "$scratch/machine" -O2
+    for arrivals in "$scratch"/{arrivals,falls,far,none}.csv "$top/crates/napi_machine/stdin" /dev/null; do
+        check "the machine on $(basename "$arrivals")" as_napi_machine "$arrivals"
+        check "the machine on $(basename "$arrivals"), other settings" as_napi_machine "$arrivals" processors=3 budget=7 weight=5 rx-nsecs=20000 rx-frames=9 \
+            defer-hard-irqs=2 gro-flush-timeout=15000 apart=1 app-wake=2000 use=900 wake=700
+    done
+    check 'the machine with queues' as_napi_machine "$scratch/flows.csv" queues=4 processors=2 backlog=1
+    check 'the machine with threads' as_napi_machine "$scratch/arrivals.csv" threaded=1 socket=3 ring=8
+    check 'the machine on what is cut' each_cut_as_napi_machine
+    check 'settings of the machine out of range' refuses_machine_settings
+else
+    cp "$scratch/log" "$scratch/build.log"
+    check 'napi_machine, which the machine is compared with' eval 'cat "$scratch/build.log"; false'
+fi
+
 # sanitized NAME FLAG: the examples and the random calls under a sanitizer.
 sanitized() {
     local name=$1 flag=$2 source program language
@@ -262,6 +324,11 @@ sanitized() {
     check "$name: answers at corners" compared "$scratch/cornered" "$scratch/sanitized"
     check "$name: types.cpp compiles" compile g++ "$top/tests/c/types.cpp" "$scratch/sanitized" -O1 -g "$flag" -fno-sanitize-recover=all "$wraps"
     check "$name: the types of C++" compared "$scratch/typed" "$scratch/sanitized"
+    check "$name: orders.c compiles" compile gcc "$top/tests/c/orders.c" "$scratch/sanitized" -O1 -g "$flag" -fno-sanitize-recover=all
+    check "$name: a driver in random orders" compared "$scratch/ordered" "$scratch/sanitized" 10000 1
+    check "$name: the machine compiles" compile gcc "$top/tests/c/machine.c" "$scratch/machine" -O1 -g "$flag" -fno-sanitize-recover=all
+    check "$name: the machine" as_napi_machine "$scratch/arrivals.csv"
+    check "$name: the machine on a fault" as_napi_machine "$scratch/falls.csv"
     check "$name: the replay compiles" compile gcc "$top/tests/c/replay.c" "$scratch/sanitized" -O1 -g "$flag" -fno-sanitize-recover=all
     check "$name: the replay" as_the_tool "$scratch/sanitized" "$scratch/long.csv" 300 64 1024
     check "$name: the replay of a fault" as_the_tool "$scratch/sanitized" "$scratch/pending.csv" 300 64 1024

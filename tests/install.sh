@@ -40,7 +40,10 @@ exports_calls_alone() {
 }
 
 # What came with 1.0 stays there: a program that was linked then asks for it by that version.
-stays_in_its_version() { [ "$(grep -c '@@FINTAQUSH_1\.0$' "$scratch/exported")" -ge 66 ] && grep -q '^fq_seat_poll@@FINTAQUSH_1\.0$' "$scratch/exported"; }
+stays_in_its_version() {
+    [ "$(grep -c '@@FINTAQUSH_1\.0$' "$scratch/exported")" -ge 66 ] && grep -q '^fq_seat_poll@@FINTAQUSH_1\.0$' "$scratch/exported" &&
+        grep -q '^fq_driver_next@@FINTAQUSH_1\.1$' "$scratch/exported" && grep -q '^fq_machine@@FINTAQUSH_1\.1$' "$scratch/exported"
+}
 
 # by_a_prefix_with_spaces: pkg-config prints it so that a shell can read it.
 by_a_prefix_with_spaces() {
@@ -272,7 +275,7 @@ if has dpkg-deb 'the Debian packages'; then
     check 'the library by itself' has_files "libfintaqush$major" "usr/lib/[^/]*-linux-gnu/libfintaqush.so.$version"
     check 'what programs are built with' has_files libfintaqush-dev 'usr/include/fintaqush.h' 'usr/lib/[^/]*-linux-gnu/libfintaqush.a' \
         'usr/lib/[^/]*-linux-gnu/pkgconfig/fintaqush.pc' 'usr/share/man/man3/fq_seat_end.3.gz' 'usr/share/doc/libfintaqush-dev/GUIDE.md' \
-        'usr/share/doc/libfintaqush-dev/examples/c/step4.c'
+        'usr/share/doc/libfintaqush-dev/examples/c/edge.c' 'usr/share/man/man3/fq_machine.3.gz' 'usr/share/man/man3/fq_driver_next.3.gz'
     if has lintian 'the packages by the rules of Debian'; then
         # but for the licence, which isn't chosen yet
         check 'the packages by the rules of Debian' lintian --allow-root --fail-on error,warning --suppress-tags no-copyright-file "${packages[@]}"

@@ -17,6 +17,8 @@ PLACES = {
     "device_rows/src/trace.rt": (2, "the next record: `NextRecord::OutOfMemory`"),
     "device_shared/src/opening.rt": (2, "the ring, the instance"),
     "device_transmit/src/transmit.rt": (1, "the transmit ring"),
+    "machine_c/src/fault.rt": (1, "an error of the machine, and the report's bytes, which a `Vec` takes"),
+    "machine_c/src/machine.rt": (2, "an error that `fault_status` names so; the message of a fault"),
     "machine_report/src/arrivals.rt": (2, "the next record: `NextRecord::OutOfMemory`"),
     "machine_report/src/fault.rt": (2, "`From<AllocError>`; `ReadError::OutOfMemory` of the reader"),
     "napi_c/src/ends.rt": (1, "a box"),

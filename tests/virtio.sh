@@ -18,11 +18,10 @@ if build plain; then
     printed_table 'examples/virtio/compare.sh' 10 '[a-z0-9, ]+ (driver|kernel) +[1-9][0-9]*( +[0-9]+){4}'
     # a wrong order of some nanoseconds is stretched to a millisecond, so that each run shows it
     mistake 'no look behind the unmask' 'nothing lies in the queues' virtio/virtio.c \
-        'must("end", fq_seat_end_watched(&side->seat, full, &side->calls, &next), FQ_OK);' 'must("end", fq_seat_end(&side->seat, full, &next), FQ_OK);
-    if (next == FQ_NEXT_GONE) usleep(1000), queue_unmask(side->queue);'
-    mistake 'a mask behind the hand-over' 'nothing lies in the queues' virtio/virtio.c \
-        'fq_seat_interrupt_masked(&side->irq, FQ_LIST, &side->calls)' 'fq_seat_interrupt(&side->irq, FQ_LIST)' \
-        '        hand(side);' '        hand(side), usleep(1000), queue_mask(side->queue);'
+        'case FQ_TODO_UNMASK: queue_unmask(side->queue); break;' 'case FQ_TODO_UNMASK: usleep(1000), queue_unmask(side->queue); break;' \
+        'case FQ_TODO_LOOK: todo.packets = queue_back(side->queue); break;' 'case FQ_TODO_LOOK: break;'
+    mistake 'a mask that comes too late' 'nothing lies in the queues' virtio/virtio.c \
+        'case FQ_TODO_UNMASK: queue_unmask(side->queue); break;' 'case FQ_TODO_UNMASK: queue_unmask(side->queue), queue_mask(side->queue); break;'
     mistake 'a completion told twice' 'no answer waits or is in flight' virtio/virtio.c \
         'must("done", ' 'must("once", fq_tx_done(&tx, count, now_ms()), FQ_OK);
     must("done", '

@@ -8,8 +8,9 @@ known."""
 import os
 from concurrent.futures import ThreadPoolExecutor
 
+from raising import text_of
 from reports import ROWS, object_of
-from toolbox import Progress, Refusal, run_program, text_of
+from toolbox import Progress, Refusal, run_program
 
 CONTROLS = ("open", "threaded", "disable", "enable")
 

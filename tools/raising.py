@@ -1,26 +1,58 @@
 """Adds runs to a trace: after a run with instances left on the poll list the kernel raises the softirq again (`net_rx_action`), while a
-trace has only the runs that were recorded."""
+trace has only the runs that were recorded. The package for Python has this file too, so it imports nothing of this folder."""
+from __future__ import annotations
 
-import re
+TYPE_CHECKING = False
+if TYPE_CHECKING:
+    from typing import Callable
 
-from toolbox import MOST_ROWS, Progress, Refusal, records_of, run_program, runs_of, text_of
+MOST_ROWS = 100000
 
-PENDING = re.compile(r"trace fault 12 Pending row (\d+)$")
 
-def is_softirq(row):
+class Pending(Exception):
+    """A trace whose row `row` enables an instance while a disable is pending (trace fault 12)."""
+
+    def __init__(self, row: int) -> None:
+        super().__init__(row)
+        self.row = row
+
+
+class TooManyRows(ValueError):
+    """A trace can't have all its runs."""
+
+
+def records_of(text: bytes) -> tuple[str, list[list[str]]]:
+    """Returns the header and the rows of a trace that the replay accepts, each as its four fields. No field of such a trace has a quote,
+    a comma or a newline in it."""
+    lines = [line for line in text.decode("utf-8-sig").replace("\r", "\n").split("\n") if line]
+    records = [[field.strip('"') for field in line.split(",")] for line in lines]
+    return ",".join(records[0]), records[1:]
+
+
+def text_of(header: str, rows: list[list[str]]) -> bytes:
+    """Returns the bytes of a trace."""
+    return "".join(f"{line}\n" for line in [header, *map(",".join, rows)]).encode()
+
+
+def polls_in(report: str) -> list[int]:
+    """Returns the polls of each run of a report, in order."""
+    return [int(line[3]) for line in map(str.split, report.splitlines()) if line[0] == "softirq"]
+
+
+def is_softirq(row: list[str]) -> bool:
     return row[2] == "softirq"
 
 
 class Raising:
-    """The rows of a trace, and how many runs are added after each softirq row."""
+    """The rows of a trace, and how many runs are added after each softirq row: one after each that leaves the list nonempty, until it is
+    empty or `restarts` were added. `replay` replays a trace, and returns its report or raises Pending."""
 
-    def __init__(self, text, program, words, restarts):
-        self.program, self.words, self.restarts = program, words, restarts
+    def __init__(self, text: bytes, replay: Callable[[bytes], str], restarts: int | None) -> None:
+        self.play, self.restarts = replay, restarts
         try:
-            run_program(program, words, text)  # the replay rejects a bad trace
-        except Refusal as error:
-            if not PENDING.match(str(error)):  # an error after the whole trace was read; with the added runs it may disappear
-                raise
+            replay(text)  # which rejects a bad trace
+        except Pending:  # after the whole trace was read; with the added runs it may disappear
+            pass
         self.header, self.rows = records_of(text)
         # The indices of the runs. A run that is followed by another at the same time already has its added run.
         self.runs = [place for place, row in enumerate(self.rows) if is_softirq(row) and self.rows[place + 1 : place + 2] != [row]]
@@ -30,12 +62,13 @@ class Raising:
         self.settled = 0  # the number of runs, from the first on, that have all the runs they need
         self.emptied = -1  # how many were settled when surplus runs were last removed
 
-    def softirq_rows(self):
+    def softirq_rows(self) -> list[int]:
         return [place for place, row in enumerate(self.rows) if is_softirq(row)]
 
-    def probes(self):
+    def probes(self) -> list[int]:
         """Returns how many rows to try after each unsettled run: as many as are after it already, while there is room."""
-        tried, behind = [], sum(self.raised[: self.settled])
+        tried: list[int] = []
+        behind = sum(self.raised[: self.settled])
         for number in range(self.settled, len(self.runs)):
             behind += self.raised[number]
             wanted = max(1, self.raised[number])
@@ -50,7 +83,7 @@ class Raising:
             behind += wanted
         return tried
 
-    def rows_with(self, counts, end):
+    def rows_with(self, counts: list[int], end: int) -> tuple[list[list[str]], list[int]]:
         """Returns the rows before index `end`, with the given number of runs after each softirq row, and the index of each among the trace's
         own rows."""
         rows, places = [], []
@@ -62,23 +95,22 @@ class Raising:
                 places.append(place)
         return rows, places
 
-    def replay(self, rows):
-        return run_program(self.program, self.words, text_of(self.header, rows))
+    def replay(self, rows: list[list[str]]) -> str:
+        return self.play(text_of(self.header, rows))
 
-    def polls_of(self, rows):
+    def polls_of(self, rows: list[list[str]]) -> list[int]:
         """Returns the polls of each run of these rows; only of those before an enable row that meets a pending disable, if an
         earlier run isn't settled yet."""
         try:
             report = self.replay(rows)
-        except Refusal as error:
-            pending = PENDING.match(str(error))
-            rows = rows[: int(pending[1]) - 1] if pending else []
+        except Pending as pending:
+            rows = rows[: pending.row - 1]
             if sum(map(is_softirq, rows)) <= self.own[self.settled] + sum(self.raised[: self.settled]):
                 raise
             report = self.replay(rows)
-        return [run[0] for _, run in sorted(runs_of(report).items())]
+        return polls_in(report)
 
-    def step(self):
+    def step(self) -> None:
         """Makes one replay. Runs that polled nothing found the list empty, so they are removed."""
         tried = self.probes()
         if not tried and self.emptied < self.settled:
@@ -107,30 +139,21 @@ class Raising:
             if is_exact:
                 self.settled = number + 1
 
-    def refuse_unless_empty(self):
+    def refuse_unless_empty(self) -> None:
         """Fails if a row would have to be added when there is no room: the list must be empty after the next run."""
         end = self.runs[self.settled] + 1
         rows, _ = self.rows_with(self.raised, end)
         report = self.replay(rows) if len(rows) <= MOST_ROWS else "list full"
         if "list" not in report.splitlines():
-            raise Refusal(f"with the runs that are raised there are more than {MOST_ROWS} rows")
+            raise TooManyRows(f"with the runs that are raised there are more than {MOST_ROWS} rows")
         self.settled += 1
 
-    def whole(self):
-        """Returns all rows with all runs, once nothing changes any more, and the index of each among the trace's own rows."""
+    def whole(self) -> tuple[bytes, list[int]]:
+        """Returns the trace with all its runs, once nothing changes any more, and for each of its rows the index among the own rows."""
         while self.settled < len(self.runs):
             self.step()
         rows, places = self.rows_with(self.raised, len(self.rows))
         if len(rows) > MOST_ROWS:
-            raise Refusal(f"with the runs that are raised there are {len(rows)} rows, and a trace has at most {MOST_ROWS}")
+            raise TooManyRows(f"with the runs that are raised there are {len(rows)} rows, and a trace has at most {MOST_ROWS}")
         self.replay(rows)  # an enable row after the last run may still meet a pending disable
-        return rows, places
-
-
-def raise_runs(text, program, words, restarts=None):
-    """Adds the runs that the kernel would make with these options: one after each softirq row that leaves the list nonempty, until it is
-    empty or `restarts` were added. Returns the trace's bytes, and for each row the index of the row that it belongs to."""
-    raising = Raising(text, program, words, restarts)
-    with Progress("raising runs", lambda: raising.settled / max(1, len(raising.runs))):
-        rows, places = raising.whole()
-    return text_of(raising.header, rows), places
+        return text_of(self.header, rows), places

@@ -12,14 +12,16 @@ import sys
 if signal.getsignal(signal.SIGINT) is signal.default_int_handler:  # unless it is ignored
     signal.signal(signal.SIGINT, signal.SIG_DFL)
 
+from raising import MOST_ROWS, Pending, Raising, TooManyRows
+
 TOP = os.path.dirname(os.path.dirname(os.path.realpath(__file__)))
 # The checkout; or the prefix of an installation, whose tools are in PREFIX/lib/fintaqush/tools.
 HOME = TOP if os.path.isdir(f"{TOP}/crates") else os.path.dirname(os.path.dirname(TOP))
-MOST_ROWS = 100000
 MOST_DEVICES = 16
 MOST_BYTES = 64 * 1024 * 1024  # of a trace or a report; the largest trace has 7 MB
 HEADERS = {"moment,device,event,value": 1, "moment,device,event,value,2": 2}
 RANGES = {"budget": 65535, "weight": 64, "window": 65535}  # docs/FORMATS.md, "The words"
+PENDING = "trace fault 12 Pending row "
 TICKS = {"ms": 1000, "us": 1000000}  # time units per second
 
 NAME = os.environ.get("FINTAQUSH_NAME", "")  # how scripts/subcommands.py was called, as `fintaqush plot`
@@ -511,23 +513,24 @@ def as_rows(key, value, numbers):
     return [{key: each, value: number} for each, number in numbers.items()]
 
 
-def records_of(text):
-    """Returns the header and the rows of a trace that the replay accepts, each as its four fields. No field of such a trace has a quote,
-    a comma or a newline in it."""
-    lines = [line for line in text.decode("utf-8-sig").replace("\r", "\n").split("\n") if line]
-    records = [[field.strip('"') for field in line.split(",")] for line in lines]
-    return ",".join(records[0]), records[1:]
+def raise_runs(text, made, words, restarts=None):
+    """Adds the runs that the kernel would make with these options: one after each softirq row that leaves the list nonempty, until it is
+    empty or `restarts` were added. Returns the trace's bytes, and for each row the index of the row that it belongs to."""
+    def replay(trace):
+        try:
+            return run_program(made, words, trace)
+        except Refusal as error:
+            pending = str(error).partition(PENDING)[2]
+            raise (Pending(int(pending)) if pending.isdecimal() else error) from None
 
-
-def text_of(header, rows):
-    """Returns the bytes of a trace."""
-    return "".join(f"{line}\n" for line in [header, *map(",".join, rows)]).encode()
-
-
-def runs_of(report):
-    """Returns for each softirq row of a report, by number: polls, work, and 1 if it was squeezed."""
-    return {int(line[1]): (int(line[3]), int(line[5]), int(line[7])) for line in map(str.split, report.splitlines())
-            if line[0] == "softirq"}
+    try:
+        raising = Raising(text, replay, restarts)
+        with Progress("raising runs", lambda: raising.settled / max(1, len(raising.runs))):
+            return raising.whole()
+    except Pending as pending:
+        raise Refusal(f"{PENDING}{pending.row}") from None
+    except TooManyRows as error:
+        raise Refusal(str(error)) from None
 
 
 def with_runs(arrivals, delay):

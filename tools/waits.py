@@ -1,8 +1,8 @@
 """How long packets wait, in rows of a trace: a ring is first in, first out, and the series has what each run took from each device."""
 
-from toolbox import records_of
-
 from collections import Counter, deque
+
+from raising import records_of
 
 
 def add_waits(rows, text):

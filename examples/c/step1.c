@@ -1,20 +1,46 @@
-/* Step 1 of docs/GUIDE.md: a receive ring. The card puts packets in, the driver polls them out, at most a weight at a time. */
+/* Step 1 of docs/GUIDE.md: a driver's loop, for one card. */
 #include <fintaqush.h>
 #include <stdio.h>
 
-enum { PLACES = 128, PACKETS = 150, WEIGHT = 64 };
+static unsigned waiting; /* packets that the card has */
+static bool masked = true;
+
+/* Packets arrive. The card interrupts unless it is masked. */
+static bool arrive(struct fq_handle *driver, unsigned packets) {
+    printf("%u packets arrive\n", packets);
+    waiting += packets;
+    return masked || fq_driver_interrupt(driver, 0) == FQ_GRANTED;
+}
+
+static uint32_t fetch(uint32_t most) {
+    const unsigned count = waiting < most ? waiting : most;
+    waiting -= count; /* here they would be passed to the network stack */
+    return count;
+}
+
+static void work(struct fq_handle *driver) {
+    struct fq_todo todo = FQ_TODO_INIT;
+    while (fq_driver_next(driver, &todo), todo.what != FQ_TODO_SLEEP) {
+        switch (todo.what) {
+        case FQ_TODO_MASK: masked = true; puts("  mask"); break;
+        case FQ_TODO_UNMASK: masked = false; puts("  unmask"); break;
+        case FQ_TODO_LOOK: todo.packets = waiting; printf("  look: %u packets\n", waiting); break;
+        case FQ_TODO_FETCH: todo.packets = fetch(todo.most); printf("  fetch: %u packets\n", todo.packets); break;
+        default: printf("  a run ended: %u polls, %u packets\n", todo.run.polls, todo.run.work);
+        }
+        fq_driver_done(driver, &todo);
+    }
+    puts("  sleep");
+}
 
 int main(void) {
-    struct fq_handle ring = FQ_NONE;
-    struct fq_packet out[WEIGHT];
-    size_t count;
-    unsigned dropped = 0;
-    if (fq_ring_new(&ring, PLACES) != FQ_OK) return 1;
-    for (uint64_t number = 0; number < PACKETS; number++) dropped += fq_ring_put(&ring, number, 60) == FQ_FULL;
-    printf("%d packets arrived, %u dropped\n", PACKETS, dropped);
-    do {
-        if (fq_ring_poll(&ring, WEIGHT, out, WEIGHT, &count) != FQ_OK) return 1;
-        printf("a poll: %zu packets\n", count);
-    } while (count == WEIGHT);
-    return fq_free(&ring) == FQ_OK ? 0 : 1;
+    struct fq_handle driver = FQ_NONE;
+    if (fq_driver_new(&driver, 1, 300, 64, 1024) != FQ_OK || fq_driver_open(&driver, 0) != FQ_OK) return 1;
+    if (!arrive(&driver, 3)) return 1; /* before the card is unmasked: without an interrupt */
+    work(&driver);
+    if (!arrive(&driver, 150)) return 1;
+    work(&driver);
+    if (fq_driver_stop(&driver, 0) != FQ_OK) return 1;
+    work(&driver);
+    return fq_free(&driver);
 }

@@ -21,7 +21,8 @@ struct port {
     struct device device;
     uint16_t id;
     bool switches; /* whether its driver turns the interrupt on and off; otherwise only epoll does */
-    struct rte_mbuf *waiting[WAITING];
+    struct rte_mbuf *seen[BURST], *waiting[WAITING];
+    uint16_t seens; /* packets that a look took from the card, for the next fetch */
     uint64_t first, let, behind; /* the limit has allowed the answers from first on, those from let on wait for it, and the
                                   * next one goes to `behind` */
     uint32_t freed;
@@ -72,28 +73,39 @@ static void give(struct device *device) {
     } while (port->freed);
 }
 
-/* ---- The card. It can't be checked for packets: a poll takes what it finds. */
+/* ---- The card. */
 
-static void mask(void *at) {
-    struct port *port = at;
+static void mask(struct device *device) {
+    struct port *port = (struct port *)device;
     if (port->switches && rte_eth_dev_rx_intr_disable(port->id, 0)) die("mask");
-    arm(at, EPOLL_CTL_MOD, false);
+    arm(device, EPOLL_CTL_MOD, false);
 }
 
-/* Later polls find the events that were reported until here. */
-static void unmask(void *at) {
-    struct port *port = at;
-    if (port->switches && ((void)!read(port->device.event, &(uint64_t){0}, 8), rte_eth_dev_rx_intr_enable(port->id, 0))) die("unmask");
-    arm(at, EPOLL_CTL_MOD, true);
+/* Looks and fetches after it find the events that were reported until here. */
+static void unmask(struct device *device) {
+    struct port *port = (struct port *)device;
+    if (port->switches && ((void)!read(device->event, &(uint64_t){0}, 8), rte_eth_dev_rx_intr_enable(port->id, 0))) die("unmask");
+    arm(device, EPOLL_CTL_MOD, true);
 }
 
-static size_t poll_card(void *at, size_t most) {
-    struct port *port = at;
+/* Some of DPDK's drivers can't say how many packets there are, but each can give some. */
+static uint32_t look(struct device *device) {
+    struct port *port = (struct port *)device;
+    if (!port->seens) port->seens = rte_eth_rx_burst(port->id, 0, port->seen, BURST);
+    return port->seens;
+}
+
+static uint32_t fetch(struct device *device, uint32_t most) {
+    struct port *port = (struct port *)device;
     struct rte_mbuf *got[WEIGHT];
-    const uint16_t count = rte_eth_rx_burst(port->id, 0, got, (uint16_t)most);
-    for (uint16_t i = 0; i < count; i++) use(port, got[i]);
-    give(at);
-    return count;
+    uint32_t count = 0;
+    for (; count < port->seens && count < most; count++) use(port, port->seen[count]);
+    memmove(port->seen, port->seen + count, (port->seens - count) * sizeof *port->seen);
+    port->seens -= (uint16_t)count;
+    const uint16_t more = count < most ? rte_eth_rx_burst(port->id, 0, got, (uint16_t)(most - count)) : 0;
+    for (uint16_t i = 0; i < more; i++) use(port, got[i]);
+    give(device);
+    return count + more;
 }
 
 /* ---- Without NAPI, for comparison. */
@@ -101,9 +113,7 @@ static size_t poll_card(void *at, size_t most) {
 static bool bursts(void) {
     bool any = false;
     for (uint32_t i = 0; i < count_of_devices; i++) {
-        const size_t count = poll_card(devices[i], BURST);
-        devices[i]->packets += count, devices[i]->polls++;
-        any |= count > 0;
+        any |= fetch_from(devices[i], BURST) > 0;
     }
     return any;
 }
@@ -133,9 +143,8 @@ static void open_port(struct port *port) {
         rte_eth_tx_queue_setup(port->id, 0, RING, SOCKET_ID_ANY, NULL) || rte_eth_dev_start(port->id)) die("port");
     rte_eth_promiscuous_enable(port->id);
     port->device.event = rte_eth_dev_rx_intr_ctl_q_get_fd(port->id, 0);
-    port->switches = rte_eth_dev_rx_intr_enable(port->id, 0) == 0;
-    port->device.card = (struct fq_card){port, mask, unmask, NULL, poll_card};
-    port->device.give = give;
+    port->switches = rte_eth_dev_rx_intr_enable(port->id, 0) == 0 && rte_eth_dev_rx_intr_disable(port->id, 0) == 0;
+    port->device.mask = mask, port->device.unmask = unmask, port->device.look = look, port->device.fetch = fetch, port->device.give = give;
     open_device(&port->device, WAITING, least);
 }
 
@@ -173,7 +182,7 @@ int main(int count, char **words) {
     atomic_store(&ended, true);
     if (two_threads) pthread_join(thread, NULL);
     for (uint32_t i = 0; i < count_of_devices; i++) close_port((struct port *)devices[i]);
-    must("free", fq_free(&list), FQ_OK);
+    must("free", fq_free(&driver), FQ_OK);
     rte_eal_cleanup();
     return fflush(stdout) ? 1 : 0;
 }

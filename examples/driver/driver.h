@@ -1,8 +1,8 @@
-/* What the drivers of examples/xdp and examples/dpdk share, whatever their card is: the request for a poll, the poller's
- * runs, the queue limit, enable and disable.
+/* What the drivers of examples/xdp and examples/dpdk share, whatever their card is: events, the library's driver, the queue limit, open
+ * and stop.
  *
- * The interrupt thread waits for the cards' events, and requests polls. The poller has the list, makes the polls of runs
- * itself, and is the controller too; with one thread it also waits for the events. Each count is written by only one thread. */
+ * The interrupt thread waits for the cards' events, and raises the bits of their devices. The poller reports these to the library's
+ * driver, and does what that asks for; with one thread it also waits for the events. Each count is written by only one thread. */
 #ifndef DRIVER_H
 #define DRIVER_H
 
@@ -24,24 +24,23 @@ enum { DEVICES = 16, WEIGHT = 64, WINDOW = 1024, HOLD_MS = 1000, STUCK_MS = 5000
 enum wanted { ON, OFF, END };
 
 struct device {
-    struct fq_card card; /* the argument of all its calls */
     uint32_t id;
-    int event;                           /* the file that becomes readable when the card interrupts */
-    void (*give)(struct device *device); /* sends what waits, and reports what the card has completed */
-    alignas(APART) struct fq_handle interrupt; /* from here on used by the interrupt thread */
-    unsigned long interrupts, granted, missed, disabled;
-    alignas(APART) struct fq_handle poller; /* from here on used by the poller */
-    struct fq_handle control, limit;
+    int event;                                                     /* the file that becomes readable when the card interrupts */
+    void (*mask)(struct device *device), (*unmask)(struct device *device);
+    uint32_t (*look)(struct device *device);                       /* how many packets are there, or whether there are any */
+    uint32_t (*fetch)(struct device *device, uint32_t most);       /* takes at most so many, uses them, and returns how many */
+    void (*give)(struct device *device);                           /* sends what waits, and reports what the card has completed */
+    alignas(APART) unsigned long interrupts; /* from here on used by the interrupt thread */
+    alignas(APART) struct fq_handle limit;   /* from here on used by the poller */
     struct fq_tx_watchdog watchdog;
-    bool on, stopping;
-    unsigned long polls, packets, full, again, answered, sent, done, held;
+    unsigned long granted, missed, disabled, polls, packets, full, answered, sent, done, held;
 };
 
 static struct device *devices[DEVICES];
 static uint32_t count_of_devices, budget = 300;
 static bool one_thread;
-static struct fq_handle list;
-static alignas(APART) struct fq_word handed; /* the devices that have to be listed */
+static struct fq_handle driver;
+static alignas(APART) struct fq_word interrupted; /* a bit for each device whose card has interrupted */
 static atomic_int wanted;
 static atomic_bool ended;
 static int wake, card_events, poller_events;
@@ -77,26 +76,14 @@ static inline void wake_poller(void) {
     if (write(wake, &(uint64_t){1}, 8) != 8 && errno != EAGAIN) die("wake");
 }
 
-/* Requests a poll by one of the seats. If that is granted, the card is masked, and then the poller lists the device. */
-static inline uint32_t request(struct device *device, struct fq_handle *seat) {
-    const uint32_t said = fq_seat_interrupt_masked(seat, FQ_LIST, &device->card);
-    if (said != FQ_MISSED && said != FQ_DISABLED) must("request", said, FQ_GRANTED);
-    if (said == FQ_GRANTED && fq_word_raise(&handed, device->id) && !one_thread) wake_poller();
-    return said;
-}
-
 /* Waits at most this many milliseconds. */
 static inline void wait_events(int events, int ms) {
     struct epoll_event got[DEVICES + 1];
     const int count = epoll_wait(events, got, DEVICES + 1, ms);
     for (int i = 0; i < count; i++) {
         struct device *device = got[i].data.ptr;
-        if (!device) {
-            (void)!read(wake, &(uint64_t){0}, 8);
-            continue;
-        }
-        const uint32_t said = request(device, &device->interrupt);
-        device->interrupts++, device->granted += said == FQ_GRANTED, device->missed += said == FQ_MISSED, device->disabled += said == FQ_DISABLED;
+        if (!device) (void)!read(wake, &(uint64_t){0}, 8);
+        else if (device->interrupts++, fq_word_raise(&interrupted, device->id) && !one_thread) wake_poller();
     }
 }
 
@@ -133,59 +120,63 @@ static inline void watch(struct device *device) {
 
 /* ---- Polls. */
 
-/* A card that can be checked for packets is checked after its unmask; another one is unmasked before its last poll. */
-static inline void poll_device(struct device *device) {
-    uint32_t next;
-    must("take", fq_seat_take(&device->poller, FQ_LIST), FQ_TAKEN);
-    size_t work = device->card.poll(device, WEIGHT);
-    if (device->card.look) must("end", fq_seat_end_watched(&device->poller, work == WEIGHT, &device->card, &next), FQ_OK);
-    else must("end", fq_seat_end_unmasked(&device->poller, &device->card, WEIGHT, &work, &next), FQ_OK);
-    must("polled", fq_run_polled(&list, (uint32_t)work, next), FQ_OK);
-    device->polls++, device->packets += work, device->full += next == FQ_NEXT_REPOLL, device->again += next == FQ_NEXT_AGAIN;
-}
-
-/* A run over the listed devices; returns whether the list isn't empty. */
-static inline bool run(void) {
-    struct fq_run_report report;
-    uint32_t id, left;
-    for (uint64_t bits = fq_word_take(&handed); bits; bits &= bits - 1) must("push", fq_list_push(&list, (uint32_t)__builtin_ctzll(bits)), FQ_OK);
-    must("begin", fq_run_begin(&list, budget, WEIGHT, WINDOW), FQ_OK);
-    while (fq_run_next(&list, &id) == FQ_OK) poll_device(devices[id]);
-    must("end", fq_run_end(&list, &report), FQ_OK);
-    must("len", fq_list_len(&list, &left), FQ_OK);
-    runs += report.polls > 0, squeezed += report.squeezed;
-    return left > 0;
-}
-
-/* A step of a device towards the wanted state; returns whether it is reached. A disable that has begun ends first. After an
- * enable a poll is requested once, for packets that arrived before. */
-static inline bool step(struct device *device, bool on) {
-    if (device->on != on || device->stopping) {
-        const uint32_t said = fq_control_step(&device->control, !device->on, false);
-        device->stopping = said == FQ_BUSY;
-        if (device->stopping) return false;
-        must("step", said, FQ_OK);
-        device->on = !device->on;
-        if (device->on) request(device, &device->poller);
+static inline void report_interrupts(void) {
+    for (uint64_t bits = fq_word_take(&interrupted); bits; bits &= bits - 1) {
+        struct device *device = devices[__builtin_ctzll(bits)];
+        const uint32_t said = fq_driver_interrupt(&driver, device->id);
+        device->granted += said == FQ_GRANTED, device->missed += said == FQ_MISSED, device->disabled += said == FQ_DISABLED;
+        if (said != FQ_MISSED && said != FQ_DISABLED) must("interrupt", said, FQ_GRANTED);
     }
-    return device->on == on;
 }
 
-/* Runs until the end is wanted, all devices are disabled, and all answers are sent. There is no interrupt for completed
+static inline uint32_t fetch_from(struct device *device, uint32_t most) {
+    const uint32_t count = device->fetch(device, most);
+    device->polls++, device->packets += count, device->full += count == most;
+    return count;
+}
+
+/* Does what is due, until a run ends; returns false if nothing is. */
+static inline bool run(void) {
+    struct fq_todo todo = FQ_TODO_INIT;
+    while (report_interrupts(), fq_driver_next(&driver, &todo), todo.what != FQ_TODO_SLEEP) {
+        struct device *device = devices[todo.device];
+        switch (todo.what) {
+        case FQ_TODO_MASK: device->mask(device); break;
+        case FQ_TODO_UNMASK: device->unmask(device); break;
+        case FQ_TODO_LOOK: todo.packets = device->look(device); break;
+        case FQ_TODO_FETCH: todo.packets = fetch_from(device, todo.most); break;
+        default: return runs++, squeezed += todo.run.squeezed, true;
+        }
+        fq_driver_done(&driver, &todo);
+    }
+    return false;
+}
+
+/* Opens or stops a device; returns whether it is done. A stop that has begun ends first. */
+static inline bool step(struct device *device, bool on) {
+    struct fq_device_shown shown = {.size = sizeof shown};
+    const uint32_t said = on ? fq_driver_open(&driver, device->id) : fq_driver_stop(&driver, device->id);
+    if (said != FQ_NOT_DUE) must("step", said, FQ_OK);
+    must("show", fq_driver_show(&driver, device->id, &shown), FQ_OK);
+    return shown.state == (on ? FQ_DEVICE_OPEN : FQ_DEVICE_CLOSED);
+}
+
+/* Runs until the end is wanted, all devices are closed, and all answers are sent. There is no interrupt for completed
  * sends. */
 static inline void poller(const char *name) {
     enum wanted told = OFF;
     for (bool more = true, there = false, complete = true;;) {
-        wait_events(poller_events, more || fq_word_any(&handed) ? 0 : there && complete ? -1 : 1);
-        more = run();
+        wait_events(poller_events, more || fq_word_any(&interrupted) ? 0 : there && complete ? -1 : 1);
         const enum wanted now = (enum wanted)atomic_load(&wanted);
         bool sent = true;
         there = complete = true;
+        for (uint32_t i = 0; i < count_of_devices; i++) there &= step(devices[i], now == ON);
+        more = run();
         for (uint32_t i = 0; i < count_of_devices; i++) {
             struct device *device = devices[i];
             device->give(device);
             watch(device);
-            there &= step(device, now == ON), sent &= device->sent == device->answered, complete &= device->done == device->answered;
+            sent &= device->sent == device->answered, complete &= device->done == device->answered;
         }
         if (there && now == END && sent) return;
         if (there && now != told) fprintf(stderr, "%s: %s\n", name, (told = now) == ON ? "on" : "off");
@@ -194,7 +185,7 @@ static inline void poller(const char *name) {
 
 /* ---- Start and end. */
 
-/* SIGHUP disables and enables in turn, SIGINT ends. */
+/* SIGHUP stops and opens in turn, SIGINT ends. */
 static inline void tell(int signal) {
     const int kept = errno;
     if (signal == SIGHUP) atomic_fetch_xor(&wanted, OFF);
@@ -211,38 +202,29 @@ static inline bool set(uint32_t *number, const char *word, uint32_t least, uint3
 }
 
 static inline void open_driver(void) {
-    must("list", fq_list_new(&list), FQ_OK);
+    must("driver", fq_driver_new(&driver, DEVICES, budget, WEIGHT, WINDOW), FQ_OK);
     if ((wake = eventfd(0, EFD_NONBLOCK)) < 0 || (card_events = epoll_create1(0)) < 0) die("events");
     poller_events = one_thread ? card_events : epoll_create1(0);
     if (poller_events < 0 || epoll_ctl(poller_events, EPOLL_CTL_ADD, wake, &(struct epoll_event){.events = EPOLLIN})) die("events");
     signal(SIGINT, tell), signal(SIGTERM, tell), signal(SIGHUP, tell);
 }
 
-/* Makes an instance of two seats, whose handles are apart because each thread writes its own; and a limit for this many
- * frames, which allows at least this many bytes. */
+/* Makes a limit for this many frames, which allows at least this many bytes. */
 static inline void open_device(struct device *device, uint32_t frames, uint32_t least) {
-    struct fq_handle seats[2] = {FQ_NONE, FQ_NONE};
-    must("instance", fq_shared_bare(&device->control, seats, 2), FQ_OK);
-    must("seat", fq_move(&seats[0], &device->interrupt), FQ_OK);
-    must("seat", fq_move(&seats[1], &device->poller), FQ_OK);
     must("limit", fq_tx_new(&device->limit, frames, least, 1879048192, HOLD_MS, now_ms()), FQ_OK);
-    device->card.at = device;
     device->id = count_of_devices;
     devices[count_of_devices++] = device;
-    arm(device, EPOLL_CTL_ADD, true);
+    arm(device, EPOLL_CTL_ADD, false);
 }
 
 /* Prints what it counted, in two lines. */
 static inline void close_device(struct device *device) {
     struct fq_tx_shown shown;
     must("state", fq_tx_state(&device->limit, &shown), FQ_OK);
-    printf("interrupts %lu granted %lu missed %lu disabled %lu | packets %lu polls %lu full %lu again %lu runs %lu squeezed %lu\n", device->interrupts,
-        device->granted, device->missed, device->disabled, device->packets, device->polls, device->full, device->again, runs, squeezed);
+    printf("interrupts %lu granted %lu missed %lu disabled %lu | packets %lu polls %lu full %lu runs %lu squeezed %lu\n", device->interrupts,
+        device->granted, device->missed, device->disabled, device->packets, device->polls, device->full, runs, squeezed);
     printf("answered %lu sent %lu done %lu held %lu limit %u in_flight %u\n", device->answered, device->sent, device->done, device->held, shown.limit,
         shown.queued - shown.completed);
-    must("free", fq_free(&device->control), FQ_OK);
-    must("free", fq_free(&device->interrupt), FQ_OK);
-    must("free", fq_free(&device->poller), FQ_OK);
     must("free", fq_free(&device->limit), FQ_OK);
 }
 #endif

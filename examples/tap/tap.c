@@ -1,8 +1,8 @@
 /* A driver in user space: the network card of a Linux TAP device, whose far host 10.99.0.2 answers ARP, pings and UDP to port 7.
  *
- * The card thread waits with epoll, reads frames into the receive ring of their queue, and interrupts. The poller has the poll
- * list, polls by driven runs under a budget, and sends the answers under byte queue limits (sender.h). It also
- * disables and enables: SIGHUP does either in turn, SIGINT disables, drains, and ends. docs/EXAMPLES.md has the words. */
+ * The card thread waits with epoll, reads frames into the receive ring of their queue, and interrupts. The poller reports the interrupts
+ * to the library's driver, does what that asks for, and sends the answers under byte queue limits (sender.h). It also stops and opens:
+ * SIGHUP does either in turn, SIGINT stops, drains, and ends. docs/EXAMPLES.md has the words. */
 #define _GNU_SOURCE
 #include "answer.h"
 #include "sender.h"
@@ -21,29 +21,30 @@
 
 enum { QUEUES = 16, BURST = 256, TICK_NS = 1000000 };
 enum wanted { ON, OFF, END };
-enum state { ENABLED, MARKED, DISABLED };
-enum { CARD = 0, POLLER = 1, STOP = QUEUES, WAKE, TIMER };
+enum { STOP = QUEUES, WAKE, TIMER };
 
 struct queue {
     int tap;
     size_t number;
     uint8_t (*frames)[FRAME]; /* for what the ring holds, what a poll returned, and the frame that is being read, in turn */
-    struct fq_handle ring, control, seats[2];
-    alignas(64) uint64_t next; /* from here on used by the card thread */
-    unsigned long read, full, granted, missed, disabled;
-    alignas(64) enum state state; /* from here on used by the poller */
-    unsigned long packets, polls, again, drained;
+    alignas(128) struct fq_handle ring; /* the input of its ring; from here on used by the card thread */
+    uint64_t next;
+    unsigned long read, full;
+    _Atomic uint64_t put; /* packets in its ring so far, which the poller reads too */
+    alignas(128) struct fq_handle out; /* the poll end; from here on used by the poller */
+    uint64_t taken;
+    unsigned long granted, missed, disabled, packets, polls, again, drained;
     struct sender sender;
 };
 
 static struct { const char *dev; size_t queues, ring; uint32_t budget; uint64_t rate; unsigned seconds; bool mask, one, plain, direct; } set =
     {.dev = "fq0", .queues = 1, .ring = 512, .budget = 300};
 static struct queue queues[QUEUES];
-static struct fq_handle list;
+static struct fq_handle driver;
 static struct trace trace;
 static unsigned long runs, squeezed;
 static int card_events, poller_events, wake, stop, timer;
-static alignas(64) _Atomic uint64_t handed; /* a bit for each queue that has to be listed */
+static alignas(128) struct fq_word interrupted; /* a bit for each queue whose card has interrupted */
 static atomic_int wanted;
 static atomic_bool ended;
 
@@ -60,21 +61,16 @@ static void arm(struct queue *queue, int operation) {
     watch(card_events, operation, queue->tap, EPOLLIN | (set.mask ? EPOLLONESHOT : 0), (uint32_t)queue->number);
 }
 
-/* Requests a poll by one of the seats; if it is granted and handed over, the poller lists it. */
-static uint32_t interrupt(struct queue *queue, size_t seat) {
-    const uint32_t said = fq_seat_interrupt(&queue->seats[seat], FQ_LIST);
-    if (said != FQ_GRANTED) return said;
-    atomic_fetch_or(&handed, UINT64_C(1) << queue->number);
-    if (!set.one) raise_event(wake);
-    return said;
+static void report(struct queue *queue) {
+    const uint32_t said = fq_driver_interrupt(&driver, (uint32_t)queue->number);
+    queue->granted += said == FQ_GRANTED, queue->missed += said == FQ_MISSED, queue->disabled += said == FQ_DISABLED;
+    if (said != FQ_MISSED && said != FQ_DISABLED) must("interrupt", said, FQ_GRANTED);
 }
 
-static void card_interrupt(struct queue *queue) {
-    const uint32_t said = interrupt(queue, CARD);
-    if (said == FQ_GRANTED) queue->granted++;
-    else if (said == FQ_MISSED) queue->missed++;
-    else if (said == FQ_DISABLED) queue->disabled++;
-    else must("interrupt", said, FQ_GRANTED);
+/* With one thread each interrupt is reported at once. The card thread raises a bit, and wakes the poller. */
+static void interrupt(struct queue *queue) {
+    if (set.one) report(queue);
+    else if (fq_word_raise(&interrupted, (uint32_t)queue->number)) raise_event(wake);
 }
 
 /* The card: frames go into the ring, each with an interrupt or, with --mask, one for all. With --direct the poll reads them. */
@@ -91,9 +87,10 @@ static void card(struct queue *queue) {
         }
         must("put", said, FQ_OK);
         queue->next = (queue->next + 1) % (set.ring + WEIGHT + 1);
-        if (!set.mask) card_interrupt(queue);
+        queue->put++;
+        if (!set.mask) interrupt(queue);
     }
-    if (set.mask) card_interrupt(queue);
+    if (set.mask) interrupt(queue);
 }
 
 static void use(struct queue *queue, uint8_t *frame, uint32_t bytes) {
@@ -115,87 +112,52 @@ static size_t read_all(struct queue *queue, size_t most) {
     return count;
 }
 
-static size_t poll_ring(struct queue *queue) {
+static size_t poll_ring(struct queue *queue, size_t most) {
     struct fq_packet packets[WEIGHT];
     size_t count;
-    must("poll", fq_seat_poll(&queue->seats[POLLER], WEIGHT, packets, WEIGHT, &count), FQ_OK);
+    must("poll", fq_ring_poll(&queue->out, most, packets, WEIGHT, &count), FQ_OK);
     for (size_t i = 0; i < count; i++) use(queue, queue->frames[packets[i].number], packets[i].bytes);
+    queue->taken += count;
     return count;
 }
 
-/* Ends a poll: after one of the whole weight the instance is requeued, unless a disable is pending; any other completes, and
- * the interrupt is enabled again. */
-static enum fq_next end_poll(struct queue *queue, bool whole) {
-    struct fq_handle *seat = &queue->seats[POLLER];
-    uint32_t said;
-    if (whole && queue->state == ENABLED) {
-        must("requeue", fq_seat_requeue(seat), FQ_OK);
-        return FQ_NEXT_REPOLL;
-    }
-    do said = fq_seat_complete(seat);
-    while (said == FQ_CHANGED);
-    if (said == FQ_AGAIN) {
-        queue->again++;
-        must("hand", fq_seat_hand(seat, FQ_LIST), FQ_OK);
-        return FQ_NEXT_AGAIN;
-    }
-    must("complete", said, FQ_RELEASED);
-    if (set.mask) arm(queue, EPOLL_CTL_MOD);
-    return FQ_NEXT_GONE;
+/* A poll; it is followed by another one if an interrupt was missed. */
+static uint32_t fetch(struct queue *queue, uint32_t most) {
+    struct fq_device_shown shown = {.size = sizeof shown};
+    must("show", fq_driver_show(&driver, (uint32_t)queue->number, &shown), FQ_OK);
+    const size_t count = set.direct ? read_all(queue, most) : poll_ring(queue, most);
+    queue->polls++;
+    queue->again += shown.missed && (count < most || shown.state == FQ_DEVICE_STOPPING);
+    return (uint32_t)count;
 }
 
-/* A run of the softirq over the listed queues. Returns whether it polled anything: then another one follows. */
+/* Does what is due, until a run ends; returns false if nothing is. What is still in the device epoll reports when it is armed. A trace has
+ * no row for a look: what came while a queue was stopped is polled after the next packet there. */
 static bool run(void) {
-    struct fq_run_report report;
-    uint32_t id;
-    for (uint64_t bits = atomic_exchange(&handed, 0); bits; bits &= bits - 1) must("push", fq_list_push(&list, (uint32_t)__builtin_ctzll(bits)), FQ_OK);
-    must("begin", fq_run_begin(&list, set.budget, WEIGHT, WINDOW), FQ_OK);
-    while (fq_run_next(&list, &id) == FQ_OK) {
-        struct queue *queue = &queues[id];
-        must("take", fq_seat_take(&queue->seats[POLLER], FQ_LIST), FQ_TAKEN);
-        const size_t count = set.direct ? read_all(queue, WEIGHT) : poll_ring(queue);
-        queue->polls++;
-        must("polled", fq_run_polled(&list, (uint32_t)count, end_poll(queue, count == WEIGHT)), FQ_OK);
+    struct fq_todo todo = FQ_TODO_INIT;
+    for (uint64_t bits = fq_word_take(&interrupted); bits; bits &= bits - 1) report(&queues[__builtin_ctzll(bits)]);
+    while (fq_driver_next(&driver, &todo), todo.what != FQ_TODO_SLEEP && todo.what != FQ_TODO_ENDED) {
+        struct queue *queue = &queues[todo.device];
+        if (todo.what == FQ_TODO_FETCH) todo.packets = fetch(queue, todo.most);
+        if (todo.what == FQ_TODO_UNMASK && set.mask) arm(queue, EPOLL_CTL_MOD);
+        if (todo.what == FQ_TODO_LOOK) todo.packets = queue->put != queue->taken && !trace.file;
+        fq_driver_done(&driver, &todo);
     }
-    must("end", fq_run_end(&list, &report), FQ_OK);
-    if (report.polls) row(&trace, now_ms(), 0, "softirq", 0);
+    if (todo.what == FQ_TODO_ENDED) row(&trace, now_ms(), 0, "softirq", 0), runs++, squeezed += todo.run.squeezed;
     for (size_t i = 0; i < set.queues; i++) send_answers(&queues[i]);
-    runs += report.polls > 0;
-    squeezed += report.squeezed;
-    return report.polls > 0;
+    return todo.what == FQ_TODO_ENDED;
 }
 
-/* napi_enable, and a poll for what arrived before it; a trace has no row for that, so then the next packet requests it. */
-static void enable(struct queue *queue) {
-    uint32_t said;
-    do said = fq_control_enable(&queue->control, false);
-    while (said == FQ_CHANGED);
-    must("enable", said, FQ_OK);
-    row(&trace, now_ms(), queue->number + 1, "enable", 0);
-    queue->state = ENABLED;
-    if (!trace.file) interrupt(queue, POLLER);
-}
-
-/* A step of napi_disable: it is marked once, and then taken as soon as no caller owns it. */
-static void disable_step(struct queue *queue) {
-    if (queue->state == ENABLED) {
-        must("mark", fq_control_mark(&queue->control), FQ_OK);
-        row(&trace, now_ms(), queue->number + 1, "disable", 0);
-        queue->state = MARKED;
-    }
-    const uint32_t said = fq_control_try_take(&queue->control);
-    if (said == FQ_TAKEN) queue->state = DISABLED;
-    else if (said != FQ_BUSY) must("disable", said, FQ_CHANGED);
-}
-
-/* Makes a step towards the wanted state. Returns whether all queues have reached it. */
-static bool control(enum wanted now) {
+/* Opens or stops all queues. Returns whether that is done. */
+static bool control(bool on) {
     bool there = true;
-    for (size_t i = 0; i < set.queues; i++) {
-        struct queue *queue = &queues[i];
-        if (now == ON && queue->state == DISABLED) enable(queue);
-        if (queue->state == MARKED || (now != ON && queue->state == ENABLED)) disable_step(queue);
-        there &= queue->state == (now == ON ? ENABLED : DISABLED);
+    for (uint32_t i = 0; i < set.queues; i++) {
+        struct fq_device_shown shown = {.size = sizeof shown};
+        const uint32_t said = on ? fq_driver_open(&driver, i) : fq_driver_stop(&driver, i);
+        if (said == FQ_OK) row(&trace, now_ms(), i + 1, on ? "enable" : "disable", 0);
+        else must("control", said, FQ_NOT_DUE);
+        must("show", fq_driver_show(&driver, i, &shown), FQ_OK);
+        there &= shown.state == (on ? FQ_DEVICE_OPEN : FQ_DEVICE_CLOSED);
     }
     return there;
 }
@@ -214,7 +176,7 @@ static void *poller(void *at) {
     struct epoll_event events[QUEUES + 3];
     enum wanted told = ON;
     for (bool again = false, there = true;;) {
-        const int count = epoll_wait(poller_events, events, QUEUES + 3, again || atomic_load(&handed) ? 0 : there ? -1 : 1);
+        const int count = epoll_wait(poller_events, events, QUEUES + 3, again || fq_word_any(&interrupted) ? 0 : there ? -1 : 1);
         for (int i = 0; i < count; i++) {
             const uint32_t from = events[i].data.u32;
             if (from == TIMER) tick();
@@ -222,9 +184,9 @@ static void *poller(void *at) {
             else if (from < QUEUES && set.plain) read_all(&queues[from], BURST), send_answers(&queues[from]);
             else if (from < QUEUES) card(&queues[from]);
         }
-        again = run();
         const enum wanted now = (enum wanted)atomic_load(&wanted);
-        there = control(now);
+        there = control(now == ON);
+        again = run();
         if (there && now == END) break;
         if (there && now != told) fprintf(stderr, "tap: %s\n", (told = now) == ON ? "on" : "off");
         if (trace.rows >= MOST_ROWS && kill(getpid(), SIGTERM)) die("kill");
@@ -252,41 +214,27 @@ static void open_queue(struct queue *queue, size_t number, uint64_t moment) {
     if (ioctl(queue->tap, TUNSETIFF, &request)) die(set.dev);
     if (!(queue->frames = malloc(sizeof(uint8_t[set.ring + WEIGHT + 1][FRAME])))) die("memory");
     must("ring", fq_ring_new(&queue->ring, set.ring), FQ_OK);
-    must("instance", fq_shared_new(&queue->ring, &queue->control, queue->seats, 2), FQ_OK);
-    must("enable", fq_control_enable(&queue->control, false), FQ_OK);
+    must("ends", fq_ring_split(&queue->ring, &queue->out), FQ_OK);
+    must("open", fq_driver_open(&driver, (uint32_t)number), FQ_OK);
     sender_open(&queue->sender, queue->tap, number + 1, set.ring, moment, &trace);
     row(&trace, moment, number + 1, "open", set.ring);
 }
 
-/* Polls what is left in the ring of a disabled queue, and sends what waits. */
+/* Takes what is left in the ring of a closed queue, and sends what waits. */
 static void drain(struct queue *queue) {
-    struct fq_handle *seat = &queue->seats[POLLER];
     struct fq_packet packets[WEIGHT];
     size_t count;
-    uint32_t said;
-    must("enable", fq_control_enable(&queue->control, false), FQ_OK);
-    must("interrupt", fq_seat_interrupt(&queue->seats[CARD], FQ_LIST), FQ_GRANTED);
     do {
-        must("take", fq_seat_take(seat, FQ_LIST), FQ_TAKEN);
-        do {
-            must("poll", fq_seat_poll(seat, WEIGHT, packets, WEIGHT, &count), FQ_OK);
-            queue->drained += count;
-        } while (count == WEIGHT);
-        said = fq_seat_complete(seat);
-        if (said == FQ_AGAIN) must("hand", fq_seat_hand(seat, FQ_LIST), FQ_OK);
-    } while (said == FQ_AGAIN);
-    must("complete", said, FQ_RELEASED);
-    must("mark", fq_control_mark(&queue->control), FQ_OK);
-    must("disable", fq_control_try_take(&queue->control), FQ_TAKEN);
+        must("poll", fq_ring_poll(&queue->out, WEIGHT, packets, WEIGHT, &count), FQ_OK);
+        queue->drained += count;
+    } while (count == WEIGHT);
     sender_flush(&queue->sender);
 }
 
 static void close_queue(struct queue *queue) {
     free(queue->sender.frames);
-    must("free", fq_free(&queue->control), FQ_OK);
-    must("free", fq_free(&queue->seats[CARD]), FQ_OK);
-    must("free", fq_free(&queue->seats[POLLER]), FQ_OK);
     must("free", fq_free(&queue->ring), FQ_OK);
+    must("free", fq_free(&queue->out), FQ_OK);
     free(queue->frames);
     close(queue->tap);
 }
@@ -352,7 +300,7 @@ static void read_words(int count, char **words) {
 
 static void open_all(void) {
     const uint64_t moment = now_ms();
-    must("list", fq_list_new(&list), FQ_OK);
+    must("driver", fq_driver_new(&driver, QUEUES, set.budget, WEIGHT, WINDOW), FQ_OK);
     for (size_t i = 0; i < set.queues; i++) open_queue(&queues[i], i, moment);
     if ((poller_events = epoll_create1(0)) < 0 || (card_events = set.one ? poller_events : epoll_create1(0)) < 0) die("epoll");
     if ((wake = eventfd(0, 0)) < 0 || (stop = eventfd(0, 0)) < 0 || (timer = timerfd_create(CLOCK_MONOTONIC, TFD_NONBLOCK)) < 0) die("eventfd");
@@ -385,7 +333,7 @@ int main(int count, char **words) {
     for (size_t i = 0; i < set.queues; i++) drain(&queues[i]);
     print();
     for (size_t i = 0; i < set.queues; i++) close_queue(&queues[i]);
-    must("free", fq_free(&list), FQ_OK);
+    must("free", fq_free(&driver), FQ_OK);
     if (trace.file && fclose(trace.file)) die("trace");
     return fflush(stdout) ? 1 : 0;
 }

@@ -206,10 +206,12 @@ static inline struct vring_used_elem queue_next(struct queue *queue) {
     return next;
 }
 
-/* ---- The library's callbacks for a queue (struct fq_card). The card sees a mask with a delay. */
+/* ---- A queue's interrupt. The card sees a mask with a delay. Whoever looks after an unmask finds what came before it. */
 
 static inline void queue_flags(struct queue *queue, uint16_t flags) { __atomic_store_n(&queue->avail->flags, flags, __ATOMIC_RELAXED); }
-static inline void queue_mask(void *queue) { queue_flags(queue, VRING_AVAIL_F_NO_INTERRUPT); }
-static inline void queue_unmask(void *queue) { queue_flags(queue, 0); }
-static inline bool queue_look(void *queue) { return queue_back(queue) != 0; }
+static inline void queue_mask(struct queue *queue) { queue_flags(queue, VRING_AVAIL_F_NO_INTERRUPT); }
+static inline void queue_unmask(struct queue *queue) {
+    queue_flags(queue, 0);
+    __sync_synchronize();
+}
 #endif

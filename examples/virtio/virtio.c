@@ -1,8 +1,8 @@
 /* A driver in user space for a virtio-net card, with its interrupts. Its host 10.99.0.2 answers ARP, pings and UDP to port 7.
  *
- * The interrupt thread waits for MSI-X and requests polls. The poller has the poll list, polls both queues in runs, and sends
- * the answers under a byte queue limit; it disables and enables too. SIGHUP does either in turn, SIGUSR1 prints the counts, and
- * SIGINT disables, prints, and ends. usage: virtio ADDRESS, for example 0000:00:05.0. */
+ * The interrupt thread waits for MSI-X, and raises the bit of the queue. The poller reports it to the library's driver, does what that
+ * asks for at both queues, and sends the answers under a byte queue limit; it stops and opens too. SIGHUP does either in turn, SIGUSR1
+ * prints the counts, and SIGINT stops, prints, and ends. usage: virtio ADDRESS, for example 0000:00:05.0. */
 #define _GNU_SOURCE
 #include "answer.h"
 #include "card.h"
@@ -17,21 +17,17 @@
 enum { WEIGHT = 64, BUDGET = 300, WINDOW = 1024, SLOTS = 1024, MOST = 1879048192, HOLD_MS = 1000 };
 enum wanted { ON, OFF, END };
 
-/* A queue, its instance, and its counts. Fields of different threads are 128 bytes apart. */
+/* A queue, and its counts. Fields of different threads are 128 bytes apart. */
 struct side {
     struct queue *queue;
-    struct fq_card calls; /* the library's callbacks for it */
-    alignas(128) struct fq_handle irq; /* the interrupt thread's seat */
-    atomic_ulong interrupts, granted, missed, disabled;
-    alignas(128) struct fq_handle seat, control; /* the poller's */
-    bool on;
-    unsigned long polls, packets, full, again;
+    alignas(128) atomic_ulong interrupts; /* the interrupt thread's */
+    alignas(128) unsigned long granted, missed, disabled, polls, packets, full; /* the poller's */
 };
 
 static struct card card;
 static struct side sides[QUEUES];
-static struct fq_handle list, tx;
-static alignas(128) struct fq_word listed; /* what has to be listed */
+static struct fq_handle driver, tx;
+static alignas(128) struct fq_word interrupted; /* a bit for each queue that has interrupted */
 static atomic_int wanted;
 static atomic_bool asked; /* for the counts */
 static int wake, stop;
@@ -56,25 +52,22 @@ static uint64_t now_ms(void) {
 
 static void raise_event(int event) { need(write(event, &(uint64_t){1}, 8) == 8, "eventfd"); }
 
-/* ---- Requests. */
+/* ---- Interrupts. */
 
-/* An instance was handed over: its number is for the list, and the poller wakes. */
-static void hand(struct side *side) {
-    if (fq_word_raise(&listed, side->queue->number)) raise_event(wake);
-}
-
-/* An interrupt. If the poll is granted, the queue is masked before it is handed over. */
 static void interrupt(struct side *side) {
     uint64_t count;
     if (read(side->queue->event, &count, 8) != 8) return;
     side->interrupts += count;
-    const uint32_t said = fq_seat_interrupt_masked(&side->irq, FQ_LIST, &side->calls);
-    if (said == FQ_GRANTED) {
-        side->granted++;
-        hand(side);
-    } else if (said == FQ_MISSED) side->missed++;
-    else if (said == FQ_DISABLED) side->disabled++;
-    else must("interrupt", said, FQ_GRANTED);
+    if (fq_word_raise(&interrupted, side->queue->number)) raise_event(wake);
+}
+
+static void report_interrupts(void) {
+    for (uint64_t bits = fq_word_take(&interrupted); bits; bits &= bits - 1) {
+        struct side *side = &sides[__builtin_ctzll(bits)];
+        const uint32_t said = fq_driver_interrupt(&driver, side->queue->number);
+        side->granted += said == FQ_GRANTED, side->missed += said == FQ_MISSED, side->disabled += said == FQ_DISABLED;
+        if (said != FQ_MISSED && said != FQ_DISABLED) must("interrupt", said, FQ_GRANTED);
+    }
 }
 
 static void *interrupts(void *at) {
@@ -140,53 +133,41 @@ static uint32_t complete(struct queue *queue) {
     return count;
 }
 
-/* Ends a poll: when no caller owns the instance the queue is unmasked and checked, and polled again if something arrived
- * meanwhile. */
-static uint32_t end(struct side *side, bool full) {
-    uint32_t next;
-    must("end", fq_seat_end_watched(&side->seat, full, &side->calls, &next), FQ_OK);
-    side->full += next == FQ_NEXT_REPOLL;
-    side->again += next == FQ_NEXT_AGAIN;
-    return next;
+static uint32_t fetch(struct side *side) {
+    const uint32_t count = side->queue->number == RX ? receive(side->queue) : complete(side->queue);
+    send_answers(sides[TX].queue);
+    side->polls++, side->packets += count, side->full += count == WEIGHT;
+    return count;
 }
 
-/* A run of the softirq. Returns whether something is still listed: then another one follows. */
+/* Does what is due, until a run ends; returns false if nothing is. */
 static bool run(void) {
-    struct fq_run_report report;
-    uint32_t id, length;
-    for (uint64_t bits = fq_word_take(&listed); bits; bits &= bits - 1)
-        must("push", fq_list_push(&list, (uint32_t)__builtin_ctzll(bits)), FQ_OK);
-    must("begin", fq_run_begin(&list, BUDGET, WEIGHT, WINDOW), FQ_OK);
-    while (fq_run_next(&list, &id) == FQ_OK) {
-        struct side *side = &sides[id];
-        must("take", fq_seat_take(&side->seat, FQ_LIST), FQ_TAKEN);
-        const uint32_t count = id == RX ? receive(side->queue) : complete(side->queue);
-        send_answers(sides[TX].queue);
-        side->polls++;
-        side->packets += count;
-        must("polled", fq_run_polled(&list, count, end(side, count == WEIGHT)), FQ_OK);
+    struct fq_todo todo = FQ_TODO_INIT;
+    while (report_interrupts(), fq_driver_next(&driver, &todo), todo.what != FQ_TODO_SLEEP) {
+        struct side *side = &sides[todo.device];
+        switch (todo.what) {
+        case FQ_TODO_MASK: queue_mask(side->queue); break;
+        case FQ_TODO_UNMASK: queue_unmask(side->queue); break;
+        case FQ_TODO_LOOK: todo.packets = queue_back(side->queue); break;
+        case FQ_TODO_FETCH: todo.packets = fetch(side); break;
+        default: return runs++, squeezed += todo.run.squeezed, true;
+        }
+        fq_driver_done(&driver, &todo);
     }
-    must("run", fq_run_end(&list, &report), FQ_OK);
-    runs += report.polls > 0;
-    squeezed += report.squeezed;
-    must("list", fq_list_len(&list, &length), FQ_OK);
-    return length > 0;
+    return false;
 }
 
 /* ---- Open and stop. */
 
-/* A step towards the wanted state. Returns whether both queues have reached it. What arrived while a queue was disabled
- * caused no interrupt, so a poll is requested here after an enable. */
+/* Opens or stops both queues. Returns whether that is done. */
 static bool control(bool on) {
     bool there = true;
-    for (int i = 0; i < QUEUES; i++) {
-        struct side *side = &sides[i];
-        const uint32_t said = side->on == on ? (uint32_t)FQ_OK : fq_control_step(&side->control, on, false);
-        there &= said == FQ_OK;
-        if (said == FQ_BUSY) continue;
-        must("control", said, FQ_OK);
-        if (on && !side->on && fq_seat_interrupt_masked(&side->seat, FQ_LIST, &side->calls) == FQ_GRANTED) hand(side);
-        side->on = on;
+    for (uint32_t i = 0; i < QUEUES; i++) {
+        struct fq_device_shown shown = {.size = sizeof shown};
+        const uint32_t said = on ? fq_driver_open(&driver, i) : fq_driver_stop(&driver, i);
+        if (said != FQ_NOT_DUE) must("control", said, FQ_OK);
+        must("show", fq_driver_show(&driver, i, &shown), FQ_OK);
+        there &= shown.state == (on ? FQ_DEVICE_OPEN : FQ_DEVICE_CLOSED);
     }
     return there;
 }
@@ -197,8 +178,8 @@ static void print(void) {
     must("state", fq_tx_state(&tx, &state), FQ_OK);
     for (int i = 0; i < QUEUES; i++) {
         const struct side *side = &sides[i];
-        printf("%s interrupts %lu granted %lu missed %lu disabled %lu polls %lu packets %lu full %lu again %lu left %u\n", i == RX ? "rx" : "tx",
-            side->interrupts, side->granted, side->missed, side->disabled, side->polls, side->packets, side->full, side->again, queue_back(side->queue));
+        printf("%s interrupts %lu granted %lu missed %lu disabled %lu polls %lu packets %lu full %lu left %u\n", i == RX ? "rx" : "tx",
+            side->interrupts, side->granted, side->missed, side->disabled, side->polls, side->packets, side->full, queue_back(side->queue));
     }
     printf("all runs %lu squeezed %lu answered %lu waiting %lu sent %lu dropped %lu held %lu disorder %lu limit %u in_flight %u\n", runs, squeezed,
         behind, behind - given, first, dropped, held, disorder, state.limit, state.queued - state.completed);
@@ -211,10 +192,10 @@ static void *poller(void *at) {
     uint64_t count;
     enum wanted target = ON, told = OFF;
     for (bool more = true, there = false; !there || target != END;) {
-        if (poll(&file, 1, more || fq_word_any(&listed) ? 0 : there ? -1 : 1) > 0) need(read(wake, &count, 8) == 8, "wake");
-        more = run();
+        if (poll(&file, 1, more || fq_word_any(&interrupted) ? 0 : there ? -1 : 1) > 0) need(read(wake, &count, 8) == 8, "wake");
         if (there) target = (enum wanted)atomic_load(&wanted);
         there = control(target == ON);
+        more = run();
         if (there && target != told) fprintf(stderr, "virtio: %s\n", (told = target) == ON ? "on" : "off");
         if (atomic_exchange(&asked, false)) print();
     }
@@ -225,17 +206,11 @@ static void open_all(const char *address) {
     card_open(&card, address, (size_t)(LARGEST_QUEUE + SLOTS + 64) * BUFFER);
     card_begin(&card);
     card_interrupts(&card);
-    must("list", fq_list_new(&list), FQ_OK);
+    must("driver", fq_driver_new(&driver, QUEUES, BUDGET, WEIGHT, WINDOW), FQ_OK);
     need((wake = eventfd(0, 0)) >= 0 && (stop = eventfd(0, 0)) >= 0, "eventfd");
     for (uint16_t i = 0; i < QUEUES; i++) {
-        struct side *side = &sides[i];
-        struct fq_handle seats[2] = {FQ_NONE, FQ_NONE};
         card_queue(&card, i);
-        side->queue = &card.queues[i];
-        side->calls = (struct fq_card){side->queue, queue_mask, queue_unmask, queue_look, NULL};
-        must("instance", fq_shared_bare(&side->control, seats, 2), FQ_OK);
-        must("seat", fq_move(&seats[0], &side->irq), FQ_OK);
-        must("seat", fq_move(&seats[1], &side->seat), FQ_OK);
+        queue_mask(sides[i].queue = &card.queues[i]);
     }
     struct queue *rx = sides[RX].queue;
     must("tx", fq_tx_new(&tx, sides[TX].queue->size, 0, MOST, HOLD_MS, now_ms()), FQ_OK);
@@ -249,13 +224,8 @@ static void open_all(const char *address) {
 static void close_all(void) {
     print();
     card_reset(&card);
-    for (int i = 0; i < QUEUES; i++) {
-        must("free", fq_free(&sides[i].control), FQ_OK);
-        must("free", fq_free(&sides[i].irq), FQ_OK);
-        must("free", fq_free(&sides[i].seat), FQ_OK);
-    }
     must("free", fq_free(&tx), FQ_OK);
-    must("free", fq_free(&list), FQ_OK);
+    must("free", fq_free(&driver), FQ_OK);
 }
 
 int main(int count, char **words) {

@@ -85,9 +85,9 @@ static void open_socket(const char *name) {
 
 /* ---- The card. */
 
-static void mask(void *at) { arm(at, EPOLL_CTL_MOD, false); }
-static void unmask(void *at) { arm(at, EPOLL_CTL_MOD, true); }
-static bool look(void *at) { return (void)at, produced(&rx) > 0; }
+static void mask(struct device *at) { arm(at, EPOLL_CTL_MOD, false); }
+static void unmask(struct device *at) { arm(at, EPOLL_CTL_MOD, true); }
+static uint32_t look(struct device *at) { return (void)at, produced(&rx); }
 
 /* What the kernel has sent, by its ring of completions; returns whether there was any. */
 static bool complete(void) {
@@ -118,8 +118,8 @@ static void give(struct device *at) {
     publish(fill.producer, fill.at);
 }
 
-static size_t poll_card(void *at, size_t most) {
-    const uint32_t ready = produced(&rx), count = ready < most ? ready : (uint32_t)most;
+static uint32_t fetch(struct device *at, uint32_t most) {
+    const uint32_t ready = produced(&rx), count = ready < most ? ready : most;
     for (uint32_t i = 0; i < count; i++) {
         struct xdp_desc got = ((struct xdp_desc *)rx.places)[rx.at++ % FRAMES];
         if ((got.len = answer(memory + got.addr, got.len))) device.answered++, waiting[behind++ % FRAMES] = got;
@@ -152,14 +152,13 @@ int main(int count, char **words) {
     if (!usual) return fputs("usage: xdp DEVICE [--one] [--budget 1..65535]\n", stderr), 64;
     open_driver();
     open_socket(words[1]);
-    device.card = (struct fq_card){&device, mask, unmask, look, poll_card};
-    device.give = give;
+    device.mask = mask, device.unmask = unmask, device.look = look, device.fetch = fetch, device.give = give;
     open_device(&device, FRAMES, 0);
     if (!one_thread && (errno = pthread_create(&thread, NULL, interrupt_thread, NULL))) die("thread");
     poller("xdp");
     atomic_store(&ended, true);
     if (!one_thread) pthread_join(thread, NULL);
     print();
-    must("free", fq_free(&list), FQ_OK);
+    must("free", fq_free(&driver), FQ_OK);
     return fflush(stdout) ? 1 : 0;
 }

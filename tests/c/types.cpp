@@ -233,6 +233,63 @@ static void words() {
     want(word.take() == ((UINT64_C(1) << 63) | 1) && !word.any() && word.take() == 0, "all bits");
 }
 
+struct EdgeCard {
+    bool masked = true, broken = false;
+    std::uint32_t waiting = 100, taken = 0;
+    void mask(std::uint32_t) { masked = true; }
+    void unmask(std::uint32_t) { masked = false; }
+    bool look(std::uint32_t) const { return waiting > 0; }
+    std::uint32_t fetch(std::uint32_t, std::uint32_t most) {
+        if (broken) throw 1;
+        const std::uint32_t count = most < waiting ? most : waiting;
+        waiting -= count, taken += count;
+        return count;
+    }
+};
+
+static void drivers() {
+    want(!Driver::make(0) && !Driver::make(65) && !Driver::make(1, 0) && !Driver::make(1, 1, Weight(), 65536), "drivers out of range");
+    auto made = Driver::make(2);
+    EdgeCard card;
+    want(made && made->step(card).what == FQ_TODO_SLEEP, "a new driver sleeps");
+    Driver driver(std::move(*made));
+    want(made->open(0) == FQ_BAD_HANDLE && made->next().what == FQ_TODO_SLEEP && !made->shown(0), "a driver that was moved from");
+    want(driver.open(1) == FQ_OK && driver.open(1) == FQ_NOT_DUE && driver.open(2) == FQ_BAD_DEVICE, "an open");
+    const Todo unmask = driver.next();
+    want(unmask.what == FQ_TODO_UNMASK && driver.done(unmask) == FQ_OK && driver.done(unmask) == FQ_NOT_DUE, "a report");
+    want(driver.step(card).what == FQ_TODO_LOOK && driver.step(card).what == FQ_TODO_MASK, "a look");
+    card.broken = true;
+    bool is_thrown = false;
+    try {
+        static_cast<void>(driver.step(card));
+    } catch (int) {
+        is_thrown = true;
+    }
+    card.broken = false;
+    want(is_thrown && driver.next().what == FQ_TODO_FETCH, "a fetch that throws is due again");
+    Todo did = driver.step(card);
+    want(did.what == FQ_TODO_FETCH && did.packets == 64 && did.most == 64, "a fetch");
+    std::uint32_t polls = 0;
+    while ((did = driver.step(card)).what != FQ_TODO_SLEEP) polls += did.what == FQ_TODO_ENDED ? did.run.polls : 0;
+    want(polls == 2 && card.taken == 100 && card.waiting == 0, "all packets");
+    want(driver.interrupt(1) == FQ_GRANTED && driver.interrupt(1) == FQ_MISSED && driver.stop(1) == FQ_OK && driver.interrupt(1) == FQ_DISABLED, "interrupts");
+    want(driver.shown(1)->state == FQ_DEVICE_STOPPING && driver.shown(1)->packets == 100 && !driver.shown(2), "what is shown");
+    while (driver.step(card).what != FQ_TODO_SLEEP) {}
+    want(card.masked && driver.shown(1)->state == FQ_DEVICE_CLOSED, "a stop");
+}
+
+static void machines() {
+    MachineSettings settings;
+    want(settings.size == sizeof(fq_machine_settings) && settings.weight == 64 && settings.ring == 256, "the usual settings");
+    const auto report = machine("moment,device,bytes\n1000,1,60\n", settings);
+    want(std::get<std::string>(report).rfind("device 1 arrived 1 dropped 0 polled 1 ", 0) == 0, "a report");
+    const auto fault = std::get<MachineFault>(machine("moment,device,bytes\n5,1,60\n4,1,60\n"));
+    want(fault.status == FQ_BAD_ARRIVALS && fault.fault == 8 && fault.row == 2 && fault.message == "arrivals fault 8 Falls row 2", "a fault");
+    settings.weight = 65;
+    const auto heavy = std::get<MachineFault>(machine("", settings));
+    want(heavy.status == FQ_BAD_SETTING && heavy.setting == 7 && heavy.message.empty(), "a setting");
+}
+
 static void no_memory() {
     const long before = blocks;
     for (int kind = 0; kind < 2; kind++) {
@@ -259,6 +316,8 @@ int main() {
     busy();
     moved();
     words();
+    drivers();
+    machines();
     no_memory();
     want(blocks == 0, "nothing is left");
     std::puts("the types answer as they have to");

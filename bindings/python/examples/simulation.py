@@ -1,33 +1,45 @@
 """Four cards with rings of capacity 64 get 8 packets each per millisecond, and one run of polls has a budget: how many are
 lost?"""
-from fintaqush import List, Napi, Ring, Status
+from fintaqush import Driver, What
 
 
-class Card:
+class Cards:
     def __init__(self):
-        self.ring, self.napi, self.lost = Ring(64), Napi(), 0
-        self.napi.enable()
+        self.waiting, self.masked, self.lost = [0] * 4, [True] * 4, 0
 
-    def interrupt(self, packet):
-        self.lost += not self.ring.put(packet, 1500)
-        return self.napi.schedule() == Status.GRANTED
+    def arrives(self, device):
+        if self.waiting[device] == 64:
+            self.lost += 1
+        else:
+            self.waiting[device] += 1
 
-    def poll(self, weight):
-        self.napi.take()
-        work = len(self.ring.poll(weight))
-        return work, self.napi.end(work == weight)
+    def mask(self, device):
+        self.masked[device] = True
+
+    def unmask(self, device):
+        self.masked[device] = False
+
+    def look(self, device):
+        return self.waiting[device] > 0
+
+    def fetch(self, device, most):
+        count = min(most, self.waiting[device])
+        self.waiting[device] -= count
+        return count
 
 
 def simulate(budget):
-    cards, softirq = [Card() for _ in range(4)], List()
-    for moment in range(1000):
-        for number, card in enumerate(cards):
-            for _ in range(8):
-                if card.interrupt(moment):
-                    card.napi.hand()
-                    softirq.push(number)
-        softirq.run(lambda number, weight: cards[number].poll(weight), budget, 16)
-    return sum(card.lost for card in cards)
+    cards, driver = Cards(), Driver(4, budget, weight=16)
+    for device in range(4):
+        driver.open(device)
+    for _ in range(1000):
+        for device in [*range(4)] * 8:
+            cards.arrives(device)
+            if not cards.masked[device]:
+                driver.interrupt(device)
+        while driver.step(cards) not in (What.SLEEP, What.ENDED):
+            pass
+    return cards.lost
 
 
 if __name__ == "__main__":

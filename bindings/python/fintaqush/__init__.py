@@ -1,13 +1,17 @@
 """Fintaqush for Python: the packet polling core of Linux 6.6 (NAPI) and byte queue limits, by the shared C library.
 
 Names, results and errors are those of include/fintaqush.h, without FQ_. Each call holds the interpreter's lock, so threads may
-share an object; during a run only the run may use its list. `replay` releases the lock.
+share an object; during a run only the run may use its list. `replay` and `machine` release the lock.
 """
-from ._answers import Fault, Kind, Next, Status, TraceFault, Word
+from ._answers import ArrivalsFault, DeviceState, Fault, Kind, Next, SettingFault, Status, TraceFault, What, Word
+from ._driver import Cards, DeviceShown, Driver, Todo
+from ._machine import Application, MachineReport, Processor, Queue, Times, Waits, machine
 from ._objects import Counts, Limit, List, Napi, Packet, Ring, RunReport, TxRing, TxState
-from ._report import Device, Report, Transmit, Turn, replay
+from ._report import Device, Report, Transmit, Turn, raise_runs, replay
 from ._shared import Answers, Control, Input, Seat, shared
 
-__version__ = "1.0.0"  # FQ_VERSION
-__all__ = ["Answers", "Control", "Counts", "Device", "Fault", "Input", "Kind", "Limit", "List", "Napi", "Next", "Packet", "Report", "Ring",
-           "RunReport", "Seat", "Status", "TraceFault", "Transmit", "Turn", "TxRing", "TxState", "Word", "replay", "shared"]
+__version__ = "1.1.0"  # FQ_VERSION
+__all__ = ["Answers", "Application", "ArrivalsFault", "Cards", "Control", "Counts", "Device", "DeviceShown", "DeviceState", "Driver",
+           "Fault", "Input", "Kind", "Limit", "List", "MachineReport", "Napi", "Next", "Packet", "Processor", "Queue", "Report", "Ring",
+           "RunReport", "Seat", "SettingFault", "Status", "Times", "Todo", "TraceFault", "Transmit", "Turn", "TxRing", "TxState",
+           "Waits", "What", "Word", "machine", "raise_runs", "replay", "shared"]

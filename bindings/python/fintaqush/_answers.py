@@ -1,4 +1,6 @@
 """The numbers of fintaqush.h, and the exceptions of calls that fail."""
+from __future__ import annotations
+
 import enum
 
 
@@ -23,6 +25,7 @@ class Status(enum.IntEnum):
     DONE = 27
     STOPPED = 28
     MORE_THAN_SENT = 29
+    NOT_DUE = 30
     NOT_ALLOWED = 100
     BAD_KIND = 101
     BAD_HANDLE = 110
@@ -36,6 +39,10 @@ class Status(enum.IntEnum):
     BAD_NEXT = 118
     BAD_WORK = 119
     BAD_TRACE = 120
+    BAD_DEVICE = 121
+    BAD_SIZE = 122
+    BAD_SETTING = 123
+    BAD_ARRIVALS = 124
 
 
 class Kind(enum.IntEnum):
@@ -51,6 +58,23 @@ class Next(enum.IntEnum):
     AGAIN_THREAD = 2
     REPOLL = 3
     ABSENT = 4
+
+
+class What(enum.IntEnum):
+    """What a driver has to do (`enum fq_what`)."""
+    SLEEP = 0
+    MASK = 1
+    UNMASK = 2
+    LOOK = 3
+    FETCH = 4
+    ENDED = 5
+
+
+class DeviceState(enum.IntEnum):
+    """Whether a device of a driver is open (`enum fq_device_state`)."""
+    CLOSED = 0
+    OPEN = 1
+    STOPPING = 2
 
 
 class Word(enum.IntFlag):
@@ -73,7 +97,7 @@ class Word(enum.IntFlag):
 class Fault(ValueError):
     """A call failed. `status` says why, and the text is its name in the header."""
 
-    def __init__(self, status: Status, *more: int) -> None:
+    def __init__(self, status: Status, *more: int | str) -> None:
         super().__init__(status, *more)  # the arguments from which unpickling makes it again
         self.status = status
 
@@ -99,3 +123,25 @@ class TraceFault(Fault):
 
     def __str__(self) -> str:
         return f"trace fault {self.number} {self.name} row {self.row}"
+
+
+class ArrivalsFault(Fault):
+    """Bytes aren't arrivals: the error's number and the row, as described in docs/FORMATS.md; the text is the message of napi_machine."""
+
+    def __init__(self, status: Status, number: int, row: int, text: str) -> None:
+        super().__init__(status, number, row, text)
+        self.number, self.row, self.text = number, row, text
+
+    def __str__(self) -> str:
+        return self.text
+
+
+class SettingFault(Fault):
+    """A setting of the machine is out of its range: its name."""
+
+    def __init__(self, status: Status, name: str) -> None:
+        super().__init__(status, name)
+        self.name = name
+
+    def __str__(self) -> str:
+        return f"FQ_BAD_SETTING: {self.name}"

@@ -84,6 +84,14 @@ class RunReport(ctypes.Structure):
     _fields_ = [("polls", u32), ("work", u32), ("squeezed", boolean)]
 
 
+class Todo(ctypes.Structure):
+    _fields_ = [("size", size), ("number", u64), ("what", u32), ("device", u32), ("most", u32), ("packets", u32), ("run", RunReport)]
+
+
+class DeviceShown(ctypes.Structure):
+    _fields_ = [("size", size), ("state", u32), ("scheduled", boolean), ("missed", boolean), ("polls", u64), ("packets", u64)]
+
+
 class Settings(ctypes.Structure):
     _fields_ = [("budget", u32), ("weight", u32), ("window", u32)]
 
@@ -92,9 +100,20 @@ class Replayed(ctypes.Structure):
     _fields_ = [("length", size), ("fault", u32), ("row", u32)]
 
 
+class MachineSettings(ctypes.Structure):
+    _fields_ = [("size", size)] + [(name, u32) for name in (
+        "processors", "queues", "ring", "socket", "backlog", "budget", "weight", "window", "time_limit", "rx_nsecs", "rx_frames",
+        "defer_hard_irqs", "gro_flush_timeout", "threaded", "apart", "app_wake", "interrupt", "poll", "packet", "use_time", "wake")]
+
+
+class MachineRan(ctypes.Structure):
+    _fields_ = [("size", size), ("length", size), ("row", u64), ("fault", u32), ("setting", u32), ("message", ctypes.c_char * 64)]
+
+
 # The structs whose size the library returns, by their numbers in `enum fq_struct`; then all structs.
-NUMBERS = {Handle: 0, Dql: 1, DqlMade: 2, Napi: 3, Packet: 4, Counts: 5, RingShown: 7, TxShown: 8, Answers: 9, RunReport: 10}
-STRUCTS = {*NUMBERS, Settings, Replayed}
+NUMBERS = {Handle: 0, Dql: 1, DqlMade: 2, Napi: 3, Packet: 4, Counts: 5, RingShown: 7, TxShown: 8, Answers: 9, RunReport: 10, Todo: 11,
+           DeviceShown: 12}
+STRUCTS = {*NUMBERS, Settings, Replayed, MachineSettings, MachineRan}
 
 try:
     # A short call keeps the interpreter's lock, and a long one releases it.
@@ -194,8 +213,18 @@ run_begin = declare("run_begin", list=Handle, budget=u32, weight=u32, window=u32
 run_next = declare("run_next", list=Handle, id=ctypes.POINTER(u32))
 run_polled = declare("run_polled", list=Handle, work=u32, next=u32)
 run_end = declare("run_end", list=Handle, report=RunReport)
+driver_new = declare("driver_new", driver=Handle, devices=u32, budget=u32, weight=u32, window=u32)
+driver_open = declare("driver_open", driver=Handle, device=u32)
+driver_stop = declare("driver_stop", driver=Handle, device=u32)
+driver_interrupt = declare("driver_interrupt", driver=Handle, device=u32)
+driver_next = declare("driver_next", driver=Handle, todo=Todo)
+driver_done = declare("driver_done", driver=Handle, todo=Todo)
+driver_show = declare("driver_show", driver=Handle, device=u32, shown=DeviceShown)
 replay = declare("replay", u32, _long, settings=Settings, trace=ctypes.c_char_p, len=size, report=ctypes.c_char_p, room=size,
                  replayed=Replayed)
+machine_usual = declare("machine_usual", settings=MachineSettings, size=size)
+machine = declare("machine", u32, _long, settings=MachineSettings, arrivals=ctypes.c_char_p, len=size, report=ctypes.c_char_p, room=size,
+                  ran=MachineRan)
 
 
 def message(status: int) -> str:
@@ -235,10 +264,26 @@ def differences() -> Iterator[str]:
     abandon(devices)
     if (id.value, ran.polls, ran.work, ran.squeezed) != (7, 1, 2, False):
         yield "fq_run_report"
+    driver, todo, shown = Handle(), Todo(ctypes.sizeof(Todo)), DeviceShown(ctypes.sizeof(DeviceShown))
+    driver_new(driver, 1, 300, 64, 1024)
+    driver_open(driver, 0)
+    driver_next(driver, todo)
+    driver_show(driver, 0, shown)
+    abandon(driver)
+    if (todo.what, todo.device, todo.most, todo.packets, shown.state, shown.scheduled, shown.packets) != (2, 0, 0, 0, 1, False, 0):
+        yield "fq_todo"
     replayed = Replayed(1, 2, 3)
     said = replay(Settings(300, 64, 1024), b"?", 1, b"", 0, replayed)
     if (said, replayed.length, replayed.fault, replayed.row) != (Status.BAD_TRACE, 0, 1, 0):
         yield "fq_replayed"
+    asked, ran = MachineSettings(), MachineRan(ctypes.sizeof(MachineRan))
+    machine_usual(asked, ctypes.sizeof(asked))
+    asked.wake = 10**9 + 1
+    if (asked.weight, machine(asked, b"?", 1, b"", 0, ran), ran.setting) != (64, Status.BAD_SETTING, 21):
+        yield "fq_machine_settings"
+    asked.wake = 0
+    if (machine(asked, b"?", 1, b"", 0, ran), ran.fault, ran.row, ran.message[:15]) != (Status.BAD_ARRIVALS, 1, 0, b"arrivals fault "):
+        yield "fq_machine_ran"
 
 
 if wrong := list(differences()):

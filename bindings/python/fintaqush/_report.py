@@ -6,6 +6,7 @@ from typing import Any, Callable, NamedTuple
 
 from . import _library as c
 from ._answers import Status, TraceFault, Word
+from ._raising import Pending, Raising
 
 
 class Turn(NamedTuple):
@@ -62,12 +63,37 @@ class Report(NamedTuple):
     text: str
 
 
-def replay(trace: bytes, budget: int = 300, weight: int = 64, window: int = 1024) -> Report:
-    """Replays the bytes of a trace (napi_replay --mode=serial). TraceFault; BAD_WEIGHT, otherwise BAD_BUDGET."""
+def replay(trace: bytes, budget: int = 300, weight: int = 64, window: int = 1024, raised: bool = False) -> Report:
+    """Replays the bytes of a trace (napi_replay --mode=serial); with `raised`, with the runs that `raise_runs` adds, and the rows of
+    the report are those of its trace. TraceFault; BAD_WEIGHT, otherwise BAD_BUDGET."""
+    if raised:
+        trace = raise_runs(trace, budget, weight, window)
+    return _report_of(_text_of(trace, _settings(trace, budget, weight, window)))
+
+
+def raise_runs(trace: bytes, budget: int = 300, weight: int = 64, window: int = 1024, restarts: int | None = None) -> bytes:
+    """Adds to a trace the runs that the kernel would make with these settings (fintaqush raise), at most `restarts` after a row, and
+    returns its bytes. Errors are those of `replay`; also ValueError, if there would be more than 100000 rows."""
+    settings = _settings(trace, budget, weight, window)
+
+    def play(rows: bytes) -> str:
+        try:
+            return _text_of(rows, settings)
+        except TraceFault as fault:
+            if fault.name != "Pending":
+                raise
+            raise Pending(fault.row) from None
+
+    try:
+        return Raising(trace, play, restarts).whole()[0]
+    except Pending as pending:
+        raise TraceFault(Status.BAD_TRACE, TraceFault.NAMES.index("Pending"), pending.row) from None
+
+
+def _settings(trace: bytes, budget: int, weight: int, window: int) -> c.Settings:
     if not isinstance(trace, bytes):
         raise TypeError("a trace is bytes")
-    settings = c.Settings(c.number(budget, "budget"), c.number(weight, "weight"), c.number(window, "window"))
-    return _report_of(_text_of(trace, settings))
+    return c.Settings(c.number(budget, "budget"), c.number(weight, "weight"), c.number(window, "window"))
 
 
 def _text_of(trace: bytes, settings: c.Settings) -> str:

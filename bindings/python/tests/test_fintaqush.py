@@ -13,8 +13,8 @@ import threading
 import unittest
 
 import fintaqush
-from fintaqush import (Fault, Kind, Limit, List, Napi, Next, Packet, Ring, Status, TraceFault, Transmit, Turn, TxRing, TxState, Word, _library,
-                       replay, shared)
+from fintaqush import (ArrivalsFault, DeviceState, Driver, Fault, Kind, Limit, List, Napi, Next, Packet, Ring, SettingFault, Status, TraceFault,
+                       Transmit, Turn, TxRing, TxState, What, Word, _library, machine, raise_runs, replay, shared)
 
 TOP = pathlib.Path(__file__).resolve().parents[3]
 HEADER = re.sub(r"/\*.*?\*/", "", (TOP / "include/fintaqush.h").read_text(), flags=re.S)
@@ -43,7 +43,8 @@ class TestHeader(unittest.TestCase):
         return {name: int(value) for name, value in re.findall(r"FQ_(\w+) = (\d+)", body)}
 
     def test_numbers(self):
-        for enum, kind, prefix in (("fq_status", Status, ""), ("fq_kind", Kind, ""), ("fq_next", Next, "NEXT_")):
+        for enum, kind, prefix in (("fq_status", Status, ""), ("fq_kind", Kind, ""), ("fq_next", Next, "NEXT_"), ("fq_what", What, "TODO_"),
+                                   ("fq_device_state", DeviceState, "DEVICE_")):
             self.assertEqual({prefix + one.name: one.value for one in kind}, self.numbers(enum))
         bits = re.findall(r"#define FQ_BIT_(\w+) \(UINT64_C\(1\) << (\d+)\)", HEADER)
         self.assertEqual({one.name: one.value for one in Word}, {name: 1 << int(bit) for name, bit in bits})
@@ -120,7 +121,7 @@ class TestLimit(Refusals):
                 call(*values)
 
     def test_nothing_is_copied(self):
-        for one in Limit(), Napi(), Ring(1), List(), TxRing(1), *shared(1)[:2], *shared(1)[2]:
+        for one in Limit(), Napi(), Ring(1), List(), TxRing(1), Driver(1), *shared(1)[:2], *shared(1)[2]:
             for copied in copy.copy, copy.deepcopy, pickle.dumps:
                 with self.assertRaisesRegex(TypeError, "isn't copied"):
                     copied(one)
@@ -402,6 +403,143 @@ class TestRuns(Refusals):
 
         self.assertEqual(softirq.run(poll, weight=7), (5, 5, False))
         self.assertEqual(polled, [(device, 7) for device in range(1, 6)])
+
+
+class Card:
+    """A card with interrupts by edges: what arrives while it is masked causes none."""
+
+    def __init__(self):
+        self.masked, self.waiting, self.taken = True, 0, 0
+
+    def mask(self, _):
+        self.masked = True
+
+    def unmask(self, _):
+        self.masked = False
+
+    def look(self, _):
+        return self.waiting > 0
+
+    def fetch(self, _, most):
+        count = min(most, self.waiting)
+        self.waiting -= count
+        self.taken += count
+        return count
+
+
+class TestDriver(Refusals):
+    def test_a_card(self):
+        driver, card, did = Driver(2), Card(), []
+        self.assertEqual((driver.step(card), driver.shown(1)), (What.SLEEP, (DeviceState.CLOSED, True, False, 0, 0)))
+        card.waiting = 100
+        self.assertEqual((driver.open(1), driver.open(1)), (True, False))
+        while not did or did[-1] is not What.SLEEP:
+            did.append(driver.step(card))
+        self.assertEqual([one for one in did if one is not What.ENDED],
+                         [What.UNMASK, What.LOOK, What.MASK, What.FETCH, What.FETCH, What.UNMASK, What.LOOK, What.SLEEP])
+        self.assertEqual((card.masked, card.taken, driver.shown(1)), (False, 100, (DeviceState.OPEN, False, False, 2, 100)))
+        self.assertEqual([driver.interrupt(1), driver.interrupt(1)], [Status.GRANTED, Status.MISSED])
+        self.assertEqual((driver.stop(1), driver.stop(1), driver.shown(1).state), (True, False, DeviceState.STOPPING))
+        self.assertEqual(driver.interrupt(1), Status.DISABLED)
+        while driver.step(card) is not What.SLEEP:
+            pass
+        self.assertEqual((card.masked, driver.shown(1).state), (True, DeviceState.CLOSED))
+
+    def test_reports(self):
+        driver, card = Driver(1, weight=8), Card()
+        driver.open(0)
+        first = driver.next()
+        self.assertEqual((first.what, first.device, first.most, first.run), (What.UNMASK, 0, 0, (0, 0, False)))
+        self.assertTrue(driver.done(first))
+        self.assertFalse(driver.done(first))
+        self.assertFalse(driver.done(driver.next().__class__()))
+        self.assertTrue(driver.done(driver.next(), 5))
+        self.assertTrue(driver.done(driver.next()))
+        fetch = driver.next()
+        self.assertEqual((fetch.what, fetch.most), (What.FETCH, 8))
+        self.refused(Status.BAD_WORK, driver.done, fetch, 9)
+        self.assertTrue(driver.done(driver.next(), 8))
+        card.fetch = lambda device, most: [][0]
+        with self.assertRaises(IndexError):
+            while driver.step(card) is not What.SLEEP:
+                pass
+        card.fetch = lambda device, most: 0
+        while driver.step(card) is not What.SLEEP:
+            pass
+        self.assertEqual((driver.shown(0).packets, driver.shown(0).state), (8, DeviceState.OPEN))
+
+    def test_what_is_refused(self):
+        for status, values in ((Status.BAD_COUNT, (0,)), (Status.BAD_COUNT, (65,)), (Status.BAD_BUDGET, (1, 0)), (Status.BAD_WEIGHT, (1, 300, 65)),
+                               (Status.BAD_BUDGET, (1, 300, 64, 65536))):
+            self.refused(status, Driver, *values)
+        driver = Driver(2)
+        for call in driver.open, driver.stop, driver.interrupt, driver.shown:
+            self.refused(Status.BAD_DEVICE, call, 2)
+
+
+class TestMachine(Refusals):
+    ARRIVALS = (TOP / "crates/napi_machine/stdin").read_bytes()
+
+    def test_the_report_of_the_program(self):
+        report = machine(self.ARRIVALS, defer_hard_irqs=2, gro_flush_timeout=20000)
+        self.assertEqual(report.text, (TOP / "crates/napi_machine/stdout").read_text())
+        self.assertEqual({number: queue.arrived for number, queue in report.queues.items()}, {1: 3, 2: 1})
+        self.assertEqual((report.queues[1].polls, report.queues[1].waits), (3, (8000, 10000, 10992, 10992, 10992, 11000)))
+        processor, = report.processors
+        self.assertEqual((processor.timers, processor.used, processor.waits.most, processor.application), (4, 4, 21500, None))
+        self.assertEqual(processor.times, (71000, 24000, 10000, 8000, 29000))
+        self.assertEqual((report.arrived, report.dropped, report.polled, report.refused, report.used), (4, 0, 4, 0, 4))
+
+    def test_what_a_setting_changes(self):
+        apart = machine(self.ARRIVALS, apart=True, app_wake=3000, processors=2).processors
+        self.assertEqual([one.number for one in apart], [0, 1])
+        self.assertEqual(apart[0].application.wakes, 1)
+        rows = "".join(f"{1000 * i},1,60\n" for i in range(2000))
+        arrivals = f"moment,device,bytes\n{rows}".encode()
+        one_by_one, together = machine(arrivals), machine(arrivals, rx_nsecs=50000)
+        self.assertGreater(one_by_one.processors[0].interrupts, together.processors[0].interrupts)
+
+    def test_faults(self):
+        for arrivals, number, row, line in ((b"", 1, 0, "arrivals fault 1 BadHeader row 0"),
+                                            (b"moment,device,bytes\n5,1,60\n4,1,60\n", 8, 2, "arrivals fault 8 Falls row 2")):
+            with self.assertRaises(ArrivalsFault) as raised:
+                machine(arrivals)
+            fault = raised.exception
+            self.assertEqual((fault.status, fault.number, fault.row, str(fault)), (Status.BAD_ARRIVALS, number, row, line))
+            self.assertEqual(str(pickle.loads(pickle.dumps(fault))), line)
+        for name, value in (("weight", 65), ("backlog", 2), ("wake", 10**9 + 1), ("processors", 0)):
+            with self.assertRaisesRegex(SettingFault, f"^FQ_BAD_SETTING: {name}$"):
+                machine(self.ARRIVALS, **{name: value})
+        for values in ((self.ARRIVALS.decode(), {}), (self.ARRIVALS, {"size": 96}), (self.ARRIVALS, {"use": 1})):
+            with self.assertRaises(TypeError):
+                machine(values[0], **values[1])
+
+
+class TestRaising(Refusals):
+    def test_recorded_bursts_lose_no_packet(self):
+        """As tests/tools/test_raise.py: with the runs that the kernel would make all packets are polled."""
+        trace = (TOP / "examples/linux-veth-bursts.csv").read_bytes()
+        plain, raised = replay(trace, 16, 8), replay(trace, 16, 8, raised=True)
+        self.assertEqual((plain.work, sum(device.dropped for device in plain.devices.values())), (8441, 5582))
+        self.assertEqual((raised.work, sum(device.dropped for device in raised.devices.values()), raised.listed), (15245, 0, []))
+        self.assertEqual(raise_runs(trace), trace)
+
+    def test_by_hand(self):
+        head = "moment,device,event,value\n0,1,open,8\n" + "1,1,rx,60\n" * 3
+        trace = f"{head}2,0,softirq,0\n3,0,softirq,0\n".encode()
+        for restarts, rows in ((None, "2,0,softirq,0\n" * 4 + "3,0,softirq,0\n"), (0, "2,0,softirq,0\n3,0,softirq,0\n"),
+                               (1, "2,0,softirq,0\n" * 2 + "3,0,softirq,0\n" * 2)):
+            self.assertEqual(raise_runs(trace, 1, 1, restarts=restarts).decode(), head + rows)
+
+    def test_faults(self):
+        pending = b"moment,device,event,value\n0,1,open,4\n1,1,rx,10\n1,1,disable,0\n1,1,enable,0\n"
+        for trace, line in ((b"", "trace fault 1 BadHeader row 0"), (pending, "trace fault 12 Pending row 4")):
+            with self.assertRaises(TraceFault) as raised:
+                raise_runs(trace)
+            self.assertEqual(str(raised.exception), line)
+        self.refused(Status.BAD_WEIGHT, raise_runs, pending, weight=0)
+        with self.assertRaises(TypeError):
+            raise_runs("moment")
 
 
 class TestReplay(Refusals):

@@ -30,6 +30,8 @@ impl Fault {
     pub const STOPPED: Fault = Fault(sys::FQ_STOPPED);
     /// Transmit ring: more packets complete than it holds.
     pub const MORE_THAN_SENT: Fault = Fault(sys::FQ_MORE_THAN_SENT);
+    /// Driver: this isn't due, and nothing has changed.
+    pub const NOT_DUE: Fault = Fault(sys::FQ_NOT_DUE);
     /// The call isn't allowed in the object's state.
     pub const NOT_ALLOWED: Fault = Fault(sys::FQ_NOT_ALLOWED);
     /// List: the number is in it already.
@@ -42,10 +44,14 @@ impl Fault {
     pub const BAD_WEIGHT: Fault = Fault(sys::FQ_BAD_WEIGHT);
     /// A run's budget and window are 1 to 65535.
     pub const BAD_BUDGET: Fault = Fault(sys::FQ_BAD_BUDGET);
-    /// A shared instance has 2 to 8 callers.
+    /// A shared instance has 2 to 8 callers, a driver 1 to 64 devices.
     pub const BAD_COUNT: Fault = Fault(sys::FQ_BAD_COUNT);
-    /// Run: a poll reported more packets than the weight.
+    /// Run, driver: a poll reported more packets than the weight.
     pub const BAD_WORK: Fault = Fault(sys::FQ_BAD_WORK);
+    /// Driver: not a number of one of its devices.
+    pub const BAD_DEVICE: Fault = Fault(sys::FQ_BAD_DEVICE);
+    /// Machine: a struct doesn't have its size.
+    pub const BAD_SIZE: Fault = Fault(sys::FQ_BAD_SIZE);
 
     /// Its number.
     pub fn number(self) -> u32 {

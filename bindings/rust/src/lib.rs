@@ -11,7 +11,9 @@
 //! - [`Word`]: pending bits, which other threads raise for a list's poller.
 //! - [`TxRing`]: a transmit ring under a byte queue limit.
 //! - [`List`]: a poll list, and runs over it.
+//! - [`Driver`]: the driver of up to 64 devices on one thread, which says what has to be done at a card.
 //! - [`replay`]: the whole replay of a trace, on one thread.
+//! - [`machine`](fn@machine): the receiving machine, from arrivals to latencies.
 //!
 //! Every value may be sent to another thread, and none but a [`Word`] may be used by two at a time
 //! (`Send`, not `Sync`): the library wants one call at a time on an object.
@@ -50,9 +52,11 @@ mod caller;
 mod card;
 mod control;
 mod dql;
+mod driver;
 mod fault;
 mod handle;
 mod list;
+mod machine;
 mod packets;
 mod polling;
 mod replay;
@@ -70,8 +74,10 @@ pub use caller::{Caller, Granted};
 pub use card::{Card, Look, Poll};
 pub use control::{Control, Marked, Mode, Off, On};
 pub use dql::Dql;
+pub use driver::{Cards, DeviceShown, DeviceState, Driver, Todo, What};
 pub use fault::Fault;
 pub use list::{List, Polled, Pushes, RunReport};
+pub use machine::{machine, MachineFault, MachineSettings};
 pub use packets::{Answers, Batch, Counts, Packet, RingShown, Totals, Weight};
 pub use polling::Polling;
 pub use replay::{replay, NoReport, Settings};

@@ -42,6 +42,7 @@ statuses! {
     FQ_DONE = 27,
     FQ_STOPPED = 28,
     FQ_MORE_THAN_SENT = 29,
+    FQ_NOT_DUE = 30,
     FQ_NOT_ALLOWED = 100,
     FQ_BAD_KIND = 101,
     FQ_BAD_HANDLE = 110,
@@ -55,6 +56,10 @@ statuses! {
     FQ_BAD_NEXT = 118,
     FQ_BAD_WORK = 119,
     FQ_BAD_TRACE = 120,
+    FQ_BAD_DEVICE = 121,
+    FQ_BAD_SIZE = 122,
+    FQ_BAD_SETTING = 123,
+    FQ_BAD_ARRIVALS = 124,
 }
 
 /// Room for each text of the library, with the 0 after it.
@@ -82,6 +87,10 @@ pub const FQ_STRUCT_TX_SHOWN: u32 = 8;
 pub const FQ_STRUCT_ANSWERS: u32 = 9;
 /// The number of `struct fq_run_report` for [`fq_struct_size`].
 pub const FQ_STRUCT_RUN_REPORT: u32 = 10;
+/// The number of `struct fq_todo` for [`fq_struct_size`].
+pub const FQ_STRUCT_TODO: u32 = 11;
+/// The number of `struct fq_device_shown` for [`fq_struct_size`].
+pub const FQ_STRUCT_DEVICE_SHOWN: u32 = 12;
 
 /// `FQ_LIST` of `enum fq_kind`: handed to a poll list.
 pub const FQ_LIST: u32 = 0;
@@ -98,6 +107,26 @@ pub const FQ_NEXT_AGAIN_THREAD: u32 = 2;
 pub const FQ_NEXT_REPOLL: u32 = 3;
 /// `FQ_NEXT_ABSENT` of `enum fq_next`.
 pub const FQ_NEXT_ABSENT: u32 = 4;
+
+/// `FQ_TODO_SLEEP` of `enum fq_what`.
+pub const FQ_TODO_SLEEP: u32 = 0;
+/// `FQ_TODO_MASK` of `enum fq_what`.
+pub const FQ_TODO_MASK: u32 = 1;
+/// `FQ_TODO_UNMASK` of `enum fq_what`.
+pub const FQ_TODO_UNMASK: u32 = 2;
+/// `FQ_TODO_LOOK` of `enum fq_what`.
+pub const FQ_TODO_LOOK: u32 = 3;
+/// `FQ_TODO_FETCH` of `enum fq_what`.
+pub const FQ_TODO_FETCH: u32 = 4;
+/// `FQ_TODO_ENDED` of `enum fq_what`.
+pub const FQ_TODO_ENDED: u32 = 5;
+
+/// `FQ_DEVICE_CLOSED` of `enum fq_device_state`.
+pub const FQ_DEVICE_CLOSED: u32 = 0;
+/// `FQ_DEVICE_OPEN` of `enum fq_device_state`.
+pub const FQ_DEVICE_OPEN: u32 = 1;
+/// `FQ_DEVICE_STOPPING` of `enum fq_device_state`.
+pub const FQ_DEVICE_STOPPING: u32 = 2;
 
 /// `NAPI_STATE_SCHED` in a state word.
 pub const FQ_BIT_SCHED: u64 = 1 << 0;
@@ -294,6 +323,59 @@ pub struct fq_run_report {
     pub squeezed: bool,
 }
 
+/// What a driver has to do next.
+#[repr(C)]
+#[derive(Clone, Copy, Debug, PartialEq, Eq)]
+pub struct fq_todo {
+    /// The size of this struct.
+    pub size: usize,
+    /// Which thing this is; 0: none.
+    pub number: u64,
+    /// A number of `enum fq_what`.
+    pub what: u32,
+    /// The device.
+    pub device: u32,
+    /// The packets that a fetch may take.
+    pub most: u32,
+    /// The packets of a look or a fetch, for the report.
+    pub packets: u32,
+    /// The report of a run that ended.
+    pub run: fq_run_report,
+}
+
+/// Nothing to do, with the size.
+pub const FQ_TODO_INIT: fq_todo = fq_todo {
+    size: std::mem::size_of::<fq_todo>(),
+    number: 0,
+    what: FQ_TODO_SLEEP,
+    device: 0,
+    most: 0,
+    packets: 0,
+    run: fq_run_report {
+        polls: 0,
+        work: 0,
+        squeezed: false,
+    },
+};
+
+/// The state of a device of a driver, and the counts of its polls, which saturate.
+#[repr(C)]
+#[derive(Clone, Copy, Debug, Default, PartialEq, Eq)]
+pub struct fq_device_shown {
+    /// The size of this struct.
+    pub size: usize,
+    /// A number of `enum fq_device_state`.
+    pub state: u32,
+    /// A poll is requested, and isn't completed.
+    pub scheduled: bool,
+    /// An interrupt came meanwhile.
+    pub missed: bool,
+    /// Fetches that were reported.
+    pub polls: u64,
+    /// The packets of these.
+    pub packets: u64,
+}
+
 /// The settings of a replay.
 #[repr(C)]
 #[derive(Clone, Copy, Debug, PartialEq, Eq)]
@@ -316,6 +398,74 @@ pub struct fq_replayed {
     pub fault: u32,
     /// The row that the error names; 0 if it names none.
     pub row: u32,
+}
+
+/// The settings of the machine. Times are in nanoseconds; a flag is 0 or 1.
+#[repr(C)]
+#[derive(Clone, Copy, Debug, PartialEq, Eq)]
+pub struct fq_machine_settings {
+    /// The size of this struct.
+    pub size: usize,
+    /// Processors, 1 to 64.
+    pub processors: u32,
+    /// Queues of a device, 1 to 64.
+    pub queues: u32,
+    /// Packets that a ring holds, 1 to 65536.
+    pub ring: u32,
+    /// Packets that a processor's socket holds, 1 to 65536.
+    pub socket: u32,
+    /// Flag: the backlog of a processor.
+    pub backlog: u32,
+    /// Packets that a run polls, 0 to 65535; 0: an interrupt for each packet.
+    pub budget: u32,
+    /// Packets that one poll takes at most, 1 to 64.
+    pub weight: u32,
+    /// Polls that a run makes, 1 to 65535.
+    pub window: u32,
+    /// The time after which a run ends, from 1.
+    pub time_limit: u32,
+    /// The time from a packet to its interrupt.
+    pub rx_nsecs: u32,
+    /// Packets at which the interrupt comes earlier, 0 to 65535.
+    pub rx_frames: u32,
+    /// Polls without packets before interrupts are enabled again, 0 to 65535.
+    pub defer_hard_irqs: u32,
+    /// The time between such polls.
+    pub gro_flush_timeout: u32,
+    /// Flag: threads poll.
+    pub threaded: u32,
+    /// Flag: the application has a processor of its own.
+    pub apart: u32,
+    /// What waking the application there takes.
+    pub app_wake: u32,
+    /// What an interrupt takes.
+    pub interrupt: u32,
+    /// What a poll takes without its packets.
+    pub poll: u32,
+    /// What a packet takes in a poll.
+    pub packet: u32,
+    /// What the application takes for a packet.
+    pub use_time: u32,
+    /// What waking an idle processor takes.
+    pub wake: u32,
+}
+
+/// The result of a run of the machine besides its status.
+#[repr(C)]
+#[derive(Clone, Copy, Debug, PartialEq, Eq)]
+pub struct fq_machine_ran {
+    /// The size of this struct.
+    pub size: usize,
+    /// The length of the report in bytes, even if there is no room for it; 0 if there is none.
+    pub length: usize,
+    /// The row that the fault of the arrivals names; 0 if it names none.
+    pub row: u64,
+    /// The number of that fault; 0 if they have none.
+    pub fault: u32,
+    /// The setting that is out of its range, from 1; 0 if none is.
+    pub setting: u32,
+    /// The message of that fault, with a 0 after it.
+    pub message: [c_char; 64],
 }
 
 #[allow(missing_docs)] // include/fintaqush.h is the reference
@@ -430,6 +580,24 @@ extern "C" {
     pub fn fq_run_polled(list: *mut fq_handle, work: u32, next: u32) -> u32;
     pub fn fq_run_end(list: *mut fq_handle, report: *mut fq_run_report) -> u32;
 
+    pub fn fq_driver_new(
+        driver: *mut fq_handle,
+        devices: u32,
+        budget: u32,
+        weight: u32,
+        window: u32,
+    ) -> u32;
+    pub fn fq_driver_open(driver: *mut fq_handle, device: u32) -> u32;
+    pub fn fq_driver_stop(driver: *mut fq_handle, device: u32) -> u32;
+    pub fn fq_driver_interrupt(driver: *mut fq_handle, device: u32) -> u32;
+    pub fn fq_driver_next(driver: *mut fq_handle, todo: *mut fq_todo) -> u32;
+    pub fn fq_driver_done(driver: *mut fq_handle, todo: *const fq_todo) -> u32;
+    pub fn fq_driver_show(
+        driver: *mut fq_handle,
+        device: u32,
+        shown: *mut fq_device_shown,
+    ) -> u32;
+
     pub fn fq_replay(
         settings: *const fq_settings,
         trace: *const u8,
@@ -437,6 +605,16 @@ extern "C" {
         report: *mut u8,
         room: usize,
         replayed: *mut fq_replayed,
+    ) -> u32;
+
+    pub fn fq_machine_usual(settings: *mut fq_machine_settings, size: usize) -> u32;
+    pub fn fq_machine(
+        settings: *const fq_machine_settings,
+        arrivals: *const u8,
+        len: usize,
+        report: *mut u8,
+        room: usize,
+        ran: *mut fq_machine_ran,
     ) -> u32;
 }
 

@@ -712,7 +712,142 @@ fn the_structs_have_the_sizes_that_the_library_tells() {
     assert_eq!(told(FQ_STRUCT_TX_SHOWN), size_of::<fq_tx_shown>());
     assert_eq!(told(FQ_STRUCT_ANSWERS), size_of::<fq_answers>());
     assert_eq!(told(FQ_STRUCT_RUN_REPORT), size_of::<fq_run_report>());
-    assert_eq!(told(FQ_STRUCT_RUN_REPORT + 1), 0);
+    assert_eq!(told(FQ_STRUCT_TODO), size_of::<fq_todo>());
+    assert_eq!(told(FQ_STRUCT_DEVICE_SHOWN), size_of::<fq_device_shown>());
+    assert_eq!(told(FQ_STRUCT_DEVICE_SHOWN + 1), 0);
+}
+
+// A card with interrupts by edges: what arrives while it is masked causes none.
+#[derive(Default)]
+struct EdgeCard {
+    open: bool,
+    waiting: u32,
+    taken: u32,
+}
+
+impl Cards for EdgeCard {
+    fn mask(&mut self, _: u32) {
+        self.open = false;
+    }
+
+    fn unmask(&mut self, _: u32) {
+        self.open = true;
+    }
+
+    fn look(&mut self, _: u32) -> bool {
+        self.waiting > 0
+    }
+
+    fn fetch(&mut self, _: u32, most: u32) -> u32 {
+        let count = most.min(self.waiting);
+        self.waiting -= count;
+        self.taken += count;
+        count
+    }
+}
+
+#[test]
+fn a_driver_polls_what_came_before_it_was_opened() {
+    let mut driver = Driver::new(2, 300, Weight::MAX, 1024).unwrap();
+    let mut card = EdgeCard {
+        waiting: 100,
+        ..EdgeCard::default()
+    };
+    assert_eq!(driver.step(&mut card), What::Sleep);
+    driver.open(1).unwrap();
+    assert_eq!(driver.open(1), Err(Fault::NOT_DUE));
+    let mut did = Vec::new();
+    while did.last() != Some(&What::Sleep) {
+        did.push(driver.step(&mut card));
+    }
+    did.retain(|what| !matches!(what, What::Ended(_)));
+    let fetch = What::Fetch {
+        device: 1,
+        most: 64,
+    };
+    let wanted = [
+        What::Unmask(1),
+        What::Look(1),
+        What::Mask(1),
+        fetch,
+        fetch,
+        What::Unmask(1),
+        What::Look(1),
+        What::Sleep,
+    ];
+    assert_eq!(did, wanted);
+    let shown = driver.shown(1).unwrap();
+    assert_eq!((card.open, card.taken), (true, 100));
+    assert_eq!((shown.state, shown.polls, shown.packets), (DeviceState::Open, 2, 100));
+    assert_eq!(driver.interrupt(1), Ok(Prep::Granted));
+    assert_eq!(driver.interrupt(1), Ok(Prep::Missed));
+    driver.stop(1).unwrap();
+    assert_eq!(driver.stop(1), Err(Fault::NOT_DUE));
+    assert_eq!(driver.interrupt(1), Ok(Prep::Disabled));
+    while driver.step(&mut card) != What::Sleep {}
+    assert_eq!(driver.shown(1).unwrap().state, DeviceState::Closed);
+    assert!(!card.open);
+}
+
+#[test]
+fn a_driver_refuses_what_is_not_due() {
+    assert_eq!(Driver::new(0, 300, Weight::MAX, 1024).unwrap_err(), Fault::BAD_COUNT);
+    assert_eq!(Driver::new(1, 0, Weight::MAX, 1024).unwrap_err(), Fault::BAD_BUDGET);
+    let mut driver = Driver::new(1, 300, Weight::new(8).unwrap(), 1024).unwrap();
+    assert_eq!(driver.open(1), Err(Fault::BAD_DEVICE));
+    assert_eq!(driver.interrupt(1), Err(Fault::BAD_DEVICE));
+    assert_eq!(driver.shown(1).unwrap_err(), Fault::BAD_DEVICE);
+    driver.open(0).unwrap();
+    let todo = driver.next();
+    assert_eq!(todo.what(), What::Unmask(0));
+    driver.done(todo, 0).unwrap();
+    assert_eq!(driver.done(todo, 0), Err(Fault::NOT_DUE));
+    let todo = driver.next();
+    driver.done(todo, 3).unwrap();
+    let todo = driver.next();
+    driver.done(todo, 0).unwrap();
+    let todo = driver.next();
+    assert_eq!(todo.what(), What::Fetch { device: 0, most: 8 });
+    assert_eq!(driver.done(todo, 9), Err(Fault::BAD_WORK));
+    let broken = catch_unwind(AssertUnwindSafe(|| {
+        struct Broken;
+        impl Cards for Broken {
+            fn mask(&mut self, _: u32) {}
+            fn unmask(&mut self, _: u32) {}
+            fn look(&mut self, _: u32) -> bool {
+                false
+            }
+            fn fetch(&mut self, _: u32, _: u32) -> u32 {
+                panic!("a card")
+            }
+        }
+        driver.step(&mut Broken)
+    }));
+    assert!(broken.is_err());
+    assert_eq!(driver.next().what(), What::Fetch { device: 0, most: 8 });
+}
+
+#[test]
+fn the_machine_reports_what_its_program_does() {
+    let arrivals = include_bytes!("../../../crates/napi_machine/stdin");
+    let settings = MachineSettings {
+        defer_hard_irqs: 2,
+        gro_flush_timeout: 20000,
+        ..MachineSettings::default()
+    };
+    let report = machine(arrivals, &settings).unwrap();
+    assert_eq!(report, include_bytes!("../../../crates/napi_machine/stdout"));
+    let falls = machine(b"moment,device,bytes\n5,1,60\n4,1,60\n", &settings).unwrap_err();
+    let message = "arrivals fault 8 Falls row 2".to_string();
+    assert_eq!(falls.to_string(), message);
+    assert_eq!(falls, MachineFault::Arrivals { fault: 8, row: 2, message });
+    let of_other_size = MachineSettings { size: 1, ..settings };
+    assert_eq!(machine(arrivals, &of_other_size), Err(MachineFault::Refused(Fault::BAD_SIZE)));
+    let late = MachineSettings { wake: 1_000_000_001, ..settings };
+    assert_eq!(machine(arrivals, &late), Err(MachineFault::Setting(21)));
+    let many: String = (0..4000).map(|i| format!("{i},{},60\n", i % 64 + 1)).collect();
+    let many = format!("moment,device,bytes\n{many}");
+    assert!(machine(many.as_bytes(), &settings).unwrap().len() > 4096);
 }
 
 #[test]

@@ -16,7 +16,7 @@ fn message_of(status: u32) -> &'static [u8] {
     match status {
         1..=4 => limit_fault(status),
         16..=30 => found(status),
-        100..=122 => refused(status),
+        100..=124 => refused(status),
         0 => b"done",
         _ => b"?",
     }
@@ -68,6 +68,8 @@ fn refused(status: u32) -> &'static [u8] {
         120 => b"the bytes are no trace, or a row of it can't be played",
         121 => b"the driver has no device of this number",
         122 => b"a struct's size is not one that the library knows",
+        123 => b"a setting of the machine is out of its range",
+        124 => b"the bytes are no arrivals",
         _ => b"?",
     }
 }

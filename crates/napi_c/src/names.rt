@@ -19,7 +19,7 @@ pub fn write(text: &[u8], to: &mut [u8]) -> usize
 pub extern "C" fn fq_version(to: &mut [u8]) -> usize
     ensures kept { length to.new ≤ result → to.new ≡ to.old }
 {
-    write(b"1.0.0", to)
+    write(b"1.1.0", to)
 }
 
 /// The name of a status, in the same way; "?" for a number that isn't one.
@@ -42,7 +42,7 @@ fn status_name(status: u32) -> &'static [u8] {
     match status {
         1..=4 => limit_fault_name(status),
         16..=30 => found_name(status),
-        100..=122 => refused_name(status),
+        100..=124 => refused_name(status),
         0 => b"FQ_OK",
         _ => b"?",
     }
@@ -94,6 +94,8 @@ fn refused_name(status: u32) -> &'static [u8] {
         120 => b"FQ_BAD_TRACE",
         121 => b"FQ_BAD_DEVICE",
         122 => b"FQ_BAD_SIZE",
+        123 => b"FQ_BAD_SETTING",
+        124 => b"FQ_BAD_ARRIVALS",
         _ => b"?",
     }
 }

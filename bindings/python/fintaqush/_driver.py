@@ -1,0 +1,109 @@
+"""The driver of up to 64 devices on one thread."""
+from __future__ import annotations
+
+import ctypes
+from typing import NamedTuple, Protocol
+
+from . import _library as c
+from ._answers import DeviceState, Status, What
+from ._objects import RunReport, _Owned
+
+
+class Todo:
+    """What has to be done: mask or unmask the card of `device`, look whether it has packets, or fetch at most `most` of them; `run` is
+    the report of a run that ended."""
+
+    def __init__(self) -> None:
+        self._raw = c.Todo(ctypes.sizeof(c.Todo))
+
+    @property
+    def what(self) -> What:
+        return What(self._raw.what)
+
+    @property
+    def device(self) -> int:
+        return int(self._raw.device)
+
+    @property
+    def most(self) -> int:
+        return int(self._raw.most)
+
+    @property
+    def run(self) -> RunReport:
+        return RunReport(self._raw.run.polls, self._raw.run.work, self._raw.run.squeezed)
+
+
+class Cards(Protocol):
+    """The cards of a driver, by the numbers of their devices. `look` returns whether a card has packets; `fetch` takes packets from it,
+    at most so many, delivers them, and returns how many."""
+
+    def mask(self, device: int) -> object: ...
+    def unmask(self, device: int) -> object: ...
+    def look(self, device: int) -> bool: ...
+    def fetch(self, device: int, most: int) -> int: ...
+
+
+class DeviceShown(NamedTuple):
+    """The state of a device: whether a poll is requested, and an interrupt came meanwhile; its polls, and the packets of these."""
+    state: DeviceState
+    scheduled: bool
+    missed: bool
+    polls: int
+    packets: int
+
+
+class Driver(_Owned):
+    """The driver of 1 to 64 devices, all closed at first: their instances, the poll list and the runs over it. Any order of calls is
+    safe: what isn't due returns False and changes nothing. BAD_COUNT, BAD_WEIGHT, BAD_BUDGET."""
+
+    def __init__(self, devices: int, budget: int = 300, weight: int = 64, window: int = 1024) -> None:
+        super().__init__(c.driver_new, devices, budget, weight, window)
+
+    def open(self, device: int) -> bool:
+        """Opens a closed device (`napi_enable`); returns False if it isn't closed. BAD_DEVICE."""
+        return bool(c.driver_open(self._at, device) == Status.OK)
+
+    def stop(self, device: int) -> bool:
+        """Stops an open device (`napi_disable`): polls that were requested are made, its card is masked, and then it is closed. Returns
+        False if it isn't open. BAD_DEVICE."""
+        return bool(c.driver_stop(self._at, device) == Status.OK)
+
+    def interrupt(self, device: int) -> Status:
+        """Reports an interrupt of a card (`napi_schedule`), at any time: GRANTED, MISSED or DISABLED. BAD_DEVICE."""
+        return Status(c.driver_interrupt(self._at, device))
+
+    def next(self) -> Todo:
+        """Returns what has to be done now. What isn't reported is said again."""
+        todo = Todo()
+        c.driver_next(self._at, todo._raw)
+        return todo
+
+    def done(self, todo: Todo, packets: int = 0) -> bool:
+        """Reports that it was done, with the packets of a look or a fetch. Returns False if the driver doesn't wait for this report any
+        more. BAD_WORK if a fetch took more than `most`."""
+        todo._raw.packets = c.number(packets, "packets")
+        return bool(c.driver_done(self._at, todo._raw) == Status.OK)
+
+    def step(self, cards: Cards) -> What:
+        """Does one thing at a card, reports it, and returns what was done; SLEEP if nothing has to be, ENDED if a run ended. If a call
+        raises, nothing is reported, and the same is due again."""
+        todo, packets = self.next(), 0
+        what = todo.what
+        if what is What.MASK:
+            cards.mask(todo.device)
+        elif what is What.UNMASK:
+            cards.unmask(todo.device)
+        elif what is What.LOOK:
+            packets = int(bool(cards.look(todo.device)))
+        elif what is What.FETCH:
+            packets = cards.fetch(todo.device, todo.most)
+        else:
+            return what
+        self.done(todo, packets)
+        return what
+
+    def shown(self, device: int) -> DeviceShown:
+        """Returns the state of a device, and the counts of its polls. BAD_DEVICE."""
+        shown = c.DeviceShown(ctypes.sizeof(c.DeviceShown))
+        c.driver_show(self._at, device, shown)
+        return DeviceShown(DeviceState(shown.state), shown.scheduled, shown.missed, shown.polls, shown.packets)

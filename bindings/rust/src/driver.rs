@@ -1,0 +1,245 @@
+//! The driver of up to 64 devices on one thread.
+use crate::fault::{unexpected, Fault};
+use crate::handle::Handle;
+use crate::list::RunReport;
+use crate::packets::Weight;
+use crate::sys;
+use crate::words::Prep;
+
+/// What a driver has to do next.
+#[derive(Clone, Copy, Debug, PartialEq, Eq)]
+pub enum What {
+    /// Nothing, until the next interrupt, open or stop.
+    Sleep,
+    /// Mask the interrupt of the card of this device.
+    Mask(u32),
+    /// Unmask it.
+    Unmask(u32),
+    /// Look whether the card of this device has packets, and report how many, or 1 if it has any.
+    Look(u32),
+    /// Take packets from a card and deliver them, and report how many.
+    Fetch {
+        /// The number of the device.
+        device: u32,
+        /// The most packets that may be taken.
+        most: u32,
+    },
+    /// A run ended (`net_rx_action`): do other work first if there is some.
+    Ended(RunReport),
+}
+
+/// A thing that has to be done, for a report by [`Driver::done`].
+#[derive(Clone, Copy, Debug, PartialEq, Eq)]
+pub struct Todo {
+    raw: sys::fq_todo,
+}
+
+impl Todo {
+    const NONE: Todo = Todo {
+        raw: sys::FQ_TODO_INIT,
+    };
+
+    /// What it is.
+    pub fn what(&self) -> What {
+        let sys::fq_todo { device, most, .. } = self.raw;
+        match self.raw.what {
+            sys::FQ_TODO_SLEEP => What::Sleep,
+            sys::FQ_TODO_MASK => What::Mask(device),
+            sys::FQ_TODO_UNMASK => What::Unmask(device),
+            sys::FQ_TODO_LOOK => What::Look(device),
+            sys::FQ_TODO_FETCH => What::Fetch { device, most },
+            sys::FQ_TODO_ENDED => What::Ended(self.raw.run),
+            what => unexpected("driver_next", what),
+        }
+    }
+}
+
+/// The cards of a driver, by the numbers of their devices.
+pub trait Cards {
+    /// Masks the interrupt of a card.
+    fn mask(&mut self, device: u32);
+    /// Unmasks it.
+    fn unmask(&mut self, device: u32);
+    /// Returns whether a card has packets.
+    fn look(&mut self, device: u32) -> bool;
+    /// Takes at most this many packets from a card, delivers them, and returns how many.
+    fn fetch(&mut self, device: u32, most: u32) -> u32;
+}
+
+/// Whether a device is open.
+#[derive(Clone, Copy, Debug, PartialEq, Eq)]
+pub enum DeviceState {
+    /// It is closed, and its card is masked.
+    Closed,
+    /// It is open.
+    Open,
+    /// It is being stopped.
+    Stopping,
+}
+
+/// The state of a device, and the counts of its polls. Each count saturates.
+#[derive(Clone, Copy, Debug, PartialEq, Eq)]
+pub struct DeviceShown {
+    /// Whether it is open.
+    pub state: DeviceState,
+    /// A poll is requested, and isn't completed (`NAPI_STATE_SCHED`).
+    pub scheduled: bool,
+    /// An interrupt came meanwhile (`NAPI_STATE_MISSED`).
+    pub missed: bool,
+    /// Fetches that were reported.
+    pub polls: u64,
+    /// The packets of these.
+    pub packets: u64,
+}
+
+/// The driver of up to 64 devices on one thread: their instances, the poll list and the runs over it. It says what has to be done
+/// at a card, and the caller reports that it was done.
+///
+/// Any order of calls is safe: what isn't due fails with [`NOT_DUE`](Fault::NOT_DUE) and changes nothing. It says to sleep only if
+/// each card of an open device was unmasked, was looked at after that and had no packets, and no poll is requested.
+///
+/// ```
+/// use fintaqush::{Cards, Driver, Fault, Weight, What};
+///
+/// struct Card {
+///     masked: bool,
+///     packets: u32,
+/// }
+///
+/// impl Cards for Card {
+///     fn mask(&mut self, _: u32) {
+///         self.masked = true;
+///     }
+///     fn unmask(&mut self, _: u32) {
+///         self.masked = false;
+///     }
+///     fn look(&mut self, _: u32) -> bool {
+///         self.packets > 0
+///     }
+///     fn fetch(&mut self, _: u32, most: u32) -> u32 {
+///         let taken = most.min(self.packets);
+///         self.packets -= taken;
+///         taken
+///     }
+/// }
+///
+/// # fn main() -> Result<(), Fault> {
+/// let mut card = Card { masked: true, packets: 100 };
+/// let mut driver = Driver::new(1, 300, Weight::MAX, 1024)?;
+/// driver.open(0)?;
+/// while driver.step(&mut card) != What::Sleep {}
+/// assert_eq!((card.masked, card.packets), (false, 0));
+/// assert_eq!(driver.shown(0)?.polls, 2);
+/// # Ok(())
+/// # }
+/// ```
+#[derive(Debug)]
+pub struct Driver {
+    at: Handle,
+}
+
+impl Driver {
+    /// Returns a driver of 1 to 64 devices, all closed. Fails with [`BAD_COUNT`](Fault::BAD_COUNT), with
+    /// [`BAD_BUDGET`](Fault::BAD_BUDGET) unless budget (packets) and window (polls) are 1 to 65535, or with
+    /// [`OUT_OF_MEMORY`](Fault::OUT_OF_MEMORY).
+    pub fn new(devices: u32, budget: u32, weight: Weight, window: u32) -> Result<Driver, Fault> {
+        let mut at = Handle::NONE;
+        let weight = weight.get() as u32;
+        // SAFETY: only this call has the handle.
+        let said = unsafe { sys::fq_driver_new(at.raw(), devices, budget, weight, window) };
+        Fault::unless_made(said)?;
+        Ok(Driver { at })
+    }
+
+    /// Opens a closed device (`napi_enable`). Fails with [`NOT_DUE`](Fault::NOT_DUE) if it isn't closed, with
+    /// [`BAD_DEVICE`](Fault::BAD_DEVICE).
+    pub fn open(&mut self, device: u32) -> Result<(), Fault> {
+        // SAFETY: only this driver has the handle.
+        Fault::unless_made(unsafe { sys::fq_driver_open(self.at.raw(), device) })
+    }
+
+    /// Stops an open device (`napi_disable`): polls that were requested are made, its card is masked, and then it is closed.
+    /// Fails with [`NOT_DUE`](Fault::NOT_DUE) if it isn't open, with [`BAD_DEVICE`](Fault::BAD_DEVICE).
+    pub fn stop(&mut self, device: u32) -> Result<(), Fault> {
+        // SAFETY: only this driver has the handle.
+        Fault::unless_made(unsafe { sys::fq_driver_stop(self.at.raw(), device) })
+    }
+
+    /// Reports an interrupt of a card (`napi_schedule`), at any time. Fails with [`BAD_DEVICE`](Fault::BAD_DEVICE).
+    pub fn interrupt(&mut self, device: u32) -> Result<Prep, Fault> {
+        // SAFETY: only this driver has the handle.
+        match unsafe { sys::fq_driver_interrupt(self.at.raw(), device) } {
+            sys::FQ_BAD_DEVICE => Err(Fault::BAD_DEVICE),
+            said => Prep::of("driver_interrupt", said)
+                .map_or_else(|| unexpected("driver_interrupt", said), Ok),
+        }
+    }
+
+    /// Returns what has to be done now. What isn't reported is said again.
+    pub fn next(&mut self) -> Todo {
+        let mut todo = Todo::NONE;
+        // SAFETY: only this driver has the handle, and what is to be done is elsewhere.
+        match unsafe { sys::fq_driver_next(self.at.raw(), &mut todo.raw) } {
+            sys::FQ_OK => todo,
+            said => unexpected("driver_next", said),
+        }
+    }
+
+    /// Reports that it was done, with the packets of a look or a fetch. Nothing is reported if it fails: with
+    /// [`NOT_DUE`](Fault::NOT_DUE) if the driver doesn't wait for this report any more, because of an interrupt, an open, a stop or
+    /// an earlier report; with [`BAD_WORK`](Fault::BAD_WORK) if a fetch took too many packets.
+    pub fn done(&mut self, todo: Todo, packets: u32) -> Result<(), Fault> {
+        let raw = sys::fq_todo {
+            packets,
+            ..todo.raw
+        };
+        // SAFETY: only this driver has the handle, and what was done is elsewhere.
+        Fault::unless_made(unsafe { sys::fq_driver_done(self.at.raw(), &raw) })
+    }
+
+    /// Does one thing at a card, reports it, and returns what was done; [`What::Sleep`] if nothing has to be, [`What::Ended`] if a run
+    /// ended. If a call of the card panics, nothing is reported, and the same is due again; so it is if a fetch returns too many
+    /// packets.
+    pub fn step<C: Cards>(&mut self, cards: &mut C) -> What {
+        let todo = self.next();
+        let what = todo.what();
+        let packets = match what {
+            What::Sleep | What::Ended(_) => return what,
+            What::Mask(device) => {
+                cards.mask(device);
+                0
+            }
+            What::Unmask(device) => {
+                cards.unmask(device);
+                0
+            }
+            What::Look(device) => u32::from(cards.look(device)),
+            What::Fetch { device, most } => cards.fetch(device, most),
+        };
+        let _ = self.done(todo, packets);
+        what
+    }
+
+    /// The state of a device, and the counts of its polls. Fails with [`BAD_DEVICE`](Fault::BAD_DEVICE).
+    pub fn shown(&mut self, device: u32) -> Result<DeviceShown, Fault> {
+        let mut shown = sys::fq_device_shown {
+            size: std::mem::size_of::<sys::fq_device_shown>(),
+            ..sys::fq_device_shown::default()
+        };
+        // SAFETY: only this driver has the handle, and the result is elsewhere.
+        let said = unsafe { sys::fq_driver_show(self.at.raw(), device, &mut shown) };
+        Fault::unless_made(said)?;
+        Ok(DeviceShown {
+            state: match shown.state {
+                sys::FQ_DEVICE_CLOSED => DeviceState::Closed,
+                sys::FQ_DEVICE_OPEN => DeviceState::Open,
+                sys::FQ_DEVICE_STOPPING => DeviceState::Stopping,
+                state => unexpected("driver_show", state),
+            },
+            scheduled: shown.scheduled,
+            missed: shown.missed,
+            polls: shown.polls,
+            packets: shown.packets,
+        })
+    }
+}

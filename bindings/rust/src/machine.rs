@@ -1,0 +1,132 @@
+//! The receiving machine in time.
+use crate::fault::Fault;
+use crate::sys;
+use std::error::Error;
+use std::fmt;
+
+/// The settings of the machine: by default those of `napi_machine`. Times are in nanoseconds; a flag is 0 or 1.
+pub use crate::sys::fq_machine_settings as MachineSettings;
+
+impl Default for MachineSettings {
+    /// Returns the defaults of `napi_machine`.
+    fn default() -> MachineSettings {
+        let size = std::mem::size_of::<MachineSettings>();
+        let mut usual = MachineSettings {
+            size,
+            processors: 0,
+            queues: 0,
+            ring: 0,
+            socket: 0,
+            backlog: 0,
+            budget: 0,
+            weight: 0,
+            window: 0,
+            time_limit: 0,
+            rx_nsecs: 0,
+            rx_frames: 0,
+            defer_hard_irqs: 0,
+            gro_flush_timeout: 0,
+            threaded: 0,
+            apart: 0,
+            app_wake: 0,
+            interrupt: 0,
+            poll: 0,
+            packet: 0,
+            use_time: 0,
+            wake: 0,
+        };
+        // SAFETY: the pointer leads to a whole struct of this size.
+        match unsafe { sys::fq_machine_usual(&mut usual, size) } {
+            sys::FQ_OK => usual,
+            said => crate::fault::unexpected("machine_usual", said),
+        }
+    }
+}
+
+/// Why the machine has no report.
+#[derive(Clone, Debug, PartialEq, Eq)]
+pub enum MachineFault {
+    /// The bytes aren't arrivals.
+    Arrivals {
+        /// The number of the error, 1 to 8.
+        fault: u32,
+        /// The row that it names, counted from 1; 0 if it names none.
+        row: u64,
+        /// Its message, as `napi_machine` prints it.
+        message: String,
+    },
+    /// The setting with this number is out of its range: 1 for `processors`, 2 for `queues`, and so on.
+    Setting(u32),
+    /// [`OUT_OF_MEMORY`](Fault::OUT_OF_MEMORY), or a `size` that isn't the struct's.
+    Refused(Fault),
+}
+
+impl fmt::Display for MachineFault {
+    fn fmt(&self, f: &mut fmt::Formatter<'_>) -> fmt::Result {
+        match self {
+            MachineFault::Arrivals { message, .. } => f.write_str(message),
+            MachineFault::Setting(number) => write!(f, "setting {number} is out of its range"),
+            MachineFault::Refused(fault) => fault.fmt(f),
+        }
+    }
+}
+
+impl Error for MachineFault {}
+
+/// The report of the machine for arrivals, as `napi_machine` writes it: which latency, which drops, which processor time.
+///
+/// ```
+/// use fintaqush::{machine, MachineFault, MachineSettings};
+///
+/// let settings = MachineSettings { rx_nsecs: 50_000, ..MachineSettings::default() };
+/// let report = machine(b"moment,device,bytes\n1000,1,60\n", &settings).unwrap();
+/// assert!(report.starts_with(b"device 1 arrived 1 dropped 0 polled 1 "));
+///
+/// let refused = machine(b"", &settings).unwrap_err();
+/// assert_eq!(refused.to_string(), "arrivals fault 1 BadHeader row 0");
+/// let heavy = MachineSettings { weight: 65, ..settings };
+/// assert_eq!(machine(b"", &heavy), Err(MachineFault::Setting(7)));
+/// ```
+pub fn machine(arrivals: &[u8], settings: &MachineSettings) -> Result<Vec<u8>, MachineFault> {
+    let mut report = vec![0; 4096];
+    let mut ran = sys::fq_machine_ran {
+        size: std::mem::size_of::<sys::fq_machine_ran>(),
+        length: 0,
+        row: 0,
+        fault: 0,
+        setting: 0,
+        message: [0; 64],
+    };
+    loop {
+        // SAFETY: each pointer leads to as many bytes as are given, and no two to the same.
+        let said = unsafe {
+            sys::fq_machine(
+                settings,
+                arrivals.as_ptr(),
+                arrivals.len(),
+                report.as_mut_ptr(),
+                report.len(),
+                &mut ran,
+            )
+        };
+        match said {
+            sys::FQ_NO_ROOM => report.resize(ran.length, 0),
+            sys::FQ_BAD_SETTING => return Err(MachineFault::Setting(ran.setting)),
+            sys::FQ_BAD_ARRIVALS => return Err(arrivals_fault(&ran)),
+            _ => {
+                Fault::unless_made(said).map_err(MachineFault::Refused)?;
+                report.truncate(ran.length);
+                return Ok(report);
+            }
+        }
+    }
+}
+
+fn arrivals_fault(ran: &sys::fq_machine_ran) -> MachineFault {
+    let message = ran.message.iter().take_while(|&&letter| letter != 0);
+    MachineFault::Arrivals {
+        fault: ran.fault,
+        row: ran.row,
+        message: message.map(|&letter| char::from(letter as u8)).collect(),
+    }
+}

@@ -1,0 +1,5 @@
+pub mod Faults
+pub mod Machine
+pub mod Ranges
+pub mod Settings
+pub mod Status

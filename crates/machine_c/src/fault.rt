@@ -1,0 +1,33 @@
+//! Errors of arrivals, as numbers.
+
+ghost use Rattle.std.specs.Prelude.{◌≡◌};
+ghost use Rattle.machine_c.specs.Faults.{fault_status, row_of};
+
+use crate::status;
+use machine_report::MachineFault;
+
+/// Returns the status of an error. Reading arrivals from memory never fails, so a reader or a writer fails only if an allocation
+/// does.
+pub(crate) fn fault_status(fault: &MachineFault) -> u32
+    ensures { result ≡ fault_status fault.now }
+{
+    match fault {
+        MachineFault::ReadFailed | MachineFault::OutOfMemory | MachineFault::OutputFailed => {
+            status::OUT_OF_MEMORY
+        }
+        _ => status::BAD_ARRIVALS,
+    }
+}
+
+/// Returns the row that an error names, or 0.
+pub(crate) fn row_of(fault: &MachineFault) -> u64
+    ensures { result ≡ row_of fault.now }
+{
+    match fault {
+        MachineFault::BadFields { row }
+        | MachineFault::BadNumber { row }
+        | MachineFault::OutOfRange { row }
+        | MachineFault::Falls { row } => *row,
+        _ => 0,
+    }
+}

@@ -1,0 +1,186 @@
+//! A whole run of the machine, from the caller's bytes into the caller's bytes.
+
+ghost use Rattle.std.specs.Prelude.{◌≡◌, ◌≢◌, ◌+◌, ◌<◌, ◌≤◌, ◌⊎◌, ◌↔◌, ◌++◌, ◌∷◌, [], ℕ, List, IfOk, IfErr, length, string_bytes, take};
+ghost use Rattle.machine_report.specs.Answer.{IsReportOf, IsArrivalsFault};
+ghost use Rattle.machine_report.specs.Fault.{IsMachineOutside, IsMachineOutOfMemory};
+ghost use Rattle.machine_c.specs.Faults.{fault_status};
+ghost use Rattle.machine_c.specs.Machine.{HasSizes, IsReport, IsFault, LacksMemory, Tells};
+ghost use Rattle.machine_c.specs.Settings.{Asks, IsOut};
+ghost use Rattle.machine_c.specs.Status.{OK, OUT_OF_MEMORY, NO_ROOM, BAD_SIZE, BAD_SETTING, BAD_ARRIVALS};
+
+use crate::fault::{fault_status, row_of};
+use crate::ranges::first_out;
+use crate::settings::{FqMachineSettings, ranges_of, settings_of};
+use crate::status;
+use machine_report::{MachineFault, fault_line, run_machine};
+use machine_words::MachineSettings;
+use std::alloc::Global;
+use std::mem::size_of;
+
+/// The result of a run besides its status: `struct fq_machine_ran`.
+#[repr(C)]
+#[derive(Clone, Copy)]
+pub struct FqMachineRan {
+    /// The size of this struct in bytes, which the caller sets.
+    pub size: usize,
+    /// The length of the report in bytes, even if there is no room for it; 0 if there is none.
+    pub length: usize,
+    /// The row that the error of the arrivals names; 0 if it names none.
+    pub row: u64,
+    /// The number of the error of the arrivals, 1 to 8; 0 if they have none.
+    pub fault: u32,
+    /// The setting that is out of its range, 1 for the first of the struct; 0 if none is.
+    pub setting: u32,
+    /// The message of the error of the arrivals, with a 0 after it.
+    pub message: [u8; 64],
+}
+
+impl FqMachineRan {
+    const SIZE: usize = size_of::<FqMachineRan>();
+
+    // No report and no error.
+    fn none() -> FqMachineRan
+        ensures size { result.size ≡ 96 }
+        ensures none { (result.length ≡ 0) × (result.row ≡ 0) × (result.fault ≡ 0) × (result.setting ≡ 0) }
+    {
+        FqMachineRan {
+            size: FqMachineRan::SIZE,
+            length: 0,
+            row: 0,
+            fault: 0,
+            setting: 0,
+            message: [0; 64],
+        }
+    }
+}
+
+// Returns the settings that are asked for, or which of them is out of its range.
+fn asked_by(asked: &FqMachineSettings) -> Result<MachineSettings, u32>
+    ensures asked { IfOk result (λ s. Asks asked.now s) }
+    ensures out { IfErr result (λ number. IsOut asked.now number) }
+{
+    let ranges = ranges_of(asked);
+    match first_out(&ranges) {
+        Some(number) => Err(number),
+        None => Ok(settings_of(asked)),
+    }
+}
+
+// Returns the report of arrivals.
+fn report_of(
+    alloc: Global,
+    settings: &MachineSettings,
+    arrivals: &[u8],
+) -> Result<Vec<u8>, MachineFault>
+    ensures report { IfOk result (λ text. IsReportOf settings.now arrivals.now text.items) }
+    ensures fault { IfErr result
+        (λ fault. IsMachineOutside fault ⊎ IsArrivalsFault settings.now arrivals.now fault) }
+{
+    let mut text = Vec::new(alloc);
+    match run_machine(alloc, arrivals, &mut text, settings) {
+        Ok(()) => Ok(text),
+        Err(fault) => Err(fault),
+    }
+}
+
+// Puts a report into the caller's array, if that has room for all of it.
+fn put_report(text: &[u8], report: &mut [u8], ran: &mut FqMachineRan) -> u32
+    ensures ok { result ≡ OK → take ran.new.length report.new ≡ text.now }
+    ensures no_room { result ≢ OK → (result ≡ NO_ROOM) × (length report.old < length text.now) }
+    ensures length { ran.new ≡ record ran.old { length = length text.now } }
+    ensures kept { result ≢ OK → report.new ≡ report.old }
+{
+    ran.length = text.len();
+    if report.len() < text.len() {
+        return status::NO_ROOM;
+    }
+    report[..text.len()].copy_from_slice(text);
+    status::OK
+}
+
+// Puts a message into an array of zeros, if there is room for it and a 0 after it.
+fn put_message(text: &[u8], message: &mut [u8])
+    ensures { length text.now < length message.old → take (length text.now) message.new ≡ text.now }
+{
+    if text.len() < message.len() {
+        message[..text.len()].copy_from_slice(text);
+    }
+}
+
+// Returns the message of an error, with its line feed.
+fn message_of(alloc: Global, fault: &MachineFault) -> Result<String, MachineFault>
+    ensures memory { IfErr result IsMachineOutOfMemory }
+{
+    Ok(fault_line(alloc, fault)?)
+}
+
+// Reports an error of the arrivals by its numbers and its message, which is without its line feed.
+fn tell(alloc: Global, fault: &MachineFault, ran: &mut FqMachineRan) -> u32
+    ensures told { result ≡ BAD_ARRIVALS
+        → (fault_status fault.now ≡ BAD_ARRIVALS) × Tells fault.now ran.new
+        × (ran.new.setting ≡ 0) }
+    ensures untold { result ≢ BAD_ARRIVALS → (result ≡ OUT_OF_MEMORY) × (ran.new ≡ ran.old)
+        × ((fault_status fault.now ≡ OUT_OF_MEMORY)
+        ⊎ ((why : MachineFault) × IsMachineOutOfMemory why)) }
+{
+    if fault_status(fault) != status::BAD_ARRIVALS {
+        return status::OUT_OF_MEMORY;
+    }
+    match message_of(alloc, fault) {
+        Ok(line) => {
+            *ran = FqMachineRan::none();
+            ran.fault = u32::from(fault.number());
+            ran.row = row_of(fault);
+            put_message(line.as_str().trim_end().as_bytes(), &mut ran.message);
+            status::BAD_ARRIVALS
+        }
+        Err(_) => status::OUT_OF_MEMORY,
+    }
+}
+
+/// Like `run_machine`, from the bytes of arrivals into an array: the report is the first `length` bytes of it. Returns ok; no room,
+/// and then nothing is written; bad size of one of the structs; bad setting, and which; bad arrivals, with the numbers and the
+/// message of their error; or out of memory.
+#[unsafe(no_mangle)]
+pub extern "C" fn fq_machine(
+    alloc: Global,
+    settings: &FqMachineSettings,
+    arrivals: &[u8],
+    report: &mut [u8],
+    ran: &mut FqMachineRan,
+) -> u32
+    // What is written is the report of the arrivals with these settings, and an error is theirs.
+    ensures written { result ≡ OK
+        → IsReport settings.now arrivals.now (take ran.new.length report.new) }
+    ensures no_room { result ≡ NO_ROOM → (text : List ℕ) × IsReport settings.now arrivals.now text
+        × (ran.new.length ≡ length text) × (length report.old < length text) }
+    ensures fault { result ≡ BAD_ARRIVALS → (fault : MachineFault)
+        × IsFault settings.now arrivals.now fault × Tells fault ran.new }
+    ensures setting { result ≡ BAD_SETTING → IsOut settings.now ran.new.setting }
+    ensures memory { result ≢ OK → result ≢ NO_ROOM → result ≢ BAD_ARRIVALS → result ≢ BAD_SETTING
+        → result ≢ BAD_SIZE → (result ≡ OUT_OF_MEMORY) × LacksMemory settings.now arrivals.now }
+
+    // Structs of other sizes are rejected, and then nothing is written; after every other error no report is.
+    ensures size { (result ≡ BAD_SIZE) ↔ ¬ HasSizes settings.now ran.old }
+    ensures same { result ≡ BAD_SIZE → ran.new ≡ ran.old }
+    ensures kept { result ≢ OK → report.new ≡ report.old }
+    // What is returned besides the status is of the report, of the error or of the setting, and otherwise 0.
+    ensures faultless { result ≢ BAD_SIZE → result ≢ BAD_ARRIVALS → (ran.new.fault ≡ 0) × (ran.new.row ≡ 0) }
+    ensures set { result ≢ BAD_SIZE → result ≢ BAD_SETTING → ran.new.setting ≡ 0 }
+    ensures no_report { result ≢ BAD_SIZE → result ≢ OK → result ≢ NO_ROOM → ran.new.length ≡ 0 }
+{
+    if settings.size != FqMachineSettings::SIZE || ran.size != FqMachineRan::SIZE {
+        return status::BAD_SIZE;
+    }
+    *ran = FqMachineRan::none();
+    match asked_by(settings) {
+        Ok(asked) => match report_of(alloc, &asked, arrivals) {
+            Ok(text) => put_report(text.as_slice(), report, ran),
+            Err(fault) => tell(alloc, &fault, ran),
+        },
+        Err(number) => {
+            ran.setting = number;
+            status::BAD_SETTING
+        }
+    }
+}

@@ -1,0 +1,43 @@
+//! Numbers with the ranges that they have to be in.
+
+ghost use Rattle.std.specs.Prelude.{◌≡◌, ◌≤◌, ◌<◌, ◌↔◌, IfNone, IfSome, IsTrue, length};
+ghost use Rattle.std.specs.List.{All};
+ghost use Rattle.machine_c.specs.Ranges.{IsIn, IsOutAt};
+
+/// A number, and the least and the greatest that it may be.
+#[derive(Clone, Copy)]
+pub(crate) struct Range {
+    value: u32,
+    least: u32,
+    most: u32,
+}
+
+/// A number with its range.
+pub(crate) fn within(value: u32, least: u32, most: u32) -> Range
+    ensures { result ≡ record { value = value; least = least; most = most } }
+{
+    Range { value, least, most }
+}
+
+impl Range {
+    // Whether the number is in its range.
+    fn is_in(self) -> bool
+        ensures { IsTrue result ↔ IsIn self }
+    {
+        self.least <= self.value && self.value <= self.most
+    }
+}
+
+/// Returns which is the first that is out of its range, counted from 1.
+pub(crate) fn first_out(ranges: &[Range]) -> Option<u32>
+    requires { length ranges.now ≤ 64 }
+    ensures all_in { IfNone result (All IsIn ranges.now) }
+    ensures out { IfSome result (λ n. IsOutAt ranges.now n) }
+{
+    for (i, range) in ranges.iter().enumerate() {
+        if !range.is_in() {
+            return Some(i as u32 + 1);
+        }
+    }
+    None
+}

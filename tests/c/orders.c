@@ -1,0 +1,149 @@
+/* A driver over model cards whose interrupts are edges: a packet that arrives while its card is masked causes none. Packets, interrupts
+ * (also late ones, and some without a packet), opens, stops, reports (also late ones, twice, and of what nobody asked for) come in
+ * random order. Whenever the driver says to sleep, and no interrupt is on its way, each open card is empty and unmasked, and each
+ * closed one masked. With each of three mistakes of the caller some order hangs. usage: orders ORDERS SEED */
+#include <fintaqush.h>
+#include <stdio.h>
+#include <stdlib.h>
+
+enum mistake { NONE, NO_LOOK, LATE_MASK, NO_INTERRUPT, MISTAKES };
+enum { DEVICES = 3, STEPS = 300, SETTLED = 4000 };
+static struct card {
+    unsigned waiting, taken;
+    bool masked, raised, late; /* late: a mask that was reported, and isn't made yet */
+} cards[DEVICES];
+static struct fq_handle driver;
+static struct fq_todo kept; /* done, and not reported yet */
+static enum mistake mistake;
+static uint64_t state;
+
+static void must(bool holds, const char *what) {
+    if (holds) return;
+    fprintf(stderr, "orders: mistake %d: %s\n", (int)mistake, what);
+    exit(9);
+}
+
+static unsigned any(unsigned below) {
+    state ^= state << 13, state ^= state >> 7, state ^= state << 17;
+    return (unsigned)(state >> 33) % below;
+}
+
+static void packet(struct card *card) {
+    card->waiting++;
+    card->raised |= !card->masked;
+}
+
+static void interrupt(uint32_t device) {
+    cards[device].raised = false;
+    if (mistake == NO_INTERRUPT && any(8) == 0) return;
+    const enum fq_status said = fq_driver_interrupt(&driver, device);
+    must(said == FQ_GRANTED || said == FQ_MISSED || said == FQ_DISABLED, "an interrupt");
+}
+
+static uint32_t fetch(struct card *card, uint32_t most) {
+    unsigned count = card->waiting < most ? card->waiting : most;
+    if (any(8) == 0) count = any(count + 1); /* a card may give fewer */
+    card->waiting -= count, card->taken += count;
+    return count;
+}
+
+/* Does what is due, and returns what it was. */
+static struct fq_todo act(void) {
+    struct fq_todo todo = FQ_TODO_INIT;
+    must(fq_driver_next(&driver, &todo) == FQ_OK, "next");
+    struct card *card = &cards[todo.device];
+    switch (todo.what) {
+    case FQ_TODO_MASK: card->late = mistake == LATE_MASK, card->masked |= !card->late; break;
+    case FQ_TODO_UNMASK: card->masked = false; break;
+    case FQ_TODO_LOOK: todo.packets = mistake == NO_LOOK ? 0 : card->waiting; break;
+    case FQ_TODO_FETCH: todo.packets = fetch(card, todo.most); break;
+    }
+    return todo;
+}
+
+static void report(const struct fq_todo *todo) {
+    const enum fq_status said = fq_driver_done(&driver, todo);
+    must(said == FQ_OK || said == FQ_NOT_DUE, "a report");
+}
+
+/* A report of what was due earlier, or never, and calls whose numbers are wrong. */
+static void stray(void) {
+    const uint64_t number = kept.number && any(2) ? any((unsigned)kept.number) : UINT64_MAX - any(2);
+    struct fq_todo todo = kept;
+    todo.number = number, todo.packets = any(70);
+    const enum fq_status said = fq_driver_done(&driver, &todo);
+    must(said == FQ_NOT_DUE || (number == 0 && said == FQ_OK), "a stray report");
+    must(fq_driver_interrupt(&driver, DEVICES + any(9)) == FQ_BAD_DEVICE, "no device");
+    todo.size = any(8);
+    must(fq_driver_next(&driver, &todo) == FQ_BAD_SIZE, "a bad size");
+}
+
+/* One call or event. */
+static void step(void) {
+    const uint32_t device = any(DEVICES);
+    struct card *card = &cards[device];
+    switch (any(9)) {
+    case 0: case 1: packet(card); break;
+    case 2: if (card->raised || any(4) == 0) interrupt(device); break;
+    case 3: if (any(6) == 0) must(fq_driver_stop(&driver, device) < FQ_NOT_ALLOWED, "a stop"); break;
+    case 4: must(fq_driver_open(&driver, device) < FQ_NOT_ALLOWED, "an open"); break;
+    case 5: kept = act(); break;
+    case 6: report(&kept); break;
+    case 7: if (any(4) == 0) stray(); break;
+    default: kept = act(), report(&kept);
+    }
+    if (card->late && any(4) == 0) card->masked = true, card->late = false;
+}
+
+/* Does all that is due, and returns whether a card hangs then. */
+static bool hangs(void) {
+    bool hung = false, raised = true;
+    for (unsigned turns = 0; raised; turns++) {
+        must(turns < SETTLED, "it never sleeps");
+        for (struct fq_todo todo = act(); todo.what != FQ_TODO_SLEEP; todo = act()) {
+            must(turns++ < SETTLED, "it never sleeps");
+            report(&todo);
+        }
+        raised = false;
+        for (uint32_t i = 0; i < DEVICES; i++) {
+            if (cards[i].late) cards[i].masked = true, cards[i].late = false;
+            if (cards[i].raised) interrupt(i), raised = true;
+        }
+    }
+    for (uint32_t i = 0; i < DEVICES; i++) {
+        struct fq_device_shown shown = {.size = sizeof shown};
+        must(fq_driver_show(&driver, i, &shown) == FQ_OK && shown.state != FQ_DEVICE_STOPPING, "what is shown");
+        hung |= shown.state == FQ_DEVICE_OPEN ? cards[i].waiting != 0 || cards[i].masked : !cards[i].masked;
+    }
+    return hung;
+}
+
+/* Whether some of these orders hangs. */
+static bool some_hangs(enum mistake which, unsigned long orders) {
+    bool hung = false;
+    mistake = which;
+    for (unsigned long order = 0; order < orders && !hung; order++) {
+        must(fq_driver_new(&driver, DEVICES, 1 + any(40), 1 + any(8), 1 + any(9)) == FQ_OK, "a new driver");
+        kept = (struct fq_todo)FQ_TODO_INIT;
+        for (uint32_t i = 0; i < DEVICES; i++) cards[i] = (struct card){.masked = true};
+        for (unsigned steps = 0; steps < STEPS && !hung; steps++) {
+            step();
+            if (any(40) == 0) hung = hangs();
+        }
+        hung = hung || hangs();
+        for (uint32_t i = 0; i < DEVICES; i++) must(fq_driver_stop(&driver, i) < FQ_NOT_ALLOWED, "the last stop");
+        hung = hangs() || hung;
+        must(fq_free(&driver) == FQ_OK, "the end");
+    }
+    return hung;
+}
+
+int main(int count, char **words) {
+    if (count != 3) return 64;
+    const unsigned long orders = strtoul(words[1], NULL, 10);
+    state = strtoull(words[2], NULL, 10) * 2 + 1;
+    must(!some_hangs(NONE, orders), "hangs");
+    for (enum mistake which = NO_LOOK; which < MISTAKES; which++) must(some_hangs(which, orders), "doesn't hang");
+    puts("no order hangs, and each mistake does");
+    return 0;
+}
