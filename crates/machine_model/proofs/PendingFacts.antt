@@ -1,8 +1,10 @@
 -- The cached values of the devices, as one of them changes.
-use Rattle.std.proofs.Common.{◌≡◌, ◌∙◌, ◌⊎◌, inl, inr, ℕ, zero, suc, ◌+◌, ◌^◌, ◌<◌, ◌≤◌, Bool, true, false, Option, Some, None, List, [], ◌∷◌}
+use Rattle.std.proofs.Common.{◌≡◌, ◌∙◌, ◌⊎◌, inl, inr, ℕ, zero, suc, ◌+◌, ◌^◌, ◌<◌, ◌≤◌, Bool, true, false}
+use Rattle.std.proofs.Common.{Option, Some, None, List, [], ◌∷◌}
 use Rattle.std.proofs.Common.{◌++◌, length, replicate, slice_index_or, slice_set, refl, sym, ap, subst, arith, w64}
 use Rattle.std.specs.{Prelude.{◌==◌, position}, List.position_or_len, Option.option_map_or, Int.{bit_at, trailing_zeros}}
-use Rattle.std.proofs.lemmas.{Bool.cases_eq, Grind.{common_steps, get_or-set_at}, List.{get_or-set_other, length-set, Sums.position_or_len_is}}
+use Rattle.std.proofs.lemmas.{Bool.cases_eq, Grind.{common_steps, get_or-set_at}}
+use Rattle.std.proofs.lemmas.List.{get_or-set_other, length-set, Sums.position_or_len_is}
 use Rattle.std.proofs.lemmas.Nat.Bits.{bit_at-trailing_zeros, bit_at-zero}
 use Rattle.{device_places.{proofs.PlaceFacts.{at-index, below-some}, specs.Places.{at, changed, changed_from}}}
 use Rattle.machine_words.specs.declared.settings.MachineSettings.{MachineSettings}
@@ -116,7 +118,8 @@ lowest-some xs mask some fits is =
     let first = trailing_zeros w64 mask in
     let below = inside asks_at xs mask first refl is low.0 low.1 in
     position-at xs first (position_or_len_is asks_at xs first None (omega (arith, below))
-    (λ k less. clear-at asks_at xs mask k is (omega (arith, less, low.0)) (low.2 k less)) (λ _. held-at asks_at xs mask first is low.0 low.1))
+    (λ k less. clear-at asks_at xs mask k is (omega (arith, less, low.0)) (low.2 k less))
+    (λ _. held-at asks_at xs mask first is low.0 low.1))
     below
 
 -- ---- the soonest timer

@@ -1,6 +1,6 @@
 -- The soonest of timers, one after the other.
-use Rattle.std.proofs.Common.{◌≡◌, ◌∙◌, ◌⊎◌, inl, inr, ℕ, ◌+◌, ◌-◌, ◌*◌, ◌%◌, ◌^◌, ◌<◌, ◌≤◌, zero, suc, Bool, true, false, Option, Some, None}
-use Rattle.std.proofs.Common.{length, drop, get_or, refl, ap, sym, arith, w64}
+use Rattle.std.proofs.Common.{◌≡◌, ◌∙◌, ◌⊎◌, inl, inr, ℕ, ◌+◌, ◌-◌, ◌*◌, ◌%◌, ◌^◌, ◌<◌, ◌≤◌, zero, suc, Bool, true, false}
+use Rattle.std.proofs.Common.{Option, Some, None, length, drop, get_or, refl, ap, sym, arith, w64}
 use Rattle.std.proofs.{lemmas.{Bool.cases_eq, Grind.common_steps, List.drop_all, Nat.and_le_l}, Math.Seq.drop-cons}
 use Rattle.std.proofs.lemmas.Nat.Bits.{bit_at-trailing_zeros, bit_at-zero, bit_at_clear_other, bit_at_clear_same}
 use Rattle.std.specs.{Prelude.{bit_and, is_some, nat_le, nat_lt, if◌then◌else◌}, Int.{bit_at, bit_not, trailing_zeros}, Option.option_map}
@@ -112,7 +112,8 @@ walk-next places timed best left n mask some fits is was =
     by m (inr other) most =
         let low = bit_at-trailing_zeros w64 left some fits in
         let less : m < n = omega (arith, most, other) in
-        bit_at_clear_other w64 left n (omega (arith, is, low.0)) m (omega (arith, less, is, low.0)) other ∙ low.2 m (omega (arith, is, less))
+        bit_at_clear_other w64 left n (omega (arith, is, low.0)) m (omega (arith, less, is, low.0)) other
+        ∙ low.2 m (omega (arith, is, less))
 
 pub walk-end : (places : QueueViews) (timed : ℕ) (best : Option Timer) (left : ℕ) → IsMask has_timer places timed
     → length places ≤ 64
