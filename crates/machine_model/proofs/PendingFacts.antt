@@ -10,7 +10,7 @@ use Rattle.{device_places.{proofs.PlaceFacts.{at-index, below-some}, specs.Place
 use Rattle.machine_words.specs.declared.settings.MachineSettings.{MachineSettings}
 use Rattle.machine_model.specs.Device.{QueueView, after_packet, is_masked, new_queue, without_next}
 use Rattle.machine_model.specs.Devices.{QueueViews, asks_at, soonest_from, sooner, timer_at}
-use Rattle.machine_model.specs.Shown.{IsMask, IsPending, earlier, bit_if, has_timer}
+use Rattle.machine_model.specs.Shown.{IsMask, IsPending, earlier, mask_bit, has_timer}
 use Rattle.machine_model.{specs.declared.devices.{Pending.Pending, Timer.Timer}, proofs.WeightFacts.{named, soonest-is}}
 
 -- ---- the entry that changed
@@ -47,22 +47,22 @@ at-other xs n m y other = get_or-set_other xs n m y None other
 
 -- ---- masks
 
-bit_if-on : (b : Bool) → bit_if b ≡ 1 → b ≡ true
-bit_if-on true e = refl
-bit_if-on false e = cc e
+mask_bit-on : (b : Bool) → mask_bit b ≡ 1 → b ≡ true
+mask_bit-on true e = refl
+mask_bit-on false e = cc e
 
-bit_if-off : (b : Bool) → bit_if b ≡ 0 → b ≡ false
-bit_if-off true e = cc e
-bit_if-off false e = refl
+mask_bit-off : (b : Bool) → mask_bit b ≡ 0 → b ≡ false
+mask_bit-off true e = cc e
+mask_bit-off false e = refl
 
 module _ (holds : Option QueueView → Bool) where
-  pub mask-set : (xs : QueueViews) (n : ℕ) (y : Option QueueView) (old new : ℕ) → n < length xs → bit_at new n ≡ bit_if (holds y)
+  pub mask-set : (xs : QueueViews) (n : ℕ) (y : Option QueueView) (old new : ℕ) → n < length xs → bit_at new n ≡ mask_bit (holds y)
       → ((m : ℕ) → m < 64 → (m ≡ n → ⊥) → bit_at new m ≡ bit_at old m)
       → IsMask holds xs old
       → IsMask holds (slice_set xs n y) new
   mask-set xs n y old new below own others mask m small = by (cases_eq m n)
     where
-      by : (m ≡ n) ⊎ (m ≡ n → ⊥) → bit_at new m ≡ bit_if (holds (at m (slice_set xs n y)))
+      by : (m ≡ n) ⊎ (m ≡ n → ⊥) → bit_at new m ≡ mask_bit (holds (at m (slice_set xs n y)))
       by (inl same) = rw (same, at-same xs n y below) own
       by (inr other) = rw (at-other xs n m y other) (others m small other ∙ mask m small)
 
@@ -70,11 +70,11 @@ module _ (holds : Option QueueView → Bool) where
       → IsMask holds xs old
       → IsMask holds (slice_set xs n y) old
   mask-same xs n y old below few same mask =
-      mask-set xs n y old old below (mask n (omega (arith, below, few)) ∙ ap bit_if (sym same)) (λ m small other. refl) mask
+      mask-set xs n y old old below (mask n (omega (arith, below, few)) ∙ ap mask_bit (sym same)) (λ m small other. refl) mask
 
   pub mask-changed : (change : QueueView → QueueView) (n : ℕ) (before after : QueueViews) (old new : ℕ) → n < length after
       → after ≡ changed change n before
-      → bit_at new n ≡ bit_if (holds (at n after))
+      → bit_at new n ≡ mask_bit (holds (at n after))
       → ((m : ℕ) → m < 64 → (m ≡ n → ⊥) → bit_at new m ≡ bit_at old m)
       → IsMask holds before old
       → IsMask holds after new
@@ -82,7 +82,7 @@ module _ (holds : Option QueueView → Bool) where
       rw (placed change n before after is) (mask-set before n (at n after) old new (long change n before after is below) own others mask)
 
   pub mask-more : (xs ys : QueueViews) (old : ℕ) → ((m : ℕ) → at m ys ≡ at m xs) → IsMask holds xs old → IsMask holds ys old
-  mask-more xs ys old same mask m small = mask m small ∙ ap (λ (o : Option QueueView). bit_if (holds o)) (sym (same m))
+  mask-more xs ys old same mask m small = mask m small ∙ ap (λ (o : Option QueueView). mask_bit (holds o)) (sym (same m))
 
   within : (xs : QueueViews) (i : ℕ) → holds None ≡ false → holds (at i xs) ≡ true → i < length xs
   within [] i none up = absurd (cc (none, up))
@@ -90,10 +90,10 @@ module _ (holds : Option QueueView → Bool) where
   within (x ∷ xs) (suc i) none up = omega (arith, within xs i none up)
 
   pub held-at : (xs : QueueViews) (mask n : ℕ) → IsMask holds xs mask → n < 64 → bit_at mask n ≡ 1 → holds (at n xs) ≡ true
-  held-at xs mask n is small set = bit_if-on (holds (at n xs)) (sym (is n small) ∙ set)
+  held-at xs mask n is small set = mask_bit-on (holds (at n xs)) (sym (is n small) ∙ set)
 
   pub clear-at : (xs : QueueViews) (mask n : ℕ) → IsMask holds xs mask → n < 64 → bit_at mask n ≡ 0 → holds (at n xs) ≡ false
-  clear-at xs mask n is small clear = bit_if-off (holds (at n xs)) (sym (is n small) ∙ clear)
+  clear-at xs mask n is small clear = mask_bit-off (holds (at n xs)) (sym (is n small) ∙ clear)
 
   pub inside : (xs : QueueViews) (mask n : ℕ) → holds None ≡ false → IsMask holds xs mask → n < 64 → bit_at mask n ≡ 1 → n < length xs
   inside xs mask n none is small set = within xs n none (held-at xs mask n is small set)
@@ -349,8 +349,8 @@ pending-none p asking timed soonest = record {
 -- the devices after one changed
 pub pending-changed : (change : QueueView → QueueView) (n : ℕ) (before after : QueueViews) (old new : Pending) → n < length after
     → after ≡ changed change n before
-    → (bit_at new.asking n ≡ bit_if (asks_at (at n after))) × ((m : ℕ) → m < 64 → (m ≡ n → ⊥) → bit_at new.asking m ≡ bit_at old.asking m)
-    → (bit_at new.timed n ≡ bit_if (has_timer (at n after))) × ((m : ℕ) → m < 64 → (m ≡ n → ⊥) → bit_at new.timed m ≡ bit_at old.timed m)
+    → (bit_at new.asking n ≡ mask_bit (asks_at (at n after))) × ((m : ℕ) → m < 64 → (m ≡ n → ⊥) → bit_at new.asking m ≡ bit_at old.asking m)
+    → (bit_at new.timed n ≡ mask_bit (has_timer (at n after))) × ((m : ℕ) → m < 64 → (m ≡ n → ⊥) → bit_at new.timed m ≡ bit_at old.timed m)
     → (IsMask has_timer after new.timed → new.soonest ≡ soonest_from 0 after)
     → IsPending before old
     → IsPending after new
