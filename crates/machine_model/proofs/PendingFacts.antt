@@ -319,7 +319,7 @@ unfolding soonest_from
 soonest-more k [] count = no-timer k count
 soonest-more k (x ∷ xs) count = ap (λ (s : Option Timer). sooner (timer_at k x) s) (soonest-more (k + 1) xs count)
 
-at-none : (count m : ℕ) → at m (replicate count None) ≡ None
+at-none : (count m : ℕ) → let xs : QueueViews = replicate count None in at m xs ≡ None
 at-none zero m = refl
 at-none (suc count) zero = refl
 at-none (suc count) (suc m) = at-none count m
