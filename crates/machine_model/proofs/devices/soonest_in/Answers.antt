@@ -8,8 +8,8 @@ walk-init c = λ mask. walk-start c.args.places.now c.args.timed
 pub walk-preserved : goal.walk-preserved
 walk-preserved c = λ mask.
     rw (c.sooner-best.ensures, c.timer_of.ensures)
-    (walk-next c.args.places.now c.args.timed c.walk.best c.walk.left (trailing_zeros w64 c.walk.left) mask (omega arith) (search rules) refl
-    (c.walk.invariant mask))
+    (walk-next c.args.places.now c.args.timed c.walk.best c.walk.left (trailing_zeros w64 c.walk.left) mask (omega arith) (search rules)
+    refl (c.walk.invariant mask))
 
 pub walk-smaller : goal.walk-smaller
 walk-smaller c = walk-less c.walk.left (trailing_zeros w64 c.walk.left) (omega arith) (search rules) refl
