@@ -1,14 +1,16 @@
 -- The cached values of the devices, as one of them changes.
-use Rattle.std.proofs.Common.{◌≡◌, ◌∙◌, ◌⊎◌, inl, inr, ℕ, zero, suc, ◌+◌, ◌^◌, ◌<◌, ◌≤◌, Bool, true, false, Option, Some, None, List, [], ◌∷◌}
+use Rattle.std.proofs.Common.{◌≡◌, ◌∙◌, ◌⊎◌, inl, inr, ℕ, zero, suc, ◌+◌, ◌^◌, ◌<◌, ◌≤◌, Bool, true, false}
+use Rattle.std.proofs.Common.{Option, Some, None, List, [], ◌∷◌}
 use Rattle.std.proofs.Common.{◌++◌, length, replicate, slice_index_or, slice_set, refl, sym, ap, subst, arith, w64}
 use Rattle.std.specs.{Prelude.{◌==◌, position}, List.position_or_len, Option.option_map_or, Int.{bit_at, trailing_zeros}}
-use Rattle.std.proofs.lemmas.{Bool.cases_eq, Grind.{common_steps, get_or-set_at}, List.{get_or-set_other, length-set, Sums.position_or_len_is}}
+use Rattle.std.proofs.lemmas.{Bool.cases_eq, Grind.{common_steps, get_or-set_at}}
+use Rattle.std.proofs.lemmas.List.{get_or-set_other, length-set, Sums.position_or_len_is}
 use Rattle.std.proofs.lemmas.Nat.Bits.{bit_at-trailing_zeros, bit_at-zero}
 use Rattle.{device_places.{proofs.PlaceFacts.{at-index, below-some}, specs.Places.{at, changed, changed_from}}}
 use Rattle.machine_words.specs.declared.settings.MachineSettings.{MachineSettings}
 use Rattle.machine_model.specs.Device.{QueueView, after_packet, is_masked, new_queue, without_next}
 use Rattle.machine_model.specs.Devices.{QueueViews, asks_at, soonest_from, sooner, timer_at}
-use Rattle.machine_model.specs.Shown.{IsMask, IsPending, earlier, bit_if, has_timer}
+use Rattle.machine_model.specs.Shown.{IsMask, IsPending, earlier, mask_bit, has_timer}
 use Rattle.machine_model.{specs.declared.devices.{Pending.Pending, Timer.Timer}, proofs.WeightFacts.{named, soonest-is}}
 
 -- ---- the entry that changed
@@ -45,22 +47,22 @@ at-other xs n m y other = get_or-set_other xs n m y None other
 
 -- ---- masks
 
-bit_if-on : (b : Bool) → bit_if b ≡ 1 → b ≡ true
-bit_if-on true e = refl
-bit_if-on false e = cc e
+mask_bit-on : (b : Bool) → mask_bit b ≡ 1 → b ≡ true
+mask_bit-on true e = refl
+mask_bit-on false e = cc e
 
-bit_if-off : (b : Bool) → bit_if b ≡ 0 → b ≡ false
-bit_if-off true e = cc e
-bit_if-off false e = refl
+mask_bit-off : (b : Bool) → mask_bit b ≡ 0 → b ≡ false
+mask_bit-off true e = cc e
+mask_bit-off false e = refl
 
 module _ (holds : Option QueueView → Bool) where
-  pub mask-set : (xs : QueueViews) (n : ℕ) (y : Option QueueView) (old new : ℕ) → n < length xs → bit_at new n ≡ bit_if (holds y)
+  pub mask-set : (xs : QueueViews) (n : ℕ) (y : Option QueueView) (old new : ℕ) → n < length xs → bit_at new n ≡ mask_bit (holds y)
       → ((m : ℕ) → m < 64 → (m ≡ n → ⊥) → bit_at new m ≡ bit_at old m)
       → IsMask holds xs old
       → IsMask holds (slice_set xs n y) new
   mask-set xs n y old new below own others mask m small = by (cases_eq m n)
     where
-      by : (m ≡ n) ⊎ (m ≡ n → ⊥) → bit_at new m ≡ bit_if (holds (at m (slice_set xs n y)))
+      by : (m ≡ n) ⊎ (m ≡ n → ⊥) → bit_at new m ≡ mask_bit (holds (at m (slice_set xs n y)))
       by (inl same) = rw (same, at-same xs n y below) own
       by (inr other) = rw (at-other xs n m y other) (others m small other ∙ mask m small)
 
@@ -68,11 +70,11 @@ module _ (holds : Option QueueView → Bool) where
       → IsMask holds xs old
       → IsMask holds (slice_set xs n y) old
   mask-same xs n y old below few same mask =
-      mask-set xs n y old old below (mask n (omega (arith, below, few)) ∙ ap bit_if (sym same)) (λ m small other. refl) mask
+      mask-set xs n y old old below (mask n (omega (arith, below, few)) ∙ ap mask_bit (sym same)) (λ m small other. refl) mask
 
   pub mask-changed : (change : QueueView → QueueView) (n : ℕ) (before after : QueueViews) (old new : ℕ) → n < length after
       → after ≡ changed change n before
-      → bit_at new n ≡ bit_if (holds (at n after))
+      → bit_at new n ≡ mask_bit (holds (at n after))
       → ((m : ℕ) → m < 64 → (m ≡ n → ⊥) → bit_at new m ≡ bit_at old m)
       → IsMask holds before old
       → IsMask holds after new
@@ -80,7 +82,7 @@ module _ (holds : Option QueueView → Bool) where
       rw (placed change n before after is) (mask-set before n (at n after) old new (long change n before after is below) own others mask)
 
   pub mask-more : (xs ys : QueueViews) (old : ℕ) → ((m : ℕ) → at m ys ≡ at m xs) → IsMask holds xs old → IsMask holds ys old
-  mask-more xs ys old same mask m small = mask m small ∙ ap (λ (o : Option QueueView). bit_if (holds o)) (sym (same m))
+  mask-more xs ys old same mask m small = mask m small ∙ ap (λ (o : Option QueueView). mask_bit (holds o)) (sym (same m))
 
   within : (xs : QueueViews) (i : ℕ) → holds None ≡ false → holds (at i xs) ≡ true → i < length xs
   within [] i none up = absurd (cc (none, up))
@@ -88,10 +90,10 @@ module _ (holds : Option QueueView → Bool) where
   within (x ∷ xs) (suc i) none up = omega (arith, within xs i none up)
 
   pub held-at : (xs : QueueViews) (mask n : ℕ) → IsMask holds xs mask → n < 64 → bit_at mask n ≡ 1 → holds (at n xs) ≡ true
-  held-at xs mask n is small set = bit_if-on (holds (at n xs)) (sym (is n small) ∙ set)
+  held-at xs mask n is small set = mask_bit-on (holds (at n xs)) (sym (is n small) ∙ set)
 
   pub clear-at : (xs : QueueViews) (mask n : ℕ) → IsMask holds xs mask → n < 64 → bit_at mask n ≡ 0 → holds (at n xs) ≡ false
-  clear-at xs mask n is small clear = bit_if-off (holds (at n xs)) (sym (is n small) ∙ clear)
+  clear-at xs mask n is small clear = mask_bit-off (holds (at n xs)) (sym (is n small) ∙ clear)
 
   pub inside : (xs : QueueViews) (mask n : ℕ) → holds None ≡ false → IsMask holds xs mask → n < 64 → bit_at mask n ≡ 1 → n < length xs
   inside xs mask n none is small set = within xs n none (held-at xs mask n is small set)
@@ -116,7 +118,8 @@ lowest-some xs mask some fits is =
     let first = trailing_zeros w64 mask in
     let below = inside asks_at xs mask first refl is low.0 low.1 in
     position-at xs first (position_or_len_is asks_at xs first None (omega (arith, below))
-    (λ k less. clear-at asks_at xs mask k is (omega (arith, less, low.0)) (low.2 k less)) (λ _. held-at asks_at xs mask first is low.0 low.1))
+    (λ k less. clear-at asks_at xs mask k is (omega (arith, less, low.0)) (low.2 k less))
+    (λ _. held-at asks_at xs mask first is low.0 low.1))
     below
 
 -- ---- the soonest timer
@@ -316,7 +319,7 @@ unfolding soonest_from
 soonest-more k [] count = no-timer k count
 soonest-more k (x ∷ xs) count = ap (λ (s : Option Timer). sooner (timer_at k x) s) (soonest-more (k + 1) xs count)
 
-at-none : (count m : ℕ) → at m (replicate count None) ≡ None
+at-none : (count m : ℕ) → let xs : QueueViews = replicate count None in at m xs ≡ None
 at-none zero m = refl
 at-none (suc count) zero = refl
 at-none (suc count) (suc m) = at-none count m
@@ -346,8 +349,8 @@ pending-none p asking timed soonest = record {
 -- the devices after one changed
 pub pending-changed : (change : QueueView → QueueView) (n : ℕ) (before after : QueueViews) (old new : Pending) → n < length after
     → after ≡ changed change n before
-    → (bit_at new.asking n ≡ bit_if (asks_at (at n after))) × ((m : ℕ) → m < 64 → (m ≡ n → ⊥) → bit_at new.asking m ≡ bit_at old.asking m)
-    → (bit_at new.timed n ≡ bit_if (has_timer (at n after))) × ((m : ℕ) → m < 64 → (m ≡ n → ⊥) → bit_at new.timed m ≡ bit_at old.timed m)
+    → (bit_at new.asking n ≡ mask_bit (asks_at (at n after))) × ((m : ℕ) → m < 64 → (m ≡ n → ⊥) → bit_at new.asking m ≡ bit_at old.asking m)
+    → (bit_at new.timed n ≡ mask_bit (has_timer (at n after))) × ((m : ℕ) → m < 64 → (m ≡ n → ⊥) → bit_at new.timed m ≡ bit_at old.timed m)
     → (IsMask has_timer after new.timed → new.soonest ≡ soonest_from 0 after)
     → IsPending before old
     → IsPending after new

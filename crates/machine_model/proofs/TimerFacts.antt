@@ -1,6 +1,6 @@
 -- The soonest of timers, one after the other.
-use Rattle.std.proofs.Common.{◌≡◌, ◌∙◌, ◌⊎◌, inl, inr, ℕ, ◌+◌, ◌-◌, ◌*◌, ◌%◌, ◌^◌, ◌<◌, ◌≤◌, zero, suc, Bool, true, false, Option, Some, None}
-use Rattle.std.proofs.Common.{length, drop, get_or, refl, ap, sym, arith, w64}
+use Rattle.std.proofs.Common.{◌≡◌, ◌∙◌, ◌⊎◌, inl, inr, ℕ, ◌+◌, ◌-◌, ◌*◌, ◌%◌, ◌^◌, ◌<◌, ◌≤◌, zero, suc, Bool, true, false}
+use Rattle.std.proofs.Common.{Option, Some, None, length, drop, get_or, refl, ap, sym, arith, w64}
 use Rattle.std.proofs.{lemmas.{Bool.cases_eq, Grind.common_steps, List.drop_all, Nat.and_le_l}, Math.Seq.drop-cons}
 use Rattle.std.proofs.lemmas.Nat.Bits.{bit_at-trailing_zeros, bit_at-zero, bit_at_clear_other, bit_at_clear_same}
 use Rattle.std.specs.{Prelude.{bit_and, is_some, nat_le, nat_lt, if◌then◌else◌}, Int.{bit_at, bit_not, trailing_zeros}, Option.option_map}
@@ -53,9 +53,15 @@ no-timer : (n : ℕ) (o : Option QueueView) → has_timer o ≡ false → timer_
 no-timer n None none = refl
 no-timer n (Some d) none = by (timer_of d.phase) none
   where
-    by : (t : Option ℕ) → is_some t ≡ false → option_map (λ at. record { at = at; device = n }) t ≡ None
+    by : (t : Option ℕ) → is_some t ≡ false → option_map {U = Timer} (λ moment. record { at = moment; device = n }) t ≡ None
     by None e = refl
-    by (Some at) e = cc e
+    by (Some moment) e = cc e
+
+less-than : (a b : ℕ) → nat_lt a b ≡ true → a < b
+less-than a b less = grind (arith, common_steps)
+
+at-least : (a b : ℕ) → nat_lt a b ≡ false → b ≤ a
+at-least a b least = grind (arith, common_steps)
 
 -- A walk over the bits of a mask: `best` is the soonest timer of the entries below `from`, and `left` has the bits from there on.
 pub record Walked (places : QueueViews) (timed : ℕ) (best : Option Timer) (left : ℕ) : Type 0 where
@@ -104,15 +110,16 @@ walk-next places timed best left n mask some fits is was =
     from-there set = there (nat_lt n was.from) refl
       where
         there : (b : Bool) → nat_lt n was.from ≡ b → was.from ≤ n
-        there true less = absurd (let gone = was.gone n (omega (arith, less)) in cc (gone, set))
-        there false least = omega (arith, least)
+        there true less = absurd (let gone = was.gone n (less-than n was.from less) in cc (gone, set))
+        there false least = at-least n was.from least
 
     by : (m : ℕ) → (m ≡ n) ⊎ (m ≡ n → ⊥) → m ≤ n → bit_at (bit_and left (bit_not w64 (1 * 2 ^ n % 2 ^ 64))) m ≡ 0
     by m (inl same) most = rw same (bit_at_clear_same w64 left n (omega (arith, is, (bit_at-trailing_zeros w64 left some fits).0)))
     by m (inr other) most =
         let low = bit_at-trailing_zeros w64 left some fits in
         let less : m < n = omega (arith, most, other) in
-        bit_at_clear_other w64 left n (omega (arith, is, low.0)) m (omega (arith, less, is, low.0)) other ∙ low.2 m (omega (arith, is, less))
+        bit_at_clear_other w64 left n (omega (arith, is, low.0)) m (omega (arith, less, is, low.0)) other
+        ∙ low.2 m (omega (arith, is, less))
 
 pub walk-end : (places : QueueViews) (timed : ℕ) (best : Option Timer) (left : ℕ) → IsMask has_timer places timed
     → length places ≤ 64

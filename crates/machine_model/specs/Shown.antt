@@ -35,12 +35,12 @@ listed q = length q.list + held_in q.run
 
 -- ---- of the devices
 
-abbrev pub bit_if : Bool → ℕ
-bit_if b = if b then 1 else 0
+abbrev pub mask_bit : Bool → ℕ
+mask_bit b = if b then 1 else 0
 
 -- a mask has the bits of the devices in whose entries that holds
 abbrev pub IsMask : (Option QueueView → Bool) → QueueViews → ℕ → Type 0
-IsMask holds devices mask = (n : ℕ) → n < 64 → bit_at mask n ≡ bit_if (holds (at n devices))
+IsMask holds devices mask = (n : ℕ) → n < 64 → bit_at mask n ≡ mask_bit (holds (at n devices))
 
 abbrev pub has_timer : Option QueueView → Bool
 has_timer place = option_map_or (λ d. is_some (timer_of d.phase)) place false

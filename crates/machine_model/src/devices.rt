@@ -7,7 +7,7 @@ ghost use Rattle.device_places.specs.Places.{at, changed};
 ghost use Rattle.machine_model.specs.Device.{QueueView};
 ghost use Rattle.machine_model.specs.Devices.{QueueViews, asks_at, soonest_from, sooner, timer_at};
 ghost use Rattle.machine_model.specs.Kept.{all_scheduled};
-ghost use Rattle.machine_model.specs.Shown.{IsMask, IsPending, bit_if, earlier, has_timer};
+ghost use Rattle.machine_model.specs.Shown.{IsMask, IsPending, earlier, has_timer, mask_bit};
 ghost use Rattle.machine_model.specs.declared.devices.Pending.{Pending};
 
 use crate::device::{QueueReport, ReceiveQueue};
@@ -148,7 +148,7 @@ fn lowest_in(asking: u64) -> Option<usize>
 // Sets the bit of a device in a mask, or clears it.
 fn with_bit(mask: u64, number: usize, is_set: bool) -> u64
     requires { number < 64 }
-    ensures own { bit_at result number ≡ bit_if is_set }
+    ensures own { bit_at result number ≡ mask_bit is_set }
     ensures others { (n : ℕ) → n < 64 → n ≢ number → bit_at result n ≡ bit_at mask n }
 {
     if is_set {

@@ -20,3 +20,6 @@ invariant_of-self-then-is_none c =
     opened-kept places c.args.number c.args.capacity c.in_ok-new.field-0 c.self.inside.pending
     below (here ∙ gone) c.in_ok-new.ensures c.make_place.ensures.few
     (c.make_place.ensures.pending c.self.inside.pending c.self.invariant.1)
+
+pub invariant_of-self-else-is_none : goal.invariant_of-self-else-is_none
+invariant_of-self-else-is_none c = (c.make_place.ensures.few, c.make_place.ensures.pending c.self.inside.pending c.self.invariant.1)
