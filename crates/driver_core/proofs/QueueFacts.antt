@@ -44,7 +44,7 @@ put_same devices list run id to lt same q = record {
     | inl e ↦ rw e (listed-same devices id to lt ∙ same)
     | inr ne ↦ listed-other devices id k to ne
   ]));
-  size = let s = sum-set devices id to lt in let t = rw same in_stage s in omega (arith, t, q.size);
+  size = let s = sum-set devices id to lt in let t = rw same at s in omega (arith, t, q.size);
 }
 
 -- ---- numbers
@@ -67,7 +67,7 @@ pub room : (devices : List DriverDevice) (list : List ℕ) (run : PollingRun) (i
 room devices list run id lt unlisted q =
     let to : DriverDevice = in_stage (Listed false) false in
     let s = sum-set devices id to lt in
-    let t = rw unlisted in_stage s in
+    let t = rw unlisted at s in
     let most = count_by-le-length (λ (d : DriverDevice). stage_is_listed d.stage) (set devices id to) in
     omega (arith, t, most, q.size, length-set devices id to)
 
@@ -88,7 +88,7 @@ put_new devices list run id to lt unlisted listed q = record {
         omega (arith, same, q.each k, occurs-append k list (id ∷ []), occurs-other k id ne)
   ];
   size =
-      let s = sum-set devices id to lt in let t = rw (unlisted, listed) in_stage s in
+      let s = sum-set devices id to lt in let t = rw (unlisted, listed) at s in
       omega (arith, t, q.size, length-append list (id ∷ []));
 }
 

@@ -64,7 +64,7 @@ poll_of id packets driver = record { id = id; once = record { work = packets; ne
 -- the poll under way was this one, and its device is what the poll leaves
 pub record Ends (id packets : ℕ) (before after : Driver) : Type 0 where
   pub devices : driver_devices after ≡ slice_set (driver_devices before) id (after_poll_of id packets before).0
-  pub after_driver_poll : polled_device after ≡ None
+  pub polled : polled_device after ≡ None
   pub limits : after.limits ≡ before.limits
 
 -- nothing is on the list, and no run is under way

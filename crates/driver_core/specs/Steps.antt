@@ -86,11 +86,10 @@ poll_events full d = event POLLER (Take kind.List true) ∷ end_events full (is_
 
 -- law: each call of a device makes legal steps of its instance, with that object's replies
 pub record CallsAreLegal : Type 0 where
-  pub after_interrupt : (d : DriverDevice) → Leads d (event INTERRUPT (Schedule (schedule_reply (napi_of d))) ∷ []) (after_interrupt d)
+  pub interrupted : (d : DriverDevice) → Leads d (event INTERRUPT (Schedule (schedule_reply (napi_of d))) ∷ []) (after_interrupt d)
   pub masked : (d : DriverDevice) → IsMasking d.stage → Leads d (mask_events d.stage) (masked d)
   pub unmasked : (d : DriverDevice) → Leads d [] (unmasked d)
-  pub after_look : (d : DriverDevice) (has_more : Bool) → d.stage ≡ Looking → Leads d (look_events has_more) (after_look has_more d)
-  pub after_driver_poll : (d : DriverDevice) (full : Bool) → stage_is_listed d.stage ≡ true
-      → Leads d (poll_events full d) (after_driver_poll full d).0
-  pub after_open : (d : DriverDevice) → d.stage ≡ Closed → Leads d (event CONTROLLER (Enable false) ∷ []) (after_open d)
-  pub after_stop : (d : DriverDevice) → MayStop d.stage → Leads d (event CONTROLLER MarkDisable ∷ []) (after_stop d)
+  pub looked : (d : DriverDevice) (has_more : Bool) → d.stage ≡ Looking → Leads d (look_events has_more) (after_look has_more d)
+  pub polled : (d : DriverDevice) (full : Bool) → stage_is_listed d.stage ≡ true → Leads d (poll_events full d) (after_driver_poll full d).0
+  pub opened : (d : DriverDevice) → d.stage ≡ Closed → Leads d (event CONTROLLER (Enable false) ∷ []) (after_open d)
+  pub stopped : (d : DriverDevice) → MayStop d.stage → Leads d (event CONTROLLER MarkDisable ∷ []) (after_stop d)

@@ -28,8 +28,8 @@ use Rattle.machine_model.specs.Device as device
 pub record Tally : Type 0 where
   pub arrived : ℕ
   pub dropped : ℕ
-  pub queue_polled : ℕ
-  pub packet_waits : WaitsView
+  pub polled : ℕ
+  pub waits : WaitsView
 
 abbrev pub tally_of : QueueView → Tally
 tally_of d = record { arrived = d.counts.arrived; dropped = d.counts.dropped; polled = d.counts.polled; waits = d.waits }
@@ -72,8 +72,8 @@ tally-polled now given s d =
 pub record Given (now : ℕ) (batch : List ℕ) (old new : Tally) : Type 0 where
   pub arrived : new.arrived ≡ old.arrived
   pub dropped : new.dropped ≡ old.dropped
-  pub queue_polled : (k : ℕ) → old.polled ≡ saturated k → new.polled ≡ saturated (k + length batch)
-  pub packet_waits : (xs : List ℕ) → old.waits ≡ counting xs no_waits → new.waits ≡ counting (xs ++ map (λ came. now - came) batch) no_waits
+  pub polled : (k : ℕ) → old.polled ≡ saturated k → new.polled ≡ saturated (k + length batch)
+  pub waits : (xs : List ℕ) → old.waits ≡ counting xs no_waits → new.waits ≡ counting (xs ++ map (λ came. now - came) batch) no_waits
 
 pub counting-more : (xs : List ℕ) (wait : ℕ) (w : WaitsView) → counting (xs ++ wait ∷ []) w ≡ counted wait (counting xs w)
 unfolding counting
@@ -256,8 +256,8 @@ present s n events none =
 pub record Took (room : Bool) (old new : Tally) : Type 0 where
   pub arrived : new.arrived ≡ saturated (old.arrived + 1)
   pub dropped : new.dropped ≡ (if room then old.dropped else saturated (old.dropped + 1))
-  pub queue_polled : new.polled ≡ old.polled
-  pub packet_waits : new.waits ≡ old.waits
+  pub polled : new.polled ≡ old.polled
+  pub waits : new.waits ≡ old.waits
 
 packet-took : (moment : ℕ) (s : MachineSettings) (d : QueueView)
     → Took (has_room d) (tally (Some d)) (tally (Some (after_packet moment s d)))
@@ -278,8 +278,8 @@ made-tally capacity (Some d) = refl
 pub record Counts (a d : ℕ) (old new : Tally) : Type 0 where
   pub arrived : new.arrived ≡ saturated (a + d)
   pub dropped : new.dropped ≡ saturated d
-  pub queue_polled : new.polled ≡ old.polled
-  pub packet_waits : new.waits ≡ old.waits
+  pub polled : new.polled ≡ old.polled
+  pub waits : new.waits ≡ old.waits
 
 counts-took : (room : Bool) (moment a d : ℕ) (old new : Tally) → Took room old new → old.arrived ≡ saturated (a + d)
     → old.dropped ≡ saturated d
@@ -321,8 +321,8 @@ arrived-counts moment m n a d p arrived dropped =
 pub record Told (a d : ℕ) (gone waited : List ℕ) (t : Tally) : Type 0 where
   pub arrived : t.arrived ≡ saturated (a + d)
   pub dropped : t.dropped ≡ saturated d
-  pub queue_polled : t.polled ≡ saturated (length gone)
-  pub packet_waits : t.waits ≡ counting waited no_waits
+  pub polled : t.polled ≡ saturated (length gone)
+  pub waits : t.waits ≡ counting waited no_waits
 
 told-given : (now a d : ℕ) (gone waited batch : List ℕ) (old new : Tally) → Told a d gone waited old → Given now batch old new
     → Told a d (gone ++ batch) (waited ++ map (λ came. now - came) batch) new

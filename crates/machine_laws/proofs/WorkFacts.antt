@@ -57,7 +57,7 @@ pub record Rests (s : MachineSettings) (p : ProcessorView) : Type 0 where
 pub record Goes (s : MachineSettings) (p : ProcessorView) : Type 0 where
   pub rests : Rests s p
   pub asked : asked_in p.softirq.run ≡ (if s.threaded then None else polled_by p.work)
-  pub queue_polled : is_polling s ≡ false → polled_by p.work ≡ None
+  pub polled : is_polling s ≡ false → polled_by p.work ≡ None
   pub given : work_given p.work < s.weight
 
 -- ---- the parts

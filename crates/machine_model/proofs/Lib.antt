@@ -4,9 +4,9 @@ pub mod SoftirqFacts
 pub mod ListedFacts
 pub mod KeptFacts
 pub mod ApplicationFacts
-pub mod TimerFacts
 pub mod StepFacts
 pub mod MachineFacts
 pub mod WeightFacts
 pub mod LeftFacts
 pub mod PendingFacts
+pub mod TimerFacts

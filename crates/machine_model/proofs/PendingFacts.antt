@@ -1,12 +1,16 @@
 -- The cached values of the devices, as one of them changes.
-use Rattle.std.proofs.Common.{◌≡◌, ◌∙◌, ℕ, zero, suc, ◌+◌, ◌<◌, ◌≤◌, Bool, true, false, Option, Some, None, List, [], ◌∷◌, ◌++◌}
-use Rattle.std.proofs.Common.{length, replicate, slice_index_or, slice_set, refl, sym, ap, arith}
-use Rattle.std.specs.{Prelude.{◌==◌, nat_lt, position, if◌then◌else◌}, List.position_or_len, Option.option_map_or}
-use Rattle.std.proofs.lemmas.{Grind.common_steps, List.{length-set, Folds.position_or_len-set}}
+use Rattle.std.proofs.Common.{◌≡◌, ◌∙◌, ◌⊎◌, inl, inr, ℕ, zero, suc, ◌+◌, ◌^◌, ◌<◌, ◌≤◌, Bool, true, false}
+use Rattle.std.proofs.Common.{Option, Some, None, List, [], ◌∷◌}
+use Rattle.std.proofs.Common.{◌++◌, length, replicate, slice_index_or, slice_set, refl, sym, ap, subst, arith, w64}
+use Rattle.std.specs.{Prelude.{◌==◌, position}, List.position_or_len, Option.option_map_or, Int.{bit_at, trailing_zeros}}
+use Rattle.std.proofs.lemmas.{Bool.cases_eq, Grind.{common_steps, get_or-set_at}}
+use Rattle.std.proofs.lemmas.List.{get_or-set_other, length-set, Sums.position_or_len_is}
+use Rattle.std.proofs.lemmas.Nat.Bits.{bit_at-trailing_zeros, bit_at-zero}
 use Rattle.{device_places.{proofs.PlaceFacts.{at-index, below-some}, specs.Places.{at, changed, changed_from}}}
 use Rattle.machine_words.specs.declared.settings.MachineSettings.{MachineSettings}
 use Rattle.machine_model.specs.Device.{QueueView, after_packet, is_masked, new_queue, without_next}
-use Rattle.machine_model.specs.{Devices.{QueueViews, asks_at, soonest_from, sooner, timer_at}, Shown.{earlier, pending_of}}
+use Rattle.machine_model.specs.Devices.{QueueViews, asks_at, soonest_from, sooner, timer_at}
+use Rattle.machine_model.specs.Shown.{IsMask, IsPending, earlier, mask_bit, has_timer}
 use Rattle.machine_model.{specs.declared.devices.{Pending.Pending, Timer.Timer}, proofs.WeightFacts.{named, soonest-is}}
 
 -- ---- the entry that changed
@@ -35,119 +39,88 @@ long : (change : QueueView → QueueView) (n : ℕ) (before after : QueueViews) 
     → n < length before
 long change n before after is below = omega (arith, ap (λ (xs : QueueViews). length xs) is, changed-length change n before, below)
 
+at-same : (xs : QueueViews) (n : ℕ) (y : Option QueueView) → n < length xs → at n (slice_set xs n y) ≡ y
+at-same xs n y below = get_or-set_at xs n n y None refl below
+
+at-other : (xs : QueueViews) (n m : ℕ) (y : Option QueueView) → (m ≡ n → ⊥) → at m (slice_set xs n y) ≡ at m xs
+at-other xs n m y other = get_or-set_other xs n m y None other
+
+-- ---- masks
+
+mask_bit-on : (b : Bool) → mask_bit b ≡ 1 → b ≡ true
+mask_bit-on true e = refl
+mask_bit-on false e = cc e
+
+mask_bit-off : (b : Bool) → mask_bit b ≡ 0 → b ≡ false
+mask_bit-off true e = cc e
+mask_bit-off false e = refl
+
+module _ (holds : Option QueueView → Bool) where
+  pub mask-set : (xs : QueueViews) (n : ℕ) (y : Option QueueView) (old new : ℕ) → n < length xs → bit_at new n ≡ mask_bit (holds y)
+      → ((m : ℕ) → m < 64 → (m ≡ n → ⊥) → bit_at new m ≡ bit_at old m)
+      → IsMask holds xs old
+      → IsMask holds (slice_set xs n y) new
+  mask-set xs n y old new below own others mask m small = by (cases_eq m n)
+    where
+      by : (m ≡ n) ⊎ (m ≡ n → ⊥) → bit_at new m ≡ mask_bit (holds (at m (slice_set xs n y)))
+      by (inl same) = rw (same, at-same xs n y below) own
+      by (inr other) = rw (at-other xs n m y other) (others m small other ∙ mask m small)
+
+  pub mask-same : (xs : QueueViews) (n : ℕ) (y : Option QueueView) (old : ℕ) → n < length xs → length xs ≤ 64 → holds y ≡ holds (at n xs)
+      → IsMask holds xs old
+      → IsMask holds (slice_set xs n y) old
+  mask-same xs n y old below few same mask =
+      mask-set xs n y old old below (mask n (omega (arith, below, few)) ∙ ap mask_bit (sym same)) (λ m small other. refl) mask
+
+  pub mask-changed : (change : QueueView → QueueView) (n : ℕ) (before after : QueueViews) (old new : ℕ) → n < length after
+      → after ≡ changed change n before
+      → bit_at new n ≡ mask_bit (holds (at n after))
+      → ((m : ℕ) → m < 64 → (m ≡ n → ⊥) → bit_at new m ≡ bit_at old m)
+      → IsMask holds before old
+      → IsMask holds after new
+  mask-changed change n before after old new below is own others mask =
+      rw (placed change n before after is) (mask-set before n (at n after) old new (long change n before after is below) own others mask)
+
+  pub mask-more : (xs ys : QueueViews) (old : ℕ) → ((m : ℕ) → at m ys ≡ at m xs) → IsMask holds xs old → IsMask holds ys old
+  mask-more xs ys old same mask m small = mask m small ∙ ap (λ (o : Option QueueView). mask_bit (holds o)) (sym (same m))
+
+  within : (xs : QueueViews) (i : ℕ) → holds None ≡ false → holds (at i xs) ≡ true → i < length xs
+  within [] i none up = absurd (cc (none, up))
+  within (x ∷ xs) zero none up = omega arith
+  within (x ∷ xs) (suc i) none up = omega (arith, within xs i none up)
+
+  pub held-at : (xs : QueueViews) (mask n : ℕ) → IsMask holds xs mask → n < 64 → bit_at mask n ≡ 1 → holds (at n xs) ≡ true
+  held-at xs mask n is small set = mask_bit-on (holds (at n xs)) (sym (is n small) ∙ set)
+
+  pub clear-at : (xs : QueueViews) (mask n : ℕ) → IsMask holds xs mask → n < 64 → bit_at mask n ≡ 0 → holds (at n xs) ≡ false
+  clear-at xs mask n is small clear = mask_bit-off (holds (at n xs)) (sym (is n small) ∙ clear)
+
+  pub inside : (xs : QueueViews) (mask n : ℕ) → holds None ≡ false → IsMask holds xs mask → n < 64 → bit_at mask n ≡ 1 → n < length xs
+  inside xs mask n none is small set = within xs n none (held-at xs mask n is small set)
+
 -- ---- the lowest that asks
 
-module _ {X : Type 0} (p : X → Bool) where
-  first-below : (xs : List X) (n : ℕ) (y : X) → position_or_len p xs < n → position_or_len p (slice_set xs n y) ≡ position_or_len p xs
-  first-below [] n y below = grind (arith, common_steps)
-  first-below (x ∷ xs) zero y below = absurd (omega (arith, below))
-  first-below (x ∷ xs) (suc n) y below = by (p x) refl (first-below xs n y)
-    where
-      by : (b : Bool) → p x ≡ b → (position_or_len p xs < n → position_or_len p (slice_set xs n y) ≡ position_or_len p xs)
-          → position_or_len p (x ∷ slice_set xs n y) ≡ position_or_len p (x ∷ xs)
-      by true up more = rw up refl
-      by false down more = rw down (ap (λ (k : ℕ). 1 + k) (more (omega (arith, rw down at below))))
+position-at : (xs : QueueViews) (i : ℕ) → position_or_len asks_at xs ≡ i → i < length xs → position asks_at xs ≡ Some i
+position-at xs i at below = grind (arith, common_steps)
 
-  first-at : (xs : List X) (n : ℕ) (y : X) → n ≤ position_or_len p xs → n < length xs → p y ≡ true
-      → position_or_len p (slice_set xs n y) ≡ n
-  first-at [] n y most below up = absurd (omega (arith, below))
-  first-at (x ∷ xs) zero y most below up = rw up refl
-  first-at (x ∷ xs) (suc n) y most below up = by (p x) refl (λ least. first-at xs n y least (omega (arith, below)) up)
-    where
-      by : (b : Bool) → p x ≡ b → (n ≤ position_or_len p xs → position_or_len p (slice_set xs n y) ≡ n)
-          → position_or_len p (x ∷ slice_set xs n y) ≡ suc n
-      by true here more = absurd (omega (arith, rw here at most))
-      by false down more = rw down (omega (arith, more (omega (arith, rw down at most))))
+position-none : (xs : QueueViews) → position_or_len asks_at xs ≡ length xs → position asks_at xs ≡ None
+position-none xs all = grind (arith, common_steps)
 
-  first-not : (xs : List X) (n : ℕ) (y : X) → (position_or_len p xs ≡ n → ⊥) → p y ≡ false
-      → position_or_len p (slice_set xs n y) ≡ position_or_len p xs
-  first-not [] n y other down = grind (arith, common_steps)
-  first-not (x ∷ xs) zero y other down = by (p x) refl
-    where
-      by : (b : Bool) → p x ≡ b → position_or_len p (y ∷ xs) ≡ position_or_len p (x ∷ xs)
-      by true up = absurd (other (rw up refl))
-      by false clear = rw (down, clear) refl
-  first-not (x ∷ xs) (suc n) y other down = by (p x) refl (λ not_here. first-not xs n y not_here down)
-    where
-      by : (b : Bool) → p x ≡ b → ((position_or_len p xs ≡ n → ⊥) → position_or_len p (slice_set xs n y) ≡ position_or_len p xs)
-          → position_or_len p (x ∷ slice_set xs n y) ≡ position_or_len p (x ∷ xs)
-      by true up more = rw up refl
-      by false clear more = rw clear (ap (λ (k : ℕ). 1 + k) (more (λ e. other (rw clear (omega (arith, e))))))
+pub lowest-none : (xs : QueueViews) (mask : ℕ) → mask ≡ 0 → length xs ≤ 64 → IsMask asks_at xs mask → position asks_at xs ≡ None
+lowest-none xs mask none few is =
+    position-none xs (position_or_len_is asks_at xs (length xs) None (omega arith)
+    (λ k below. clear-at asks_at xs mask k is (omega (arith, below, few)) (rw none (bit_at-zero k))) (λ past. absurd (omega (arith, past))))
 
-  position-at : (xs : List X) (i : ℕ) → position_or_len p xs ≡ i → i < length xs → position p xs ≡ Some i
-  position-at xs i at below = grind (arith, common_steps)
-
-  position-same : (xs ys : List X) → position_or_len p ys ≡ position_or_len p xs → length ys ≡ length xs → position p ys ≡ position p xs
-  position-same xs ys same size = rw (same, size) refl
-
-  found-at : (xs : List X) (i : ℕ) → position p xs ≡ Some i → position_or_len p xs ≡ i
-  found-at xs i is = grind (arith, common_steps)
-
-  from-here : (xs : List X) (n : ℕ) → n < length xs → ((k : ℕ) → position p xs ≡ Some k → n ≤ k) → n ≤ position_or_len p xs
-  from-here xs n below most = by (nat_lt (position_or_len p xs) (length xs)) refl
-    where
-      by : (b : Bool) → nat_lt (position_or_len p xs) (length xs) ≡ b → n ≤ position_or_len p xs
-      by true is = most (position_or_len p xs) (rw is refl)
-      by false is = grind (arith, common_steps)
-
-abbrev pub is_below : Option ℕ → ℕ → Bool
-is_below lowest n = option_map_or (λ other. nat_lt other n) lowest false
-
-below-at : (lowest : Option ℕ) (n : ℕ) (xs : QueueViews) → lowest ≡ position asks_at xs → is_below lowest n ≡ true
-    → position_or_len asks_at xs < n
-below-at None n xs was below = cc below
-below-at (Some other) n xs was below =
-    omega (arith, found-at asks_at xs other (sym was), let less : other < n = grind (arith, common_steps) in less)
-
-not-below : (lowest : Option ℕ) (n k : ℕ) → is_below lowest n ≡ false → lowest ≡ Some k → n ≤ k
-not-below lowest n k high is = grind (arith, common_steps)
-
--- it is below the device that changed
-pub lowest-below : (change : QueueView → QueueView) (n : ℕ) (before after : QueueViews) (lowest : Option ℕ)
-    → is_below lowest n ≡ true
-    → after ≡ changed change n before
-    → lowest ≡ position asks_at before
-    → lowest ≡ position asks_at after
-lowest-below change n before after lowest low is was =
-    let y = at n after in
-    was ∙ sym (ap (λ (xs : QueueViews). position asks_at xs) (placed change n before after is)
-    ∙ position-same asks_at before (slice_set before n y) (first-below asks_at before n y (below-at lowest n before was low))
-    (length-set before n y))
-
--- it isn't, and the device that changed asks
-pub lowest-here : (change : QueueView → QueueView) (n : ℕ) (before after : QueueViews) (lowest : Option ℕ)
-    → n < length after
-    → is_below lowest n ≡ false
-    → asks_at (at n after) ≡ true
-    → after ≡ changed change n before
-    → lowest ≡ position asks_at before
-    → Some n ≡ position asks_at after
-lowest-here change n before after lowest below low up is was =
-    let y = at n after in
-    let inside = long change n before after is below in
-    let most = from-here asks_at before n inside (λ k found. not-below lowest n k low (was ∙ found)) in
-    sym (ap (λ (xs : QueueViews). position asks_at xs) (placed change n before after is)
-    ∙ position-at asks_at (slice_set before n y) n (first-at asks_at before n y most inside up)
-    (omega (arith, length-set before n y, inside)))
-
-pub not-self : (n : ℕ) → (n == n) ≡ false → ⊥
-not-self n other = absurd (grind (arith, common_steps, other))
-
--- it is another one, and the device that changed doesn't ask
-pub lowest-other : (change : QueueView → QueueView) (n : ℕ) (before after : QueueViews) (lowest : Option ℕ)
-    → n < length after
-    → (lowest ≡ Some n → ⊥)
-    → asks_at (at n after) ≡ false
-    → after ≡ changed change n before
-    → lowest ≡ position asks_at before
-    → lowest ≡ position asks_at after
-lowest-other change n before after lowest below other down is was =
-    let y = at n after in
-    let inside = long change n before after is below in
-    was ∙ sym (ap (λ (xs : QueueViews). position asks_at xs) (placed change n before after is)
-    ∙ position-same asks_at before (slice_set before n y)
-    (first-not asks_at before n y (λ here. other (was ∙ position-at asks_at before n here inside)) down)
-    (length-set before n y))
+pub lowest-some : (xs : QueueViews) (mask : ℕ) → 0 < mask → mask < 2 ^ 64 → IsMask asks_at xs mask
+    → position asks_at xs ≡ Some (trailing_zeros w64 mask)
+lowest-some xs mask some fits is =
+    let low = bit_at-trailing_zeros w64 mask some fits in
+    let first = trailing_zeros w64 mask in
+    let below = inside asks_at xs mask first refl is low.0 low.1 in
+    position-at xs first (position_or_len_is asks_at xs first None (omega (arith, below))
+    (λ k less. clear-at asks_at xs mask k is (omega (arith, less, low.0)) (low.2 k less))
+    (λ _. held-at asks_at xs mask first is low.0 low.1))
+    below
 
 -- ---- the soonest timer
 
@@ -262,20 +235,19 @@ soonest-stays change n before after old own below timer stays is was =
 -- ---- changes after which all stays
 
 -- the entry asks as before, and its timer is the same
-pending-same : (xs : QueueViews) (n : ℕ) (y : Option QueueView) → n < length xs → asks_at y ≡ asks_at (at n xs)
+pending-same : (xs : QueueViews) (n : ℕ) (y : Option QueueView) (p : Pending) → n < length xs → length xs ≤ 64
+    → asks_at y ≡ asks_at (at n xs)
+    → has_timer y ≡ has_timer (at n xs)
     → timer_at n y ≡ timer_at n (at n xs)
-    → pending_of (slice_set xs n y) ≡ pending_of xs
-pending-same xs n y below asks timer =
-    let lowest : position asks_at (slice_set xs n y) ≡ position asks_at xs =
-    position-same asks_at xs (slice_set xs n y) (position_or_len-set asks_at xs n y None asks) (length-set xs n y) in
-    let soonest : soonest_from 0 (slice_set xs n y) ≡ soonest_from 0 xs =
-    soonest-set xs n y below
-    ∙ (ap (λ (t : Option Timer). earlier (soonest_from 0 (slice_set xs n None)) t) timer ∙ sym (soonest-before xs n below)) in
-    rw (lowest, soonest) refl
-
-pending-phase : (xs : QueueViews) (n : ℕ) (d e : QueueView) → n < length xs → at n xs ≡ Some d → e.phase ≡ d.phase
-    → pending_of (slice_set xs n (Some e)) ≡ pending_of xs
-pending-phase xs n d e below here same = pending-same xs n (Some e) below (rw (here, same) refl) (rw (here, same) refl)
+    → IsPending xs p
+    → IsPending (slice_set xs n y) p
+pending-same xs n y p below few asks timed timer was = record {
+  asking = mask-same asks_at xs n y p.asking below few asks was.asking;
+  timed = mask-same has_timer xs n y p.timed below few timed was.timed;
+  soonest =
+      was.soonest ∙ sym (soonest-set xs n y below
+      ∙ (ap (λ (t : Option Timer). earlier (soonest_from 0 (slice_set xs n None)) t) timer ∙ sym (soonest-before xs n below)));
+}
 
 -- the value that was read from the entry is the device there
 there : (xs : QueueViews) (n : ℕ) (x : Option QueueView) (d : QueueView) → n < length xs → x ≡ slice_index_or xs n x → x ≡ Some d
@@ -289,17 +261,17 @@ pub changed-kept : (f : QueueView → QueueView) (xs : QueueViews) (n : ℕ) (x 
     → x ≡ Some d
     → e ≡ f d
     → (old new : Pending) (now : QueueViews)
-    → ((change : QueueView → QueueView) (before : QueueViews) → now ≡ changed change n before → old ≡ pending_of before
-    → new ≡ pending_of now)
+    → ((change : QueueView → QueueView) (before : QueueViews) → now ≡ changed change n before → IsPending before old → IsPending now new)
     → now ≡ slice_set xs n (Some e)
-    → (length xs ≤ 64) × (old ≡ pending_of xs)
-    → (length (slice_set xs n (Some e)) ≤ 64) × (new ≡ pending_of (slice_set xs n (Some e)))
+    → (length xs ≤ 64) × IsPending xs old
+    → (length (slice_set xs n (Some e)) ≤ 64) × IsPending (slice_set xs n (Some e)) new
 changed-kept f xs n x d e below found some is old new now after now_is kept =
     let here = there xs n x d below found some in
     let change : slice_set xs n (Some e) ≡ changed f n xs =
     ap (λ (v : QueueView). slice_set xs n (Some v)) is ∙ sym (ap (λ (o : Option QueueView). changed_from f n o xs) here) in (
       omega (arith, length-set xs n (Some e), kept.0),
-      after f xs (now_is ∙ change) kept.1 ∙ ap (λ (ys : QueueViews). pending_of ys) now_is,
+      subst (λ (ys : QueueViews). IsPending ys new) now_is
+          (after f xs (now_is ∙ change) kept.1),
     )
 
 -- the same if its phase stays
@@ -308,10 +280,13 @@ pub phase-kept : (xs : QueueViews) (n : ℕ) (x : Option QueueView) (d e : Queue
     → x ≡ slice_index_or xs n x
     → x ≡ Some d
     → e.phase ≡ d.phase
-    → (length xs ≤ 64) × (old ≡ pending_of xs)
-    → (length (slice_set xs n (Some e)) ≤ 64) × (old ≡ pending_of (slice_set xs n (Some e)))
+    → (length xs ≤ 64) × IsPending xs old
+    → (length (slice_set xs n (Some e)) ≤ 64) × IsPending (slice_set xs n (Some e)) old
 phase-kept xs n x d e old below found some same kept =
-    (omega (arith, length-set xs n (Some e), kept.0), kept.1 ∙ sym (pending-phase xs n d e below (there xs n x d below found some) same))
+    let here = there xs n x d below found some in (
+      omega (arith, length-set xs n (Some e), kept.0),
+      pending-same xs n (Some e) old below kept.0 (rw (here, same) refl) (rw (here, same) refl) (rw (here, same) refl) kept.1,
+    )
 
 pub phase-next : (backlog : Bool) (d : QueueView) → (without_next backlog d).phase ≡ d.phase
 phase-next backlog d = grind (arith, common_steps)
@@ -326,10 +301,12 @@ pub opened-kept : (xs : QueueViews) (n capacity : ℕ) (e : QueueView) (old : Pe
     → at n xs ≡ None
     → e ≡ new_queue capacity
     → length xs ≤ 64
-    → old ≡ pending_of xs
-    → (length (slice_set xs n (Some e)) ≤ 64) × (old ≡ pending_of (slice_set xs n (Some e)))
-opened-kept xs n capacity e old below none is few kept =
-    (omega (arith, length-set xs n (Some e), few), kept ∙ sym (pending-same xs n (Some e) below (rw (none, is) refl) (rw (none, is) refl)))
+    → IsPending xs old
+    → (length (slice_set xs n (Some e)) ≤ 64) × IsPending (slice_set xs n (Some e)) old
+opened-kept xs n capacity e old below none is few kept = (
+  omega (arith, length-set xs n (Some e), few),
+  pending-same xs n (Some e) old below few (rw (none, is) refl) (rw (none, is) refl) (rw (none, is) refl) kept,
+)
 
 -- empty entries are added
 no-timer : (k count : ℕ) → soonest_from k (replicate count None) ≡ None
@@ -342,25 +319,45 @@ unfolding soonest_from
 soonest-more k [] count = no-timer k count
 soonest-more k (x ∷ xs) count = ap (λ (s : Option Timer). sooner (timer_at k x) s) (soonest-more (k + 1) xs count)
 
-ends-empty : (count : ℕ) → position_or_len asks_at (replicate count None) ≡ count
-ends-empty zero = refl
-ends-empty (suc count) = ap (λ (k : ℕ). 1 + k) (ends-empty count) ∙ omega arith
+at-none : (count m : ℕ) → let xs : QueueViews = replicate count None in at m xs ≡ None
+at-none zero m = refl
+at-none (suc count) zero = refl
+at-none (suc count) (suc m) = at-none count m
 
-ends-more : (xs : QueueViews) (count : ℕ) → position_or_len asks_at (xs ++ replicate count None)
-    ≡ (if nat_lt (position_or_len asks_at xs) (length xs) then position_or_len asks_at xs else length xs + count)
-ends-more [] count = ends-empty count ∙ omega arith
-ends-more (x ∷ xs) count = by (asks_at x) refl (ends-more xs count)
-  where
-    by : (b : Bool) → asks_at x ≡ b → position_or_len asks_at (xs ++ replicate count None)
-        ≡ (if nat_lt (position_or_len asks_at xs) (length xs) then position_or_len asks_at xs else length xs + count)
-        → position_or_len asks_at (x ∷ xs ++ replicate count None)
-        ≡ (if nat_lt (position_or_len asks_at (x ∷ xs)) (length (x ∷ xs)) then position_or_len asks_at (x ∷ xs)
-        else length (x ∷ xs) + count)
-    by true up more = grind (arith, common_steps)
-    by false down more = grind (arith, common_steps)
+at-more : (xs : QueueViews) (count m : ℕ) → at m (xs ++ replicate count None) ≡ at m xs
+at-more [] count m = at-none count m
+at-more (x ∷ xs) count zero = refl
+at-more (x ∷ xs) count (suc m) = at-more xs count m
 
-lowest-more : (xs : QueueViews) (count : ℕ) → position asks_at (xs ++ replicate count None) ≡ position asks_at xs
-lowest-more xs count = grind (arith, common_steps, ends-more)
+pub pending-more : (xs : QueueViews) (count : ℕ) (p : Pending) → IsPending xs p → IsPending (xs ++ replicate count None) p
+pending-more xs count p was =
+    let ys : QueueViews = xs ++ replicate count None in
+    record {
+      asking = mask-more asks_at xs ys p.asking (at-more xs count) was.asking;
+      timed = mask-more has_timer xs ys p.timed (at-more xs count) was.timed;
+      soonest = was.soonest ∙ sym (soonest-more 0 xs count);
+    }
 
-pub pending-more : (xs : QueueViews) (count : ℕ) → pending_of (xs ++ replicate count None) ≡ pending_of xs
-pending-more xs count = rw (lowest-more xs count, soonest-more 0 xs count) refl
+pub pending-none : (p : Pending) → p.asking ≡ 0 → p.timed ≡ 0 → p.soonest ≡ None → IsPending [] p
+unfolding soonest_from
+pending-none p asking timed soonest = record {
+  asking = λ n small. rw asking (bit_at-zero n);
+  timed = λ n small. rw timed (bit_at-zero n);
+  soonest = soonest;
+}
+
+-- the devices after one changed
+pub pending-changed : (change : QueueView → QueueView) (n : ℕ) (before after : QueueViews) (old new : Pending) → n < length after
+    → after ≡ changed change n before
+    → (bit_at new.asking n ≡ mask_bit (asks_at (at n after))) × ((m : ℕ) → m < 64 → (m ≡ n → ⊥) → bit_at new.asking m ≡ bit_at old.asking m)
+    → (bit_at new.timed n ≡ mask_bit (has_timer (at n after))) × ((m : ℕ) → m < 64 → (m ≡ n → ⊥) → bit_at new.timed m ≡ bit_at old.timed m)
+    → (IsMask has_timer after new.timed → new.soonest ≡ soonest_from 0 after)
+    → IsPending before old
+    → IsPending after new
+pending-changed change n before after old new below is asking timed soonest was =
+    let mask = mask-changed has_timer change n before after old.timed new.timed below is timed.0 timed.1 was.timed in
+    record {
+      asking = mask-changed asks_at change n before after old.asking new.asking below is asking.0 asking.1 was.asking;
+      timed = mask;
+      soonest = soonest mask;
+    }

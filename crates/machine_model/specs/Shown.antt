@@ -1,9 +1,9 @@
 -- The program's state, as the definitions see it: a driven run, and cached values of the devices so that no step searches them.
 -- It isn't part of the machine's definition.
-use Rattle.std.specs.{Prelude.{ℕ, ◌+◌, ◌==◌, ◌||◌, ◌&&◌, nat_lt, Bool, true, false, ◌++◌, length, position, Option, Some, None}}
-use Rattle.std.specs.{Prelude.{if◌then◌else◌}, Option.option_map_or}
-use Rattle.{poll_runs.specs.Turn.asked_for, poll_runs.specs.declared.polling_run.PollingRun.PollingRun}
-use Rattle.machine_model.specs.{Devices.{QueueViews, asks_at, soonest_from}, Softirq.{RunView, SoftirqView}}
+use Rattle.std.specs.Prelude.{◌≡◌, ◌<◌, ℕ, ◌+◌, ◌==◌, ◌||◌, ◌&&◌, nat_lt, Bool, true, false, ◌++◌, length, is_some, Option, Some, None}
+use Rattle.std.specs.{Prelude.{if◌then◌else◌}, Option.option_map_or, Int.bit_at}
+use Rattle.{poll_runs.specs.Turn.asked_for, poll_runs.specs.declared.polling_run.PollingRun.PollingRun, device_places.specs.Places.at}
+use Rattle.machine_model.specs.{Device.{QueueView, timer_of}, Devices.{QueueViews, asks_at, soonest_from}, Softirq.{RunView, SoftirqView}}
 use Rattle.machine_model.specs.declared.devices.{Pending.Pending, Timer.Timer}
 
 abbrev pub run_view : PollingRun → RunView
@@ -35,9 +35,21 @@ listed q = length q.list + held_in q.run
 
 -- ---- of the devices
 
--- the lowest device that asks, and the soonest timer
-abbrev pub pending_of : QueueViews → Pending
-pending_of devices = record { lowest = position asks_at devices; soonest = soonest_from 0 devices }
+abbrev pub mask_bit : Bool → ℕ
+mask_bit b = if b then 1 else 0
+
+-- a mask has the bits of the devices in whose entries that holds
+abbrev pub IsMask : (Option QueueView → Bool) → QueueViews → ℕ → Type 0
+IsMask holds devices mask = (n : ℕ) → n < 64 → bit_at mask n ≡ mask_bit (holds (at n devices))
+
+abbrev pub has_timer : Option QueueView → Bool
+has_timer place = option_map_or (λ d. is_some (timer_of d.phase)) place false
+
+-- which devices ask, whose timer is set, and the soonest timer
+pub record IsPending (devices : QueueViews) (pending : Pending) : Type 0 where
+  pub asking : IsMask asks_at devices pending.asking
+  pub timed : IsMask has_timer devices pending.timed
+  pub soonest : pending.soonest ≡ soonest_from 0 devices
 
 -- the sooner of two timers, the one of the lower device at one time
 abbrev pub earlier : Option Timer → Option Timer → Option Timer

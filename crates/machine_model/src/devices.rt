@@ -1,12 +1,14 @@
 //! The devices of a processor.
 
-ghost use Rattle.std.specs.Prelude.{◌≡◌, ◌≤◌, ◌<◌, ◌+◌, ◌-◌, ◌++◌, ◌==◌, IfSome, OnOk, length, nat_lt, position, replicate, None, false, true};
+ghost use Rattle.std.specs.Prelude.{◌≡◌, ◌≢◌, ◌≤◌, ◌<◌, ◌+◌, ◌-◌, ◌++◌, ◌==◌, ℕ, IfSome, OnOk, length, position, replicate, None, false, true};
+ghost use Rattle.std.specs.Int.{bit_at};
 ghost use Rattle.std.specs.Option.{option_map_or};
-ghost use Rattle.device_places.specs.Places.{changed};
+ghost use Rattle.device_places.specs.Places.{at, changed};
 ghost use Rattle.machine_model.specs.Device.{QueueView};
 ghost use Rattle.machine_model.specs.Devices.{QueueViews, asks_at, soonest_from, sooner, timer_at};
 ghost use Rattle.machine_model.specs.Kept.{all_scheduled};
-ghost use Rattle.machine_model.specs.Shown.{earlier, pending_of};
+ghost use Rattle.machine_model.specs.Shown.{IsMask, IsPending, earlier, has_timer, mask_bit};
+ghost use Rattle.machine_model.specs.declared.devices.Pending.{Pending};
 
 use crate::device::{QueueReport, ReceiveQueue};
 use machine_words::MachineSettings;
@@ -22,12 +24,13 @@ pub struct Timer {
     pub device: u32,
 }
 
-/// The requests that a processor reads at each step. They are cached as its devices change, because a search goes through all
-/// of them.
+/// What a processor reads of its devices at each step. It is kept as they change, because a search goes through all of them.
 #[derive(Clone, Copy)]
 pub(crate) struct Pending {
-    /// Returns the lowest device that asks for an interrupt.
-    pub(crate) lowest: Option<usize>,
+    /// A bit for each device that asks for an interrupt.
+    pub(crate) asking: u64,
+    /// A bit for each device whose timer is set.
+    pub(crate) timed: u64,
     /// The soonest timer.
     pub(crate) soonest: Option<Timer>,
 }
@@ -42,14 +45,14 @@ pub(crate) struct QueueTable {
 impl Model for QueueTable {
     ghost use Rattle.std.specs.Prelude.{◌≡◌, ◌≤◌, length};
     ghost use Rattle.machine_model.specs.Devices as devices;
-    ghost use Rattle.machine_model.specs.Shown.{pending_of};
+    ghost use Rattle.machine_model.specs.Shown.{IsPending};
 
     ghost Value = { devices.QueueViews };
 
     ghost view = { λ d. d.places.items };
 
     ghost invariant = { λ d. (length d.places.items ≤ 64)
-        × (d.pending ≡ pending_of d.places.items) };
+        × IsPending d.places.items d.pending };
 }
 
 // Returns whether the device in this entry, if there is one, asks for an interrupt.
@@ -58,6 +61,16 @@ fn asks(place: &Option<ReceiveQueue>) -> bool
 {
     match place {
         Some(device) => device.asks(),
+        None => false,
+    }
+}
+
+// Returns whether the timer of the device in this entry, if there is one, is set.
+fn has_timer(place: &Option<ReceiveQueue>) -> bool
+    ensures { result ≡ has_timer place.now }
+{
+    match place {
+        Some(device) => device.timer().is_some(),
         None => false,
     }
 }
@@ -81,16 +94,27 @@ fn sooner(first: Option<Timer>, second: Option<Timer>) -> Option<Timer>
     }
 }
 
-// Returns the soonest timer of the devices in these entries.
-fn soonest_in(places: &[Option<ReceiveQueue>]) -> Option<Timer>
+// Returns the timer of a device, if there is one and one is set.
+fn timer_of(places: &[Option<ReceiveQueue>], number: u32) -> Option<Timer>
+    ensures { result ≡ timer_at number (at number places.now) }
+{
+    if number as usize >= places.len() {
+        return None;
+    }
+    timer_in(&places[number as usize], number)
+}
+
+// Returns the soonest timer of the devices in these entries, of which `timed` has a bit for each whose timer is set.
+fn soonest_in(places: &[Option<ReceiveQueue>], timed: u64) -> Option<Timer>
     requires { length places.now ≤ 64 }
-    ensures { result ≡ soonest_from 0 places.now }
+    ensures { IsMask has_timer places.now timed → result ≡ soonest_from 0 places.now }
 {
     let mut best = None;
-    for (number, place) in places.iter().enumerate() {
-        if let Some(timer) = timer_in(place, number as u32) {
-            best = sooner(best, Some(timer));
-        }
+    let mut left = timed;
+    'walk: while left != 0 {
+        let number = left.trailing_zeros();
+        left &= !(1u64 << number);
+        best = sooner(best, timer_of(places, number));
     }
     best
 }
@@ -109,20 +133,28 @@ fn earlier(first: Option<Timer>, second: Option<Timer>) -> Option<Timer>
     }
 }
 
-// Returns the lowest device that asks for an interrupt.
-fn lowest_in(places: &[Option<ReceiveQueue>]) -> Option<usize>
-    ensures { result ≡ position asks_at places.now }
+// Returns the lowest device that asks for an interrupt, of those that `asking` has a bit for.
+fn lowest_in(asking: u64) -> Option<usize>
+    ensures lowest { (devices : QueueViews) → length devices ≤ 64 → IsMask asks_at devices asking
+        → result ≡ position asks_at devices }
+    ensures below { IfSome result (λ number. number < 64) }
 {
-    places.iter().position(|place| asks(place))
+    if asking == 0 {
+        return None;
+    }
+    Some(asking.trailing_zeros() as usize)
 }
 
-// Returns whether the lowest device that asks is below this one.
-fn is_below(lowest: Option<usize>, number: usize) -> bool
-    ensures { result ≡ option_map_or (λ other. nat_lt other number) lowest false }
+// Sets the bit of a device in a mask, or clears it.
+fn with_bit(mask: u64, number: usize, is_set: bool) -> u64
+    requires { number < 64 }
+    ensures own { bit_at result number ≡ mask_bit is_set }
+    ensures others { (n : ℕ) → n < 64 → n ≢ number → bit_at result n ≡ bit_at mask n }
 {
-    match lowest {
-        Some(other) => other < number,
-        None => false,
+    if is_set {
+        mask | (1u64 << number)
+    } else {
+        mask & !(1u64 << number)
     }
 }
 
@@ -146,34 +178,11 @@ fn is_same(first: Option<Timer>, second: Option<Timer>) -> bool
     }
 }
 
-// Returns the lowest device that asks, after this one changed.
-fn lowest_after(
-    lowest: Option<usize>,
-    number: usize,
-    places: &[Option<ReceiveQueue>],
-) -> Option<usize>
-    requires { number < length places.now }
-    ensures { (change : QueueView → QueueView) (before : QueueViews)
-        → places.now ≡ changed change number before
-        → lowest ≡ position asks_at before
-        → result ≡ position asks_at places.now }
-{
-    if is_below(lowest, number) {
-        return lowest;
-    }
-    if asks(&places[number]) {
-        return Some(number);
-    }
-    if lowest == Some(number) {
-        return lowest_in(places);
-    }
-    lowest
-}
-
-// Returns the soonest timer, after this device changed.
+// Returns the soonest timer, after this device changed; `timed` has a bit for each device whose timer is set.
 fn soonest_after(
     soonest: Option<Timer>,
     number: usize,
+    timed: u64,
     places: &[Option<ReceiveQueue>],
 ) -> Option<Timer>
     requires number { number < length places.now }
@@ -181,6 +190,7 @@ fn soonest_after(
     ensures { (change : QueueView → QueueView) (before : QueueViews)
         → places.now ≡ changed change number before
         → soonest ≡ soonest_from 0 before
+        → IsMask has_timer places.now timed
         → result ≡ soonest_from 0 places.now }
 {
     let own = timer_in(&places[number], number as u32);
@@ -188,23 +198,26 @@ fn soonest_after(
         return soonest;
     }
     if is_of(soonest, number) {
-        return soonest_in(places);
+        return soonest_in(places, timed);
     }
     earlier(soonest, own)
 }
 
-// Returns the cached requests, after this device changed.
+// Returns what a processor reads, after this device changed.
 fn pending_after(pending: Pending, number: usize, places: &[Option<ReceiveQueue>]) -> Pending
     requires number { number < length places.now }
     requires few { length places.now ≤ 64 }
     ensures { (change : QueueView → QueueView) (before : QueueViews)
         → places.now ≡ changed change number before
-        → pending ≡ pending_of before
-        → result ≡ pending_of places.now }
+        → IsPending before pending
+        → IsPending places.now result }
 {
+    let asking = with_bit(pending.asking, number, asks(&places[number]));
+    let timed = with_bit(pending.timed, number, has_timer(&places[number]));
     Pending {
-        lowest: lowest_after(pending.lowest, number, places),
-        soonest: soonest_after(pending.soonest, number, places),
+        asking,
+        timed,
+        soonest: soonest_after(pending.soonest, number, timed, places),
     }
 }
 
@@ -216,7 +229,8 @@ fn make_place(places: &mut Vec<Option<ReceiveQueue>>, number: usize) -> Result<(
         ≡ places.old.items ++ replicate (number + 1 - length places.old.items) None) }
     ensures few { length places.new.items ≤ 64 }
     ensures scheduled { all_scheduled places.old.items ≤ all_scheduled places.new.items }
-    ensures pending { pending_of places.new.items ≡ pending_of places.old.items }
+    ensures pending { (pending : Pending) → IsPending places.old.items pending
+        → IsPending places.new.items pending }
 {
     for _ in places.len()..number + 1 {
         places.push(None)?;
@@ -240,7 +254,8 @@ impl QueueTable {
         QueueTable {
             places: Vec::new(alloc),
             pending: Pending {
-                lowest: None,
+                asking: 0,
+                timed: 0,
                 soonest: None,
             },
         }
@@ -251,7 +266,7 @@ impl QueueTable {
         ensures lowest { result ≡ position asks_at self.now }
         ensures below { IfSome result (λ number. number < 64) }
     {
-        self.pending.lowest
+        lowest_in(self.pending.asking)
     }
 
     /// The soonest timer, of those at one time that of the lowest device.

@@ -13,7 +13,7 @@ use Rattle.machine_report.specs.Arrivals.{arrival_of, arrivals_after, arrivals_o
 use Rattle.machine_words.specs.declared.settings.MachineSettings.{MachineSettings}
 use Rattle.machine_report.specs.{Plain.{StartsWithArrival, StartsWithHeader}, declared.arrival.Arrival.Arrival}
 use Rattle.machine_report.specs.Reading.{HasGiven, IsTitled, LeavesSame, LeftAt, TakesPlain, records_in}
-use Rattle.machine_report.specs.declared.{arrivals.{Arrivals.Arrivals, Rows.Rows}, fault.MachineFault.MachineFault}
+use Rattle.machine_report.specs.declared.{arrivals.{Arrivals.Arrivals, ArrivalRows.ArrivalRows}, fault.MachineFault.MachineFault}
 
 abbrev RecordsLeft : Type 0 → Type 0
 RecordsLeft R = Reader (Chain (Cursor (Vec ℕ Global)) (Fused R))
@@ -144,7 +144,7 @@ module _ {R : Type 0} (remaining : R → Option (List ℕ)) (reader after : Read
 pub behind-header : {R : Type 0} (remaining : R → Option (List ℕ)) (old new : Block R) (s : MachineSettings) (text rest bytes : List ℕ)
     (count : ℕ) → text ≡ unread old → StartsWithHeader s.queues text rest → count ≡ length text - length rest
     → unread new ≡ drop count (unread old) → new.source ≡ old.source → Holds remaining old bytes
-    → IsTitled remaining s (Rows.Plain new) (arrivals_of s (records_of bytes))
+    → IsTitled remaining s (ArrivalRows.Plain new) (arrivals_of s (records_of bytes))
 behind-header remaining old new s text rest bytes count is header size behind same holds =
     let starts = header.title.starts in
     let (more, all, stands) = used-up remaining old new text starts.used rest bytes count is starts.splits size behind same holds in
@@ -205,17 +205,17 @@ module _ {R : Type 0} (remaining : R → Option (List ℕ)) (old : Arrivals R) (
 
   -- one more arrival: that of a plain row
   pub given-plain : (new : Arrivals R) (before after : Block R) (row : ℕ) (arrival : Arrival)
-      → old.source ≡ Rows.Plain before → new.source ≡ Rows.Plain after
+      → old.source ≡ ArrivalRows.Plain before → new.source ≡ ArrivalRows.Plain after
       → ((bytes : List ℕ) → Holds remaining before bytes → TakesPlain remaining old.settings row old.last bytes arrival after)
       → new.settings ≡ old.settings → row ≡ old.rows + 1 → new.rows ≡ row → new.last ≡ arrival.moment
       → HasGiven remaining new (earlier ++ arrival ∷ []) all
   given-plain new before after row arrival was is takes settings next rows last =
-      let (at, holds) : LeftAt remaining (Rows.Plain before) given.state given.left = rw was at given.stands in
+      let (at, holds) : LeftAt remaining (ArrivalRows.Plain before) given.state given.left = rw was at given.stands in
       let taken = takes given.left holds in
       let reads : next_record default_config given.state [] [] given.left ≡ Some (taken.fields, State.StartRecord, taken.rest) =
       ap (λ s. next_record default_config s [] [] given.left) at ∙ taken.reads in
       let (between, one) = one-in given.state (taken.fields, State.StartRecord, taken.rest) given.left given.between reads in
-      let stands : LeftAt remaining (Rows.Plain after) State.StartRecord taken.rest = (refl, taken.holds) in
+      let stands : LeftAt remaining (ArrivalRows.Plain after) State.StartRecord taken.rest = (refl, taken.holds) in
       given-one new taken.fields State.StartRecord taken.rest arrival (rw is stands) between one settings (rows ∙ next) last
       (ap (λ n. arrival_of_fields old.settings n old.last (arrival_fields old.settings.queues taken.fields)) rows ∙ taken.tells)
 
@@ -237,12 +237,12 @@ module _ {R : Type 0} (remaining : R → Option (List ℕ)) (old : Arrivals R) (
       }
 
   -- what csv read
-  module _ (reader after : RecordsLeft R) (fields : List (List ℕ)) (was : old.source ≡ Rows.Records reader) where
+  module _ (reader after : RecordsLeft R) (fields : List (List ℕ)) (was : old.source ≡ ArrivalRows.Records reader) where
     abbrev Takes : Bool → Type 0
     Takes found = (bytes : List ℕ) → StandsAt (left_remaining remaining) reader bytes
         → ReadsNext (left_remaining remaining) (next_record default_config (reader_state reader) [] [] bytes) found fields after
 
-    at-reader : LeftAt remaining (Rows.Records reader) given.state given.left
+    at-reader : LeftAt remaining (ArrivalRows.Records reader) given.state given.left
     at-reader = rw was at given.stands
 
     -- at the end of the text
@@ -270,12 +270,12 @@ module _ {R : Type 0} (remaining : R → Option (List ℕ)) (old : Arrivals R) (
         ∙ after-bad old.settings earlier fields _ fault (told-as row fields rows ∙ told)
 
     -- one more arrival
-    pub given-next : (new : Arrivals R) (row : ℕ) (arrival : Arrival) → Takes true → new.source ≡ Rows.Records after
+    pub given-next : (new : Arrivals R) (row : ℕ) (arrival : Arrival) → Takes true → new.source ≡ ArrivalRows.Records after
         → new.settings ≡ old.settings → row ≡ old.rows + 1 → new.rows ≡ row → new.last ≡ arrival.moment
         → arrival_of_fields old.settings row old.last (arrival_fields old.settings.queues fields) ≡ Ok arrival
         → HasGiven remaining new (earlier ++ arrival ∷ []) all
     given-next new row arrival h is settings next rows last told =
         let (rest, stands, between, one) = taken h in
-        let left : LeftAt remaining (Rows.Records after) (reader_state after) rest = (refl, stands) in
+        let left : LeftAt remaining (ArrivalRows.Records after) (reader_state after) rest = (refl, stands) in
         given-one new fields (reader_state after) rest arrival (rw is left) between one settings (rows ∙ next) last
         (ap (λ n. arrival_of_fields old.settings n old.last (arrival_fields old.settings.queues fields)) rows ∙ told)

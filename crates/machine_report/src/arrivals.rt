@@ -27,7 +27,7 @@ const RECORD_BYTES: usize = 96;
 
 // Where the next rows are read from.
 #[derive(Drop)]
-enum Rows<R> {
+enum ArrivalRows<R> {
     // A block of bytes that were read ahead: all rows so far were plain.
     Plain(Block<R>),
     // `csv`, from the first row that isn't plain or has an error.
@@ -39,7 +39,7 @@ enum Rows<R> {
 /// The arrivals of a text, read one row at a time.
 #[derive(Drop)]
 pub struct Arrivals<R> {
-    source: Rows<R>,
+    source: ArrivalRows<R>,
     alloc: Global,
     fields: ByteRecord,
     settings: MachineSettings,
@@ -52,7 +52,7 @@ fn titled<R: Read + Drop>(
     mut reader: RecordsLeft<R>,
     fields: &mut ByteRecord,
     settings: &MachineSettings,
-) -> Result<Rows<R>, MachineFault>
+) -> Result<ArrivalRows<R>, MachineFault>
     requires opened { IsOpen reader }
     requires state { reader_state reader ≡ state.StartRecord }
     ensures opened { IfOk result IsOpenAt }
@@ -73,7 +73,7 @@ fn titled<R: Read + Drop>(
     if !is_title(settings.queues, fields) {
         return Err(MachineFault::BadHeader);
     }
-    Ok(Rows::Records(reader))
+    Ok(ArrivalRows::Records(reader))
 }
 
 // Returns the rows after the header of a text.
@@ -82,7 +82,7 @@ fn rows_of<R: Read + Drop>(
     source: R,
     fields: &mut ByteRecord,
     settings: &MachineSettings,
-) -> Result<Rows<R>, MachineFault>
+) -> Result<ArrivalRows<R>, MachineFault>
     ensures opened { IfOk result IsOpenAt }
     ensures title { IfOk result (λ rows. (bytes : List ℕ) → R.remaining source ≡ Some bytes
         → IsTitled R.remaining settings.now rows (arrivals_of settings.now (records_of bytes))) }
@@ -97,7 +97,7 @@ fn rows_of<R: Read + Drop>(
     };
     let used = block.text().len() - rest.len();
     block.advance(used);
-    Ok(Rows::Plain(block))
+    Ok(ArrivalRows::Plain(block))
 }
 
 // Returns the plain row at the start of the unread bytes of a block, if there is one.
@@ -145,7 +145,10 @@ fn next_plain<R: Read>(
 }
 
 // Returns the same rows, read by `csv`.
-fn by_records<R: Read + Drop>(alloc: Global, rows: Rows<R>) -> Result<Rows<R>, AllocError>
+fn by_records<R: Read + Drop>(
+    alloc: Global,
+    rows: ArrivalRows<R>,
+) -> Result<ArrivalRows<R>, AllocError>
     requires { IsOpenAt rows }
     ensures opened { IfOk result IsByRecords }
     ensures same { IfOk result (λ after. (state : State) (bytes : List ℕ)
@@ -153,7 +156,7 @@ fn by_records<R: Read + Drop>(alloc: Global, rows: Rows<R>) -> Result<Rows<R>, A
         → LeavesSame R.remaining after state bytes) }
 {
     match rows {
-        Rows::Plain(block) => Ok(Rows::Records(block.records_left(alloc)?)),
+        ArrivalRows::Plain(block) => Ok(ArrivalRows::Records(block.records_left(alloc)?)),
         left => Ok(left),
     }
 }
@@ -217,7 +220,7 @@ impl<R: Read + Drop> Arrivals<R> {
         ensures rows { self.new.rows ≡ self.old.rows }
         ensures settings { self.new.settings ≡ self.old.settings }
     {
-        let rows = mem::replace(&mut self.source, Rows::Failed);
+        let rows = mem::replace(&mut self.source, ArrivalRows::Failed);
         self.source = by_records(self.alloc, rows)?;
         Ok(())
     }
@@ -241,7 +244,7 @@ impl<R: Read + Drop> Arrivals<R> {
         ensures settings { self.new.settings ≡ self.old.settings }
         ensures fault { IfErr result IsArrivalReadFailure }
     {
-        let Rows::Plain(block) = &mut self.source else {
+        let ArrivalRows::Plain(block) = &mut self.source else {
             return Ok(None);
         };
         let found = next_plain(self.alloc, block, &self.settings, row, self.last)?;
@@ -267,7 +270,7 @@ impl<R: Read + Drop> Arrivals<R> {
             (all : Result (List Arrival) MachineFault) → HasGiven R.remaining self.old earlier all
             → IsArrivalReadFailure fault ⊎ (all ≡ Err fault)) }
     {
-        let Rows::Records(reader) = &mut self.source else {
+        let ArrivalRows::Records(reader) = &mut self.source else {
             unreachable!()
         };
         match next_record(reader, &mut self.fields) {

@@ -83,9 +83,9 @@ impl MachineFault {
 
 // The message for an error.
 #[derive(Drop)]
-struct FaultLine<'a>(&'a MachineFault);
+struct MachineFaultLine<'a>(&'a MachineFault);
 
-impl fmt::Display for FaultLine<'_> {
+impl fmt::Display for MachineFaultLine<'_> {
     ghost use Rattle.std.specs.Prelude.{Some};
     ghost use Rattle.machine_report.specs.Fault.{machine_fault_line};
 
@@ -109,7 +109,7 @@ impl fmt::Display for FaultLine<'_> {
 pub fn fault_line(alloc: Global, fault: &MachineFault) -> Result<String, AllocError>
     ensures { IfOk result (λ line. string_bytes line ≡ machine_fault_line fault.now ++ codes "\n") }
 {
-    format!(in alloc; "{}\n", FaultLine(fault))
+    format!(in alloc; "{}\n", MachineFaultLine(fault))
 }
 
 /// Returns the exit status of an error: 4 if an allocation or the output failed, otherwise 2.

@@ -159,7 +159,7 @@ module _ (key : Key) (id : ℕ) (me : Me Content View) (h : Holds) (tie : Tied h
       pub valid : Valid s.homes me.1 act
       pub home : is_out q ≡ false → Home key.ring.value ds (homes_after s.homes me.1 act)
       pub tied : Tied (moved m h) (w ds, carried_after me.1 act)
-      pub makes_as_seen : SlotDelivers m me (w ds, carried_after me.1 act)
+      pub told : SlotDelivers m me (w ds, carried_after me.1 act)
 
     pub slot_step : (m : Moves) → Fitting m c now.place q → (m ≡ given → h ≢ Out) → Went m
     slot_step stays f n = record {

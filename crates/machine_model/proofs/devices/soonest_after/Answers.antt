@@ -3,7 +3,7 @@ use Rattle.{device_places.proofs.PlaceFacts.at-index, machine_model.proofs.Pendi
 use Rattle.machine_model.proofs.devices.soonest_after.Goals as goal
 
 pub returns-then-is_same : goal.returns-then-is_same
-returns-then-is_same c change before is was =
+returns-then-is_same c change before is was mask =
     let a = c.args in
     let x = c.index-places-number.result in
     let here = at-index a.places.now a.number x c.requires.number (sym c.index-places-number.is) in
@@ -11,7 +11,7 @@ returns-then-is_same c change before is was =
     (c.is_same.ensures c.if-is_same.true) is was
 
 pub returns : goal.returns
-returns c change before is was =
+returns c change before is was mask =
     let a = c.args in
     let x = c.index-places-number.result in
     let here = at-index a.places.now a.number x c.requires.number (sym c.index-places-number.is) in

@@ -2,7 +2,7 @@ use Rattle.std.proofs.{Common.{◌≡◌, inr, rules, sym}, lemmas.Result.err_fr
 use Rattle.csv.specs.Records.{fields_of}
 use Rattle.{device_rows.specs.declared.source.NextRecord.NextRecord}
 use Rattle.{machine_report.proofs.ReadingFacts.{given-end, given-fault, given-next}}
-use Rattle.machine_report.specs.declared.arrivals.Rows.{Rows}
+use Rattle.machine_report.specs.declared.arrivals.ArrivalRows.{ArrivalRows}
 use Rattle.machine_report.proofs.arrivals.Arrivals.record.Goals as goal
 
 pub returns-in-End-clause-arrival : goal.returns-in-End-clause-arrival
@@ -24,7 +24,7 @@ returns-in_err-arrival-clause-fault g c =
 pub returns-clause-arrival : goal.returns-clause-arrival
 returns-clause-arrival g c earlier all given =
     let found : c.next_record.result ≡ NextRecord.Record = search rules in
-    let is : c.count.new.self.source ≡ Rows.Records c.next_record.new.reader = search rules in
+    let is : c.count.new.self.source ≡ ArrivalRows.Records c.next_record.new.reader = search rules in
     let settings : c.count.new.self.settings ≡ c.args.self.now.settings = search rules in
     let rows : c.count.new.self.rows ≡ c.args.row = search rules in
     let last : c.count.new.self.last ≡ c.in_ok-arrival.arrival.moment = search rules in
