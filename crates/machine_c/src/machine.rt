@@ -13,7 +13,7 @@ use crate::ranges::first_out;
 use crate::settings::{FqMachineSettings, ranges_of, settings_of};
 use crate::status;
 use machine_report::{MachineFault, fault_line, run_machine};
-use machine_model::MachineSettings;
+use machine_words::MachineSettings;
 use std::alloc::Global;
 use std::mem::size_of;
 
