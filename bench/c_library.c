@@ -1,7 +1,8 @@
 /* Times calls of the C library: c_library WHAT TIMES. Counts go to standard output, the time to standard error. limits: the
  * calls of limits.cc, which prints the same; reads are the header's inline functions. turns: schedule, hand, take and
  * complete on a shared instance, by one thread. packets: puts, and polls of weight 64; bursts: the same packets, put 64 at
- * once. beside: looks by two threads at once, each by its own seat, whose handles are adjacent; apart: 128 bytes apart. */
+ * once. 1, 8, 32 or 64: packets, put and polled this many at once. beside: looks by two threads at once, each by its own seat,
+ * whose handles are adjacent; apart: 128 bytes apart. */
 #include <fintaqush.h>
 #include <inttypes.h>
 #include <pthread.h>
@@ -116,12 +117,29 @@ static bool packets(uint64_t count, bool put_64(struct fq_handle *, uint64_t)) {
     return true;
 }
 
+static bool ring(uint64_t count, size_t burst) {
+    struct fq_handle ring = FQ_NONE;
+    struct fq_packet in[64], out[64];
+    uint64_t put = 0;
+    if (fq_ring_new(&ring, 256) != FQ_OK) return false;
+    while (put < count) {
+        size_t done, polled;
+        for (size_t i = 0; i < burst; i++) in[i] = (struct fq_packet){put++, 60};
+        if (burst == 1 ? fq_ring_put(&ring, in[0].number, 60) != FQ_OK : fq_ring_put_all(&ring, in, burst, &done) != FQ_OK) return false;
+        if (fq_ring_poll(&ring, burst, out, 64, &polled) != FQ_OK || polled != burst || out[burst - 1].number != put - 1) return false;
+    }
+    printf("packets %" PRIu64 "\n", put);
+    return true;
+}
+
 int main(int words, char **word) {
     if (words != 3) return 64;
+    const size_t burst = strtoul(word[1], NULL, 10);
     const bool is_beside = strcmp(word[1], "beside") == 0, is_apart = strcmp(word[1], "apart") == 0;
     const uint64_t times = strtoull(word[2], NULL, 10), start = now(is_beside || is_apart);
     const bool good = strcmp(word[1], "limits") == 0 ? limits(times)
                       : strcmp(word[1], "turns") == 0 ? turns(times)
+                      : burst != 0 && burst <= 64     ? ring(times, burst)
                       : is_beside || is_apart         ? looks(times, is_beside ? 1 : 128 / sizeof(struct fq_handle))
                                                       : packets(times, strcmp(word[1], "bursts") == 0 ? put_at_once : put_one_by_one);
     fprintf(stderr, "%" PRIu64 " ns\n", now(is_beside || is_apart) - start);

@@ -2,7 +2,7 @@
 # Times calls of the C library from C: pairs on a queue limit, compared with the plain C++ fold of bench/limits.cc, which is
 # inlined and has to count the same; cycles of a shared instance by one thread (schedule, hand, take, complete), compared with
 # the same cycles by the typed calls (crates/bench_word); and packets, put one by one and in bursts of 64, and polled 64 at a
-# time. Three rounds of all in turn; the best time of each is printed, with C's ratio to the other. Then nine rounds of looks by
+# time, and put and polled in bursts of 1, 8, 32 and 64. Three rounds of all in turn; the best time of each is printed, with C's ratio to the other. Then nine rounds of looks by
 # two threads at once, with handles that are adjacent or 128 bytes apart: the best and the median time of each.
 #
 # usage: bench/c_library.sh [TIMES]     (10000000 by default; of the cycles and looks a tenth)
@@ -28,7 +28,7 @@ g++ -O2 -o "$work/fold" "$bench/limits.cc"
 for round in 1 2 3; do
     "$work/fold" "$times" > "$work/fold.line" 2> "$work/spent"
     cut -d ' ' -f 1 "$work/spent" >> "$work/fold.times"
-    for what in limits turns packets bursts; do
+    for what in limits turns packets bursts 1 8 32 64; do
         count=$times
         [ "$what" != turns ] || count=$turns
         "$work/c_library" "$what" "$count" > "$work/$what.line" 2> "$work/spent"
@@ -67,6 +67,9 @@ show 'a turn by the typed calls' typed "$turns"
 show 'the same turn from C' turns "$turns" typed 'the typed calls'
 show 'a packet from C, weight 64' packets "$times"
 show 'a packet from C, in bursts' bursts "$times"
+for burst in 1 8 32 64; do
+    show "a packet put and polled, $burst at once" "$burst" "$times"
+done
 for what in beside apart; do
     sort -n "$work/$what.times" | awk -v name="a look of two threads, $what" -v times="$turns" 'NR == 1 { best = $1 } NR == 5 {
         printf "%-32s %6.2f ns, in the middle %.2f ns\n", name, best / times, $1 / times }'

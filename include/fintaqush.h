@@ -17,7 +17,7 @@
  * No call blocks, sleeps, locks or starts a thread. fq_seat_interrupt, fq_seat_interrupt_masked, fq_seat_request, fq_seat_end,
  * fq_seat_end_watched, fq_seat_end_unmasked, fq_control_step and fq_control_open try again as long as an attempt returns FQ_CHANGED,
  * because another thread changed the instance: some thread always makes progress, but the number of attempts has no bound. fq_ring_new,
- * fq_ring_split, fq_tx_new, fq_list_new, fq_shared_new, fq_shared_bare, fq_driver_new, fq_replay and fq_machine allocate memory, after
+ * fq_ring_split, fq_tx_new, fq_list_new, fq_driver_new, fq_shared_new, fq_shared_bare, fq_replay and fq_machine allocate memory, after
  * they have checked their arguments; if an allocation fails, they free what they allocated, and nothing has changed. fq_free,
  * fq_abandon and fq_ring_finish free memory. No other call allocates or frees.
  *
@@ -61,8 +61,8 @@ extern "C" {
 #endif
 
 /* The statuses that calls return. 0: success. 1 to 15: errors of a queue limit, and the operation isn't made. 16 to 99: results; after
- * FQ_NOT_THERE, FQ_BUSY, FQ_CHANGED, FQ_STOPPED, FQ_MORE_THAN_SENT, and FQ_FULL unless it is of a burst, nothing has changed. 100 and
- * above: errors, and the operation isn't made. */
+ * FQ_NOT_THERE, FQ_BUSY, FQ_CHANGED, FQ_STOPPED, FQ_MORE_THAN_SENT, FQ_NOT_DUE, and FQ_FULL unless it is of a burst, nothing has
+ * changed. 100 and above: errors, and the operation isn't made. */
 enum fq_status FQ_NUMBER {
     FQ_OK = 0,
     FQ_BAD_BOUNDS = 1,         /* limit: min is above max, or max is above 1879048192 */
@@ -95,9 +95,9 @@ enum fq_status FQ_NUMBER {
     FQ_BAD_WEIGHT = 114,    /* 1 to 64 */
     FQ_NO_ROOM = 115,       /* poll: the array is shorter than the weight; replay, machine: than the report */
     FQ_BAD_BUDGET = 116,    /* run, replay: budget and window are 1 to 65535 */
-    FQ_BAD_COUNT = 117,     /* shared instance: 2 to 8 seats */
+    FQ_BAD_COUNT = 117,     /* shared instance: 2 to 8 seats; driver: 1 to 64 devices */
     FQ_BAD_NEXT = 118,      /* not a number of enum fq_next */
-    FQ_BAD_WORK = 119,      /* run: more packets than the weight */
+    FQ_BAD_WORK = 119,      /* run, driver: more packets than the weight */
     FQ_BAD_TRACE = 120,     /* replay: the bytes aren't a trace, or a row of it can't be processed */
     FQ_BAD_DEVICE = 121,    /* driver: not a number of one of its devices */
     FQ_BAD_SIZE = 122,      /* the size of a struct isn't one that this library knows */
@@ -682,7 +682,7 @@ struct fq_todo {
 #define FQ_TODO_INIT {sizeof(struct fq_todo), 0, FQ_TODO_SLEEP, 0, 0, 0, {0, 0, false}}
 
 /* Makes a driver of 1 to 64 devices, all closed, their cards masked. Budget, weight and window are those of fq_run_begin. fq_free frees
- * it if all its devices are closed. Returns FQ_OK; FQ_IN_USE; FQ_BAD_COUNT; FQ_BAD_WEIGHT; FQ_BAD_BUDGET; FQ_OUT_OF_MEMORY. */
+ * it in any state. Returns FQ_OK; FQ_IN_USE; FQ_BAD_COUNT; FQ_BAD_WEIGHT; FQ_BAD_BUDGET; FQ_OUT_OF_MEMORY. */
 FQ_CHECKED enum fq_status fq_driver_new(struct fq_handle *driver, uint32_t devices, uint32_t budget, uint32_t weight, uint32_t window);
 
 /* Opens a closed device (napi_enable): its card will be unmasked and looked at, so that packets which came before are polled too.

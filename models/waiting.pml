@@ -37,7 +37,7 @@
 byte word = 9;                  /* napi_calls/instance new */
 bool is_polled, is_controlled = true;
 bool asking[2], asked, kept;
-byte schedulers_ended; bool told, poller_ended, controller_ended;
+byte schedulers_ended; bool closed, poller_ended, controller_ended;
 
 /* Moves the word from `seen` to `wanted`, and then `owner` is so; `won` tells whether nobody was faster. */
 #define exchange(wanted, owner) atomic { won = (word == seen); if :: won -> word = wanted; owner :: else fi }    /* kit atomic_table/steps compare_exchange */
@@ -78,7 +78,7 @@ proctype Scheduler(bit me) {
 proctype Poller() {
     byte seen, repolls; bool won, is_last, has_taken;
     do
-    :: is_last = told;                                                          /* poll_seats/poller serve */
+    :: is_last = closed;                                                          /* poll_seats/poller serve */
        atomic { has_taken = (word & QUEUED) != 0; word = word & ~QUEUED;        /* napi_calls/caller take */
                 if :: has_taken -> assert(!is_polled && !is_controlled); begin_poll() :: else fi };
        if
@@ -142,7 +142,7 @@ marked:
 init {
     atomic { run Scheduler(0); run Scheduler(1); run Poller(); run Controller() };
     schedulers_ended == 2 && controller_ended;
-    told = true;                                                                /* poll_tasks/signals tell */
+    closed = true;                                                                /* poll_tasks/signals close */
     poller_ended;
     assert(word == (SCHED | NPSVC) || word == (SCHED | NPSVC | MISSED))
 }

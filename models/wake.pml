@@ -5,7 +5,7 @@
 
    Left out, so that the states are few: a waiting call that tries again is one step (waiting.pml has these loops); the window of a list
    is 1; a ring has room for all packets; memory is sequentially consistent; memory is never refused.
-   FAULT plants one: 1 a thread that isn't woken, 2 a wake before its push, 3 a thread that is never told, 4 a hand-on without a
+   FAULT plants one: 1 a thread that isn't woken, 2 a wake before its push, 3 a waker that is never closed, 4 a hand-on without a
    wake, 5 a refused start that isn't passed on, 6 a poller that never started is waited for: a deadlock, 7 a completion that drops
    MISSED, 8 an enable that doesn't restore THREADED. */
 #ifndef WORKERS
@@ -34,15 +34,15 @@
 #endif
 #define PLACES 4
 #define NOBODY 255
-#define LIST_OF(number) ((number) % POLLERS)    /* also the bell of its poller */
-#define THREAD(number) (POLLERS + (number))     /* the bell of its thread */
+#define LIST_OF(number) ((number) % POLLERS)    /* also the waker of its poller */
+#define THREAD(number) (POLLERS + (number))     /* the waker of its thread */
 #define BY_THREAD(number) ((number) < THREADS && threaded[number])
 
 mtype = { EMPTY, PARKED, NOTIFIED };    /* a parker's word */
 mtype = { AWAY, LISTED, TO_THREAD };    /* the mark of an instance: none, QUEUED, TO_THREAD */
 
 mtype word[POLLERS + THREADS] = EMPTY;
-bool asleep[POLLERS + THREADS], told[POLLERS + THREADS];
+bool asleep[POLLERS + THREADS], closed[POLLERS + THREADS];
 bool unpolled, refused, stopped;
 bool sched[WORKERS], missed[WORKERS], disabling[WORKERS], npsvc[WORKERS], threaded[WORKERS], asked[WORKERS];
 mtype mark[WORKERS] = AWAY;
@@ -51,21 +51,21 @@ byte slot[POLLERS * PLACES]; bool published[POLLERS * PLACES]; byte head[POLLERS
 byte workers_ended, pollers_ended, threads_ended;
 bool all_ended;
 
-/* ---- bells, parkers and the list */
+/* ---- wakers, parkers and the list */
 
-inline unpark(bell) {
-    atomic { was_parked = (word[bell] == PARKED); word[bell] = NOTIFIED };      /* kit crossbeam_utils/sync/parker/ruled unpark_as */
-    if :: was_parked -> atomic { asleep[bell] = false; was_parked = false } :: else fi  /* kit crossbeam_utils/sync/parker/ruled unpark_as */
+inline unpark(waker) {
+    atomic { was_parked = (word[waker] == PARKED); word[waker] = NOTIFIED };      /* kit crossbeam_utils/sync/parker/ruled unpark_as */
+    if :: was_parked -> atomic { asleep[waker] = false; was_parked = false } :: else fi  /* kit crossbeam_utils/sync/parker/ruled unpark_as */
 }
-inline wake(bell) { unpark(bell) }                                              /* poll_tasks/signals wake */
-inline tell(bell) { told[bell] = true; unpark(bell) }                           /* poll_tasks/signals tell */
-inline wait(bell) {                                                             /* poll_tasks/signals wait */
-    atomic { if :: word[bell] == EMPTY -> word[bell] = PARKED :: else fi };     /* kit crossbeam_utils/sync/parker/ruled park_as */
+inline wake(waker) { unpark(waker) }                                              /* poll_tasks/signals wake */
+inline close(waker) { closed[waker] = true; unpark(waker) }                           /* poll_tasks/signals close */
+inline wait(waker) {                                                             /* poll_tasks/signals wait */
+    atomic { if :: word[waker] == EMPTY -> word[waker] = PARKED :: else fi };     /* kit crossbeam_utils/sync/parker/ruled park_as */
     do
-    :: atomic { word[bell] == NOTIFIED -> word[bell] = EMPTY; break }           /* kit crossbeam_utils/sync/parker/ruled park_as */
-    :: atomic { word[bell] != NOTIFIED -> skip };                               /* kit crossbeam_utils/sync/parker/ruled park_as */
-       atomic { if :: word[bell] == PARKED -> asleep[bell] = true :: else fi }; /* kit crossbeam_utils/sync/parker/ruled park_as */
-       !asleep[bell]                                                            /* kit crossbeam_utils/sync/parker/ruled park_as */
+    :: atomic { word[waker] == NOTIFIED -> word[waker] = EMPTY; break }           /* kit crossbeam_utils/sync/parker/ruled park_as */
+    :: atomic { word[waker] != NOTIFIED -> skip };                               /* kit crossbeam_utils/sync/parker/ruled park_as */
+       atomic { if :: word[waker] == PARKED -> asleep[waker] = true :: else fi }; /* kit crossbeam_utils/sync/parker/ruled park_as */
+       !asleep[waker]                                                            /* kit crossbeam_utils/sync/parker/ruled park_as */
     od
 }
 #define AT(list, end) ((list) * PLACES + (end) % PLACES)
@@ -133,7 +133,7 @@ proctype Worker(byte number) {
     :: else -> break
     od;
     turn_off(number);                                                           /* poll_interrupts/worker run */
-    if :: number < THREADS && FAULT != 3 -> tell(THREAD(number)) :: else fi;    /* poll_interrupts/worker run */
+    if :: number < THREADS && FAULT != 3 -> close(THREAD(number)) :: else fi;    /* poll_interrupts/worker run */
     workers_ended++
 }
 
@@ -153,7 +153,7 @@ proctype Poller(byte list) {
     if :: unpolled -> goto ended :: else fi;                                    /* poll_seats/poller run */
     if :: true :: stopped = true fi;                                            /* poll_seats/poller run */
     do
-    :: atomic { is_last = told[list]; number = NOBODY; again = false; whole = false };    /* poll_seats/poller serve */
+    :: atomic { is_last = closed[list]; number = NOBODY; again = false; whole = false };    /* poll_seats/poller serve */
        if
        :: in_hand != NOBODY -> number = in_hand; in_hand = NOBODY               /* poll_list/shared splice */
        :: in_hand == NOBODY && head[list] == tail[list]                         /* poll_list/pops pop */
@@ -162,19 +162,19 @@ proctype Poller(byte list) {
        fi;
        if
        :: atomic { number != NOBODY ->                                          /* poll_seats/list_poller turn */
-             assert(mark[number] == LISTED); mark[number] = AWAY };             /* poll_seats/seat poll */
+             assert(mark[number] == LISTED); mark[number] = AWAY };             /* poll_seats/handle poll */
           d_step { take_packets(number) };                                      /* poll_shared/shared_instance poll_instance */
           if
           :: whole && !disabling[number] -> atomic { mark[number] = LISTED; in_hand = number }     /* poll_list/shared put_back */
           :: else ->
              complete(number);                                                  /* poll_shared/shared_instance poll_instance */
              if
-             :: again && BY_THREAD(number) -> mark[number] = TO_THREAD; wake(THREAD(number))      /* poll_seats/seat poll */
+             :: again && BY_THREAD(number) -> mark[number] = TO_THREAD; wake(THREAD(number))      /* poll_seats/handle poll */
              :: again && !BY_THREAD(number) -> mark[number] = LISTED; push(number)      /* poll_list/shared push */
-             :: else                                                            /* poll_seats/seat poll */
+             :: else                                                            /* poll_seats/handle poll */
              fi
           fi;
-          snoozed = false                                                       /* poll_tasks/signals is_over */
+          snoozed = false                                                       /* poll_tasks/signals reset */
        :: number == NOBODY && is_last -> break                                  /* poll_seats/poller serve */
        :: atomic { number == NOBODY && !is_last && !snoozed -> snoozed = true } /* poll_tasks/signals wait */
        :: number == NOBODY && !is_last && snoozed -> wait(list); snoozed = false        /* poll_seats/poller serve */
@@ -189,7 +189,7 @@ proctype Thread(byte number) {
     if :: unpolled -> goto ended :: else fi;                                    /* poll_seats/poller run */
     if :: true :: stopped = true fi;                                            /* poll_seats/poller run */
     do
-    :: atomic { is_last = told[THREAD(number)]; found = false; repoll = false; has = false; again = false; whole = false; polls = 0 };  /* poll_seats/poller serve */
+    :: atomic { is_last = closed[THREAD(number)]; found = false; repoll = false; has = false; again = false; whole = false; polls = 0 };  /* poll_seats/poller serve */
        do
        :: atomic { polls < WINDOW ->
              has = repoll || mark[number] == TO_THREAD;                         /* poll_shared/shared_instance poll_instance_by_thread */
@@ -219,7 +219,7 @@ proctype Thread(byte number) {
        :: else
        fi;                                                                      /* poll_seats/thread_poller hand_on */
        if
-       :: found -> snoozed = false                                              /* poll_tasks/signals is_over */
+       :: found -> snoozed = false                                              /* poll_tasks/signals reset */
        :: !found && is_last -> break                                            /* poll_seats/poller serve */
        :: atomic { !found && !is_last && !snoozed -> snoozed = true }           /* poll_tasks/signals wait */
        :: !found && !is_last && snoozed -> wait(THREAD(number)); snoozed = false        /* poll_seats/poller serve */
@@ -257,7 +257,7 @@ init {
     od;
     workers_ended == WORKERS;                                                   /* poll_tasks/tasks join_all */
     number = 0;
-    do :: number < POLLERS -> tell(number); number++ :: else -> break od;       /* poll_tasks/driving drive */
+    do :: number < POLLERS -> close(number); number++ :: else -> break od;       /* poll_tasks/driving drive */
     pollers_ended == POLLERS && threads_ended == THREADS;                       /* poll_tasks/tasks join_all */
     number = 0;
     do

@@ -226,7 +226,7 @@ class Crate:
         self.begun = self.times()
         with open(self.log, "wb") as log:
             how = {"stdin": subprocess.DEVNULL, "stdout": log, "stderr": log, "cwd": self.folder}
-            return subprocess.Popen(command, preexec_fn=lambda: (os.nice(place), child()), **how)
+            return subprocess.Popen(command, preexec_fn=lambda: (os.nice(min(4 * place, 19)), child()), **how)
 
     def end(self, status):
         """Moves what was built into place. If a source has changed meanwhile, the next call builds it again."""
@@ -281,10 +281,13 @@ def prove(asked, beside):
             else:
                 crate.end(status)
         ready = [it for it in left if {*left, *AT_WORK}.isdisjoint(it.all[:-1])][: max(lanes - len(AT_WORK), 0)]
-        # Each by several processes, for which memory was counted: what one leaves idle at its end, the others use.
-        jobs = 1 if lanes == 1 else min(processors, 4, max(2, 6 - len(AT_WORK) - len(ready)))
+        # Each by several processes, for which memory was counted: what one leaves idle at its end, the others use. The one of the longest
+        # chain has as many as there are processors, because the others wait for it in the end.
+        few = max(2, 6 - len(AT_WORK) - len(ready))
         for crate in ready:
-            AT_WORK[crate] = crate.begin(jobs, every.index(crate))
+            place = every.index(crate)
+            is_first = all(place < every.index(it) for it in AT_WORK)
+            AT_WORK[crate] = crate.begin(1 if lanes == 1 else min(processors, 4, 4 if is_first else few), place)
         left = [it for it in left if it not in AT_WORK]
         seconds = (time.time_ns() - since) // 10**9
         line = f"crate {len(every) - len(left)} of {len(every)}, {seconds} s{time_left(every, left, seconds)}: {' '.join(it.name for it in AT_WORK)}"

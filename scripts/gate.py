@@ -3,6 +3,8 @@ which hasn't their must-fail edits; what it built scripts/build.py keeps.
 scripts/gate.py edits [CRATE ..]: tries the edits of these crates, or of all, over the libraries that stand. After `proofs` nothing is
 built again, even where `rt ci` has taken a proof from an earlier run. What a plain `rt ci` leaves in a checkout isn't used: `rt check` writes
 to the same folders, and nothing there says of which sources a library was made.
+scripts/gate.py uncompiled: tries what must not compile, the edits of each crate's must-not-compile/, over the same libraries: the check has
+to stop at the error that the edit's line `error: NAME` names, before any proof.
 
 A function is proved from the contracts of others, never from their bodies. So edits of the bodies of several functions are checked at
 once, and each is refused by what the prover says of its own function; `rt must-fail` checks them one by one, which takes a gate half as
@@ -136,11 +138,14 @@ def check(crate, texts, names):
     return ran.stdout, None if not judged or ran.returncode > 1 else ran.returncode == 0
 
 
+def texts_of(crate):
+    """The texts of the crate's files, by path."""
+    return {it: read(f"{crate.folder}/{it}") for it in crate.texts()}
+
+
 def try_edits(crate):
     """For each edit of the crate: its name, whether it passed, and what to print."""
-    files = [f"{at}/{name}" for part in ("src", "specs", "proofs") for at, _, names in os.walk(f"{crate.folder}/{part}") for name in names]
-    texts = {os.path.relpath(it, crate.folder): read(it) for it in files}
-    folder = f"{crate.folder}/must-fail"
+    texts, folder = texts_of(crate), f"{crate.folder}/must-fail"
     rounds, alone, is_seen = [], [], False
     names = sorted(os.listdir(folder))
     told = [(it, False, "BAD EDIT: its name doesn't end in .edit") for it in names if not it.endswith((".edit", ".md"))]
@@ -166,19 +171,40 @@ def try_edits(crate):
     return [(f"{crate.name}/{name}", well, text) for name, well, text in told]
 
 
-def try_all(asked):
-    """Tries the edits of these crates, up to four at a time, with a line for each; returns how many are rejected, and how many
-    aren't."""
-    asked = [it for it in asked if os.path.isdir(f"{it.folder}/must-fail")]
-    asked.sort(key=lambda it: -it.size)
-    build(list(dict.fromkeys(below.name for it in asked for below in it.all[:-1])))
+def try_text(crate, file):
+    """Whether the crate with this edit is rejected by the error that the edit names, before any proof, and what to print."""
+    error, changed = re.search("^error: (.*)$", read(file), re.M)[1], Edit(crate, file).apply(texts_of(crate))
+    said, proved = check(crate, changed, []) if changed else ("its old text doesn't stand once in its file", None)
+    well = f"error[{error}]" in said and proved is None
+    lines = re.findall("^.*error.*", said, re.M) or said.splitlines() or [""]
+    return [(os.path.relpath(file, f"{TOP}/crates"), well, f"{'rejected' if well else f'NOT REJECTED by error[{error}]'}: {lines[0]}")]
+
+
+def try_all(tries, below, what):
+    """Makes these calls, up to four at a time, over the libraries of these crates, with a line for each result; returns how many are as they
+    should be, and how many aren't."""
+    build(list(dict.fromkeys(it.name for crate in below for it in crate.all[:-1])))
     tried = []
     with concurrent.futures.ThreadPoolExecutor(min(len(os.sched_getaffinity(0)), 4)) as pool:
-        for of_crate in pool.map(try_edits, asked):
-            for name, well, text in of_crate:
-                print(f"must-fail {name}: {text[:200]}", flush=True)
+        for results in pool.map(lambda call: call[0](*call[1:]), tries):
+            for name, well, text in results:
+                print(f"{what} {name}: {text[:200]}", flush=True)
                 tried.append(well)
     return sum(tried), len(tried) - sum(tried)
+
+
+def all_edits(names):
+    """Tries the edits of these crates, or of all, those of the largest crate first."""
+    asked = [it for it in ([crates()[name] for name in names] or crates().values()) if os.path.isdir(f"{it.folder}/must-fail")]
+    asked.sort(key=lambda it: -it.size)
+    return try_all([(try_edits, it) for it in asked], asked, "must-fail")
+
+
+def all_texts():
+    """Tries what must not compile."""
+    files = [(it, f"{it.folder}/must-not-compile/{name}") for it in crates().values() if os.path.isdir(f"{it.folder}/must-not-compile")
+             for name in sorted(os.listdir(f"{it.folder}/must-not-compile"))]
+    return try_all([(try_text, *it) for it in files], [it for it, _ in files], "must-not-compile")
 
 
 def prove_all(room, names):
@@ -218,9 +244,11 @@ def prove_all(room, names):
 def gate(words):
     if words[0] == "proofs":
         passed, failed = prove_all(words[1], words[2:])
+    elif words[0] == "uncompiled":
+        passed, failed = all_texts()
     else:
         os.nice(5)  # the tests that run at the same time mostly wait, and have their times
-        passed, failed = try_all([crates()[name] for name in words[1:] or crates()])
+        passed, failed = all_edits(words[1:])
     print(f"{passed} passed, {failed} failed", flush=True)
     return 1 if failed else 0
 

@@ -145,6 +145,12 @@ echo 'the card hangs without a look and by a late mask, and never else' > "$scra
 check 'the model card compiles' compile gcc "$top/tests/c/card.c" "$scratch/card" -O2 "$points"
 check 'the model card' compared "$scratch/hung" "$scratch/card"
 
+# ---- a driver
+
+echo 'a driver never sleeps with work left' > "$scratch/drove"
+check 'driver.c compiles' compile gcc "$top/tests/c/driver.c" "$scratch/drives" -O2
+check 'random calls of drivers' compared "$scratch/drove" "$scratch/drives"
+check 'random calls of drivers, another seed' compared "$scratch/drove" "$scratch/drives" "${1:-4711}"
 # ---- a driver, in random orders of calls
 
 echo 'no order hangs, and each mistake does' > "$scratch/ordered"
@@ -312,6 +318,8 @@ sanitized() {
     check "$name: each allocation refused in turn" compared "$scratch/refused_all" "$scratch/sanitized"
     check "$name: boxes.c compiles" compile gcc "$top/tests/c/boxes.c" "$scratch/sanitized" -O1 -g "$flag" -fno-sanitize-recover=all "$wraps"
     check "$name: no box is forgotten" ends_each_box "$scratch/sanitized"
+    check "$name: driver.c compiles" compile gcc "$top/tests/c/driver.c" "$scratch/sanitized" -O1 -g "$flag" -fno-sanitize-recover=all
+    check "$name: random calls of drivers" compared "$scratch/drove" "$scratch/sanitized"
     check "$name: corners.c compiles" compile gcc "$top/tests/c/corners.c" "$scratch/sanitized" -O1 -g "$flag" -fno-sanitize-recover=all "$wraps"
     check "$name: answers at corners" compared "$scratch/cornered" "$scratch/sanitized"
     check "$name: types.cpp compiles" compile g++ "$top/tests/c/types.cpp" "$scratch/sanitized" -O1 -g "$flag" -fno-sanitize-recover=all "$wraps"

@@ -122,6 +122,29 @@ static void lists(void) {
     }
 }
 
+static void drivers(void) {
+    struct fq_handle driver = FQ_NONE;
+    struct fq_todo todo = FQ_TODO_INIT;
+    for (uint32_t devices = 1; devices < 65; devices += 9) {
+        for (int steps = 0; steps < 8; steps++) {
+            for (enum end end = FREE; end <= ABANDON; end++) {
+                want(fq_driver_new(&driver, devices, 300, 64, 1024) == FQ_OK, "a driver");
+                stays(fq_driver_new(&driver, 1, 300, 64, 1024), FQ_IN_USE, blocks, "a driver in its place");
+                want(fq_driver_open(&driver, devices - 1) == FQ_OK, "an open");
+                for (int step = 0; step < steps; step++) {
+                    want(fq_driver_next(&driver, &todo) == FQ_OK, "what is due");
+                    todo.packets = todo.what == FQ_TODO_LOOK ? 1 : todo.most;
+                    want(fq_driver_done(&driver, &todo) == FQ_OK, "a report");
+                }
+                ended(&driver, end, "a driver");
+                nothing_is_left("of a driver");
+            }
+        }
+    }
+    stays(fq_driver_new(&driver, 0, 300, 64, 1024), FQ_BAD_COUNT, 0, "a driver of no device");
+    stays(fq_driver_new(&driver, 65, 300, 64, 1024), FQ_BAD_COUNT, 0, "a driver of too many");
+}
+
 /* The handles of an instance: its ring's input, its controller, and two seats; and an array of too many seats. */
 static struct fq_handle many[9], handles[4], *const input = &handles[0], *const control = &handles[1], *const irq = &handles[2], *const poller = &handles[3];
 
@@ -208,6 +231,7 @@ int main(void) {
     rings();
     transmit_rings();
     lists();
+    drivers();
     instances();
     replays();
     printf("%d cases, and nothing is left\n", cases);

@@ -16,7 +16,7 @@ static void want(bool holds, const char *what, long call) {
 
 /* What was made, of which nothing may be left. */
 enum { HANDLES = 10 };
-static struct fq_handle handles[HANDLES], list, tx;
+static struct fq_handle handles[HANDLES], list, tx, driver;
 
 static void give_up(void) {
     for (int i = 0; i < HANDLES; i++) {
@@ -40,6 +40,13 @@ static bool list_works(void) {
     uint32_t id = 0;
     return fq_list_push(&handles[0], 7) == FQ_OK && fq_run_begin(&handles[0], 300, 64, 1024) == FQ_OK &&
            fq_run_next(&handles[0], &id) == FQ_OK && id == 7;
+}
+
+static uint32_t make_driver(void) { return fq_driver_new(&handles[0], 64, 300, 64, 1024); }
+static bool driver_works(void) {
+    struct fq_todo todo = FQ_TODO_INIT;
+    return fq_driver_open(&handles[0], 63) == FQ_OK && fq_driver_next(&handles[0], &todo) == FQ_OK && todo.what == FQ_TODO_UNMASK &&
+           todo.device == 63;
 }
 
 /* Its ring too, so that each of them fails. If memory is out, the ring is unchanged, with its packets, and nothing else is
@@ -88,6 +95,7 @@ static void take_none(void) {
     uint64_t word;
     size_t count;
     want(make_shared() == FQ_OK && fq_list_new(&list) == FQ_OK && fq_tx_new(&tx, 2, 0, 1000, 1000, 0) == FQ_OK, "no memory", 0);
+    want(fq_driver_new(&driver, 64, 300, 64, 1024) == FQ_OK, "no memory", 0);
     const long before = blocks;
     struct fq_handle *const irq = &handles[2], *const poller = &handles[3];
     takes = 0;
@@ -104,11 +112,20 @@ static void take_none(void) {
     while (good && fq_run_next(&list, &id) == FQ_OK) good = fq_run_polled(&list, 64, FQ_NEXT_REPOLL) == FQ_OK;
     good = fq_run_end(&list, &report) == FQ_OK && good;
     good = good && fq_tx_send(&tx, 60) == FQ_OK && fq_tx_done(&tx, 1, 1) == FQ_OK && fq_tx_state(&tx, &state) == FQ_OK;
+    struct fq_todo todo = FQ_TODO_INIT;
+    struct fq_device_shown shown = {sizeof shown, 0, false, false, 0, 0};
+    for (uint32_t i = 0; i < 64; i++) good = good && fq_driver_open(&driver, i) == FQ_OK;
+    while (good && fq_driver_next(&driver, &todo) == FQ_OK && todo.what != FQ_TODO_SLEEP) {
+        todo.packets = todo.what == FQ_TODO_LOOK;
+        good = fq_driver_interrupt(&driver, todo.device) != FQ_BAD_DEVICE && fq_driver_done(&driver, &todo) != FQ_BAD_WORK;
+        good = good && fq_driver_show(&driver, 63, &shown) == FQ_OK && (shown.state != FQ_DEVICE_OPEN || shown.polls < 9 || fq_driver_stop(&driver, 63) == FQ_OK);
+        if (shown.polls > 99) break;
+    }
     want(good, "a call that takes no memory", 0);
     want(takes == 0 && blocks == before, "a call takes memory, or gives it", takes);
     struct fq_handle out = FQ_NONE;
     want(fq_ring_split(irq, &out) == FQ_BAD_HANDLE && takes == 0 && blocks == before, "a split of a seat", takes);
-    want(fq_abandon(&list) == FQ_OK && fq_abandon(&tx) == FQ_OK, "the end", 0);
+    want(fq_abandon(&list) == FQ_OK && fq_abandon(&tx) == FQ_OK && fq_free(&driver) == FQ_OK, "the end", 0);
     give_up();
     want(blocks == 0, "something is left on the heap", 0);
 }
@@ -153,6 +170,7 @@ int main(void) {
     want(refuse_each("a ring", make_ring, ring_works) > 0, "a ring takes no memory", 0);
     want(refuse_each("a transmit ring", make_tx, tx_works) > 0, "a transmit ring takes no memory", 0);
     want(refuse_each("a list", make_list, list_works) > 0, "a list takes no memory", 0);
+    want(refuse_each("a driver", make_driver, driver_works) > 3, "a driver takes no memory", 0);
     want(refuse_each("a shared instance", make_shared, shared_works) > 8, "a shared instance takes no memory", 0);
     want(refuse_each("a replay", make_replay, replay_works) > 0, "a replay takes no memory", 0);
     want(refuse_each("a bare instance", make_bare, bare_works) > 8, "a bare instance takes no memory", 0);

@@ -15,7 +15,8 @@ abbrev pub is_control_off : ControlState → Bool
 is_control_off (power.Off c) = true
 is_control_off _ = false
 
--- no other object depends on it: a seat that owns nothing, the controller of a disabled instance, a list without a run, a ring
+-- no other object depends on it: a seat that owns nothing, the controller of a disabled instance, a list without a run, a driver,
+-- a ring
 abbrev pub is_freeable : Object → Bool
 is_freeable (body.Seat s) = is_resting s.hold
 is_freeable (body.Controller c) = is_control_off c.power

@@ -3,6 +3,7 @@
 use Rattle.std.specs.Prelude.{◌≡◌, ◌⊎◌, ℕ, List, Option, Some, None}
 use Rattle.napi_model.specs.{declared.state.Seen.Seen, Word.word_of}
 use Rattle.{rx_ring.specs.declared.packet.Packet.Packet, c_handles.specs.declared.seat.{CallerObject.CallerObject, Controller.Controller}}
+use Rattle.driver_core.specs.declared.driver.Driver.{Driver}
 use Rattle.c_handles.specs.declared.{lister.ListObject.ListObject, body.Object.Object, handle.FqHandle.FqHandle}
 use Rattle.c_handles.specs.declared.{hold.{CallerState.CallerState, SeatCall.SeatCall}}
 use Rattle.c_handles.specs.{declared.power.ControlCall.ControlCall, Answers.count_answer, Status.{OK, BAD_HANDLE}, SeatCalls.Refused}
@@ -97,3 +98,26 @@ ListMakesIn P = OnList (λ l n after. IsListWith (λ m. P l n m) after)
 -- for a handle to a list: the call returned this status, and the handle has that list then
 abbrev pub ListMakes : (ListObject → ℕ → ListObject → Type 0) → FqHandle → ℕ → FqHandle → Type 0
 ListMakes P old n new = OnHandle (ListMakesIn P) old.held.body n new.held.body
+
+-- ---- drivers
+
+-- it is a driver with this property
+abbrev pub IsDriverWith : (Driver → Type 0) → Object → Type 0
+IsDriverWith P (body.Driver d) = P d.value
+IsDriverWith P _ = ⊥
+
+abbrev pub LeadsToDriver : (Driver → Type 0) → Option Object → Type 0
+LeadsToDriver P None = ⊥
+LeadsToDriver P (Some x) = IsDriverWith P x
+
+-- for a driver, this
+abbrev pub OnDriver : (Driver → ℕ → Object → Type 0) → Object → ℕ → Object → Type 0
+OnDriver P (body.Driver d) n after = P d.value n after
+OnDriver P other n after = OtherKind other n after
+
+abbrev pub DriverMakesIn : (Driver → ℕ → Driver → Type 0) → Object → ℕ → Object → Type 0
+DriverMakesIn P = OnDriver (λ d n after. IsDriverWith (λ e. P d n e) after)
+
+-- for a handle to a driver: the call returned this status, and the handle has that driver then
+abbrev pub DriverMakes : (Driver → ℕ → Driver → Type 0) → FqHandle → ℕ → FqHandle → Type 0
+DriverMakes P old n new = OnHandle (DriverMakesIn P) old.held.body n new.held.body

@@ -10,6 +10,7 @@ pub mod Lists
 pub mod Runs
 pub mod Tries
 pub mod SeatCalls
+pub mod Drivers
 pub mod Handles
 pub mod Freeing
 pub mod Endings

@@ -47,6 +47,9 @@ STOPPED = 28
 abbrev pub MORE_THAN_SENT : ℕ
 MORE_THAN_SENT = 29
 
+abbrev pub NOT_DUE : ℕ
+NOT_DUE = 30
+
 abbrev pub NOT_ALLOWED : ℕ
 NOT_ALLOWED = 100
 
@@ -82,6 +85,12 @@ BAD_NEXT = 118
 
 abbrev pub BAD_WORK : ℕ
 BAD_WORK = 119
+
+abbrev pub BAD_DEVICE : ℕ
+BAD_DEVICE = 121
+
+abbrev pub BAD_SIZE : ℕ
+BAD_SIZE = 122
 
 -- the number of a queue limit's error, or that there is none
 abbrev pub dql_status : Option DqlFault → ℕ

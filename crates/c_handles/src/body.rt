@@ -4,6 +4,7 @@ ghost use Rattle.rx_ring.specs.Ends.{IsOneRing};
 use crate::input::RingInput;
 use crate::lister::ListObject;
 use crate::seat::{CallerObject, Controller};
+use driver_core::Driver;
 use rx_ring::RxCtx;
 use std::alloc::Global;
 use tx_ring::TxRing;
@@ -30,6 +31,8 @@ pub enum Object {
     Ctx(RxCtx),
     /// A poll list.
     List(Box<ListObject, Global>),
+    /// A driver.
+    Driver(Box<Driver, Global>),
     /// A caller of a shared instance.
     Seat(CallerObject),
     /// The controller of a shared instance.

@@ -4,6 +4,7 @@
 
 mod answers;
 mod body;
+pub mod drive;
 mod handle;
 mod held;
 mod hold;
@@ -19,6 +20,7 @@ pub mod status;
 
 pub use answers::FqAnswers;
 pub use body::{Object, Ring};
+pub use drive::{FqDeviceShown, FqTodo};
 pub use handle::FqHandle;
 pub use hold::{CallerState, SeatCall};
 pub use input::{FqRingShown, RingInput};

@@ -45,6 +45,9 @@ pub const STOPPED: u32 = 28;
 /// Done: the ring holds fewer packets.
 pub const MORE_THAN_SENT: u32 = 29;
 
+/// Driver: this isn't due, and nothing has changed.
+pub const NOT_DUE: u32 = 30;
+
 /// The call isn't allowed in the object's state.
 pub const NOT_ALLOWED: u32 = 100;
 
@@ -72,7 +75,7 @@ pub const NO_ROOM: u32 = 115;
 /// Budget and window are 1 to 65535.
 pub const BAD_BUDGET: u32 = 116;
 
-/// A shared instance has 2 to 8 callers.
+/// A shared instance has 2 to 8 callers, and a driver 1 to 64 devices.
 pub const BAD_COUNT: u32 = 117;
 
 /// No end of a poll has this number.
@@ -80,3 +83,9 @@ pub const BAD_NEXT: u32 = 118;
 
 /// A poll processes at most its weight.
 pub const BAD_WORK: u32 = 119;
+
+/// The driver has no device of this number.
+pub const BAD_DEVICE: u32 = 121;
+
+/// A struct's size isn't one that the library knows.
+pub const BAD_SIZE: u32 = 122;

@@ -47,3 +47,9 @@ fits n count byte few small d =
     let most : count + (18 - count) ≡ 18 = omega arith in
     let below = rw most at grows in
     omega (arith, below, small, d)
+
+-- one more digit
+pub small-push : (n count digit : ℕ) → n < 10 ^ count → digit ≤ 9 → n * 10 + digit < 10 ^ (count + 1)
+small-push n count digit small d =
+    let next : count + 1 ≡ suc count = omega arith in
+    rw (next, pow-suc 10 count) (omega (arith, small, d))

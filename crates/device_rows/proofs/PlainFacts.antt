@@ -2,15 +2,15 @@
 use Rattle.std.proofs.Common.{◌≡◌, ◌∙◌, ℕ, ◌+◌, ◌-◌, ◌*◌, ◌<◌, ◌≤◌, ◌^◌, true, false, List, [], ◌∷◌, ◌++◌, length, take, drop, refl}
 use Rattle.std.proofs.Common.{sym, ap}
 use Rattle.std.proofs.Common.{append_assoc, arith, Some, slice_index_or, take-append-drop, length-take-le}
-use Rattle.std.proofs.lemmas.{Bool.{and_parts, le-leb, Decides.nat_tests}, List.{drop_more, take_more, Folds.list_any_more}}
+use Rattle.std.proofs.lemmas.{Bool.{and_parts, le-leb, Decides.nat_tests}, List.{drop_more, take_more}}
 use Rattle.std.proofs.lemmas.Int.Digits.{digits_value_push}
-use Rattle.std.specs.{Prelude.{◌&&◌, nat_le}, Char.{digit_value, is_ascii_digit, is_ascii_lowercase}, Str.all_ascii_digits}
+use Rattle.std.specs.{Prelude.{◌&&◌, nat_le}, Char.{digit_value, is_ascii_digit}, Str.all_ascii_digits}
 use Rattle.csv.specs.{Machine.next_record, Reading.{default_config, strip_bom}, Writing.{default_writer, needs_byte}}
 use Rattle.csv.specs.Records.{field_at}
 use Rattle.csv.proofs.RoundTrip.{field-run, record-same}
 use Rattle.csv.specs.declared.parser.State.TheVariants as state
-use Rattle.device_rows.specs.Plain.{IsPlain, StartsWithNumber, StartsWithRecord, StartsWithRow, StartsWithTitle, StartsWithTitles}
-use Rattle.device_rows.specs.Plain.{StartsWithWord}
+use Rattle.device_rows.specs.Plain.{IsPlain, StartsWithEvent, StartsWithNumber, StartsWithRecord, StartsWithRow, StartsWithTitle}
+use Rattle.device_rows.specs.Plain.{StartsWithTitles}
 use Rattle.device_rows.specs.Record.{event_of, four_of, is_numeral, numeral, version_of}
 use Rattle.device_rows.specs.declared.{event.RowEvent.RowEvent}
 use Rattle.device_rows.proofs.{NumeralFacts.digits-push, ShortFacts.short-row}
@@ -103,6 +103,9 @@ module _ (text left field rest : List ℕ) (fields : List (List ℕ)) (begins : 
 digit-worth : (byte : ℕ) → is_ascii_digit byte ≡ true → digit_value byte ≡ byte - 48
 digit-worth byte h = grind (arith, nat_tests)
 
+pub digit-small : (byte : ℕ) → is_ascii_digit byte ≡ true → byte - 48 ≤ 9
+digit-small byte h = grind (arith, nat_tests)
+
 -- one more digit at the start of a text
 pub digits-more : (text : List ℕ) (place : ℕ) → place < length text → all_ascii_digits (take place text) ≡ true
     → is_ascii_digit (slice_index_or text place 0) ≡ true → all_ascii_digits (take (place + 1) text) ≡ true
@@ -115,24 +118,21 @@ number-more text place below digit =
     rw (take_more text place 0 below, ← digit-worth (slice_index_or text place 0) digit)
     (digits_value_push 10 (take place text) (slice_index_or text place 0))
 
-letter-plain : (byte : ℕ) → is_ascii_lowercase byte ≡ true → needs_byte default_writer byte ≡ false
-letter-plain byte h = grind (arith, nat_tests)
-
--- one more letter
-pub letters-more : (text : List ℕ) (place : ℕ) → place < length text → IsPlain (take place text)
-    → is_ascii_lowercase (slice_index_or text place 0) ≡ true → IsPlain (take (place + 1) text)
-letters-more text place below front letter =
-    list_any_more (needs_byte default_writer) text place 0 below ∙ rw (front, letter-plain (slice_index_or text place 0) letter) refl
-
 splits-at : (text : List ℕ) (place stop : ℕ) → place < length text → slice_index_or text place 0 ≡ stop
     → text ≡ take place text ++ stop ∷ drop (place + 1) text
 splits-at text place stop below ends =
     sym (take-append-drop place text) ∙ ap (λ l. take place text ++ l) (drop_more text place 0 below)
     ∙ ap (λ s. take place text ++ s ∷ drop (place + 1) text) ends
 
-pub word-ends : (text : List ℕ) (place : ℕ) → place < length text → IsPlain (take place text) → slice_index_or text place 0 ≡ 44
-    → StartsWithWord text (take place text) (drop (place + 1) text)
-word-ends text place below plain ends = record { splits = splits-at text place 44 below ends; plain = plain }
+-- what the name of an event and a comma split off
+pub event-starts : (version : ℕ) (name : List ℕ) (event : RowEvent) (text prefix rest : List ℕ) → IsPlain name
+    → event_of version name ≡ Some event → prefix ≡ name ++ 44 ∷ [] → text ≡ prefix ++ rest → StartsWithEvent version text event rest
+event-starts version name event text prefix rest plain names is splits = record {
+  name = name;
+  splits = splits ∙ ap (λ p. p ++ rest) is ∙ append_assoc name (44 ∷ []) rest;
+  plain = plain;
+  is_its_name = names;
+}
 
 -- what a byte that isn't a digit splits off
 pub number-ends : (text : List ℕ) (place stop number : ℕ) → place < length text → 1 ≤ place → place ≤ 20
@@ -147,20 +147,20 @@ number-ends text place stop number below some few digits value ends =
       value = value;
     }
 
-pub row-starts : (version : ℕ) (text behind-m behind-d w behind-w rest : List ℕ) (moment device value : ℕ) (event : RowEvent)
-    → StartsWithNumber text 44 moment behind-m → StartsWithNumber behind-m 44 device behind-d → StartsWithWord behind-d w behind-w
-    → event_of version w ≡ Some event → StartsWithNumber behind-w 10 value rest → moment < 2 ^ 64
+pub row-starts : (version : ℕ) (text behind-m behind-d behind-e rest : List ℕ) (moment device value : ℕ) (event : RowEvent)
+    → StartsWithNumber text 44 moment behind-m → StartsWithNumber behind-m 44 device behind-d
+    → StartsWithEvent version behind-d event behind-e → StartsWithNumber behind-e 10 value rest → moment < 2 ^ 64
     → StartsWithRow version text (record { moment = moment; device = device; event = event; value = value }) rest
 unfolding four_of field_at
-row-starts version text behind-m behind-d w behind-w rest moment device value event m d word names v small =
+row-starts version text behind-m behind-d behind-e rest moment device value event m d e v small =
     let begun = begins-first text behind-m moment m in
     let device-ends = begins-next text behind-m d.field behind-d _ begun (numeral-plain d.field d.is_one) d.splits in
-    let word-ends' = begins-next text behind-d w behind-w _ device-ends word.plain word.splits in
+    let name-ends = begins-next text behind-d e.name behind-e _ device-ends e.plain e.splits in
     record {
-      fields = m.field ∷ d.field ∷ w ∷ v.field ∷ [];
-      starts = record-ends text behind-w v.field rest _ word-ends' (numeral-plain v.field v.is_one) v.splits;
-      tells = λ fits bears number. short-row version moment device value event m.field d.field w v.field m.is_one m.value d.is_one d.value
-          v.is_one v.value names small fits bears number;
+      fields = m.field ∷ d.field ∷ e.name ∷ v.field ∷ [];
+      starts = record-ends text behind-e v.field rest _ name-ends (numeral-plain v.field v.is_one) v.splits;
+      tells = λ fits bears number. short-row version moment device value event m.field d.field e.name v.field m.is_one m.value d.is_one
+          d.value v.is_one v.value e.is_its_name small fits bears number;
     }
 
 abbrev pub titles : List ℕ

@@ -3,8 +3,8 @@ use Rattle.std.specs.Prelude.{◌≡◌, ℕ, true, false, List, [], ◌∷◌, 
 use Rattle.std.specs.List.{list_any}
 use Rattle.csv.specs.{Machine.next_record, Reading.{default_config, strip_bom}, Writing.{default_writer, needs_byte}}
 use Rattle.csv.specs.declared.parser.State.TheVariants as state
-use Rattle.device_rows.specs.{Record.{is_numeral, numeral, row_of, version_of}, Row.{device_fits, value_fits}}
-use Rattle.device_rows.specs.declared.row.Row.{Row}
+use Rattle.device_rows.specs.{Record.{event_of, is_numeral, numeral, row_of, version_of}, Row.{device_fits, value_fits}}
+use Rattle.device_rows.specs.declared.{event.RowEvent.RowEvent, row.Row.Row}
 
 -- a field without a comma, a quote or a line end
 abbrev pub IsPlain : List ℕ → Type 0
@@ -17,10 +17,12 @@ pub record StartsWithNumber (text : List ℕ) (stop number : ℕ) (rest : List �
   pub is_one : is_numeral field ≡ true
   pub value : number ≡ numeral field
 
--- a text is a word that a comma ends, followed by the rest
-pub record StartsWithWord (text word rest : List ℕ) : Type 0 where
-  pub splits : text ≡ word ++ 44 ∷ rest
-  pub plain : IsPlain word
+-- a text is the name of this event that a comma ends, followed by the rest
+pub record StartsWithEvent (version : ℕ) (text : List ℕ) (event : RowEvent) (rest : List ℕ) : Type 0 where
+  pub name : List ℕ
+  pub splits : text ≡ name ++ 44 ∷ rest
+  pub plain : IsPlain name
+  pub is_its_name : event_of version name ≡ Some event
 
 -- a text, whatever follows it, starts with this record
 pub record StartsWithRecord (text : List ℕ) (fields : List (List ℕ)) (rest : List ℕ) : Type 0 where

@@ -1,15 +1,34 @@
 //! Plain rows, parsed in one pass: digits, commas, an event's name, a line feed. For any other row these functions return
 //! `None`.
 
-ghost use Rattle.std.specs.Prelude.{IfSome};
+ghost use Rattle.std.specs.Prelude.{◌≡◌, true, IfSome, take};
+ghost use Rattle.std.specs.Str.{all_ascii_digits};
 ghost use Rattle.device_places.specs.Range.{IsWithin};
-ghost use Rattle.device_rows.specs.Plain.{StartsWithNumber, StartsWithRow, StartsWithTitles, StartsWithWord};
+ghost use Rattle.device_rows.specs.Plain.{StartsWithEvent, StartsWithNumber, StartsWithRow, StartsWithTitles};
+ghost use Rattle.device_rows.specs.Record.{numeral};
 
-use crate::event::event_of;
+use crate::event::RowEvent;
 use crate::row::Row;
 
 // A number below this, with one more digit, fits into 64 bits.
 const ROOM_FOR_DIGIT: u64 = 1844674407370955161;
+
+// Returns the number of twenty digits at the start of a text, of which the first nineteen are `front`, as `number` does.
+#[inline(never)]
+fn twenty_digits(front: u64, text: &[u8], stop: u8) -> Option<(u64, &[u8])>
+    requires digits { all_ascii_digits (take 19 text.now) ≡ true }
+    requires front { front ≡ numeral (take 19 text.now) }
+    ensures { IfSome result (λ found. StartsWithNumber text.now stop found.0 found.1.now) }
+{
+    if text.len() < 21
+        || !text[19].is_ascii_digit()
+        || text[20] != stop
+        || front >= ROOM_FOR_DIGIT
+    {
+        return None;
+    }
+    Some((front * 10 + u64::from(text[19] - b'0'), &text[21..]))
+}
 
 /// Returns the number of one to twenty digits at the start of a text, if it fits into 64 bits and `stop` ends it, and the text
 /// after `stop`. It may return `None` for a number just below 2^64.
@@ -21,12 +40,13 @@ pub fn number(text: &[u8], stop: u8) -> Option<(u64, &[u8])>
     for place in 0..text.len() {
         let byte = text[place];
         if byte.is_ascii_digit() {
-            if number >= ROOM_FOR_DIGIT {
-                return None;
+            // Nineteen digits always fit. This constant bound also lets the compiler unroll the loop.
+            if place == 19 {
+                return twenty_digits(number, text, stop);
             }
             number = number * 10 + u64::from(byte - b'0');
         } else {
-            if byte != stop || place == 0 || place > 20 {
+            if byte != stop || place == 0 {
                 return None;
             }
             return Some((number, &text[place + 1..]));
@@ -35,21 +55,44 @@ pub fn number(text: &[u8], stop: u8) -> Option<(u64, &[u8])>
     None
 }
 
-// Returns the word of lowercase letters at the start of a text, if a comma ends it, and the text after the comma.
+// Returns the event whose name starts a text, if a comma ends the name, and the text after the comma. The names that most rows
+// have are tried first.
 #[inline(always)]
-fn plain_word(text: &[u8]) -> Option<(&[u8], &[u8])>
-    ensures { IfSome result (λ found. StartsWithWord text.now found.0.now found.1.now) }
+fn plain_event(version: u32, text: &[u8]) -> Option<(RowEvent, &[u8])>
+    ensures { IfSome result (λ found. StartsWithEvent version text.now found.0 found.1.now) }
 {
-    for place in 0..text.len() {
-        let byte = text[place];
-        if byte == b',' {
-            return Some((&text[..place], &text[place + 1..]));
-        }
-        if !byte.is_ascii_lowercase() {
-            return None;
-        }
+    if let Some(rest) = text.strip_prefix(b"rx,".as_slice()) {
+        return Some((RowEvent::Rx, rest));
     }
-    None
+    if let Some(rest) = text.strip_prefix(b"tx,".as_slice()) {
+        return Some((RowEvent::Tx, rest));
+    }
+    if let Some(rest) = text.strip_prefix(b"done,".as_slice()) {
+        return Some((RowEvent::Finish, rest));
+    }
+    if let Some(rest) = text.strip_prefix(b"softirq,".as_slice()) {
+        return Some((RowEvent::Softirq, rest));
+    }
+    if let Some(rest) = text.strip_prefix(b"kthread,".as_slice()) {
+        return Some((RowEvent::Kthread, rest));
+    }
+    if let Some(rest) = text.strip_prefix(b"open,".as_slice()) {
+        return Some((RowEvent::Opened, rest));
+    }
+    if let Some(rest) = text.strip_prefix(b"disable,".as_slice()) {
+        return Some((RowEvent::Disable, rest));
+    }
+    if let Some(rest) = text.strip_prefix(b"enable,".as_slice()) {
+        return Some((RowEvent::Enable, rest));
+    }
+    if let Some(rest) = text.strip_prefix(b"threaded,".as_slice()) {
+        return Some((RowEvent::Threaded, rest));
+    }
+    if version != 2 {
+        return None;
+    }
+    let rest = text.strip_prefix(b"busy,".as_slice())?;
+    Some((RowEvent::Busy, rest))
 }
 
 /// Returns the plain row at the start of a text, and the text after it. Its moment is unrestricted; its device and its value
@@ -60,8 +103,7 @@ pub(crate) fn plain_row(version: u32, text: &[u8]) -> Option<(Row, &[u8])>
 {
     let (moment, text) = number(text, b',')?;
     let (device, text) = number(text, b',')?;
-    let (word, text) = plain_word(text)?;
-    let event = event_of(version, word)?;
+    let (event, text) = plain_event(version, text)?;
     let (value, text) = number(text, b'\n')?;
     if device > 65536 || value > 65536 {
         return None;

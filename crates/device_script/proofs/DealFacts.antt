@@ -20,3 +20,12 @@ pub dealt : (scripts : List (List Row)) (rows : List Row) (row : Row) → is_ope
     → length scripts ≡ 16 → AreScripts scripts rows
     → AreScripts (slice_set scripts (row.device - 1) (slice_index_or scripts (row.device - 1) [] ++ row ∷ [])) (rows ++ row ∷ [])
 dealt scripts rows row o low high size before place below = grind (arith, common_steps, other-device, script-other, script-same)
+
+open-row : (device : ℕ) (row : Row) → is_open row.event ≡ true → is_act_of device row ≡ false
+open-row device row o = grind (arith, common_steps)
+
+-- a row that opens its device goes to no script
+pub opened : (scripts : List (List Row)) (rows : List Row) (row : Row) → is_open row.event ≡ true → 1 ≤ row.device → row.device ≤ 16
+    → length scripts ≡ 16 → AreScripts scripts rows
+    → AreScripts (slice_set scripts (row.device - 1) (slice_index_or scripts (row.device - 1) [])) (rows ++ row ∷ [])
+opened scripts rows row o low high size before place below = grind (arith, common_steps, open-row, script-other)

@@ -55,15 +55,19 @@ fn no_scripts(alloc: Global) -> Result<Vec<Vec<Row>>, AllocError>
     Ok(scripts)
 }
 
-// Appends a row to the script of its device, unless it opens the device.
-fn deal(row: &Row, scripts: &mut Vec<Vec<Row>>) -> Result<(), AllocError>
+// Appends a row to the script of its device. If the row opens the device, it makes room there for this many rows instead.
+fn deal(row: &Row, room: usize, scripts: &mut Vec<Vec<Row>>) -> Result<(), AllocError>
     requires { vec_len scripts.old ≡ 16 }
     ensures scripts { OnOk result
         ((rows : List Row) → AreScripts (lists scripts.old) rows
         → AreScripts (lists scripts.new) (rows ++ row.now ∷ [])) }
     ensures count { vec_len scripts.new ≡ 16 }
 {
-    if is_open(row) || row.device == 0 || row.device >= TABLE_LEN {
+    if row.device == 0 || row.device >= TABLE_LEN {
+        return Ok(());
+    }
+    if is_open(row) {
+        scripts[row.device as usize - 1].reserve(room)?;
         return Ok(());
     }
     scripts[row.device as usize - 1].push(*row)?;
@@ -77,7 +81,8 @@ pub fn scripts_of(alloc: Global, rows: &[Row]) -> Result<Vec<Vec<Row>>, AllocErr
 {
     let mut scripts = no_scripts(alloc)?;
     for row in rows {
-        deal(row, &mut scripts)?;
+        // Room for all rows at once: memory that is never written costs nothing, and no row is moved.
+        deal(row, rows.len(), &mut scripts)?;
     }
     Ok(scripts)
 }

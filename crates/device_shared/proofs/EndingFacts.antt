@@ -38,7 +38,7 @@ module _ (n : Napi) (s : Seats) (input : RxIn) (held_many capacity : ℕ) (seen 
   pub ring_closed : (ctx own : RxCtx) → ctx ≡ own → seats.instance_ring control ≡ Some (ring_name own) → IsOneRing input ctx
   ring_closed ctx own same has =
       let named : ring_name w.first ≡ ring_name own =
-      some_is (sym (ring_from (control_of s.turn) w.first w.gathered.show.first_three) ∙ sym later.ring ∙ has) in
+      some_is (sym (ring_from (control_of s.turn) w.first w.gathered.first_three) ∙ sym later.ring ∙ has) in
       subst (IsOneRing input) (sym same) (named_ring input w.first own w.one named)
 
   module _ (a b c : Caller) (ctx : RxCtx) (cl : IsClosed n (a ∷ b ∷ c ∷ []) control ctx) (one : IsOneRing input ctx) (input' : RxIn)
@@ -64,7 +64,7 @@ module _ (n : Napi) (s : Seats) (input : RxIn) (held_many capacity : ℕ) (seen 
           before = shown from;
           rest = to.0;
           history = sym to.1;
-          state = sym (at_three from w.gathered.show.seats.three.controller);
+          state = sym (at_three from w.gathered.seats.three.controller);
           input = input;
           one = one;
           front = take (length (seats_received s)) (put_list input);

@@ -12,7 +12,7 @@ use Rattle.napi_calls.specs.{Alone.{AllShow, GrewBy, MakesAlone}, Knows.received
 use Rattle.napi_calls.{specs.{Seats.{controller_of, instance_ring, shown, state_shown}, declared.types.Napi.Napi}, proofs.Alone.one_alone}
 use Rattle.device_shared.specs.{declared.seats.Seats.Seats, Acting.{CallerActs, CtxMoves, seat_at}, Meeting.{SeatsMeet, passes_of}}
 use Rattle.device_shared.specs.{Seats.IsSharedSeat}
-use Rattle.device_shared.specs.Seats.{ShowAll, control_of, turn_ctx, poller_of, seats_received, seats_state, thread_of}
+use Rattle.device_shared.specs.Seats.{AreGathered, control_of, turn_ctx, poller_of, seats_received, seats_state, thread_of}
 
 -- what the context has received by the deliveries shown
 pub received_from : (v : View) (first : RxCtx) → first_in v ≡ Some first
@@ -72,7 +72,7 @@ module _ (c : ℕ) (os : List Operation) (n : Napi) (h : List Event) (ds : List 
   delivered_now : delivered r3 ≡ s.deliveries
   delivered_now = (met 3 (omega arith)).view.delivered
 
-  pub shows : ShowAll n s.first s2.interrupt.pass (poller_of s2.turn) (thread_of s2.turn) (control_of s2.turn)
+  pub shows : AreGathered n s.first s2
   shows = record {
     seats =
         record {
@@ -114,7 +114,7 @@ module _ (c : ℕ) (os : List Operation) (n : Napi) (h : List Event) (ds : List 
       ∙ ap (λ (l : List Delivery). received_list s.first ++ packets_of l) ((met c a.low).view.held owns) ∙ sym received_now
 
 module _ (c : ℕ) (os : List Operation) (n : Napi) (first : RxCtx) (s0 s1 s2 : Seats) (x : Seen)
-    (g : ShowAll n first s0.interrupt.pass (poller_of s0.turn) (thread_of s0.turn) (control_of s0.turn)) (a : CallerActs c os n s0 s1)
+    (g : AreGathered n first s0) (a : CallerActs c os n s0 s1)
     (m : SeatsMeet s1 s2 x) where
   abbrev p3 : Pass
   p3 = control_of s0.turn
@@ -133,8 +133,8 @@ module _ (c : ℕ) (os : List Operation) (n : Napi) (first : RxCtx) (s0 s1 s2 : 
           let still : s1.interrupt.pass ≡ s0.interrupt.pass = rw (ne_eqb 0 (suc k) (λ (e : 0 ≡ suc k). absurd (omega (arith, e)))) at m0 in
           some_is (sym (t.firsts 0 s1.interrupt.pass refl) ∙ ap (λ (p : Pass). first_in (view_of p)) still ∙ g.first_zeroth)
 
-  pub shows_still : ShowAll n first s2.interrupt.pass (poller_of s2.turn) (thread_of s2.turn) (control_of s2.turn)
-  shows_still = subst (λ (f : RxCtx). ShowAll n f s2.interrupt.pass (poller_of s2.turn) (thread_of s2.turn) (control_of s2.turn)) same_first
+  pub shows_still : AreGathered n first s2
+  shows_still = subst (λ (f : RxCtx). AreGathered n f s2) same_first
       (shows c os n (shown p3) (delivered p3) s0 s1 s2 x g.all a m)
 
   state_then : seats_state s0 ≡ state_after (opening 3) (shown p3)

@@ -4,6 +4,7 @@ pub mod ActingFacts
 pub mod EndingFacts
 pub mod Gathering
 pub mod ReceivingFacts
+pub mod Roles
 pub mod Reading
 pub mod WholeFacts
 pub mod RingFacts

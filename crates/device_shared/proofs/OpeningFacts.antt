@@ -1,6 +1,6 @@
 -- How a receive side is opened: its seats are new, they meet, and then the controller enables the instance.
 use Rattle.std.proofs.{lemmas.Grind.common_steps, Common.{◌≡◌, ◌∙◌, ◌≤◌, ℕ, List, [], ◌∷◌, ◌++◌, length, append-nil, slice_get, Option}}
-use Rattle.{std.proofs.Common.{Some, None, false, refl, sym, ap, subst, arith}, rx_ring.specs.declared.ends.{RxCtx.RxCtx, RxIn.RxIn}}
+use Rattle.{std.proofs.Common.{Some, None, false, refl, sym, ap, arith}, rx_ring.specs.declared.ends.{RxCtx.RxCtx, RxIn.RxIn}}
 use Rattle.rx_ring.specs.{declared.packet.Packet.Packet, Ends.{IsOneRing, capacity_of, free_of, put_list, received_list, ring_name}}
 use Rattle.napi_model.specs.{declared.{event.Operation.{Operation, TheVariants.Enable}, state.Seen.Seen}, Step.{after, event, opening}}
 use Rattle.{napi_model.specs.History.{own, state_after}, napi_word.specs.{declared.table.Pass.Pass, View.{own_deliveries, received_in}}}
@@ -8,13 +8,14 @@ use Rattle.{napi_word.{specs.Passes.view_of, proofs.Deliveries.some_is}, napi_ca
 use Rattle.napi_calls.specs.{Alone.{AllShow, ShowsAlone}, Instance.{IsNewSeat, callers_of, ring_of_instance}, Knows.received_held}
 use Rattle.napi_calls.specs.{Made.events}
 use Rattle.{napi_calls.proofs.{Dealing.named_ring, Making.nothing}, device_bench.specs.Receive.opened_side}
-use Rattle.device_shared.specs.{declared.seats.Seats.Seats, Acting.{CallerActs, EnablesBy}, Meeting.SeatsMeet}
-use Rattle.device_shared.specs.{Seats.{AreSeats, IsRole, IsSharedSeat}}
-use Rattle.device_shared.specs.Seats.{Role, ShowAll, control_of, turn_ctx, poller_of, seats_received, role_of, seats_state, thread_of}
+use Rattle.device_shared.specs.{declared.seats.Seats.Seats, Acting.{CallerActs, EnablesBy}, Meeting.SeatsMeet, Opening.AreNew}
+use Rattle.device_shared.specs.Seats.{AreSeats, IsSharedSeat}
+use Rattle.device_shared.specs.Seats.{AreGathered, control_of, turn_ctx, poller_of, seats_received, role_of, seats_state, thread_of}
 use Rattle.device_shared.{specs.SharedReceive.{AreAllCallers, bytes_each, left_in}}
 use Rattle.device_shared.{proofs.{ActingFacts.stays, Gathering.{leads_then, leads_to}}}
-use Rattle.device_shared.proofs.{Gathering.{legal_then, received_then, ring_from, seen_then, shows, shows_still}, Reading.enables}
-use Rattle.device_shared.proofs.{RingFacts.seen_side, WholeFacts.viewed}
+use Rattle.device_shared.proofs.{Gathering.{legal_then, received_then, ring_from, seen_then, shows, shows_still}, Reading.{enables, off_of}}
+use Rattle.device_shared.proofs.{RingFacts.seen_side, Roles.role_is, WholeFacts.viewed}
+use Rattle.{device_bench.specs.Receive.is_control, napi_model.specs.declared.state.State.State}
 use mathlib.Core.List.{IsPrefix}
 
 -- three callers were popped one by one
@@ -51,35 +52,9 @@ new_shows n c p three new = grind (arith, common_steps, own_none)
 new_seat : (n : Napi) (c : ℕ) (p : Pass) → callers_of n ≡ 3 → IsNewSeat n c p → IsSharedSeat n p
 new_seat n c p three new = record { instance = new.instance; controller = new.controller ∙ three }
 
--- new seats, and the controller's context
-pub record AreNew (n : Napi) (t0 : Seats) (given : RxCtx) : Type 0 where
-  pub three : callers_of n ≡ 3
-  pub new0 : IsNewSeat n 0 t0.interrupt.pass
-  pub new1 : IsNewSeat n 1 (poller_of t0.turn)
-  pub new2 : IsNewSeat n 2 (thread_of t0.turn)
-  pub new3 : IsNewSeat n 3 (control_of t0.turn)
-  pub off : role_of t0.turn ≡ None
-  pub has : turn_ctx t0.turn ≡ Some given
-
-pub are_new : (n : Napi) (t0 : Seats) (given : RxCtx) (items l1 l2 l3 : List Caller) (a b c : Caller) (p : Pass)
-    → items ≡ l1 ++ c ∷ [] → l1 ≡ l2 ++ b ∷ [] → l2 ≡ l3 ++ a ∷ [] → length items ≡ 3 → callers_of n ≡ 3
-    → ((k : ℕ) (d : Caller) → slice_get items k ≡ Some d → IsNewSeat n k d.pass)
-    → IsNewSeat n 3 p → control_of t0.turn ≡ p → t0.interrupt.pass ≡ a.pass → poller_of t0.turn ≡ b.pass → thread_of t0.turn ≡ c.pass
-    → role_of t0.turn ≡ None → turn_ctx t0.turn ≡ Some given → AreNew n t0 given
-are_new n t0 given items l1 l2 l3 a b c p e1 e2 e3 many three each control is3 is0 is1 is2 off has =
-    let new = new_callers n items a b c (popped items l1 l2 l3 a b c e1 e2 e3 many) each in record {
-      three = three;
-      new0 = subst (IsNewSeat n 0) (sym is0) new.0;
-      new1 = subst (IsNewSeat n 1) (sym is1) new.1;
-      new2 = subst (IsNewSeat n 2) (sym is2) new.2;
-      new3 = subst (IsNewSeat n 3) (sym is3) control;
-      off = off;
-      has = has;
-    }
-
 module _ (n : Napi) (t0 : Seats) (given : RxCtx) (k : AreNew n t0 given) where
-  pub new_seats : AreSeats n t0
-  new_seats = grind (arith, common_steps, new_seat)
+  pub are_seats : AreSeats n t0
+  are_seats = grind (arith, common_steps, new_seat)
 
   new_show : AllShow [] [] t0.interrupt.pass (poller_of t0.turn) (thread_of t0.turn) (control_of t0.turn)
   new_show = grind (arith, common_steps, delivers_none_yet, new_shows, own_none)
@@ -93,22 +68,24 @@ module _ (n : Napi) (t0 : Seats) (given : RxCtx) (k : AreNew n t0 given) where
     two = refl;
     three = refl;
     moves = stays t0.interrupt.pass t0.interrupt.pass (turn_ctx t0.turn);
-    seats = new_seats;
+    seats = are_seats;
   }
 
   module _ (t1 : Seats) (x : Seen) (m : SeatsMeet t0 t1 x) where
     abbrev first : RxCtx
     first = m.meet.surveys.first
 
-    pub met_show : ShowAll n first t1.interrupt.pass (poller_of t1.turn) (thread_of t1.turn) (control_of t1.turn)
+    pub met_show : AreGathered n first t1
     met_show = shows 0 [] n [] [] t0 t0 t1 x new_show still m
 
     state_met : seats_state t1 ≡ opening 3
     unfolding state_after
     state_met = leads_to 0 [] n [] [] t0 t0 t1 x new_show still m
 
-    idle_met : IsRole None (seats_state t1)
-    idle_met = subst (IsRole None) (sym state_met) (refl, refl, refl)
+    -- the controller owns the instance
+    pub off_met : role_of t1.turn ≡ None
+    off_met = off_of (role_of t1.turn) (seats_state t1) (role_is n first t1 met_show)
+        (ap (λ (s : State). is_control s.place) state_met)
 
     -- the context belongs to the ring that was passed in
     ring_met : ring_of_instance n ≡ ring_name first
@@ -119,10 +96,9 @@ module _ (n : Napi) (t0 : Seats) (given : RxCtx) (k : AreNew n t0 given) where
 
     module _ (input : RxIn) (capacity : ℕ) (os : List Operation) (u t2 : Seats) (y : Seen) (a : CallerActs 3 os n t1 u)
         (m2 : SeatsMeet u t2 y)
-        (e : EnablesBy false os) (role : role_of u.turn ≡ Some (false, None)) where
-      done : (state_after (seats_state t1) (events 3 os) ≡ after (seats_state t1) (event 3 (Enable false)))
-          × IsRole (Some (false, None)) (state_after (seats_state t1) (events 3 os))
-      done = enables (seats_state t1) false os idle_met e (legal_then 3 os n first t1 u t2 y met_show a m2)
+        (e : EnablesBy false os) where
+      done : state_after (seats_state t1) (events 3 os) ≡ after (seats_state t1) (event 3 (Enable false))
+      done = enables (seats_state t1) false os e (legal_then 3 os n first t1 u t2 y met_show a m2)
 
       leads : seats_state t2 ≡ state_after (seats_state t1) (events 3 os)
       leads = leads_then 3 os n first t1 u t2 y met_show a m2
@@ -135,11 +111,7 @@ module _ (n : Napi) (t0 : Seats) (given : RxCtx) (k : AreNew n t0 given) where
           → capacity ≤ free_of input → AreAllCallers n t2 input 0 capacity y
       opened_whole ctx name one places empty none free = record {
         first = first;
-        gathered = record {
-          show = shows_still 3 os n first t1 u t2 y met_show a m2;
-          role = subst (λ (r : Role). IsRole r (seats_state t2)) (sym (m2.role ∙ role))
-              (subst (IsRole (Some (false, None))) (sym leads) done.1);
-        };
+        gathered = shows_still 3 os n first t1 u t2 y met_show a m2;
         one = named_ring input ctx first one (sym name ∙ ring_met);
         capacity_is = places;
         order = rw (received none) (omega arith);

@@ -6,9 +6,9 @@ use Rattle.{napi_model.specs.declared.state.{Seen.Seen, State.State}}
 use Rattle.{napi_model.specs.Step.seen_of}
 use Rattle.{napi_calls.specs.{declared.types.Napi.Napi, Seats.{PutsIntoRingOf, state_shown}, Knows.received_held}}
 use Rattle.rx_ring.specs.{declared.{ends.{RxCtx.RxCtx, RxIn.RxIn}, packet.Packet.Packet}, Ends.{IsOneRing, SameIn, free_of, put_list}}
-use Rattle.{rx_ring.specs.Ends.received_list, device_shared.specs.{declared.seats.Seats.Seats, Seats.{IsRole, ShowAll, control_of}}}
+use Rattle.{rx_ring.specs.Ends.received_list, device_shared.specs.{declared.seats.Seats.Seats, Seats.{AreGathered, control_of}}}
 use Rattle.{std.proofs.Common.{None, sym, ap, subst, arith, length-append, length-drop}, napi_word.specs.{View.received_in, Passes.view_of}}
-use Rattle.device_shared.specs.{Seats.{poller_of, seats_received, role_of, seats_state, thread_of}, Receiving.SeatsReceive}
+use Rattle.device_shared.specs.{Seats.{poller_of, seats_received, seats_state, thread_of}, Receiving.SeatsReceive}
 use Rattle.device_shared.specs.{SharedReceive.AreAllCallers}
 use Rattle.device_shared.{specs.SharedReceive.{IsWholeAt, bytes_each, left_in, napi_at, packets_at}, proofs.Gathering.ring_from}
 
@@ -105,12 +105,11 @@ module _ (n : Napi) (weight : ℕ) (s s' : Seats) (input input' : RxIn) (given :
   state_still : seats_state s' ≡ seats_state s
   state_still = ap state_shown r.three
 
-  shows_still : ShowAll n w.first s'.interrupt.pass (poller_of s'.turn) (thread_of s'.turn) (control_of s'.turn)
+  shows_still : AreGathered n w.first s'
   shows_still = grind (arith, common_steps)
 
-  whole_still : (count : ℕ) → count ≡ length given → role_of s'.turn ≡ role_of s.turn
-      → AreAllCallers n s' input' (held - count) capacity seen
-  whole_still count counted role =
+  whole_still : (count : ℕ) → count ≡ length given → AreAllCallers n s' input' (held - count) capacity seen
+  whole_still count counted =
       let many : length given ≡ min weight (length (left_in input s)) = ap length given_is ∙ length-take weight (left_in input s) in
       let left : length (left_in input s) ≡ length (put_list input) - length (seats_received s) =
       length-drop (length (seats_received s)) (put_list input) in
@@ -123,10 +122,7 @@ module _ (n : Napi) (weight : ℕ) (s s' : Seats) (input input' : RxIn) (given :
       let known : length (drop (length (received_list r.ctx')) (put_list input)) ≡ length (left_in input' s') =
       (λ i. length (drop (length (sym has i)) (sym r.next.put i))) in record {
         first = w.first;
-        gathered = record {
-          show = shows_still;
-          role = subst (λ (x : State). IsRole (role_of s'.turn) x) (sym state_still) (rw role w.gathered.role);
-        };
+        gathered = shows_still;
         one = one_still input input' w.first r.next.same w.one;
         capacity_is = r.next.same.1 ∙ w.capacity_is;
         order = omega (arith, w.order);
@@ -135,9 +131,9 @@ module _ (n : Napi) (weight : ℕ) (s s' : Seats) (input input' : RxIn) (given :
         seen_is = w.seen_is ∙ ap seen_of (sym state_still);
       }
 
-  pub received_whole : (place' : Option Seats) (count : ℕ) → place' ≡ Some s' → count ≡ length given → role_of s'.turn ≡ role_of s.turn
+  pub received_whole : (place' : Option Seats) (count : ℕ) → place' ≡ Some s' → count ≡ length given
       → IsWholeAt n place' input' (held - count) capacity seen
-  received_whole place' count is counted role = grind (arith, common_steps, whole_still)
+  received_whole place' count is counted = grind (arith, common_steps, whole_still)
 
   abbrev side : ReceiveView
   side = side_at (Some s) input capacity

@@ -75,20 +75,7 @@ TurnTakes p t false = (turn_ctx t ≡ None) × Quiet p (control_of t)
 abbrev pub EnablesBy : Bool → List Operation → Type 0
 EnablesBy threaded os = (ts : List (Lost (call.Enable threaded))) × (x : Seen) × (os ≡ flat_map looks ts ++ Look x ∷ Enable threaded ∷ [])
 
--- ---- the role afterwards
-
--- this caller polls it, or none does
-abbrev pub role_polled : ℕ → Bool → Role → Role
-role_polled c busy None = None
-role_polled c busy (Some r) = Some (r.0, Some (c, busy))
-
-abbrev pub role_left : Role → Role
-role_left None = None
-role_left (Some r) = Some (r.0, None)
-
-abbrev pub marked : Role → Role
-marked None = None
-marked (Some r) = Some (true, r.1)
+-- ---- what a call requires of the role
 
 -- the caller that polls it
 abbrev pub who_polls : Option (ℕ × Bool) → ℕ

@@ -3,4 +3,5 @@ pub mod Acting
 pub mod Meeting
 pub mod Receiving
 pub mod SharedReceive
+pub mod Opening
 pub mod Ending

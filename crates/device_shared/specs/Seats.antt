@@ -5,8 +5,7 @@ use Rattle.std.specs.Prelude.{◌≡◌, ℕ, Bool, true, false, List, Option, S
 use Rattle.napi_calls.specs.{Knows.received_held, Alone.AllShow}
 use Rattle.rx_ring.specs.declared.{packet.Packet.Packet, ends.RxCtx.RxCtx}
 use Rattle.device_shared.specs.declared.seats.{Turn.Turn, Pollers.Pollers}
-use Rattle.napi_model.specs.{declared.state.{State.State, Place.{Place, TheVariants.{Granted, Polling, Control}}}}
-use Rattle.napi_model.specs.{Step.{CallerPolls, opening}}
+use Rattle.napi_model.specs.{declared.state.State.State, Step.opening}
 use Rattle.{napi_model.specs.History.LegalHistory, napi_word.specs.{Passes.view_of, View.{first_in, received_in}, declared.table.Pass.Pass}}
 use Rattle.device_shared.specs.declared.seats.{Pollers.TheVariants.{Rest, ListPolls, ThreadPolls, PollsBusily}, Seats.Seats}
 use Rattle.device_shared.specs.declared.seats.Enabled.{Enabled}
@@ -67,33 +66,14 @@ abbrev pub is_enable_marked : Enabled → Bool
 is_enable_marked (enabled.On c) = false
 is_enable_marked (enabled.Marked c) = true
 
--- the controller owns the instance; or whether it marked it, which caller polls it, and whether busily
+-- the controller owns the instance; or whether it marked it, which caller polls it, and whether busily. If all show the whole
+-- history, the types of the four values say so much of the instance's state.
 abbrev pub Role : Type 0
 Role = Option (Bool × Option (ℕ × Bool))
 
 abbrev pub role_of : Turn → Role
 role_of (turn.Off p t c) = None
 role_of (turn.On pollers e) = Some (is_enable_marked e, polls_at pollers)
-
-abbrev pub is_off : Role → Bool
-is_off None = true
-is_off (Some r) = false
-
--- no caller owns it; it may be queued
-abbrev pub is_unowned : Place → Bool
-is_unowned (Granted c) = false
-is_unowned (Polling c) = false
-is_unowned (Control c) = false
-is_unowned _ = true
-
-abbrev pub ArePlaced : Option (ℕ × Bool) → State → Type 0
-ArePlaced None s = (is_unowned s.place ≡ true) × (s.flags.in_busy_poll ≡ false)
-ArePlaced (Some who) s = CallerPolls who.0 who.1 s
-
--- the instance's state matches this role
-abbrev pub IsRole : Role → State → Type 0
-IsRole None s = (s.place ≡ Control 3) × (s.flags.disable ≡ false) × (s.flags.in_busy_poll ≡ false)
-IsRole (Some r) s = (s.flags.disable ≡ r.0) × ArePlaced r.1 s
 
 -- ---- all four seats
 
@@ -136,6 +116,5 @@ seats_state s = state_shown (control_of s.turn)
 abbrev pub seats_received : Seats → List Packet
 seats_received s = received_held (turn_ctx s.turn) (received_in (view_of (control_of s.turn)))
 
-pub record AreGathered (n : Napi) (first : RxCtx) (s : Seats) : Type 0 where
-  pub show : ShowAll n first s.interrupt.pass (poller_of s.turn) (thread_of s.turn) (control_of s.turn)
-  pub role : IsRole (role_of s.turn) (seats_state s)
+abbrev pub AreGathered : Napi → RxCtx → Seats → Type 0
+AreGathered n first s = ShowAll n first s.interrupt.pass (poller_of s.turn) (thread_of s.turn) (control_of s.turn)

@@ -12,7 +12,7 @@ ghost use Rattle.napi_calls.specs.Packets.{Quiet};
 ghost use Rattle.poll_runs.specs.Polling.{completed, next_of};
 ghost use Rattle.poll_shared.specs.Tries.{PlanMakes, Tries};
 ghost use Rattle.device_bench.specs.Receive.{taker_of};
-ghost use Rattle.device_shared.specs.Acting.{CallerActs, AsksBy, EnablesBy, IsMarkedRole, IsUnmarked, MayComplete, PolledBy, TakesBusilyBy, TakesBy, TriesBy, TurnTakes, at_rest, role_left, marked, role_polled, role_poller};
+ghost use Rattle.device_shared.specs.Acting.{CallerActs, AsksBy, EnablesBy, IsMarkedRole, IsUnmarked, MayComplete, PolledBy, TakesBusilyBy, TakesBy, TriesBy, TurnTakes, at_rest, role_poller};
 ghost use Rattle.device_shared.specs.declared.seats.Pollers.TheVariants.{Rest};
 ghost use Rattle.device_shared.specs.declared.seats.Turn.TheVariants.{On};
 ghost use Rattle.device_shared.specs.Seats.{AreSeats, control_of, enabled_pass, is_enable_marked, poller_of, role_of, thread_of};
@@ -47,7 +47,6 @@ impl Enabled {
         requires on { is_enable_marked self ≡ false }
         ensures made { Made (enabled_pass self) (operation.MarkDisable ∷ []) (enabled_pass result) }
         ensures packets { Quiet (enabled_pass self) (enabled_pass result) }
-        ensures marked { is_enable_marked result ≡ true }
     {
         match self {
             Enabled::On(control) => Enabled::Marked(control.mark(napi)),
@@ -100,9 +99,8 @@ impl Seats {
     /// Requests a poll, as the interrupt; if granted, it queues the instance.
     pub(crate) fn request<R: Wait>(self, rt: &R, napi: &Napi) -> (Seats, Prep, Option<Kind>)
         requires { AreSeats napi.now self }
-        ensures acts { (os : List Operation) × AsksBy result.1 result.2 os
+        ensures { (os : List Operation) × AsksBy result.1 result.2 os
             × CallerActs 0 os napi.now self result.0 }
-        ensures role { role_of result.0.turn ≡ role_of self.turn }
     {
         let Seats { interrupt, turn } = self;
         let (interrupt, prep, kind) = ask(rt, napi, interrupt);
@@ -112,8 +110,7 @@ impl Seats {
     /// Sets, as the interrupt, whether the instance is scheduled on the device's thread.
     pub(crate) fn set_threaded(self, napi: &Napi, threaded: bool) -> Seats
         requires { AreSeats napi.now self }
-        ensures acts { CallerActs 0 (operation.SetThreaded threaded ∷ []) napi.now self result }
-        ensures role { role_of result.turn ≡ role_of self.turn }
+        ensures { CallerActs 0 (operation.SetThreaded threaded ∷ []) napi.now self result }
     {
         let Seats {
             mut interrupt,
@@ -127,11 +124,9 @@ impl Seats {
     /// it makes no attempt.
     pub(crate) fn take(self, napi: &Napi, kind: Kind) -> (Seats, bool)
         requires { AreSeats napi.now self }
-        ensures acts { (os : List Operation)
+        ensures { (os : List Operation)
             × TakesBy (at_rest (role_of self.turn)) kind result.1 os
             × CallerActs (taker_of kind) os napi.now self result.0 }
-        ensures role { role_of result.0.turn ≡ (if result.1
-            then role_polled (taker_of kind) false (role_of self.turn) else role_of self.turn) }
     {
         let Seats { interrupt, turn } = self;
         let (poller, thread, enabled) = match turn.at_rest() {
@@ -156,9 +151,8 @@ impl Seats {
     pub(crate) fn requeue(self, napi: &Napi) -> Seats
         requires seats { AreSeats napi.now self }
         requires polls { MayComplete (role_of self.turn) }
-        ensures acts { CallerActs (role_poller (role_of self.turn))
+        ensures { CallerActs (role_poller (role_of self.turn))
             (operation.Hand kind.List ∷ []) napi.now self result }
-        ensures role { role_of result.turn ≡ role_left (role_of self.turn) }
     {
         let Seats { interrupt, turn } = self;
         let Turn::On(pollers, enabled) = turn else {
@@ -177,9 +171,8 @@ impl Seats {
     pub(crate) fn complete<R: Wait>(self, rt: &R, napi: &Napi) -> (Seats, Option<Kind>)
         requires seats { AreSeats napi.now self }
         requires polls { MayComplete (role_of self.turn) }
-        ensures acts { (os : List Operation) × PlanMakes (completed true) os (next_of result.1)
+        ensures { (os : List Operation) × PlanMakes (completed true) os (next_of result.1)
             × CallerActs (role_poller (role_of self.turn)) os napi.now self result.0 }
-        ensures role { role_of result.0.turn ≡ role_left (role_of self.turn) }
     {
         let Seats { interrupt, turn } = self;
         let Turn::On(pollers, enabled) = turn else {
@@ -203,11 +196,9 @@ impl Seats {
     /// Tries to take an idle instance, to busy poll it.
     pub(crate) fn busy_take<R: Wait>(self, rt: &R, napi: &Napi) -> (Seats, bool)
         requires { AreSeats napi.now self }
-        ensures acts { (os : List Operation)
+        ensures { (os : List Operation)
             × TakesBusilyBy (at_rest (role_of self.turn)) result.1 os
             × CallerActs 1 os napi.now self result.0 }
-        ensures role { role_of result.0.turn
-            ≡ (if result.1 then role_polled 1 true (role_of self.turn) else role_of self.turn) }
     {
         let Seats { interrupt, turn } = self;
         let (poller, thread, enabled) = match turn.at_rest() {
@@ -226,8 +217,7 @@ impl Seats {
     pub(crate) fn hold(self, napi: &Napi) -> Seats
         requires seats { AreSeats napi.now self }
         requires polls { PolledBy 1 true (role_of self.turn) }
-        ensures acts { CallerActs 1 (operation.Complete Held ∷ []) napi.now self result }
-        ensures role { role_of result.turn ≡ role_of self.turn }
+        ensures { CallerActs 1 (operation.Complete Held ∷ []) napi.now self result }
     {
         let Seats { interrupt, turn } = self;
         let Turn::On(pollers, enabled) = turn else {
@@ -245,9 +235,8 @@ impl Seats {
     pub(crate) fn stop<R: Wait>(self, rt: &R, napi: &Napi) -> Seats
         requires seats { AreSeats napi.now self }
         requires polls { PolledBy 1 true (role_of self.turn) }
-        ensures acts { (os : List Operation) × Tries call.BusyStop operation.BusyStop os
+        ensures { (os : List Operation) × Tries call.BusyStop operation.BusyStop os
             × CallerActs 1 os napi.now self result }
-        ensures role { role_of result.turn ≡ role_polled 1 false (role_of self.turn) }
     {
         let Seats { interrupt, turn } = self;
         let Turn::On(pollers, enabled) = turn else {
@@ -264,8 +253,7 @@ impl Seats {
     pub(crate) fn mark(self, napi: &Napi) -> Seats
         requires seats { AreSeats napi.now self }
         requires on { IsUnmarked (role_of self.turn) }
-        ensures acts { CallerActs 3 (operation.MarkDisable ∷ []) napi.now self result }
-        ensures role { role_of result.turn ≡ marked (role_of self.turn) }
+        ensures { CallerActs 3 (operation.MarkDisable ∷ []) napi.now self result }
     {
         let Seats { interrupt, turn } = self;
         let turn = match turn {
@@ -279,9 +267,8 @@ impl Seats {
     pub(crate) fn try_take(self, napi: &Napi) -> (Seats, bool)
         requires seats { AreSeats napi.now self }
         requires marked { IsMarkedRole (role_of self.turn) }
-        ensures acts { (os : List Operation) × TriesBy (at_rest (role_of self.turn)) result.1 os
+        ensures { (os : List Operation) × TriesBy (at_rest (role_of self.turn)) result.1 os
             × CallerActs 3 os napi.now self result.0 }
-        ensures role { role_of result.0.turn ≡ (if result.1 then None else role_of self.turn) }
     {
         let Seats { interrupt, turn } = self;
         let (pollers, enabled) = match turn {
@@ -303,9 +290,8 @@ impl Seats {
     pub(crate) fn enable<R: Wait>(self, rt: &R, napi: &Napi, threaded: bool) -> Seats
         requires seats { AreSeats napi.now self }
         requires off { role_of self.turn ≡ None }
-        ensures acts { (os : List Operation) × EnablesBy threaded os
+        ensures { (os : List Operation) × EnablesBy threaded os
             × CallerActs 3 os napi.now self result }
-        ensures role { role_of result.turn ≡ Some (false, None) }
     {
         let Seats { interrupt, turn } = self;
         let turn = match turn {

@@ -1,8 +1,8 @@
 //! All callers of an instance meet, and so know its whole history.
 
 ghost use Rattle.std.specs.Prelude.{◌≡◌, None};
-ghost use Rattle.device_shared.specs.Meeting.{Meet, SeatsMeet, StayPollers, posted};
-ghost use Rattle.device_shared.specs.Seats.{AreFour, AreSeats, poller_pass, thread_pass};
+ghost use Rattle.device_shared.specs.Meeting.{Meet, SeatsMeet, posted};
+ghost use Rattle.device_shared.specs.Seats.{AreFour, AreSeats, ctx_at, poller_pass, thread_pass};
 
 use crate::seats::{Enabled, Pollers, Seats, Turn};
 use napi_calls::{Caller, Control, Mode, Napi, survey, survey_busy, survey_polling};
@@ -21,7 +21,7 @@ fn meet_pollers<S: Mode>(
     requires nothing { S.ctx control.state ≡ None }
     ensures meet { Meet (posted interrupt pollers control.pass)
         (posted result.0 result.1 result.2.pass) result.3 }
-    ensures pollers { StayPollers pollers result.1 }
+    ensures ctx { ctx_at result.1 ≡ ctx_at pollers }
 {
     match pollers {
         Pollers::Rest(poller, thread) => {

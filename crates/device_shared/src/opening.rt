@@ -1,9 +1,12 @@
 //! Opening a receive side.
 
+ghost use Rattle.std.specs.Prelude.{◌≡◌, length, vec_capacity};
+ghost use Rattle.device_shared.specs.Opening.{AreNew, AreNewCallers};
+
 use crate::seats::{Seats, Turn};
 use crate::shared_receive::SharedReceive;
 use device_bench::Opener;
-use napi_calls::{Napi, NewBack, next_caller};
+use napi_calls::{Caller, Control, Napi, NewBack, Off, next_caller};
 use rx_ring::{Batch, RingFault, ring};
 use std::alloc::{AllocError, Global};
 use std::sync::Wait;
@@ -24,6 +27,20 @@ impl<R: Wait + Copy + Drop> From<R> for SharedOpener<R> {
     }
 }
 
+// Takes the three callers out of their list.
+fn new_seats(napi: &Napi, callers: &mut Vec<Caller>, control: Control<Off>) -> Seats
+    requires { AreNewCallers napi.now callers.old.items control.pass }
+    ensures new { AreNew napi.now result control.state.ctx }
+    ensures none { length callers.new.items ≡ 0 }
+    ensures room { vec_capacity callers.new ≡ vec_capacity callers.old }
+{
+    let thread = next_caller(napi, callers);
+    let poller = next_caller(napi, callers);
+    let interrupt = next_caller(napi, callers);
+    let turn = Turn::Off(poller, thread, control);
+    Seats { interrupt, turn }
+}
+
 impl<R: Wait + Copy + Drop> Opener<SharedReceive<R>> for SharedOpener<R> {
     fn open(&self, alloc: Global, capacity: u32) -> Result<SharedReceive<R>, AllocError> {
         let (mut input, ctx) = match ring(alloc, capacity as usize) {
@@ -37,11 +54,7 @@ impl<R: Wait + Copy + Drop> Opener<SharedReceive<R>> for SharedOpener<R> {
         };
         // So every slot is known to be free.
         control.beside(&mut input);
-        let thread = next_caller(&napi, &mut callers);
-        let poller = next_caller(&napi, &mut callers);
-        let interrupt = next_caller(&napi, &mut callers);
-        let turn = Turn::Off(poller, thread, control);
-        let (seats, _) = Seats { interrupt, turn }.meet(&napi);
+        let (seats, _) = new_seats(&napi, &mut callers, control).meet(&napi);
         let (seats, seen) = seats.enable(&self.rt, &napi, false).meet(&napi);
         Ok(SharedReceive {
             rt: self.rt,

@@ -44,8 +44,7 @@ impl Seats {
         requires two { PutsIntoRingOf input.old (thread_of self.turn) }
         requires weight { (1 ≤ weight) × (weight ≤ MAX_WEIGHT) }
         requires polls { (c : ℕ) × (b : Bool) × PolledBy c b (role_of self.turn) }
-        ensures next { SeatsReceive weight input.old self input.new result batch.new.items }
-        ensures role { role_of result.turn ≡ role_of self.turn }
+        ensures { SeatsReceive weight input.old self input.new result batch.new.items }
     {
         let Seats { interrupt, turn } = self;
         let Turn::On(pollers, enabled) = turn else {

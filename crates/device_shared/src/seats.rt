@@ -30,11 +30,12 @@ pub(crate) struct Seats {
 
 impl Seats {
     ghost use Rattle.std.specs.Prelude.{◌≡◌};
-    ghost use Rattle.device_shared.specs.Seats.{is_off, role_of};
+    ghost use Rattle.device_shared.specs.Acting.{nobody};
+    ghost use Rattle.device_shared.specs.Seats.{role_of};
 
     /// Returns whether the controller owns the instance.
     pub(crate) fn is_off(&self) -> bool
-        ensures { result ≡ is_off (role_of self.now.turn) }
+        ensures { result ≡ nobody (role_of self.now.turn) }
     {
         matches!(self.turn, Turn::Off(..))
     }

@@ -1,3 +1,4 @@
+pub mod ChoreFacts
 pub mod QueueFacts
 pub mod WorldFacts
 pub mod StepFacts

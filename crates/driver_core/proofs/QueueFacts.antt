@@ -1,5 +1,5 @@
 -- What calls make of the poll list and the run over it.
-use Rattle.std.proofs.Common.{◌≡◌, ◌≢◌, ◌∙◌, inl, inr, ℕ, ◌+◌, ◌<◌, ◌≤◌, Bool, true, false, cond, List, [], ◌∷◌, ◌++◌, length}
+use Rattle.std.proofs.Common.{◌≡◌, ◌≢◌, ◌∙◌, inl, inr, ◌⊎◌, ℕ, ◌+◌, ◌<◌, ◌≤◌, Bool, true, false, cond, List, [], ◌∷◌, ◌++◌, length}
 use Rattle.std.proofs.Common.{refl, sym, ap, arith}
 use Rattle.std.proofs.Common.{Option, Some, None, get_or, set, MatchOption, length-append}
 use Rattle.std.proofs.lemmas.{List.{append-nil, get_or-set_other, get_or-set_same, get_or_default, get_or_past}}
@@ -15,8 +15,8 @@ use Rattle.poll_runs.specs.{Polls.{is_arrival, is_repoll}, Steps.{Asks, Begins, 
 use Rattle.poll_runs.specs.{declared.{bench.Next.Next, polling_run.PollingRun.PollingRun}}
 use Rattle.driver_core.specs.Device.{in_stage, chore_at, completed_at, stage_is_listed, is_stopping, after_driver_poll, after_poll_at}
 use Rattle.driver_core.specs.Device.{IsAtRest}
-use Rattle.driver_core.specs.{Queue.{IsQueue, device_at, listed_at, listed_in, occurs}}
-use Rattle.driver_core.specs.declared.device.{DriverDevice.DriverDevice}
+use Rattle.driver_core.specs.{Queue.{IsAsked, IsQueue, device_at, listed_at, listed_in, occurs}}
+use Rattle.driver_core.specs.declared.device.{Chore.Chore, DriverDevice.DriverDevice}
 use Rattle.driver_core.specs.declared.device.{Stage.{Stage, TheVariants.{Closed, Masking, Closing, Listed, Unmasking, Looking, Armed}}}
 
 -- ---- devices
@@ -332,3 +332,38 @@ after-poll false stopping missed = after-completion stopping missed
 pub polled_listed : (full : Bool) (d : DriverDevice)
     → stage_is_listed (after_driver_poll full d).0.stage ≡ comes_back (after_driver_poll full d).1
 polled_listed full d = after-poll full (is_stopping d.stage) d.missed
+
+-- ---- what was said
+
+-- what was said last is still due after a device changed, if it is kept
+pub put_asked : (devices : List DriverDevice) (polled : Option ℕ) (said kept : Option (ℕ × Chore)) (id : ℕ) (to : DriverDevice)
+    → id < length devices
+    → (kept ≡ said) ⊎ (kept ≡ None)
+    → ((k : ℕ) (chore : Chore) → kept ≡ Some (k, chore) → (k ≢ id) ⊎ (chore_at to.stage ≡ Some chore))
+    → IsAsked devices polled said → IsAsked (set devices id to) polled kept
+put_asked devices run-asked said kept id to lt same due a =
+    let was : (k : ℕ) (chore : Chore) → kept ≡ Some (k, chore) → said ≡ Some (k, chore) =
+    λ k chore e. elim same [ inl s ↦ sym s ∙ e | inr gone ↦ let both : None ≡ Some (k, chore) = sym gone ∙ e in absurd (cc both) ] in
+    record {
+      range = λ k chore e. omega (arith, a.range k chore (was k chore e), length-set devices id to);
+      chore = λ k chore e. elim (cases_eq k id) [
+        | inl here ↦
+            let is : device_at (set devices id to) k ≡ to = rw here (get_or-set_same devices id to (at Closed false) lt) in
+            elim (due k chore e) [
+              | inl ne ↦ absurd (ne here)
+              | inr c ↦ ap (λ (d : DriverDevice). chore_at d.stage) is ∙ c
+            ]
+        | inr ne ↦
+            let is : device_at (set devices id to) k ≡ device_at devices k = get_or-set_other devices id k to (in_stage Closed false) ne in
+            ap (λ (d : DriverDevice). chore_at d.stage) is ∙ a.chore k chore (was k chore e)
+      ];
+      alone = λ k chore e. a.alone k chore (was k chore e);
+    }
+
+-- while a device is polled nothing is said of a card
+pub asked_alone : (devices : List DriverDevice) (polled : Option ℕ) (id : ℕ) (said : Option (ℕ × Chore)) → polled ≡ Some id
+    → IsAsked devices polled said → said ≡ None
+asked_alone devices run-asked id None is a = refl
+asked_alone devices run-asked id (Some (k, chore)) is a =
+    let both : Some id ≡ None = sym is ∙ a.alone k chore refl in
+    absurd (cc both)

@@ -3,8 +3,8 @@ use Rattle.std.proofs.Common.{◌≡◌, ◌⊎◌, inl, inr, ℕ, ◌+◌, zero
 use Rattle.std.specs.Prelude.{◌||◌, not}
 use Rattle.driver_core.specs.Device.{in_stage, completed_at, after_interrupt, after_open, after_poll_at, after_stop}
 use Rattle.driver_core.specs.World.{Hand, World, DriverEvent, free, to_mask, to_unmask, to_look, to_fetch, did_mask, did_unmask, saw, took}
-use Rattle.driver_core.specs.World.{arrives, interrupts, says, acts, reports, opens, stops, world_step, world_after, new_world}
-use Rattle.driver_core.specs.World.{says_by, hand_after, masked_after, packets_after, is_told, after_message, controlled, IsWatched}
+use Rattle.driver_core.specs.World.{arrives, interrupts, says, acts, reports, forgets, opens, stops, world_step, world_after, new_world}
+use Rattle.driver_core.specs.World.{says_by, hand_after, masked_after, packets_after, is_told, after_message, IsWatched}
 use Rattle.driver_core.specs.World.{NoPacketWaitsUnseen, IsMaskedWhileListed, ListedIsMasked}
 use Rattle.driver_core.specs.declared.device.{Stage.{Stage, TheVariants.{Closed, Masking, Closing, Listed, Unmasking, Looking, Armed}}}
 
@@ -26,16 +26,20 @@ Good did_mask Closing m i p = m ≡ true
 Good did_mask stage m i p = ⊥
 Good to_unmask Unmasking m i p = Unit {0}
 Good to_unmask (Masking s) m i p = Unit {0}
+Good to_unmask Closing m i p = Unit {0}
 Good to_unmask stage m i p = ⊥
 Good did_unmask Unmasking m i p = m ≡ false
 Good did_unmask (Masking s) m i p = Unit {0}
+Good did_unmask Closing m i p = Unit {0}
 Good did_unmask stage m i p = ⊥
 Good to_look Looking m i p = m ≡ false
 Good to_look (Masking s) m i p = Unit {0}
+Good to_look Closing m i p = Unit {0}
 Good to_look stage m i p = ⊥
 Good (saw true) Looking m i p = m ≡ false
 Good (saw false) Looking m i p = (m ≡ false) × Quiet i p
 Good (saw more) (Masking s) m i p = Unit {0}
+Good (saw more) Closing m i p = Unit {0}
 Good (saw more) stage m i p = ⊥
 Good to_fetch (Listed s) m i p = m ≡ true
 Good to_fetch stage m i p = ⊥
@@ -89,11 +93,14 @@ acted taken full to_mask Closing m i p h = refl
 acted taken full to_mask stage m i p h = absurd h
 acted taken full to_unmask Unmasking m i p h = refl
 acted taken full to_unmask (Masking s) m i p h = tt
+acted taken full to_unmask Closing m i p h = tt
 acted taken full to_unmask stage m i p h = absurd h
 acted taken full to_look Looking m i zero h = (h, inl refl)
 acted taken full to_look Looking m i (suc p) h = h
 acted taken full to_look (Masking s) m i zero h = tt
 acted taken full to_look (Masking s) m i (suc p) h = tt
+acted taken full to_look Closing m i zero h = tt
+acted taken full to_look Closing m i (suc p) h = tt
 acted taken full to_look stage m i p h = absurd h
 acted taken full to_fetch (Listed s) m i p h = h
 acted taken full to_fetch stage m i p h = absurd h
@@ -116,29 +123,94 @@ reported did_mask Closing missed m i p h = h
 reported did_mask stage missed m i p h = absurd h
 reported did_unmask Unmasking missed m i p h = h
 reported did_unmask (Masking s) missed m i p h = tt
+reported did_unmask Closing missed m i p h = tt
 reported did_unmask stage missed m i p h = absurd h
 reported (saw true) Looking missed m i p h = tt
 reported (saw false) Looking missed m i p h = h
 reported (saw true) (Masking s) missed m i p h = tt
 reported (saw false) (Masking s) missed m i p h = tt
+reported (saw true) Closing missed m i p h = tt
+reported (saw false) Closing missed m i p h = tt
 reported (saw more) stage missed m i p h = absurd h
 reported (took full) (Listed s) missed m i p h = polled-to full s missed m i p h
 reported (took full) stage missed m i p h = absurd h
 reported hand stage missed m i p h = h
 
+forgot : (hand : Hand) (stage : Stage) (m i : Bool) (p : ℕ) → Good hand stage m i p → Good free stage m i p
+forgot free stage m i p h = h
+forgot to_mask (Masking s) m i p h = tt
+forgot to_mask Closing m i p h = tt
+forgot to_mask stage m i p h = absurd h
+forgot did_mask (Masking s) m i p h = tt
+forgot did_mask Closing m i p h = tt
+forgot did_mask stage m i p h = absurd h
+forgot to_unmask Unmasking m i p h = tt
+forgot to_unmask (Masking s) m i p h = tt
+forgot to_unmask Closing m i p h = tt
+forgot to_unmask stage m i p h = absurd h
+forgot did_unmask Unmasking m i p h = tt
+forgot did_unmask (Masking s) m i p h = tt
+forgot did_unmask Closing m i p h = tt
+forgot did_unmask stage m i p h = absurd h
+forgot to_look Looking m i p h = h
+forgot to_look (Masking s) m i p h = tt
+forgot to_look Closing m i p h = tt
+forgot to_look stage m i p h = absurd h
+forgot (saw true) Looking m i p h = h
+forgot (saw false) Looking m i p h = h.0
+forgot (saw more) (Masking s) m i p h = tt
+forgot (saw more) Closing m i p h = tt
+forgot (saw true) stage m i p h = absurd h
+forgot (saw false) stage m i p h = absurd h
+forgot to_fetch (Listed s) m i p h = h
+forgot to_fetch stage m i p h = absurd h
+forgot (took full) (Listed s) m i p h = h
+forgot (took full) stage m i p h = absurd h
+
 opened-by : (hand : Hand) (stage : Stage) (missed m i : Bool) (p : ℕ) → Good hand stage m i p
-    → Good hand (controlled hand after_open (in_stage stage missed)).stage m i p
+    → Good hand (after_open (in_stage stage missed)).stage m i p
 opened-by free Closed missed m i p h = tt
-opened-by free Armed missed m i p h = h
+opened-by (saw true) Closed missed m i p h = absurd h
+opened-by (saw false) Closed missed m i p h = absurd h
+opened-by hand Closed missed m i p h = absurd h
 opened-by hand stage missed m i p h = h
 
 stopped-by : (hand : Hand) (stage : Stage) (missed m i : Bool) (p : ℕ) → Good hand stage m i p
-    → Good hand (controlled hand after_stop (in_stage stage missed)).stage m i p
+    → Good hand (after_stop (in_stage stage missed)).stage m i p
 stopped-by free (Masking s) missed m i p h = tt
-stopped-by free Unmasking missed m i p h = tt
-stopped-by free Looking missed m i p h = tt
-stopped-by free Armed missed m i p h = tt
-stopped-by hand stage missed m i p h = h
+stopped-by free (Listed s) missed m i p h = h
+stopped-by free Closed missed m i p h = h
+stopped-by free stage missed m i p h = tt
+stopped-by to_mask (Masking s) missed m i p h = tt
+stopped-by to_mask Closing missed m i p h = tt
+stopped-by to_mask stage missed m i p h = absurd h
+stopped-by did_mask (Masking s) missed m i p h = h
+stopped-by did_mask Closing missed m i p h = h
+stopped-by did_mask stage missed m i p h = absurd h
+stopped-by to_unmask Unmasking missed m i p h = tt
+stopped-by to_unmask (Masking s) missed m i p h = tt
+stopped-by to_unmask Closing missed m i p h = tt
+stopped-by to_unmask stage missed m i p h = absurd h
+stopped-by did_unmask Unmasking missed m i p h = tt
+stopped-by did_unmask (Masking s) missed m i p h = tt
+stopped-by did_unmask Closing missed m i p h = tt
+stopped-by did_unmask stage missed m i p h = absurd h
+stopped-by to_look Looking missed m i p h = tt
+stopped-by to_look (Masking s) missed m i p h = tt
+stopped-by to_look Closing missed m i p h = tt
+stopped-by to_look stage missed m i p h = absurd h
+stopped-by (saw true) Looking missed m i p h = tt
+stopped-by (saw true) (Masking s) missed m i p h = tt
+stopped-by (saw true) Closing missed m i p h = tt
+stopped-by (saw true) stage missed m i p h = absurd h
+stopped-by (saw false) Looking missed m i p h = tt
+stopped-by (saw false) (Masking s) missed m i p h = tt
+stopped-by (saw false) Closing missed m i p h = tt
+stopped-by (saw false) stage missed m i p h = absurd h
+stopped-by to_fetch (Listed s) missed m i p h = h
+stopped-by to_fetch stage missed m i p h = absurd h
+stopped-by (took full) (Listed s) missed m i p h = h
+stopped-by (took full) stage missed m i p h = absurd h
 
 keeps : (e : DriverEvent) (w : World) → IsGood w → IsGood (world_step e w)
 keeps arrives w g = arrived w.hand w.device.stage w.masked w.interrupting w.packets g
@@ -146,6 +218,7 @@ keeps interrupts w g = interrupted-by w.hand w.device.stage w.device.missed w.ma
 keeps says w g = said w.hand w.device.stage w.masked w.interrupting w.packets g
 keeps (acts taken full) w g = acted taken full w.hand w.device.stage w.masked w.interrupting w.packets g
 keeps reports w g = reported w.hand w.device.stage w.device.missed w.masked w.interrupting w.packets g
+keeps forgets w g = forgot w.hand w.device.stage w.masked w.interrupting w.packets g
 keeps opens w g = opened-by w.hand w.device.stage w.device.missed w.masked w.interrupting w.packets g
 keeps stops w g = stopped-by w.hand w.device.stage w.device.missed w.masked w.interrupting w.packets g
 

@@ -118,18 +118,17 @@ after_open d = in_stage (opened_at d.stage) d.missed
 abbrev pub after_stop : DriverDevice → DriverDevice
 after_stop d = in_stage (stopped_at d.stage) d.missed
 
+-- what was to be done at its card was done; a look found packets or none
+abbrev pub did : Chore → Bool → DriverDevice → DriverDevice
+did Mask has_more d = masked d
+did Unmask has_more d = unmasked d
+did Look has_more d = after_look has_more d
+
 -- after a poll, and how the poll ends
 abbrev pub after_driver_poll : Bool → DriverDevice → DriverDevice × Next
 after_driver_poll full d = after_poll_at full (is_stopping d.stage) d.missed
 
 -- ---- words of clauses
-
--- an interrupt asks for a poll, which is granted
-abbrev pub IsGranted : Stage → Type 0
-IsGranted Unmasking = Unit {0}
-IsGranted Looking = Unit {0}
-IsGranted Armed = Unit {0}
-IsGranted _ = ⊥
 
 abbrev pub stage_is_listed : Stage → Bool
 stage_is_listed (Listed stopping) = true

@@ -1,25 +1,28 @@
 -- What a driver holds, and what it says is to be done.
-use Rattle.std.specs.Prelude.{◌≡◌, ◌≤◌, ◌<◌, ◌+◌, ℕ, Bool, true, false, List, [], ◌∷◌, ◌++◌, length, replicate, slice_set, Option}
-use Rattle.std.specs.Prelude.{Some, None, ◌==◌, if◌then◌else◌}
+use Rattle.std.specs.Prelude.{◌≡◌, ◌⊎◌, ◌≤◌, ◌<◌, ◌+◌, ℕ, Bool, true, false, List, [], ◌∷◌, ◌++◌, length, replicate, slice_set, Option}
+use Rattle.std.specs.Prelude.{Some, None, ◌==◌, nat_lt, if◌then◌else◌, slice_index_or}
 use Rattle.std.specs.List.{All}
 use Rattle.poll_runs.specs.{Laws.IsPlainRun, declared.run.RunReport.RunReport}
 use Rattle.driver_core.specs.declared.limits.Limits.{Limits}
 use Rattle.poll_runs.specs.{Driven.IsGoing, Steps.HoldsNothing, Plain.{NothingBehind, OwnPushes, all_held}, Polls.Poll}
 use Rattle.poll_runs.specs.{declared.bench.Next.Next}
-use Rattle.driver_core.specs.declared.device.{DriverDevice.DriverDevice, Stage.{Stage, TheVariants.Closed}}
+use Rattle.driver_core.specs.declared.device.{Chore.Chore, DriverDevice.DriverDevice, Stage.{Stage, TheVariants.Closed}}
 use Rattle.driver_core.specs.declared.device.Chore.TheVariants as chore
-use Rattle.driver_core.specs.{Device.{in_stage, chore_at, stage_is_listed, after_driver_poll, IsAtRest}, Queue.device_at}
-use Rattle.driver_core.specs.{declared.driver.Driver.Driver}
-use Rattle.driver_core.specs.declared.todo.Todo.{Todo, TheVariants.{Mask, Unmask, Look, Fetch, Ended, Sleep}}
+use Rattle.driver_core.specs.{Counts.{counting, no_counts}, declared.counts.PollCounts.PollCounts}
+use Rattle.driver_core.specs.{Device.{in_stage, chore_at, did, stage_is_listed, after_driver_poll, IsAtRest}, Queue.{device_at, following}}
+use Rattle.driver_core.specs.declared.{driver.Driver.Driver, todo.{Todo.Todo, What.{What, TheVariants.{Mask, Unmask, Look, Fetch, Ended, Sleep}}}}
 
 abbrev pub driver_devices : Driver → List DriverDevice
-driver_devices driver = driver.devices.items
+driver_devices driver = driver.devices.all.items
 
 abbrev pub device_of : Driver → ℕ → DriverDevice
 device_of driver id = device_at (driver_devices driver) id
 
 abbrev pub stage_of : Driver → ℕ → Stage
 stage_of driver id = (device_of driver id).stage
+
+abbrev pub counts_of : Driver → ℕ → PollCounts
+counts_of driver id = slice_index_or driver.counts.items id no_counts
 
 -- the devices that are on the poll list and not yet in a run, in order
 abbrev pub list_of : Driver → List ℕ
@@ -36,23 +39,45 @@ is_running driver = driver.runs
 abbrev pub polled_device : Driver → Option ℕ
 polled_device driver = driver.run.asked
 
--- the run, and the limits of runs, are what they were
+-- what was said last of a card, and isn't reported yet
+abbrev pub said_of : Driver → Option (ℕ × Chore)
+said_of driver = driver.said
+
+-- the number of what was said last
+abbrev pub number_of : Driver → ℕ
+number_of driver = driver.number
+
+-- nothing that was said is still to be reported
+abbrev pub IsFree : Driver → Type 0
+IsFree driver = (said_of driver ≡ None) × (polled_device driver ≡ None)
+
+-- ---- what calls change
+
+-- the run, the limits of runs, the counts and the number are what they were
 pub record SameRun (before after : Driver) : Type 0 where
   pub run : after.run ≡ before.run
   pub runs : after.runs ≡ before.runs
   pub limits : after.limits ≡ before.limits
+  pub counts : after.counts ≡ before.counts
+  pub number : after.number ≡ before.number
 
--- this device is so now, and nothing else changed
+-- this device is so now, and nothing else changed, except that what was said last may not be due any more
 pub record PutsDevice (id : ℕ) (to : DriverDevice) (before after : Driver) : Type 0 where
   pub devices : driver_devices after ≡ slice_set (driver_devices before) id to
   pub list : after.list ≡ before.list
   pub same : SameRun before after
+  pub said : (said_of after ≡ said_of before) ⊎ (said_of after ≡ None)
 
 -- the same; if the device is listed now, it is the last on the list
 pub record PutsOnList (id : ℕ) (to : DriverDevice) (before after : Driver) : Type 0 where
   pub devices : driver_devices after ≡ slice_set (driver_devices before) id to
   pub list : after.list ≡ before.list ++ (if stage_is_listed to.stage then id ∷ [] else [])
   pub same : SameRun before after
+  pub free : IsFree after
+
+-- what was to be done at the card of a device was done
+abbrev pub Does : ℕ → Chore → Bool → Driver → Driver → Type 0
+Does id chore has_more before after = PutsOnList id (did chore has_more (device_of before id)) before after
 
 -- the poll of a device that took so many packets, and how it ended
 abbrev pub after_poll_of : ℕ → ℕ → Driver → DriverDevice × Next
@@ -64,8 +89,41 @@ poll_of id packets driver = record { id = id; once = record { work = packets; ne
 -- the poll under way was this one, and its device is what the poll leaves
 pub record Ends (id packets : ℕ) (before after : Driver) : Type 0 where
   pub devices : driver_devices after ≡ slice_set (driver_devices before) id (after_poll_of id packets before).0
-  pub polled : polled_device after ≡ None
+  pub counts : after.counts.items ≡ slice_set before.counts.items id (counting packets (counts_of before id))
   pub limits : after.limits ≡ before.limits
+  pub number : number_of after ≡ number_of before
+  pub free : IsFree after
+
+-- ---- reports
+
+-- the driver waits for a report of so many packets: of a poll, or of what was said of a card
+abbrev pub IsAwaited : ℕ → ℕ → Option (ℕ × Chore) → Option ℕ → Type 0
+IsAwaited packets weight said (Some id) = packets ≤ weight
+IsAwaited packets weight (Some said) None = Unit {0}
+IsAwaited packets weight None None = ⊥
+
+-- a report under this number is due
+abbrev pub IsReport : ℕ → ℕ → Driver → Type 0
+IsReport number packets driver =
+    (number ≡ number_of driver) × IsAwaited packets (limits_of driver).weight (said_of driver) (polled_device driver)
+
+abbrev pub ReportsOf : ℕ → Driver → Driver → Option (ℕ × Chore) → Option ℕ → Type 0
+ReportsOf packets before after said (Some id) = Ends id packets before after
+ReportsOf packets before after (Some said) None = Does said.0 said.1 (nat_lt 0 packets) before after
+ReportsOf packets before after None None = ⊥
+
+-- what was said last was done: a poll that took so many packets, or what was to be done at a card
+abbrev pub Reports : ℕ → Driver → Driver → Type 0
+Reports packets before after = ReportsOf packets before after (said_of before) (polled_device before)
+
+abbrev pub IsNumberedAs : ℕ → ℕ → ℕ → What → Type 0
+IsNumberedAs before after number Sleep = (number ≡ 0) × (after ≡ before)
+IsNumberedAs before after number (Ended report) = (number ≡ 0) × (after ≡ before)
+IsNumberedAs before after number what = (number ≡ after) × (after ≡ following before)
+
+-- what is to be reported has a number of its own, and what isn't has none
+abbrev pub IsNumbered : ℕ → ℕ → Todo → Type 0
+IsNumbered before after todo = IsNumberedAs before after todo.number todo.what
 
 -- nothing is on the list, and no run is under way
 pub record IsIdle (driver : Driver) : Type 0 where
@@ -85,7 +143,7 @@ abbrev pub AreClosed : ℕ → Driver → Type 0
 AreClosed count driver = driver_devices driver ≡ replicate count (in_stage Closed false)
 
 -- what is said to be done is to be done; sleep is said only if each device is at rest, and nothing is on the list
-abbrev pub IsDue : Driver → Todo → Type 0
+abbrev pub IsDue : Driver → What → Type 0
 IsDue driver (Mask id) = (id < length (driver_devices driver)) × (chore_at (stage_of driver id) ≡ Some chore.Mask)
 IsDue driver (Unmask id) = (id < length (driver_devices driver)) × (chore_at (stage_of driver id) ≡ Some chore.Unmask)
 IsDue driver (Look id) = (id < length (driver_devices driver)) × (chore_at (stage_of driver id) ≡ Some chore.Look)

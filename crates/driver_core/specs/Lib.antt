@@ -1,5 +1,6 @@
 pub mod Device
 pub mod Queue
+pub mod Counts
 pub mod Driver
 pub mod Todo
 pub mod World

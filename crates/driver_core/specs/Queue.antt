@@ -1,14 +1,21 @@
--- The poll list and the run over it: they hold each listed device once, and no other one.
-use Rattle.std.specs.Prelude.{◌≡◌, ◌==◌, ℕ, ◌+◌, Bool, false, List, length, slice_index_or, count_by, if◌then◌else◌}
+-- What a driver keeps of its devices: the poll list and the run over it hold each listed device once, and no other one; a bit for
+-- each device at whose card something is to be done; and what was said last.
+use Rattle.std.specs.Prelude.{◌≡◌, ◌<◌, ◌==◌, ℕ, ◌+◌, Bool, false, List, length, slice_index_or, count_by, if◌then◌else◌}
+use Rattle.std.specs.{Prelude.{Option, Some, None, is_some}, Int.bit_at}
 use Rattle.poll_runs.specs.{Driven.held, Turn.asked_for, declared.polling_run.PollingRun.PollingRun}
 use Rattle.driver_core.specs.declared.limits.Limits.{Limits}
-use Rattle.driver_core.specs.{Device.{in_stage, stage_is_listed}, declared.device.{DriverDevice.DriverDevice, Stage.TheVariants.Closed}}
+use Rattle.driver_core.specs.{Device.{in_stage, chore_at, stage_is_listed}}
+use Rattle.driver_core.specs.{declared.device.{Chore.Chore, DriverDevice.DriverDevice, Stage.TheVariants.Closed}}
 
 abbrev pub device_at : List DriverDevice → ℕ → DriverDevice
 device_at devices id = slice_index_or devices id (in_stage Closed false)
 
 abbrev pub listed_at : List DriverDevice → ℕ → Bool
 listed_at devices id = stage_is_listed (device_at devices id).stage
+
+-- bit n is set exactly if something is to be done at the card of device n
+abbrev pub MarksChores : List DriverDevice → ℕ → Type 0
+MarksChores devices bits = (id : ℕ) → id < 64 → bit_at bits id ≡ (if is_some (chore_at (device_at devices id).stage) then 1 else 0)
 
 -- how many devices are listed
 abbrev pub listed_in : List DriverDevice → ℕ
@@ -28,3 +35,13 @@ pub record HasLimits (limits : Limits) (run : PollingRun) : Type 0 where
   pub budget : run.budget ≡ limits.budget
   pub weight : run.weight ≡ limits.weight
   pub window : run.window ≡ limits.window
+
+-- what was said last of a card is still to be done there, and then no device is polled
+pub record IsAsked (devices : List DriverDevice) (polled : Option ℕ) (said : Option (ℕ × Chore)) : Type 0 where
+  pub range : (id : ℕ) (chore : Chore) → said ≡ Some (id, chore) → id < length devices
+  pub chore : (id : ℕ) (chore : Chore) → said ≡ Some (id, chore) → chore_at (device_at devices id).stage ≡ Some chore
+  pub alone : (id : ℕ) (chore : Chore) → said ≡ Some (id, chore) → polled ≡ None
+
+-- the number after this one, which is never 0
+abbrev pub following : ℕ → ℕ
+following number = if number == 18446744073709551615 then 1 else number + 1

@@ -1,5 +1,6 @@
--- A device with its card, the thread that drives it, and packets that arrive. What `Driver::next` says is done in three steps, and
--- between any two of them packets may arrive and the card may interrupt.
+-- A device with its card, the thread that drives it, and packets that arrive. What `Driver::next` says is done in three steps. Between
+-- any two of them packets may arrive, the card may interrupt, the device may be opened and stopped, and the thread may forget what it
+-- was about, done or not, and ask again. A report under a number that isn't due changes nothing, so it is no event.
 use Rattle.std.specs.Prelude.{◌≡◌, ◌⊎◌, ◌||◌, ℕ, ◌+◌, ◌-◌, zero, suc, Bool, true, false, not, List, [], ◌∷◌, if◌then◌else◌}
 use Rattle.driver_core.specs.Device.{in_stage, after_interrupt, after_look, masked, after_open, after_driver_poll, after_stop, unmasked}
 use Rattle.driver_core.specs.declared.device.{DriverDevice.DriverDevice}
@@ -38,6 +39,8 @@ pub data DriverEvent : Type 0 where
   acts : ℕ → Bool → DriverEvent
   -- it is reported
   reports : DriverEvent
+  -- the thread asks again, without a report
+  forgets : DriverEvent
   opens : DriverEvent
   stops : DriverEvent
 
@@ -88,11 +91,6 @@ after_message (saw more) d = after_look more d
 after_message (took full) d = (after_driver_poll full d).0
 after_message hand d = d
 
--- it is opened and stopped between two things that `next` says
-abbrev pub controlled : Hand → (DriverDevice → DriverDevice) → DriverDevice → DriverDevice
-controlled free change d = change d
-controlled hand change d = d
-
 abbrev pub world_step : DriverEvent → World → World
 world_step arrives w = record w { packets = w.packets + 1; interrupting = w.interrupting || not w.masked }
 world_step interrupts w = record w { device = (if w.interrupting then after_interrupt w.device else w.device); interrupting = false }
@@ -103,8 +101,9 @@ world_step (acts taken full) w = record w {
   packets = packets_after taken w.hand w.packets;
 }
 world_step reports w = record w { hand = is_told w.hand; device = after_message w.hand w.device }
-world_step opens w = record w { device = controlled w.hand after_open w.device }
-world_step stops w = record w { device = controlled w.hand after_stop w.device }
+world_step forgets w = record w { hand = free }
+world_step opens w = record w { device = after_open w.device }
+world_step stops w = record w { device = after_stop w.device }
 
 abbrev pub world_after : List DriverEvent → World → World
 world_after [] w = w

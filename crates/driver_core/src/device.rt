@@ -2,7 +2,7 @@
 
 ghost use Rattle.std.specs.Prelude.{◌≡◌};
 
-use napi_model::Kind;
+use napi_model::{Kind, Prep};
 use poll_runs::Next;
 
 /// The stage of a device: the state of its instance (`struct napi_struct`), and whether the interrupt of its card is masked.
@@ -47,7 +47,9 @@ pub struct DriverDevice {
 
 impl DriverDevice {
     ghost use Rattle.std.specs.Prelude.{◌≡◌, ◌↔◌, IsTrue, true};
-    ghost use Rattle.driver_core.specs.Device.{in_stage, chore_at, completed_at, after_interrupt, stage_is_listed, after_look, masked, after_open, after_driver_poll, after_stop, unmasked, IsGranted, IsMasking, MayStop};
+    ghost use Rattle.driver_core.specs.Device.{in_stage, chore_at, completed_at, did, after_interrupt, stage_is_listed, after_look, masked, after_open, after_driver_poll, after_stop, unmasked, is_stopping, MayStop};
+    ghost use Rattle.driver_core.specs.Steps.{stage_is_scheduled, napi_of};
+    ghost use Rattle.napi_model.specs.Step.{schedule_reply};
 
     /// A new device is closed.
     pub const NEW: DriverDevice = DriverDevice {
@@ -81,13 +83,6 @@ impl DriverDevice {
         matches!(&self.stage, Stage::Listed(_))
     }
 
-    // Whether its card is to be masked.
-    pub(crate) fn is_masking(self) -> bool
-        ensures { IsTrue result ↔ IsMasking self.stage }
-    {
-        matches!(&self.stage, Stage::Masking(_) | Stage::Closing)
-    }
-
     // Whether it isn't closed or being stopped.
     pub(crate) fn may_stop(self) -> bool
         ensures { IsTrue result ↔ MayStop self.stage }
@@ -99,13 +94,34 @@ impl DriverDevice {
         }
     }
 
-    // Whether an interrupt of its card asks for a poll that is granted.
-    pub(crate) fn is_granted(self) -> bool
-        ensures { IsTrue result ↔ IsGranted self.stage }
+    // The reply to an interrupt of its card.
+    pub(crate) fn reply(self) -> Prep
+        ensures { result ≡ schedule_reply (napi_of self) }
+    {
+        match self.stage {
+            Stage::Closed | Stage::Masking(false) | Stage::Listed(false) => Prep::Missed,
+            Stage::Masking(true) | Stage::Listed(true) | Stage::Closing => Prep::Disabled,
+            Stage::Unmasking | Stage::Looking | Stage::Armed => Prep::Granted,
+        }
+    }
+
+    /// Whether a poll was requested and isn't completed (`NAPI_STATE_SCHED`); a closed device counts too, as in the kernel.
+    pub fn is_scheduled(self) -> bool
+        ensures { result ≡ stage_is_scheduled self.stage }
     {
         matches!(
             &self.stage,
-            Stage::Unmasking | Stage::Looking | Stage::Armed
+            Stage::Closed | Stage::Masking(_) | Stage::Listed(_)
+        )
+    }
+
+    /// Whether it is being stopped (`NAPI_STATE_DISABLE`).
+    pub fn is_stopping(self) -> bool
+        ensures { result ≡ is_stopping self.stage }
+    {
+        matches!(
+            &self.stage,
+            Stage::Closing | Stage::Masking(true) | Stage::Listed(true)
         )
     }
 
@@ -124,7 +140,7 @@ impl DriverDevice {
     }
 
     // After its card was masked.
-    pub(crate) fn masked(self) -> DriverDevice
+    fn masked(self) -> DriverDevice
         ensures { result ≡ masked self }
     {
         match self.stage {
@@ -135,7 +151,7 @@ impl DriverDevice {
     }
 
     // After its card was unmasked.
-    pub(crate) fn unmasked(self) -> DriverDevice
+    fn unmasked(self) -> DriverDevice
         ensures { result ≡ unmasked self }
     {
         if self.stage == Stage::Unmasking {
@@ -145,7 +161,7 @@ impl DriverDevice {
     }
 
     // After its card was looked at, and had packets or none.
-    pub(crate) fn looked(self, has_more: bool) -> DriverDevice
+    fn looked(self, has_more: bool) -> DriverDevice
         ensures { result ≡ after_look has_more self }
     {
         if self.stage != Stage::Looking {
@@ -156,6 +172,17 @@ impl DriverDevice {
         } else {
             Stage::Armed
         })
+    }
+
+    // After what was to be done at its card was done; a look found packets or none.
+    pub(crate) fn did(self, chore: Chore, has_more: bool) -> DriverDevice
+        ensures { result ≡ did chore has_more self }
+    {
+        match chore {
+            Chore::Mask => self.masked(),
+            Chore::Unmask => self.unmasked(),
+            Chore::Look => self.looked(has_more),
+        }
     }
 
     // After its instance was completed, and how that ends the poll.

@@ -1,46 +1,60 @@
 //! The driver of up to 64 devices.
 
 ghost use Rattle.std.specs.Prelude.{◌≡◌, ◌≤◌, ◌<◌, false, true, length, IfOk, replicate};
-ghost use Rattle.driver_core.specs.Device.{in_stage};
-ghost use Rattle.driver_core.specs.declared.device.Stage.TheVariants.{Closed};
 ghost use Rattle.poll_runs.specs.Steps.{HoldsNothing};
-ghost use Rattle.driver_core.specs.Queue.{HasLimits, IsQueue};
+ghost use Rattle.driver_core.specs.Counts.{no_counts};
+ghost use Rattle.driver_core.specs.Queue.{HasLimits, IsAsked, IsQueue};
 
-use crate::device::{DriverDevice, Stage};
+use crate::counts::PollCounts;
+use crate::device::{Chore, DriverDevice, Stage};
+use crate::devices::Devices;
 use crate::limits::Limits;
-use crate::todo::{NotDue, Todo, first_chore, todo_of};
+use crate::said::{following, still_due};
+use crate::todo::{NotDue, Refused, Todo, What, what_of};
+use napi_model::Prep;
 use poll_runs::{Once, PlainList, PollList, PollingRun};
 use std::alloc::{AllocError, Global};
 
 /// The driver of up to 64 devices, for one thread: the instances, the poll list and the runs over it. It does no input or output:
-/// [`next`](Driver::next) says what is to be done, and the other calls report what happened.
+/// [`next`](Driver::next) says what is to be done, [`done`](Driver::done) reports that it was done, and the other calls report what
+/// else happened.
 #[derive(Drop)]
 pub struct Driver {
-    devices: Vec<DriverDevice>,
+    devices: Devices,
+    counts: Vec<PollCounts>,
     list: PlainList,
     run: PollingRun,
     runs: bool,
     limits: Limits,
-    ghost few: { length devices.items ≤ 64 },
-    ghost queue: { IsQueue devices.items list run },
+    // What `next` said last of a card, if it is still to be reported. A fetch is kept in the run.
+    said: Option<(u32, Chore)>,
+    // The number of what `next` said last.
+    number: u64,
+    ghost counted: { length counts.items ≡ length devices.all.items },
+    ghost queue: { IsQueue devices.all.items list run },
     ghost idle: { runs ≡ false → HoldsNothing run },
     ghost pace: { runs ≡ true → HasLimits limits run },
+    ghost asks: { IsAsked devices.all.items run.asked said },
+    ghost numbers: { 1 ≤ number },
 }
 
-// So many closed devices.
-fn new_devices(alloc: Global, count: usize) -> Result<Vec<DriverDevice>, AllocError>
-    ensures { IfOk result (λ devices. devices.items ≡ replicate count (in_stage Closed false)) }
+// The counts of so many devices.
+fn new_counts(alloc: Global, devices: usize) -> Result<Vec<PollCounts>, AllocError>
+    ensures { IfOk result (λ counts. counts.items ≡ replicate devices no_counts) }
 {
-    Ok(vec![in alloc; DriverDevice::NEW; count]?)
+    Ok(vec![in alloc; PollCounts::NONE; devices]?)
 }
 
 impl Driver {
-    ghost use Rattle.std.specs.Prelude.{◌↔◌, ◌∷◌, ◌++◌, None, Some, List, [], IsOk, IsTrue, OnOk, OnErr, slice_set};
-    ghost use Rattle.driver_core.specs.declared.todo.Todo.{Todo};
+    ghost use Rattle.std.specs.Prelude.{◌↔◌, ◌≢◌, ◌∷◌, ◌++◌, None, Some, List, [], IsOk, IsSome, IfErr, IfNone, IfSome, OnOk, OnErr};
     ghost use Rattle.poll_runs.specs.Polls.{Poll};
-    ghost use Rattle.driver_core.specs.declared.device.Stage.TheVariants.{Looking, Unmasking};
-    ghost use Rattle.driver_core.specs.Device.{after_interrupt, after_look, masked, after_open, after_driver_poll, after_stop, unmasked, IsGranted, IsMasking, MayStop};
-    ghost use Rattle.driver_core.specs.Driver.{device_of, driver_devices, polled_device, poll_of, stage_of, is_running, limits_of, list_of, AreClosed, Ends, PutsOnList, IsDue, IsDriverReport, IsIdle, IsRunning, PutsDevice};
+    ghost use Rattle.napi_model.specs.Step.{schedule_reply};
+    ghost use Rattle.driver_core.specs.declared.todo.{Refused.TheVariants.{TooMany}, What.TheVariants.{Ended}};
+    ghost use Rattle.driver_core.specs.declared.device.Stage.TheVariants.{Closed};
+    ghost use Rattle.driver_core.specs.Counts.{counting};
+    ghost use Rattle.driver_core.specs.Device.{chore_at, after_interrupt, stage_is_listed, after_open, after_stop, MayStop};
+    ghost use Rattle.driver_core.specs.Steps.{napi_of};
+    ghost use Rattle.driver_core.specs.Driver.{counts_of, device_of, driver_devices, number_of, polled_device, poll_of, said_of, stage_of, is_running, limits_of, list_of, AreClosed, Ends, Does, IsDue, IsDriverReport, IsFree, IsIdle, IsNumbered, IsReport, IsRunning, PutsDevice, Reports};
 
     /// Creates a driver of so many devices, at most 64, all closed.
     pub fn new(alloc: Global, devices: u32, limits: Limits) -> Result<Driver, AllocError>
@@ -49,13 +63,17 @@ impl Driver {
         ensures idle { IfOk result (λ driver. IsIdle driver) }
         ensures limits { IfOk result (λ driver. limits_of driver ≡ limits) }
     {
-        let closed = new_devices(alloc, devices as usize)?;
+        let closed = Devices::new(alloc, devices)?;
+        let counts = new_counts(alloc, devices as usize)?;
         Ok(Driver {
             devices: closed,
+            counts,
             list: PlainList::new(),
             run: PollingRun::idle(),
             runs: false,
             limits,
+            said: None,
+            number: 1,
         })
     }
 
@@ -64,7 +82,7 @@ impl Driver {
         ensures len { result ≡ length (driver_devices self.now) }
         ensures few { result ≤ 64 }
     {
-        self.devices.len()
+        self.devices.all.len()
     }
 
     /// A device, by its number.
@@ -72,82 +90,41 @@ impl Driver {
         requires { device < length (driver_devices self.now) }
         ensures { result ≡ device_of self.now device }
     {
-        self.devices[device as usize]
+        self.devices.get(device)
     }
 
-    /// The interrupt of a card (`napi_schedule_prep`). Returns whether the card is to be masked now; after
-    /// masking it, call [`masked`](Driver::masked).
-    #[tactic(auto, using(crate::proofs::QueueFacts::put_same))]
-    pub fn interrupt(&mut self, device: u32) -> bool
+    /// The counts of a device's polls.
+    pub fn counts(&self, device: u32) -> PollCounts
+        requires { device < length (driver_devices self.now) }
+        ensures { result ≡ counts_of self.now device }
+    {
+        self.counts[device as usize]
+    }
+
+    // A device is so now. What was said of it and isn't due any more is forgotten.
+    fn put(&mut self, device: u32, to: DriverDevice)
+        requires range { device < length (driver_devices self.old) }
+        requires listed { stage_is_listed to.stage ≡ stage_is_listed (stage_of self.old device) }
+        ensures { PutsDevice device to self.old self.new }
+    {
+        self.devices.put(device, to);
+        self.said = still_due(self.said, device, to);
+    }
+
+    /// Reports an interrupt of a card (`napi_schedule_prep`), at any time. If a poll is granted, [`next`](Driver::next) says what
+    /// to do, first to mask the card.
+    pub fn interrupt(&mut self, device: u32) -> Prep
         requires { device < length (driver_devices self.old) }
-        ensures mask { IsTrue result ↔ IsGranted (stage_of self.old device) }
+        ensures reply { result ≡ schedule_reply (napi_of (device_of self.old device)) }
         ensures puts { PutsDevice device (after_interrupt (device_of self.old device)) self.old
             self.new }
     {
-        let before = self.devices[device as usize];
-        self.devices[device as usize] = before.interrupted();
-        before.is_granted()
-    }
-
-    /// Reports that the card was masked, as [`Todo::Mask`] or [`interrupt`](Driver::interrupt) said. A device whose poll was
-    /// granted goes onto the poll list (`____napi_schedule`), and one that was stopped is closed.
-    #[tactic(auto, using(crate::proofs::QueueFacts::put_same, crate::proofs::QueueFacts::put_new, crate::proofs::QueueFacts::room))]
-    pub fn masked(&mut self, device: u32) -> Result<(), NotDue>
-        requires { device < length (driver_devices self.old) }
-        ensures when { IsOk result ↔ IsMasking (stage_of self.old device) }
-        ensures ok { OnOk result (PutsOnList device (masked (device_of self.old device))
-            self.old self.new) }
-        ensures err { OnErr result (self.new ≡ self.old) }
-    {
-        let before = self.devices[device as usize];
-        if !before.is_masking() {
-            return Err(NotDue);
-        }
-        let after = before.masked();
-        self.devices[device as usize] = after;
-        if after.is_listed() {
-            self.list.push(device);
-        }
-        Ok(())
-    }
-
-    /// Reports that the card was unmasked, as [`Todo::Unmask`] said.
-    #[tactic(auto, using(crate::proofs::QueueFacts::put_same))]
-    pub fn unmasked(&mut self, device: u32) -> Result<(), NotDue>
-        requires { device < length (driver_devices self.old) }
-        ensures when { IsOk result ↔ (stage_of self.old device ≡ Unmasking) }
-        ensures ok { OnOk result (PutsDevice device (unmasked (device_of self.old device))
-            self.old self.new) }
-        ensures err { OnErr result (self.new ≡ self.old) }
-    {
-        let before = self.devices[device as usize];
-        if before.stage != Stage::Unmasking {
-            return Err(NotDue);
-        }
-        self.devices[device as usize] = before.unmasked();
-        Ok(())
-    }
-
-    /// Reports whether the card has packets, as [`Todo::Look`] asked.
-    #[tactic(auto, using(crate::proofs::QueueFacts::put_same))]
-    pub fn looked(&mut self, device: u32, has_more: bool) -> Result<(), NotDue>
-        requires { device < length (driver_devices self.old) }
-        ensures when { IsOk result ↔ (stage_of self.old device ≡ Looking) }
-        ensures ok { OnOk result
-            (PutsDevice device (after_look has_more (device_of self.old device)) self.old
-            self.new) }
-        ensures err { OnErr result (self.new ≡ self.old) }
-    {
-        let before = self.devices[device as usize];
-        if before.stage != Stage::Looking {
-            return Err(NotDue);
-        }
-        self.devices[device as usize] = before.looked(has_more);
-        Ok(())
+        let before = self.devices.get(device);
+        self.put(device, before.interrupted());
+        before.reply()
     }
 
     /// Opens a device that is closed (`napi_enable`).
-    #[tactic(auto, using(crate::proofs::QueueFacts::put_same))]
     pub fn open(&mut self, device: u32) -> Result<(), NotDue>
         requires { device < length (driver_devices self.old) }
         ensures when { IsOk result ↔ (stage_of self.old device ≡ Closed) }
@@ -155,17 +132,16 @@ impl Driver {
             self.old self.new) }
         ensures err { OnErr result (self.new ≡ self.old) }
     {
-        let before = self.devices[device as usize];
+        let before = self.devices.get(device);
         if before.stage != Stage::Closed {
             return Err(NotDue);
         }
-        self.devices[device as usize] = before.opened();
+        self.put(device, before.opened());
         Ok(())
     }
 
     /// Stops a device that is open (`napi_disable`). It is closed once its card is masked, and the polls that were requested are
     /// made.
-    #[tactic(auto, using(crate::proofs::QueueFacts::put_same))]
     pub fn stop(&mut self, device: u32) -> Result<(), NotDue>
         requires { device < length (driver_devices self.old) }
         ensures when { IsOk result ↔ MayStop (stage_of self.old device) }
@@ -173,48 +149,98 @@ impl Driver {
             self.old self.new) }
         ensures err { OnErr result (self.new ≡ self.old) }
     {
-        let before = self.devices[device as usize];
+        let before = self.devices.get(device);
         if !before.may_stop() {
             return Err(NotDue);
         }
-        self.devices[device as usize] = before.stopped();
+        self.put(device, before.stopped());
         Ok(())
     }
 
-    /// Reports how many packets were taken from the card, as [`Todo::Fetch`] said. It ends the poll (`__napi_poll`,
-    /// `napi_complete_done`).
-    #[tactic(auto, using(crate::proofs::QueueFacts::polled_keeps, crate::proofs::QueueFacts::polled_listed, crate::proofs::QueueFacts::asked_is_listed, crate::proofs::QueueFacts::asked_in_range))]
-    pub fn fetched(&mut self, device: u32, packets: u32) -> Result<(), NotDue>
-        requires { device < length (driver_devices self.old) }
-        ensures when { IsOk result
-            ↔ (polled_device self.old ≡ Some device) × (packets ≤ (limits_of self.old).weight) }
-        ensures ok { OnOk result (Ends device packets self.old self.new) }
-        ensures going { (start : List _) (polls : List Poll) → IsRunning start polls self.old
-            → OnOk result
-            (IsRunning start (polls ++ poll_of device packets self.old ∷ []) self.new) }
-        ensures err { OnErr result (self.new ≡ self.old) }
+    // What was to be done at the card of a device was done. A device that was masked goes onto the poll list if its poll was
+    // granted (`____napi_schedule`), and is closed if it was stopped.
+    #[tactic(auto, using(crate::proofs::QueueFacts::put_same, crate::proofs::QueueFacts::put_new, crate::proofs::QueueFacts::room))]
+    fn did(&mut self, device: u32, chore: Chore, has_more: bool)
+        requires range { device < length (driver_devices self.old) }
+        requires chore { chore_at (stage_of self.old device) ≡ Some chore }
+        requires free { IsFree self.old }
+        ensures { Does device chore has_more self.old self.new }
     {
-        if self.run.asked() != Some(device) || packets > self.limits.weight {
-            return Err(NotDue);
+        let after = self.devices.get(device).did(chore, has_more);
+        self.devices.put(device, after);
+        if after.is_listed() {
+            self.list.push(device);
         }
-        let before = self.devices[device as usize];
+    }
+
+    // So many packets were taken from the card of the device that is polled, which ends the poll (`__napi_poll`,
+    // `napi_complete_done`).
+    #[tactic(auto, using(crate::proofs::QueueFacts::asked_alone))]
+    fn fetched(&mut self, device: u32, packets: u32)
+        requires range { device < length (driver_devices self.old) }
+        requires listed { stage_is_listed (stage_of self.old device) ≡ true }
+        requires polled { polled_device self.old ≡ Some device }
+        requires most { packets ≤ (limits_of self.old).weight }
+        ensures ends { Ends device packets self.old self.new }
+        ensures going { (start : List _) (polls : List Poll) → IsRunning start polls self.old
+            → IsRunning start (polls ++ poll_of device packets self.old ∷ []) self.new }
+    {
+        let before = self.devices.get(device);
         let (after, next) = before.polled(packets == self.limits.weight);
-        self.devices[device as usize] = after;
+        self.devices.put(device, after);
+        let counts = self.counts[device as usize];
+        self.counts[device as usize] = counts.and(packets);
         let once = Once {
             work: packets,
             next,
         };
         self.run.polled(&mut self.list, once);
+    }
+
+    /// Reports that what `next` said under this number was done. After a look `packets` are those that the card has, or 1 if it
+    /// has any; after a fetch they are those that were taken, which ends the poll (`__napi_poll`, `napi_complete_done`). Fails
+    /// if the driver doesn't wait for this report any more, or if a fetch took more packets than it was to.
+    #[tactic(auto, using(crate::proofs::QueueFacts::asked_is_listed, crate::proofs::QueueFacts::asked_in_range))]
+    pub fn done(&mut self, number: u64, packets: u32) -> Result<(), Refused>
+        ensures when { IsOk result ↔ IsReport number packets self.old }
+        ensures ok { OnOk result (Reports packets self.old self.new) }
+        ensures free { OnOk result (IsFree self.new) }
+        ensures len { length (driver_devices self.new) ≡ length (driver_devices self.old) }
+        ensures going { (start : List _) (polls : List Poll) (id : _)
+            → polled_device self.old ≡ Some id
+            → IsRunning start polls self.old → OnOk result
+            (IsRunning start (polls ++ poll_of id packets self.old ∷ []) self.new) }
+        ensures err { OnErr result (self.new ≡ self.old) }
+        ensures many { IfErr result (λ why. (why ≡ TooMany)
+            ↔ ((number ≡ number_of self.old) × IsSome (polled_device self.old))) }
+    {
+        if number != self.number {
+            return Err(Refused::NotDue);
+        }
+        if let Some(device) = self.run.asked() {
+            if packets > self.limits.weight {
+                return Err(Refused::TooMany);
+            }
+            self.fetched(device, packets);
+            return Ok(());
+        }
+        let Some((device, chore)) = self.said else {
+            return Err(Refused::NotDue);
+        };
+        self.said = None;
+        self.did(device, chore, packets > 0);
         Ok(())
     }
 
     // Begins a run, if none is under way.
     #[tactic(auto, using(crate::proofs::QueueFacts::begin_keeps))]
     fn begin(&mut self)
-        requires rests { polled_device self.old ≡ None }
+        requires free { IsFree self.old }
         ensures devices { self.new.devices ≡ self.old.devices }
-        ensures rests { polled_device self.new ≡ None }
+        ensures counts { self.new.counts ≡ self.old.counts }
+        ensures free { IsFree self.new }
         ensures limits { self.new.limits ≡ self.old.limits }
+        ensures number { number_of self.new ≡ number_of self.old }
         ensures runs { is_running self.new ≡ true }
         ensures going { (start : List _) (polls : List Poll) → IsRunning start polls self.old
             → IsRunning start polls self.new }
@@ -235,31 +261,71 @@ impl Driver {
     // The next poll of the run, or its end.
     #[tactic(auto, using(crate::proofs::QueueFacts::next_keeps, crate::proofs::QueueFacts::finish_keeps, crate::proofs::QueueFacts::asked_is_listed, crate::proofs::QueueFacts::asked_in_range))]
     fn advance(&mut self) -> Todo
-        requires rests { polled_device self.old ≡ None }
+        requires free { IsFree self.old }
         requires runs { is_running self.old ≡ true }
-        ensures due { IsDue self.new result }
+        ensures due { IsDue self.new result.what }
+        ensures number { IsNumbered (number_of self.old) (number_of self.new) result }
         ensures devices { self.new.devices ≡ self.old.devices }
+        ensures counts { self.new.counts ≡ self.old.counts }
         ensures limits { self.new.limits ≡ self.old.limits }
         ensures going { (start : List _) (polls : List Poll) → IsRunning start polls self.old
             → is_running self.new ≡ true → IsRunning start polls self.new }
         ensures ended { (start : List _) (polls : List Poll) (report : _)
-            → result ≡ Todo.Ended report → IsRunning start polls self.old
+            → result.what ≡ Ended report → IsRunning start polls self.old
             → IsDriverReport (limits_of self.old) start polls self.new report }
     {
         match self.run.next(&mut self.list) {
-            Some(device) => Todo::Fetch(device, self.limits.weight),
+            Some(device) => {
+                self.number = following(self.number);
+                self.todo(What::Fetch(device, self.limits.weight))
+            }
             None => {
                 self.runs = false;
-                Todo::Ended(self.run.finish(&mut self.list))
+                Todo {
+                    number: 0,
+                    what: What::Ended(self.run.finish(&mut self.list)),
+                }
             }
         }
     }
 
-    /// Returns what is to be done next. It returns the same until that is reported, or something else happens.
-    #[tactic(auto, using(crate::proofs::QueueFacts::all_rest, crate::proofs::QueueFacts::asked_is_listed, crate::proofs::QueueFacts::asked_in_range))]
+    // This, under the number of what was said last.
+    fn todo(&self, what: What) -> Todo
+        ensures number { result.number ≡ number_of self.now }
+        ensures what { result.what ≡ what }
+    {
+        Todo {
+            number: self.number,
+            what,
+        }
+    }
+
+    // What was said last and is still to be reported.
+    #[tactic(auto, using(crate::proofs::QueueFacts::asked_is_listed, crate::proofs::QueueFacts::asked_in_range))]
+    fn last(&self) -> Option<Todo>
+        ensures none { IfNone result (IsFree self.now) }
+        ensures due { IfSome result (λ todo. IsDue self.now todo.what) }
+        ensures number { IfSome result (λ todo. todo.number ≡ number_of self.now) }
+        ensures free { IfSome result (λ _. ¬ IsFree self.now) }
+        ensures more { IfSome result (λ todo. (report : _) → todo.what ≢ Ended report) }
+    {
+        if let Some(device) = self.run.asked() {
+            return Some(self.todo(What::Fetch(device, self.limits.weight)));
+        }
+        let (device, chore) = self.said?;
+        Some(self.todo(what_of(device, chore)))
+    }
+
+    /// Returns what is to be done next. It returns the same, with the same number, until that is reported, or isn't due any more.
+    #[tactic(auto, using(crate::proofs::QueueFacts::all_rest))]
     pub fn next(&mut self) -> Todo
-        ensures due { IsDue self.new result }
+        ensures due { IsDue self.new result.what }
+        ensures number { IsFree self.old
+            → IsNumbered (number_of self.old) (number_of self.new) result }
+        ensures again { ¬ IsFree self.old
+            → (self.new ≡ self.old) × (result.number ≡ number_of self.old) }
         ensures devices { driver_devices self.new ≡ driver_devices self.old }
+        ensures counts { self.new.counts ≡ self.old.counts }
         ensures limits { limits_of self.new ≡ limits_of self.old }
 
         // The runs are polling runs over the list, as long as no device is put on it meanwhile.
@@ -268,19 +334,24 @@ impl Driver {
         ensures going { (start : List _) (polls : List Poll) → IsRunning start polls self.old
             → is_running self.new ≡ true → IsRunning start polls self.new }
         ensures ended { (start : List _) (polls : List Poll) (report : _)
-            → result ≡ Todo.Ended report → IsRunning start polls self.old
+            → result.what ≡ Ended report → IsRunning start polls self.old
             → IsDriverReport (limits_of self.old) start polls self.new report }
-        ensures whole { (report : _) → result ≡ Todo.Ended report → is_running self.old ≡ false
+        ensures whole { (report : _) → result.what ≡ Ended report → is_running self.old ≡ false
             → IsDriverReport (limits_of self.old) (list_of self.old) [] self.new report }
     {
-        if let Some(device) = self.run.asked() {
-            return Todo::Fetch(device, self.limits.weight);
+        if let Some(todo) = self.last() {
+            return todo;
         }
-        if let Some((device, chore)) = first_chore(&self.devices) {
-            return todo_of(device, chore);
+        if let Some((device, chore)) = self.devices.first_chore() {
+            self.said = Some((device, chore));
+            self.number = following(self.number);
+            return self.todo(what_of(device, chore));
         }
         if !self.runs && self.list.ids().is_empty() {
-            return Todo::Sleep;
+            return Todo {
+                number: 0,
+                what: What::Sleep,
+            };
         }
         self.begin();
         self.advance()

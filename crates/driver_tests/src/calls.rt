@@ -1,6 +1,7 @@
 //! Each call once, by hand.
 
-use driver_core::{Driver, DriverDevice, Limits, NotDue, Stage, Todo};
+use driver_core::{Driver, DriverDevice, Limits, NotDue, PollCounts, Refused, Stage, Todo, What};
+use napi_model::Prep;
 use std::test::Fail;
 
 const LIMITS: Limits = Limits {
@@ -15,19 +16,39 @@ fn one_device(rt: HostRuntime) -> Result<(), Fail> {
     let mut driver = Driver::new(rt.alloc(), 2, LIMITS)?;
     assert_eq!(rt; driver.len(), 2);
     assert_eq!(rt; driver.device(1), DriverDevice::NEW);
-    assert_eq!(rt; driver.next(), Todo::Sleep);
-    assert!(rt; !driver.interrupt(1), "it is closed");
+    assert_eq!(rt; driver.next().what, What::Sleep);
+    assert_eq!(rt; driver.interrupt(1), Prep::Missed);
     assert_eq!(rt; driver.open(1), Ok(()));
     assert_eq!(rt; driver.open(1), Err(NotDue));
-    assert_eq!(rt; driver.next(), Todo::Unmask(1));
-    assert_eq!(rt; driver.looked(1, false), Err(NotDue));
-    assert_eq!(rt; driver.unmasked(1), Ok(()));
-    assert_eq!(rt; driver.next(), Todo::Look(1));
-    assert_eq!(rt; driver.looked(1, true), Ok(()));
-    assert_eq!(rt; driver.next(), Todo::Mask(1));
-    assert_eq!(rt; driver.masked(1), Ok(()));
-    assert_eq!(rt; driver.next(), Todo::Fetch(1, 64));
-    assert_eq!(rt; driver.fetched(1, 65), Err(NotDue));
-    assert_eq!(rt; driver.fetched(1, 64), Ok(()));
+    let unmask = driver.next();
+    assert_eq!(rt; unmask.what, What::Unmask(1));
+    assert_eq!(rt; driver.next(), unmask);
+    assert_eq!(rt;
+        driver.done(unmask.number.wrapping_add(1), 0),
+        Err(Refused::NotDue)
+    );
+    assert_eq!(rt; driver.done(unmask.number, 0), Ok(()));
+    assert_eq!(rt; driver.done(unmask.number, 0), Err(Refused::NotDue));
+    let look = driver.next();
+    assert_eq!(rt; look.what, What::Look(1));
+    assert_eq!(rt; driver.done(look.number, 1), Ok(()));
+    let mask = driver.next();
+    assert_eq!(rt; mask.what, What::Mask(1));
+    assert_eq!(rt; driver.done(mask.number, 0), Ok(()));
+    let fetch = driver.next();
+    assert_eq!(rt; fetch.what, What::Fetch(1, 64));
+    assert_eq!(rt; driver.done(fetch.number, 65), Err(Refused::TooMany));
+    assert_eq!(rt; driver.done(fetch.number, 64), Ok(()));
+    assert_eq!(rt;
+        driver.counts(1),
+        PollCounts {
+            polls: 1,
+            packets: 64
+        }
+    );
+    assert!(rt; driver.device(1).is_scheduled() && !driver.device(1).is_stopping());
+    assert_eq!(rt; driver.stop(1), Ok(()));
+    assert_eq!(rt; driver.interrupt(1), Prep::Disabled);
+    assert_eq!(rt; driver.device(1).stage, Stage::Listed(true));
     Ok(())
 }

@@ -3,7 +3,7 @@
 ghost use Rattle.std.specs.Prelude.{◌≡◌, length, IfOk};
 ghost use Rattle.driver_core.specs.Driver.{driver_devices};
 
-use driver_core::{Driver, DriverDevice, Limits, Stage, Todo};
+use driver_core::{Driver, DriverDevice, Limits, Stage, What};
 use std::alloc::{AllocError, Global};
 
 /// A card that interrupts when a packet arrives, and loses that interrupt while it is masked.
@@ -42,7 +42,7 @@ pub enum Hand {
     Took(u32),
 }
 
-/// One step of the card, of the thread, or an open or stop of the device.
+/// One step of the card, of the thread, or an open or stop of the device. Each may come between any two others.
 #[derive(Clone, Copy, PartialEq, Eq, Debug)]
 pub enum DriverStep {
     /// A packet arrives at the card.
@@ -55,6 +55,8 @@ pub enum DriverStep {
     Act,
     /// The thread reports that it is done.
     Report,
+    /// The thread forgets what it was about, done or not, and asks again.
+    Forget,
     /// The device is opened.
     Open,
     /// The device is stopped.
@@ -62,12 +64,13 @@ pub enum DriverStep {
 }
 
 /// Each step.
-pub const STEPS: [DriverStep; 7] = [
+pub const STEPS: [DriverStep; 8] = [
     DriverStep::Arrive,
     DriverStep::Interrupt,
     DriverStep::Say,
     DriverStep::Act,
     DriverStep::Report,
+    DriverStep::Forget,
     DriverStep::Open,
     DriverStep::Stop,
 ];
@@ -112,6 +115,9 @@ pub struct DriverBench {
     pub card: TestCard,
     /// What its thread is about.
     pub hand: Hand,
+    // The number of that, and an older one.
+    number: u64,
+    old: u64,
     /// How often the device may still be stopped.
     pub stops: u32,
     /// The packets that were taken from the card.
@@ -141,6 +147,8 @@ impl DriverBench {
                 interrupting: false,
             },
             hand: Hand::Free,
+            number: 0,
+            old: 0,
             stops,
             taken: 0,
             run: None,
@@ -172,13 +180,18 @@ impl DriverBench {
         if self.hand != Hand::Free || self.sleeps {
             return false;
         }
-        match self.driver.next() {
-            Todo::Sleep => self.sleeps = true,
-            Todo::Ended(_) => self.run = None,
-            Todo::Mask(_) => self.hand = Hand::ToMask,
-            Todo::Unmask(_) => self.hand = Hand::ToUnmask,
-            Todo::Look(_) => self.hand = Hand::ToLook,
-            Todo::Fetch(_, most) => {
+        let todo = self.driver.next();
+        if todo.number != self.number {
+            self.old = self.number;
+            self.number = todo.number;
+        }
+        match todo.what {
+            What::Sleep => self.sleeps = true,
+            What::Ended(_) => self.run = None,
+            What::Mask(_) => self.hand = Hand::ToMask,
+            What::Unmask(_) => self.hand = Hand::ToUnmask,
+            What::Look(_) => self.hand = Hand::ToLook,
+            What::Fetch(_, most) => {
                 self.hand = Hand::ToFetch(most);
                 self.run = self.run.or(Some(RunSoFar::NONE));
             }
@@ -208,34 +221,53 @@ impl DriverBench {
     }
 
     fn report(&mut self) -> bool {
-        let driver = &mut self.driver;
-        // An interrupt may have come between what was said and this report, which isn't due then.
-        let _ = match self.hand {
-            Hand::Masked => driver.masked(0),
-            Hand::Unmasked => driver.unmasked(0),
-            Hand::Saw(has_more) => driver.looked(0, has_more),
+        let packets = match self.hand {
+            Hand::Masked | Hand::Unmasked => 0,
+            Hand::Saw(has_more) => u32::from(has_more),
             Hand::Took(taken) => {
-                let stays = driver.device(0).stage == Stage::Listed(false) && taken == self.weight;
-                self.taken = self.taken.saturating_add(taken);
-                if let Some(run) = &mut self.run {
-                    run.polls = run.polls.saturating_add(1);
-                    run.packets = run.packets.saturating_add(taken);
-                    run.repolled |= stays;
-                }
-                driver.fetched(0, taken)
+                self.count(taken);
+                taken
             }
             _ => return false,
         };
+        // It may not be due any more.
+        let _ = self.driver.done(self.number, packets);
         self.hand = Hand::Free;
         true
     }
 
+    // Counts a poll that is reported.
+    fn count(&mut self, taken: u32) {
+        let stays = self.driver.device(0).stage == Stage::Listed(false) && taken == self.weight;
+        self.taken = self.taken.saturating_add(taken);
+        if let Some(run) = &mut self.run {
+            run.polls = run.polls.saturating_add(1);
+            run.packets = run.packets.saturating_add(taken);
+            run.repolled |= stays;
+        }
+    }
+
+    fn forget(&mut self) -> bool {
+        let is_free = self.hand == Hand::Free;
+        self.hand = Hand::Free;
+        !is_free
+    }
+
+    /// Reports under a number that isn't due any more, if there is one. Returns whether that was refused and changed nothing.
+    pub fn refuses_old(&mut self) -> bool {
+        if self.old == 0 || self.old == self.number {
+            return true;
+        }
+        let before = self.driver.device(0);
+        self.driver.done(self.old, 1).is_err() && self.driver.device(0) == before
+    }
+
     fn open(&mut self) -> bool {
-        self.hand == Hand::Free && self.driver.open(0).is_ok()
+        self.driver.open(0).is_ok()
     }
 
     fn stop(&mut self) -> bool {
-        if self.stops == 0 || self.hand != Hand::Free || self.driver.stop(0).is_err() {
+        if self.stops == 0 || self.driver.stop(0).is_err() {
             return false;
         }
         self.stops -= 1;
@@ -262,6 +294,7 @@ impl DriverBench {
             DriverStep::Say => return self.say(),
             DriverStep::Act => self.act(),
             DriverStep::Report => self.report(),
+            DriverStep::Forget => self.forget(),
             DriverStep::Open => self.open(),
             DriverStep::Stop => self.stop(),
         };

@@ -94,10 +94,11 @@ fn explore(rt: &impl Abort, alloc: Global, packets: u32, stops: u32) -> Result<M
                 continue;
             }
             is_end = false;
-            let reached = mem::replace(&mut bench, bench_after(alloc, packets, stops, &path)?);
+            let mut reached = mem::replace(&mut bench, bench_after(alloc, packets, stops, &path)?);
             if !seen.insert(reached.state())? {
                 continue;
             }
+            assert!(rt; reached.refuses_old(), "accepts an old report");
             check_sleep(rt, &reached);
             met.sleeping = met.sleeping.saturating_add(u32::from(reached.sleeps));
             check_drains(rt, reached);

@@ -14,4 +14,6 @@ size_in which =
     else (if which == 8 then 32
     else (if which == 9 then 56
     else (if which == 10 then 12
-    else 0))))))))))
+    else (if which == 11 then 48
+    else (if which == 12 then 32
+    else 0))))))))))))

@@ -3,6 +3,7 @@
 
 mod control_calls;
 mod counts;
+mod driver;
 mod ends;
 mod free;
 mod limit;

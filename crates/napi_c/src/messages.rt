@@ -15,7 +15,7 @@ pub extern "C" fn fq_status_message(status: u32, to: &mut [u8]) -> usize
 fn message_of(status: u32) -> &'static [u8] {
     match status {
         1..=4 => limit_fault(status),
-        16..=29 => found(status),
+        16..=30 => found(status),
         100..=124 => refused(status),
         0 => b"done",
         _ => b"?",
@@ -46,7 +46,8 @@ fn found(status: u32) -> &'static [u8] {
         26 => b"there is no room",
         27 => b"no poll is left in the run",
         28 => b"the limit has stopped the queue",
-        _ => b"more packets are done than were sent",
+        29 => b"more packets are done than were sent",
+        _ => b"this is not due, and nothing has changed",
     }
 }
 
@@ -61,11 +62,12 @@ fn refused(status: u32) -> &'static [u8] {
         114 => b"a weight is 1 to 64 packets",
         115 => b"the array is too short",
         116 => b"budget and window are 1 to 65535",
-        117 => b"a shared instance has 2 to 8 seats",
+        117 => b"a shared instance has 2 to 8 seats, a driver 1 to 64 devices",
         118 => b"how a poll ended is 0 to 4 (enum fq_next)",
         119 => b"a poll told of more packets than the weight",
         120 => b"the bytes are no trace, or a row of it can't be played",
-        122 => b"the size of a struct isn't one that this library knows",
+        121 => b"the driver has no device of this number",
+        122 => b"a struct's size is not one that the library knows",
         123 => b"a setting of the machine is out of its range",
         124 => b"the bytes are no arrivals",
         _ => b"?",

@@ -41,7 +41,7 @@ pub extern "C" fn fq_fault_text(fault: u32, to: &mut [u8]) -> usize
 fn status_name(status: u32) -> &'static [u8] {
     match status {
         1..=4 => limit_fault_name(status),
-        16..=29 => found_name(status),
+        16..=30 => found_name(status),
         100..=124 => refused_name(status),
         0 => b"FQ_OK",
         _ => b"?",
@@ -72,7 +72,8 @@ fn found_name(status: u32) -> &'static [u8] {
         26 => b"FQ_FULL",
         27 => b"FQ_DONE",
         28 => b"FQ_STOPPED",
-        _ => b"FQ_MORE_THAN_SENT",
+        29 => b"FQ_MORE_THAN_SENT",
+        _ => b"FQ_NOT_DUE",
     }
 }
 
@@ -91,6 +92,7 @@ fn refused_name(status: u32) -> &'static [u8] {
         118 => b"FQ_BAD_NEXT",
         119 => b"FQ_BAD_WORK",
         120 => b"FQ_BAD_TRACE",
+        121 => b"FQ_BAD_DEVICE",
         122 => b"FQ_BAD_SIZE",
         123 => b"FQ_BAD_SETTING",
         124 => b"FQ_BAD_ARRIVALS",

@@ -5,7 +5,7 @@ ghost use Rattle.napi_c.specs.Sizes.{size_in};
 use crate::counts::{FqCounts, FqTotals};
 use crate::limit::{FqDql, FqDqlNew};
 use crate::serial::FqNapi;
-use c_handles::{FqAnswers, FqHandle, FqRingShown, FqRunReport};
+use c_handles::{FqAnswers, FqDeviceShown, FqHandle, FqRingShown, FqRunReport, FqTodo};
 use rx_ring::Packet;
 use std::mem::size_of;
 use tx_ring::TxState;
@@ -27,6 +27,8 @@ pub extern "C" fn fq_struct_size(which: u32) -> usize
         8 => size_of::<TxState>(),
         9 => size_of::<FqAnswers>(),
         10 => size_of::<FqRunReport>(),
+        11 => size_of::<FqTodo>(),
+        12 => size_of::<FqDeviceShown>(),
         _ => 0,
     }
 }

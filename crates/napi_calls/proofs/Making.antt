@@ -3,10 +3,11 @@ use Rattle.std.proofs.Common.{◌≡◌, ◌≢◌, ℕ, List, [], ◌∷◌, �
 use Rattle.{std.proofs.{Common.append_assoc, lemmas.List.{map-append, Concat.flat_map-append}}, napi_model.specs.declared.event.Event.Event}
 use Rattle.napi_model.specs.declared.event.{Call.Call, Operation.{Operation, TheVariants.{Look, MarkDisable, TakeDisable}}}
 use Rattle.napi_model.specs.{declared.state.{Seen.Seen, Place.Place}, Step.{event, opening}, History.{LegalHistory, own}}
-use Rattle.napi_word.specs.{declared.table.Pass.Pass, View.View, Events.Steps, Passes.{view_of, SameTable}}
+use Rattle.napi_word.specs.{declared.table.Pass.Pass, View.View, Passes.{view_of, Keeps, Makes}, Slot.Moves}
 use Rattle.napi_calls.specs.{Seats.{SameSeat, pass_number, shown, own_list}, Knows.Stands}
 use Rattle.napi_calls.specs.{Made.{EndsWith, Made, ContinuesCall, Lost, WasLost}}
 use Rattle.napi_calls.{specs.Made.{looks, take_attempt, events}, proofs.{Steps.{shows_more, shows_legal, prefix_trans}, Standing.shows_of}}
+use Rattle.napi_calls.proofs.Steps.{delivers_more}
 use mathlib.Core.List.{IsPrefix}
 use Rattle.napi_word.specs.View as view
 
@@ -27,34 +28,43 @@ pub nothing : {r : ℕ → Place} {c : ℕ} {p : Pass} → Stands r c p → Made
 nothing {r} {c} {p} st = record {
   seat = record { table = refl; number = refl; controller = refl; ring = refl };
   begins = ([], append-nil (shown p));
+  first = refl;
+  dealt = ([], append-nil (view.view_delivered (view_of p)));
   grown = sym (append-nil (own_list p));
   ends = tt;
   shows = shows_of st;
 }
 
 -- moving the context isn't an event
-pub still : {p q : Pass} {os : List Operation} (r : Pass) → Made p os q → SameTable q r → view_of r ≡ view_of q → Made p os r
-still {p} {q} {os} r m t e = record {
-  seat = seat_same m.seat
-      (record { table = t; number = ap view.view_number e; controller = ap view.view_controller e; ring = ap view.view_ring e });
-  begins = subst (λ (v : View). IsPrefix (shown p) (view.view_shown v)) (sym e) m.begins;
-  grown = ap view.mine e ∙ m.grown;
-  ends = subst (λ (v : View). EndsWith (events (pass_number p) os) (view.view_shown v)) (sym e) m.ends;
-  shows = record {
-    legal = subst (λ (v : View). LegalHistory (view.view_controller v) (opening (view.view_controller v)) (view.view_shown v)) (sym e)
-        m.shows.legal;
-    exact = subst (λ (v : View). own (view.view_number v) (view.view_shown v) ≡ view.mine v) (sym e) m.shows.exact;
-  };
-}
+pub still : {p q r : Pass} {os : List Operation} → Made p os q → Keeps q r → Made p os r
+still {p} {q} {r} {os} m k =
+    let e = k.view in record {
+      seat = seat_same m.seat
+          (record { table = k.table; number = ap view.view_number e; controller = ap view.view_controller e; ring = ap view.view_ring e });
+      begins = subst (λ (v : View). IsPrefix (shown p) (view.view_shown v)) (sym e) m.begins;
+      first = ap view.first_in e ∙ m.first;
+      dealt = subst (λ (v : View). IsPrefix (view.view_delivered (view_of p)) (view.view_delivered v)) (sym e) m.dealt;
+      grown = ap view.mine e ∙ m.grown;
+      ends = subst (λ (v : View). EndsWith (events (pass_number p) os) (view.view_shown v)) (sym e) m.ends;
+      shows = record {
+        legal =
+            subst (λ (v : View). LegalHistory (view.view_controller v) (opening (view.view_controller v)) (view.view_shown v)) (sym e)
+            m.shows.legal;
+        exact = subst (λ (v : View). own (view.view_number v) (view.view_shown v) ≡ view.mine v) (sym e) m.shows.exact;
+      };
+    }
 
 -- one more step
-pub step : {p q : Pass} {os : List Operation} {o : Operation} (r : Pass) → Made p os q → SameTable q r → Steps (view_of q) o (view_of r)
-    → Made p (os ++ o ∷ []) r
-step {p} {q} {os} {o} r m t g =
+pub step : {p q r : Pass} {os : List Operation} {o : Operation} {moves : Moves} → Made p os q → Makes q o moves r → Made p (os ++ o ∷ []) r
+step {p} {q} {r} {os} {o} {moves} m s =
     let c = pass_number p in
+    let g = s.event in
     let num : pass_number q ≡ c = m.seat.number in record {
-      seat = seat_same m.seat (record { table = t; number = g.number; controller = g.controller; ring = g.ring });
+      seat = seat_same m.seat (record { table = s.table; number = g.number; controller = g.controller; ring = g.ring });
       begins = prefix_trans (shown p) (shown q) (shown r) m.begins (shows_more q o r g);
+      first = s.packets.first ∙ m.first;
+      dealt = prefix_trans (view.view_delivered (view_of p)) (view.view_delivered (view_of q)) (view.view_delivered (view_of r)) m.dealt
+          (delivers_more q r s.packets);
       grown = g.grows ∙ ap (λ (n : ℕ). own_list q ++ event n o ∷ []) num ∙ ap (λ (l : List Event). l ++ event c o ∷ []) m.grown
           ∙ append_assoc (own_list p) (events c os) (event c o ∷ [])
           ∙ ap (λ (l : List Event). own_list p ++ l) (sym (map-append (event c) os (o ∷ [])));
@@ -71,6 +81,9 @@ more {p} {q} {r} {os} o ps m n =
     let num : pass_number q ≡ c = m.seat.number in record {
       seat = seat_same m.seat n.seat;
       begins = prefix_trans (shown p) (shown q) (shown r) m.begins n.begins;
+      first = n.first ∙ m.first;
+      dealt = prefix_trans (view.view_delivered (view_of p)) (view.view_delivered (view_of q)) (view.view_delivered (view_of r)) m.dealt
+          n.dealt;
       grown = n.grown ∙ ap (λ (k : ℕ). own_list q ++ events k (o ∷ ps)) num ∙ ap (λ (l : List Event). l ++ events c (o ∷ ps)) m.grown
           ∙ append_assoc (own_list p) (events c os) (events c (o ∷ ps))
           ∙ ap (λ (l : List Event). own_list p ++ l) (sym (map-append (event c) os (o ∷ ps)));

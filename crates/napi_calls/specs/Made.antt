@@ -3,6 +3,7 @@ use Rattle.std.specs.Prelude.{◌≡◌, ◌≢◌, ℕ, true, false, List, [], 
 use Rattle.napi_model.specs.declared.{state.{Flags.Flags, Seen.Seen}, event.{Call.Call, Event.Event, Operation.Operation}}
 use Rattle.napi_model.specs.{declared.event.Operation.TheVariants.{Look, TakeDisable}, Step.{event, MayBusyTake}}
 use Rattle.{napi_word.specs.declared.table.Pass.Pass, napi_calls.specs.Seats.{SameSeat, ShowsLegal, pass_number, shown, own_list}}
+use Rattle.napi_word.specs.{Passes.view_of, View.{view_delivered, first_in}}
 use mathlib.Core.List.{IsPrefix}
 use Rattle.napi_model.specs.declared.event.Call.TheVariants as call
 
@@ -21,6 +22,10 @@ pub record Made (p : Pass) (os : List Operation) (q : Pass) : Type 0 where
   pub seat : SameSeat p q
   -- what was shown before is a prefix of what is shown now
   pub begins : IsPrefix (shown p) (shown q)
+  -- what is known of the ring only grows: its first context is the same, and the deliveries that p knew are a prefix of those
+  -- that q knows
+  pub first : first_in (view_of q) ≡ first_in (view_of p)
+  pub dealt : IsPrefix (view_delivered (view_of p)) (view_delivered (view_of q))
   -- the own list grew by exactly these
   pub grown : own_list q ≡ own_list p ++ events (pass_number p) os
   -- the last of them is the last that is shown

@@ -1,7 +1,7 @@
 -- One more act.
 use Rattle.std.proofs.{lemmas.Grind.common_steps, Common.{◌≡◌, ℕ, ◌+◌, ◌≤◌, length, List, ◌++◌, sym, arith, add-one, ap, subst, Bool}}
 use Rattle.{rx_ring.specs.{declared.{packet.Packet.Packet, ends.RxIn.RxIn}, Ends.SameIn}, poll_interrupts.specs.declared.acts.Act.Act}
-use Rattle.poll_interrupts.specs.{declared.worker.Access.Access, Acts.{after_acts, arrivals, brings}, Calls.{Acts, AllActs}}
+use Rattle.poll_interrupts.specs.{declared.worker.WorkerHandles.WorkerHandles, Acts.{after_acts, arrivals, brings}, Calls.{Acts, AllActs}}
 
 pub after_acts-more : {D : Type 0} (after : D → ℕ → D) (d : D) (n : ℕ) → after_acts after d (n + 1) ≡ after (after_acts after d n) n
 after_acts-more after d n = ap (λ m. after_acts after d m) (add-one n)
@@ -10,7 +10,7 @@ pub arrivals-more : {D : Type 0} (answer : D → ℕ → Act) (after : D → ℕ
     → arrivals answer after d (n + 1) ≡ arrivals answer after d n ++ brings (answer (after_acts after d n) n)
 arrivals-more answer after d n = ap (λ m. arrivals answer after d m) (add-one n)
 
-pub acts-more : {D : Type 0} (thread : Bool) (answer : D → ℕ → Act) (after : D → ℕ → D) (d : D) (n : ℕ) (a m b : Access)
+pub acts-more : {D : Type 0} (thread : Bool) (answer : D → ℕ → Act) (after : D → ℕ → D) (d : D) (n : ℕ) (a m b : WorkerHandles)
     (first rx last : RxIn)
     → AllActs thread answer after d n a m first rx → SameIn rx last → Acts thread (answer (after_acts after d n) n) m b rx last
     → AllActs thread answer after d (n + 1) a b first last

@@ -4,12 +4,12 @@ use Rattle.std.{proofs.{Common.{sym, ap, ◌∙◌, subst, append_assoc}, lemmas
 use Rattle.rx_ring.specs.{declared.{ends.RxIn.RxIn, packet.Packet.Packet}, Ends.{capacity_of, put_list}}
 use Rattle.{napi_model.specs.declared.event.Operation.Operation, napi_word.specs.declared.table.Pass.Pass}
 use Rattle.napi_calls.specs.{declared.{answers.Sched.Sched, types.Caller.Caller}, Calls.{Disables, Enables, Schedules}, Made.{Made, events}}
-use Rattle.{napi_calls.specs.{Made.looks, Seats.{pass_number, own_list}}}
-use Rattle.{poll_interrupts.specs.declared.{acts.Act.Act, worker.Access.Access}}
-use Rattle.poll_interrupts.specs.{declared.worker.{OwnSeats.OwnSeats, Power.{Power, TheVariants.{On, Off}}}, Acts.after_acts, Calls.Acts}
-use Rattle.poll_interrupts.specs.Calls.{AllActs, Arrives, GoesOn, HandsOver, Interrupts, IsSameAccess, Leaves, TurnsOff, TurnsOn, is_on}
-use Rattle.poll_interrupts.specs.{Calls.pass_of, Runs.{Adds, AllAdd, IsDisabling, IsEnabling, IsHandingOver, IsInterrupt, Ledger}}
-use Rattle.poll_interrupts.specs.{Runs.{SwitchesOff, SwitchesOn, Whose, WorksBy}, Works.{AreSameSeats, ledger_of, whose}}
+use Rattle.{napi_calls.specs.{Made.looks, Seats.{pass_number, own_list}}, poll_interrupts.specs.declared.acts.Act.Act}
+use Rattle.poll_interrupts.specs.declared.worker.{WorkerHandles.WorkerHandles, ControlState.{ControlState, TheVariants.{On, Off}}}
+use Rattle.poll_interrupts.specs.{Acts.after_acts, Handles.{AreSameHandles, is_on, pass_of}}
+use Rattle.poll_interrupts.specs.Calls.{Acts, AllActs, Arrives, GoesOn, HandsOver, Interrupts, TurnsOff, TurnsOn}
+use Rattle.poll_interrupts.specs.Runs.{Adds, AllAdd, IsDisabling, IsEnabling, IsHandingOver, IsInterrupt, Ledger}
+use Rattle.poll_interrupts.specs.{Runs.{SwitchesOff, SwitchesOn, Whose, WorksBy}, Works.{ledger_of, whose}}
 use Rattle.napi_model.specs.declared.state.Kind.TheVariants as kind
 use Rattle.napi_model.specs.declared.event.Prep.TheVariants as prep
 use Rattle.napi_model.specs.declared.event.Operation.TheVariants as operation
@@ -71,38 +71,28 @@ enables threaded p q h = (flat_map looks h.0 ++ operation.Look h.1 ∷ operation
 disables : (p q : Pass) → Disables p q → Grows IsDisabling p q
 disables p q h = (_, (h.0, h.1, refl), made_grew p _ q h.2)
 
--- ---- a worker's access as its ledger
+-- ---- a worker's handles as its ledger
 
-abbrev pub holds : Access → RxIn → Ledger
-holds access rx =
-    record {
-      calls = own_list access.caller.pass;
-      controls = own_list (pass_of access.power);
-      put = put_list rx;
-      on = is_on access.power;
-      threaded = access.threaded;
-    }
+abbrev handles_of : Caller → ControlState → Bool → WorkerHandles
+handles_of caller control threaded = record { caller = caller; control = control; threaded = threaded }
 
-abbrev access : Caller → Power → Bool → Access
-access caller power threaded = record { caller = caller; power = power; threaded = threaded }
-
--- whose access it is
-pub record IsOf (w : Whose) (access : Access) (rx : RxIn) : Type 0 where
-  pub caller : pass_number access.caller.pass ≡ w.caller
-  pub controller : pass_number (pass_of access.power) ≡ w.controller
+-- whose handles they are
+pub record IsOf (w : Whose) (handles : WorkerHandles) (rx : RxIn) : Type 0 where
+  pub caller : pass_number handles.caller.pass ≡ w.caller
+  pub controller : pass_number (pass_of handles.control) ≡ w.controller
   pub places : capacity_of rx ≡ w.places
 
--- what was done with the access
-abbrev pub Did : Whose → (Ledger → Ledger → Type 0) → Access → RxIn → Access → RxIn → Type 0
-Did w Is a before b after = Is (holds a before) (holds b after) × IsOf w b after
+-- what was done with the handles
+abbrev pub Did : Whose → (Ledger → Ledger → Type 0) → WorkerHandles → RxIn → WorkerHandles → RxIn → Type 0
+Did w Is a before b after = Is (ledger_of a before) (ledger_of b after) × IsOf w b after
 
-same_ledger : (a b : Access) (before after : RxIn) → b.caller ≡ a.caller → b.power ≡ a.power → b.threaded ≡ a.threaded
+same_ledger : (a b : WorkerHandles) (before after : RxIn) → b.caller ≡ a.caller → b.control ≡ a.control → b.threaded ≡ a.threaded
     → put_list after ≡ put_list before
-    → holds b after ≡ holds a before
+    → ledger_of b after ≡ ledger_of a before
 same_ledger a b before after caller power threaded put = grind (arith, common_steps)
 
-arrives : (w : Whose) (packet : Packet) (a b : Access) (before after : RxIn)
-    → Arrives w.thread packet a.caller.pass b.caller.pass before after → b.power ≡ a.power → b.threaded ≡ a.threaded
+arrives : (w : Whose) (packet : Packet) (a b : WorkerHandles) (before after : RxIn)
+    → Arrives w.thread packet a.caller.pass b.caller.pass before after → b.control ≡ a.control → b.threaded ≡ a.threaded
     → capacity_of after ≡ capacity_of before → IsOf w a before
     → Did w (Adds w (act.Arrive packet)) a before b after
 arrives w packet a b before after h power threaded places of = ⊎_elim
@@ -144,96 +134,100 @@ arrives w packet a b before after h power threaded places of = ⊎_elim
     ))
     h
 
-still_of : (w : Whose) (a b : Access) (before after : RxIn)
-    → pass_number b.caller.pass ≡ pass_number a.caller.pass → pass_number (pass_of b.power) ≡ pass_number (pass_of a.power)
+still_of : (w : Whose) (a b : WorkerHandles) (before after : RxIn)
+    → pass_number b.caller.pass ≡ pass_number a.caller.pass → pass_number (pass_of b.control) ≡ pass_number (pass_of a.control)
     → capacity_of after ≡ capacity_of before → IsOf w a before → IsOf w b after
 still_of w a b before after caller controller places of = grind (arith, common_steps)
 
 -- the controller's own events grew, and it is on now or isn't
-switched : (w : Whose) (a b : Access) (before after : RxIn) (os : List Operation) (on : Bool)
-    → own_list (pass_of b.power) ≡ own_list (pass_of a.power) ++ events (pass_number (pass_of a.power)) os → is_on b.power ≡ on
+switched : (w : Whose) (a b : WorkerHandles) (before after : RxIn) (os : List Operation) (on : Bool)
+    → own_list (pass_of b.control) ≡ own_list (pass_of a.control) ++ events (pass_number (pass_of a.control)) os → is_on b.control ≡ on
     → b.caller ≡ a.caller → b.threaded ≡ a.threaded → put_list after ≡ put_list before → IsOf w a before
-    → holds b after ≡ record (holds a before) { controls = own_list (pass_of a.power) ++ events w.controller os; on = on }
+    → ledger_of b after ≡ record (ledger_of a before) { controls = own_list (pass_of a.control) ++ events w.controller os; on = on }
 switched w a b before after os on grown now caller threaded put of = grind (arith, common_steps)
 
-turns_on : (w : Whose) (caller : Caller) (set : Bool) (power : Power) (b : Access) (before after : RxIn)
-    → TurnsOn set power b.power → b.caller ≡ caller → b.threaded ≡ set → put_list after ≡ put_list before
+turns_on : (w : Whose) (caller : Caller) (set : Bool) (control : ControlState) (b : WorkerHandles) (before after : RxIn)
+    → TurnsOn set control b.control → b.caller ≡ caller → b.threaded ≡ set → put_list after ≡ put_list before
     → capacity_of after ≡ capacity_of before
-    → IsOf w (access caller power set) before → Did w (SwitchesOn w (is_on power)) (access caller power set) before b after
-turns_on w caller set power b before after h same threaded put places of = search (rules, enables, same_ledger, still_of, switched)
+    → IsOf w (handles_of caller control set) before → Did w (SwitchesOn w (is_on control)) (handles_of caller control set) before b after
+turns_on w caller set control b before after h same threaded put places of = search (rules, enables, same_ledger, still_of, switched)
 
-turns_off : (w : Whose) (caller : Caller) (set : Bool) (power : Power) (b : Access) (before after : RxIn)
-    → TurnsOff power b.power → b.caller ≡ caller → b.threaded ≡ set → put_list after ≡ put_list before
+turns_off : (w : Whose) (caller : Caller) (set : Bool) (control : ControlState) (b : WorkerHandles) (before after : RxIn)
+    → TurnsOff control b.control → b.caller ≡ caller → b.threaded ≡ set → put_list after ≡ put_list before
     → capacity_of after ≡ capacity_of before
-    → IsOf w (access caller power set) before → Did w (SwitchesOff w (is_on power)) (access caller power set) before b after
+    → IsOf w (handles_of caller control set) before → Did w (SwitchesOff w (is_on control)) (handles_of caller control set) before b after
 turns_off w caller set (On control) b before after h same threaded put places of =
-    let grew = disables control.pass (pass_of b.power) h.1 in (
-      (grew.0, grew.1, switched w (access caller (On control) set) b before after grew.0 false grew.2.0 h.0 same threaded put of),
-      still_of w (access caller (On control) set) b before after (ap (λ (c : Caller). pass_number c.pass) same) grew.2.1 places of,
+    let grew = disables control.pass (pass_of b.control) h.1 in (
+      (grew.0, grew.1, switched w (handles_of caller (On control) set) b before after grew.0 false grew.2.0 h.0 same threaded put of),
+      still_of w (handles_of caller (On control) set) b before after (ap (λ (c : Caller). pass_number c.pass) same) grew.2.1 places of,
     )
-turns_off w caller set (Off control) b before after h same threaded put places of = search (rules, disables, still_of, switched)
+turns_off w caller set (Off control) b before after h same threaded put places of = search (rules, same_ledger, still_of)
 
-sets : (w : Whose) (set : Bool) (a b : Access) (before after : RxIn)
-    → Made a.caller.pass (operation.SetThreaded set ∷ []) b.caller.pass → b.power ≡ a.power → b.threaded ≡ set
+sets : (w : Whose) (set : Bool) (a b : WorkerHandles) (before after : RxIn)
+    → Made a.caller.pass (operation.SetThreaded set ∷ []) b.caller.pass → b.control ≡ a.control → b.threaded ≡ set
     → put_list after ≡ put_list before → capacity_of after ≡ capacity_of before
     → IsOf w a before → Did w (Adds w (act.SetThreaded set)) a before b after
 sets w set a b before after made power threaded put places of = grind (arith, common_steps, still_of)
 
 -- ---- acts
 
-acts_add : (w : Whose) (x : Act) (a b : Access) (before after : RxIn) → Acts w.thread x a b before after
+acts_add : (w : Whose) (x : Act) (a b : WorkerHandles) (before after : RxIn) → Acts w.thread x a b before after
     → capacity_of after ≡ capacity_of before → IsOf w a before → Did w (Adds w x) a before b after
 acts_add w (act.Arrive packet) a b before after h places of = arrives w packet a b before after h.0 h.1 h.2 places of
-acts_add w act.Disable a b before after h places of = turns_off w a.caller a.threaded a.power b before after h.1 h.0 h.2 h.3 places of
-acts_add w act.Enable a b before after h places of = turns_on w a.caller a.threaded a.power b before after h.1 h.0 h.2 h.3 places of
+acts_add w act.Disable a b before after h places of = turns_off w a.caller a.threaded a.control b before after h.1 h.0 h.2 h.3 places of
+acts_add w act.Enable a b before after h places of = turns_on w a.caller a.threaded a.control b before after h.1 h.0 h.2 h.3 places of
 acts_add w (act.SetThreaded set) a b before after h places of = sets w set a b before after h.0 h.1 h.2 h.3 places of
 acts_add w act.Nothing a b before after h places of = grind (arith, common_steps, arrives, same_ledger, sets, still_of, turns_off, turns_on)
 
-pub all_add : {D : Type 0} (w : Whose) (answer : D → ℕ → Act) (after : D → ℕ → D) (d : D) (n : ℕ) (a b : Access) (first last : RxIn)
+pub all_add : {D : Type 0} (w : Whose) (answer : D → ℕ → Act) (after : D → ℕ → D) (d : D) (n : ℕ) (a b : WorkerHandles) (first last : RxIn)
     → AllActs w.thread answer after d n a b first last → IsOf w a first → Did w (AllAdd w answer after d n) a first b last
 all_add w answer after d zero a b first last h of = grind (arith, common_steps, acts_add, same_ledger, still_of)
 all_add w answer after d (suc n) a b first last h of = let before = all_add w answer after d n a h.0 first h.1 h.2 of in
     let one = acts_add w (answer (after_acts after d n) n) h.0 b h.1 last h.4 h.3.1 before.1 in
-    ((holds h.0 h.1, before.0, one.0), one.1)
+    ((ledger_of h.0 h.1, before.0, one.0), one.1)
 
-abbrev whose_hold : Access → RxIn → Bool → Whose
-whose_hold a rx thread =
-    record { caller = pass_number a.caller.pass; controller = pass_number (pass_of a.power); places = capacity_of rx; thread = thread }
-
-of_itself : (a : Access) (rx : RxIn) (thread : Bool) → IsOf (whose_hold a rx thread) a rx
+of_itself : (a : WorkerHandles) (rx : RxIn) (thread : Bool) → IsOf (whose a rx thread) a rx
 of_itself a rx thread = record { caller = refl; controller = refl; places = refl }
 
 -- the seats stay the same
-pub all_same : {D : Type 0} (thread : Bool) (answer : D → ℕ → Act) (after : D → ℕ → D) (d : D) (n : ℕ) (a b : Access) (first last : RxIn)
-    → AllActs thread answer after d n a b first last → IsSameAccess a b
+pub all_same : {D : Type 0} (thread : Bool) (answer : D → ℕ → Act) (after : D → ℕ → D) (d : D) (n : ℕ) (a b : WorkerHandles)
+    (first last : RxIn)
+    → AllActs thread answer after d n a b first last → AreSameHandles a b
 all_same thread answer after d n a b first last h =
-    let all = all_add (whose_hold a first thread) answer after d n a b first last h (of_itself a first thread) in
+    let all = all_add (whose a first thread) answer after d n a b first last h (of_itself a first thread) in
     (all.1.caller, all.1.controller)
 
 -- ---- a worker's whole run
 
--- the seats of an instance that was off, was turned on, and is turned off again
-pub works : {D : Type 0} (thread : Bool) (answer : D → ℕ → Act) (after : D → ℕ → D) (d : D) (n : ℕ) (seats ends : OwnSeats) (power : Power)
-    (acted : Access) (first last : RxIn)
-    → TurnsOn false (Off seats.control) power → AllActs thread answer after d n (access seats.caller power false) acted first last
-    → ends.caller ≡ acted.caller → Leaves acted.power ends.control.pass
-    → WorksBy (whose seats first thread) answer after d n (ledger_of seats first false) (ledger_of ends last acted.threaded)
-works thread answer after d n seats ends power acted first last turned all caller left =
-    let w = whose seats first thread in
-    let on = access seats.caller power false in
-    let opened =
-    turns_on w seats.caller false (Off seats.control) on first first turned refl refl refl refl
-    (record { caller = refl; controller = refl; places = refl }) in
-    let made = all_add w answer after d n on acted first last all opened.1 in
-    let shut =
-    turns_off w acted.caller acted.threaded acted.power (access ends.caller (Off ends.control) acted.threaded) last last
-    (refl, left) caller refl refl refl made.1 in
-    (holds on first, holds acted last, opened.0, made.0, shut.0)
+-- turned on or off, the seat stays the same
+on_same : (set : Bool) (before after : ControlState) → TurnsOn set before after
+    → pass_number (pass_of after) ≡ pass_number (pass_of before)
+on_same set (On control) after h = ap (λ c. pass_number (pass_of c)) h
+on_same set (Off control) after h = (enables set control.pass (pass_of after) h.1).2.1
 
-left_same : (power : Power) (q : Pass) → Leaves power q → pass_number q ≡ pass_number (pass_of power)
-left_same power q h = grind (arith, common_steps, disables)
+off_same : (before after : ControlState) → TurnsOff before after → pass_number (pass_of after) ≡ pass_number (pass_of before)
+off_same (On control) after h = (disables control.pass (pass_of after) h.1).2.1
+off_same (Off control) after h = ap (λ c. pass_number (pass_of c)) h
 
-pub same_seats : (seats ends : OwnSeats) (power : Power) (acted : Access)
-    → TurnsOn false (Off seats.control) power → IsSameAccess (access seats.caller power false) acted → ends.caller ≡ acted.caller
-    → Leaves acted.power ends.control.pass → AreSameSeats seats ends
-same_seats seats ends power acted turned same ended left = grind (arith, common_steps, enables, ends, left_same)
+pub off_is : (before after : ControlState) → TurnsOff before after → is_on after ≡ false
+off_is (On control) after h = h.0
+off_is (Off control) after h = ap (λ c. is_on c) h
+
+-- the instance is turned on, acts are made, and it is turned off
+module _ (a acted : WorkerHandles) (on off : ControlState) (turned : TurnsOn a.threaded a.control on)
+    (left : TurnsOff acted.control off) where
+  pub same_handles : AreSameHandles (record a { control = on }) acted → AreSameHandles a (record acted { control = off })
+  same_handles same = (same.0, off_same acted.control off left ∙ same.1 ∙ on_same a.threaded a.control on turned)
+
+  pub works : {D : Type 0} (thread : Bool) (answer : D → ℕ → Act) (after : D → ℕ → D) (d : D) (n : ℕ) (first last : RxIn)
+      → AllActs thread answer after d n (record a { control = on }) acted first last
+      → WorksBy (whose a first thread) answer after d n (ledger_of a first) (ledger_of (record acted { control = off }) last)
+  works thread answer after d n first last all =
+      let w = whose a first thread in
+      let now : WorkerHandles = record a { control = on } in
+      let opened = turns_on w a.caller a.threaded a.control now first first turned refl refl refl refl
+      (record { caller = refl; controller = refl; places = refl }) in
+      let made = all_add w answer after d n now acted first last all opened.1 in
+      let shut = turns_off w acted.caller acted.threaded acted.control (record acted { control = off }) last last left refl refl refl refl
+      made.1 in
+      (ledger_of now first, ledger_of acted last, opened.0, made.0, shut.0)

@@ -2,10 +2,11 @@
 use Rattle.std.specs.Prelude.{◌≡◌, ◌⊎◌, ◌≤◌, ℕ, zero, suc, Bool, true, false, List, [], ◌∷◌, ◌++◌, length, if◌then◌else◌}
 use Rattle.rx_ring.specs.{declared.{ends.RxIn.RxIn, packet.Packet.Packet}, Ends.{SameIn, capacity_of, put_list}}
 use Rattle.{napi_model.specs.declared.{state.Seen.Seen, event.{Event.Event, Operation.Operation}}, napi_word.specs.declared.table.Pass.Pass}
-use Rattle.napi_calls.specs.{declared.answers.Sched.Sched, Calls.{Disables, Enables, Schedules}, Made.Made, Seats.{pass_number, own_list}}
+use Rattle.napi_calls.specs.{declared.answers.Sched.Sched, Calls.{Disables, Enables, Schedules}, Made.Made, Seats.own_list}
 use Rattle.{poll_list.specs.{declared.list_in.ListIn.ListIn, SharedList.pushed_by}, poll_interrupts.specs.declared.acts.Act.Act}
-use Rattle.poll_interrupts.specs.declared.{acts.Act.TheVariants.{Arrive, Disable, Enable, SetThreaded, Nothing}, worker.Access.Access}
-use Rattle.poll_interrupts.specs.{declared.worker.Power.{Power, TheVariants.{On, Off}}, Acts.after_acts}
+use Rattle.poll_interrupts.specs.declared.acts.Act.TheVariants.{Arrive, Disable, Enable, SetThreaded, Nothing}
+use Rattle.poll_interrupts.specs.declared.worker.{WorkerHandles.WorkerHandles, ControlState.{ControlState, TheVariants.{On, Off}}}
+use Rattle.poll_interrupts.specs.{Acts.after_acts, Handles.{is_on, pass_of}}
 use Rattle.napi_model.specs.declared.state.Kind.TheVariants as kind
 use Rattle.napi_model.specs.declared.event.Operation.TheVariants as operation
 use Rattle.napi_calls.specs.declared.answers.Sched.TheVariants as sched
@@ -55,47 +56,32 @@ Arrives thread packet p q before after =
     ((put_list after ≡ put_list before ++ packet ∷ []) × Interrupts thread p q)
     ⊎ ((capacity_of before ≤ length (put_list before)) × (put_list after ≡ put_list before) × (q ≡ p))
 
-abbrev pub pass_of : Power → Pass
-pass_of (On control) = control.pass
-pass_of (Off control) = control.pass
-
-abbrev pub is_on : Power → Bool
-is_on (On control) = true
-is_on (Off control) = false
-
--- the same seats, by their numbers
-abbrev pub IsSameAccess : Access → Access → Type 0
-IsSameAccess a b = (pass_number b.caller.pass ≡ pass_number a.caller.pass) × (pass_number (pass_of b.power) ≡ pass_number (pass_of a.power))
-
 -- enabled with this threaded setting, unless it is on
-abbrev pub TurnsOn : Bool → Power → Power → Type 0
+abbrev pub TurnsOn : Bool → ControlState → ControlState → Type 0
 TurnsOn threaded (On control) after = after ≡ On control
 TurnsOn threaded (Off control) after = (is_on after ≡ true) × Enables threaded control.pass (pass_of after)
 
 -- disabled, unless it is off
-abbrev pub Leaves : Power → Pass → Type 0
-Leaves (On control) q = Disables control.pass q
-Leaves (Off control) q = q ≡ control.pass
-
-abbrev pub TurnsOff : Power → Power → Type 0
-TurnsOff before after = (is_on after ≡ false) × Leaves before (pass_of after)
+abbrev pub TurnsOff : ControlState → ControlState → Type 0
+TurnsOff (On control) after = (is_on after ≡ false) × Disables control.pass (pass_of after)
+TurnsOff (Off control) after = after ≡ Off control
 
 -- one act: its effect on the seats and on the threaded setting
-abbrev pub Acts : Bool → Act → Access → Access → RxIn → RxIn → Type 0
+abbrev pub Acts : Bool → Act → WorkerHandles → WorkerHandles → RxIn → RxIn → Type 0
 Acts thread (Arrive packet) a b before after =
-    Arrives thread packet a.caller.pass b.caller.pass before after × (b.power ≡ a.power) × (b.threaded ≡ a.threaded)
+    Arrives thread packet a.caller.pass b.caller.pass before after × (b.control ≡ a.control) × (b.threaded ≡ a.threaded)
 Acts thread Disable a b before after =
-    (b.caller ≡ a.caller) × TurnsOff a.power b.power × (b.threaded ≡ a.threaded) × (put_list after ≡ put_list before)
+    (b.caller ≡ a.caller) × TurnsOff a.control b.control × (b.threaded ≡ a.threaded) × (put_list after ≡ put_list before)
 Acts thread Enable a b before after =
-    (b.caller ≡ a.caller) × TurnsOn a.threaded a.power b.power × (b.threaded ≡ a.threaded) × (put_list after ≡ put_list before)
+    (b.caller ≡ a.caller) × TurnsOn a.threaded a.control b.control × (b.threaded ≡ a.threaded) × (put_list after ≡ put_list before)
 Acts thread (SetThreaded set) a b before after =
-    Made a.caller.pass (operation.SetThreaded set ∷ []) b.caller.pass × (b.power ≡ a.power) × (b.threaded ≡ set)
+    Made a.caller.pass (operation.SetThreaded set ∷ []) b.caller.pass × (b.control ≡ a.control) × (b.threaded ≡ set)
     × (put_list after ≡ put_list before)
 Acts thread Nothing a b before after = (b ≡ a) × (put_list after ≡ put_list before)
 
 -- the first n acts, each once and in order
-abbrev pub AllActs : {D : Type 0} → Bool → (D → ℕ → Act) → (D → ℕ → D) → D → ℕ → Access → Access → RxIn → RxIn → Type 0
+abbrev pub AllActs : {D : Type 0} → Bool → (D → ℕ → Act) → (D → ℕ → D) → D → ℕ → WorkerHandles → WorkerHandles → RxIn → RxIn → Type 0
 AllActs thread answer after d zero a b first last = (b ≡ a) × (last ≡ first)
 AllActs thread answer after d (suc n) a b first last =
-    (m : Access) × (rx : RxIn) × AllActs thread answer after d n a m first rx × SameIn rx last
+    (m : WorkerHandles) × (rx : RxIn) × AllActs thread answer after d n a m first rx × SameIn rx last
     × Acts thread (answer (after_acts after d n) n) m b rx last

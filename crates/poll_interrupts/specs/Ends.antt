@@ -12,7 +12,7 @@ module _ {D : Type 0} where
     pub put : end.totals.put ≡ capped (length (put_list loose.rx))
     pub bytes : end.totals.bytes ≡ capped (bytes_of (put_list loose.rx))
     pub sum : length (put_list loose.rx) < 2 ^ 64 → end.totals.put ≡ end.totals.polled + end.totals.left
-    pub of : IsCallersOf loose.seats loose.poller loose.thread end.closed
+    pub of : IsCallersOf loose.handles loose.poller loose.thread end.closed
     pub ended : IsEnded end.closed (put_list loose.rx) end.totals
 
   abbrev pub IsKeptFinishOf : {R : Type 0} → DropBomb R (Loose D) → Finished D → Type 0

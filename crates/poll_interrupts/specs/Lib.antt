@@ -1,5 +1,5 @@
 pub mod Acts
-pub mod Seats
+pub mod Handles
 pub mod Works
 pub mod Opens
 pub mod Deals

@@ -1,6 +1,6 @@
 -- The instances of stations.
 use Rattle.poll_interrupts.specs.{Runs.{controller_number, poller_number, thread_number}, declared.station.Station.Station}
-use Rattle.poll_interrupts.specs.{declared.opening.{Placed.Placed, Loose.Loose}, Seats.{AreSeatsOf, AreUnused, IsUnused}}
+use Rattle.poll_interrupts.specs.{declared.opening.{Placed.Placed, Loose.Loose}, Handles.{AreAtRest, AreUnused, IsUnused, pass_of}}
 use Rattle.std.specs.Prelude.{◌≡◌, ◌≤◌, [], vec_len, vec_capacity}
 use Rattle.poll_tasks.specs.Wakers.{Wakes}
 use Rattle.napi_calls.specs.declared.{types.Napi.Napi, kept.DropBomb.DropBomb}
@@ -31,15 +31,15 @@ module _ {D : Type 0} where
     pub places : capacity_of loose.rx ≡ station.capacity
     pub nothing_put : put_list loose.rx ≡ []
     pub thread : loose.has_thread ≡ station.thread
-    pub unused : AreUnused loose.seats
+    pub unused : AreUnused loose.handles
     pub poller : IsUnused poller_number loose.poller
     pub own : IsUnused thread_number loose.thread
 
   -- what goes to the threads, or came back from them, and what stays with the caller belong to one instance, and to one ring
   pub record IsPartOf (loose : Loose D) (placed : Placed) : Type 0 where
     pub number : placed.number ≡ loose.number
-    pub seats : AreSeatsOf placed.napi loose.seats
-    pub controller : pass_number loose.seats.control.pass ≡ controller_number
+    pub handles : AreAtRest placed.napi loose.handles
+    pub controller : pass_number (pass_of loose.handles.control) ≡ controller_number
     pub poller : IsSeatOf placed.napi loose.poller.pass
     pub thread : IsSeatOf placed.napi loose.thread.pass
     pub ring : IsInputOf loose.rx placed.napi
@@ -50,7 +50,7 @@ module _ {D : Type 0} where
     pub part : IsPartOf loose placed
     pub name : loose.number ≤ 16
     pub has_thread : placed.has_thread ≡ loose.has_thread
-    pub wakes : Wakes placed.bell loose.pause
+    pub wakes : Wakes placed.waker loose.wait
 
   module _ {R : Type 0} where
     abbrev pub IsKeptLoose : Station D → DropBomb R (Loose D) → Type 0

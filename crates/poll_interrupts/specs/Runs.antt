@@ -53,7 +53,7 @@ pub record Whose : Type 0 where
   pub thread : Bool
 
 -- the events of its caller and of its controller, the packets that were put, whether the instance is on, and the threaded
--- setting that an enable writes
+-- context that an enable writes
 pub record Ledger : Type 0 where
   pub calls : List Event
   pub controls : List Event

@@ -8,12 +8,12 @@ ghost use Rattle.poll_interrupts.specs.Ends.{IsFinishOf, IsKeptFinishOf};
 ghost use Rattle.poll_interrupts.specs.Opens.{IsHome, IsKeptLoose, IsKeptPartOf, IsKeptSideOf, IsLoose, IsPartOf, IsSideOf, IsStation};
 ghost use Rattle.poll_tasks.specs.Tasks.{HasRoom};
 ghost use Rattle.poll_interrupts.specs.Closings.{IsCallersOf, IsClosedAs};
-ghost use Rattle.poll_interrupts.specs.Seats.{AreSeatsOf};
+ghost use Rattle.poll_interrupts.specs.Handles.{AreAtRest};
 
 use crate::station::{Closed, Finished, Station};
-use crate::worker::OwnSeats;
+use crate::worker::{ControlState, WorkerHandles};
 use napi_calls::{Caller, DropBomb, Napi, NewBack};
-use poll_tasks::{Bell, Pause};
+use poll_tasks::{IdleWait, Waker};
 use rx_ring::{RxCtx, RxIn, finish, ring};
 use std::alloc::{AllocError, Global};
 use std::snapshot::Snapshot;
@@ -29,7 +29,7 @@ pub struct Placed {
     /// Whether it has its own thread.
     pub has_thread: bool,
     /// The waker of that thread.
-    pub bell: Bell,
+    pub waker: Waker,
     /// Room for its three callers.
     pub room: Vec<Caller>,
 }
@@ -42,8 +42,8 @@ pub struct Loose<D> {
     pub device: D,
     /// The input of its receive ring.
     pub rx: RxIn,
-    /// The worker's seats at the instance.
-    pub seats: OwnSeats,
+    /// The worker's handles on the instance, which is off.
+    pub handles: WorkerHandles,
     /// The caller that the poller of its list uses.
     pub poller: Caller,
     /// The caller that its own thread uses.
@@ -51,41 +51,53 @@ pub struct Loose<D> {
     /// Whether it has its own thread.
     pub has_thread: bool,
     /// How that thread waits.
-    pub pause: Pause,
+    pub wait: IdleWait,
 }
 
 impl Placed {
     /// Closes the instance, with its three callers (`netif_napi_del`).
-    fn close(self, seats: OwnSeats, poller: Caller, thread: Caller) -> (Closed, RxCtx)
+    fn close(self, handles: WorkerHandles, poller: Caller, thread: Caller) -> (Closed, RxCtx)
         requires home { IsHome self }
-        requires seats { AreSeatsOf self.napi seats }
+        requires handles { AreAtRest self.napi handles }
         requires callers { IsSeatOf self.napi poller.pass × IsSeatOf self.napi thread.pass }
         ensures napi { result.0.napi.value ≡ self.napi }
-        ensures of { IsCallersOf seats poller thread result.0 }
+        ensures of { IsCallersOf handles poller thread result.0 }
         ensures closed { IsClosedAs result.0 result.1 }
     {
         let Placed {
             number: _,
             napi,
             has_thread: _,
-            bell: _,
+            waker: _,
             room,
         } = self;
-        let OwnSeats { caller, control } = seats;
-        let as_closed = Closed {
-            napi: Snapshot::of(&napi),
-            worker: Snapshot::of(&caller),
-            poller: Snapshot::of(&poller),
-            thread: Snapshot::of(&thread),
-            control: Snapshot::of(&control),
+        let WorkerHandles {
+            caller,
+            control: ControlState::Off(control),
+            threaded: _,
+        } = handles
+        else {
+            unreachable!()
         };
+        let at = Snapshot::of(&napi);
+        let worker = Snapshot::of(&caller);
+        let own_poller = Snapshot::of(&poller);
+        let own_thread = Snapshot::of(&thread);
+        let off = Snapshot::of(&control);
         let mut callers = room;
         callers.push_reserved(caller);
         callers.push_reserved(poller);
         callers.push_reserved(thread);
         let closed = napi_calls::close(napi, callers, control);
         let Ok(ctx) = closed else { unreachable!() };
-        (as_closed, ctx)
+        let closed = Closed {
+            napi: at,
+            worker,
+            poller: own_poller,
+            thread: own_thread,
+            control: off,
+        };
+        (closed, ctx)
     }
 }
 
@@ -117,7 +129,7 @@ fn open<D: Drop>(alloc: Global, station: Station<D>) -> Result<(Placed, Loose<D>
         thread: has_thread,
         device,
     } = station;
-    let (bell, pause) = Bell::new(alloc)?;
+    let (waker, wait) = Waker::new(alloc)?;
     let Ok((rx, ctx)) = ring(alloc, capacity) else {
         return Err(AllocError);
     };
@@ -132,18 +144,22 @@ fn open<D: Drop>(alloc: Global, station: Station<D>) -> Result<(Placed, Loose<D>
         number,
         napi,
         has_thread,
-        bell,
+        waker,
         room: callers,
     };
     let loose = Loose {
         number,
         device,
         rx,
-        seats: OwnSeats { caller, control },
+        handles: WorkerHandles {
+            caller,
+            control: ControlState::Off(control),
+            threaded: false,
+        },
         poller,
         thread,
         has_thread,
-        pause,
+        wait,
     };
     Ok((placed, loose))
 }
@@ -157,13 +173,13 @@ fn end<D: Drop>(placed: Placed, loose: Loose<D>) -> Finished<D>
         number,
         device,
         rx,
-        seats,
+        handles,
         poller,
         thread,
         has_thread: _,
-        pause: _,
+        wait: _,
     } = loose;
-    let (closed, ctx) = placed.close(seats, poller, thread);
+    let (closed, ctx) = placed.close(handles, poller, thread);
     let totals = finish(rx, ctx);
     Finished {
         number,
@@ -173,8 +189,8 @@ fn end<D: Drop>(placed: Placed, loose: Loose<D>) -> Finished<D>
     }
 }
 
-/// Closes instances that no thread has used.
-pub fn shut_all<R: Wait + Drop, D: Drop>(
+// Closes instances that no thread has used.
+fn shut_all<R: Wait + Drop, D: Drop>(
     placed: Vec<DropBomb<R, Placed>>,
     loose: Vec<DropBomb<R, Loose<D>>>,
 )
@@ -221,7 +237,6 @@ pub fn open_all<R: Wait + Drop + Copy, D: Drop>(
     requires stations { All IsStation (vec_items stations) }
     ensures loose { IfOk result (λ r. AllZip IsKeptLoose (vec_items stations) (vec_items r.1)) }
     ensures sides { IfOk result (λ r. AllZip IsKeptSideOf (vec_items r.1) (vec_items r.0)) }
-    ensures parts { IfOk result (λ r. AllZip IsKeptPartOf (vec_items r.1) (vec_items r.0)) }
     ensures len { IfOk result
         (λ r. (vec_len r.0 ≡ vec_len stations) × (vec_len r.1 ≡ vec_len stations)) }
 {

@@ -1,5 +1,9 @@
 //! What a run takes, and what it returns.
 
+ghost use Rattle.std.specs.Prelude.{[], ◌∷◌};
+ghost use Rattle.rx_ring.specs.declared.ends.RxCtx.{RxCtx};
+ghost use Rattle.napi_calls.specs.Closed.{IsClosed};
+
 use napi_calls::{Caller, Control, Napi, Off};
 use rx_ring::Totals;
 use std::snapshot::Snapshot;
@@ -32,7 +36,8 @@ pub struct Finished<D> {
 }
 
 /// A closed instance, its three callers and its controller, as clauses see them: so these clauses are about the history of that
-/// instance. It has no bytes, and only the end of a run creates one.
+/// instance. It has no bytes. Each value of this type has the proof that its instance was closed with these callers and this
+/// controller, so only a real close creates one.
 #[derive(Drop)]
 pub struct Closed {
     pub(crate) napi: Snapshot<Napi>,
@@ -40,4 +45,6 @@ pub struct Closed {
     pub(crate) poller: Snapshot<Caller>,
     pub(crate) thread: Snapshot<Caller>,
     pub(crate) control: Snapshot<Control<Off>>,
+    ghost closed: { ∥ ((ctx : RxCtx) × IsClosed napi.value
+        (worker.value ∷ poller.value ∷ thread.value ∷ []) control.value.pass ctx) ∥₁ },
 }

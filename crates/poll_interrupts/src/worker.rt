@@ -1,12 +1,11 @@
 //! An interrupt worker: makes its device's acts, and hands the instance to its poller.
 
 ghost use Rattle.std.specs.Prelude.{◌≡◌, ℕ, ◌+◌, ◌≤◌, ◌<◌, ◌++◌, true, false, None, IfSome, is_some, length};
-ghost use Rattle.std.specs.List.{All};
 ghost use Rattle.rx_ring.specs.Ends.{SameIn, capacity_of, put_list};
 ghost use Rattle.napi_calls.specs.Instance.{IsSeatOf};
 ghost use Rattle.poll_interrupts.specs.Acts.{after_acts, arrivals, brings};
-ghost use Rattle.poll_interrupts.specs.Calls.{Acts, AllActs, HandsOver, Interrupts, IsPutLast, IsSameAccess, Leaves, Lists, TurnsOn};
-ghost use Rattle.poll_interrupts.specs.Seats.{AreSeatsOf, IsAccessOf, IsPowerOf};
+ghost use Rattle.poll_interrupts.specs.Calls.{Acts, AllActs, HandsOver, Interrupts, IsPutLast, Lists, TurnsOff, TurnsOn};
+ghost use Rattle.poll_interrupts.specs.Handles.{AreAtRest, AreHandlesOf, AreSameHandles, pass_of};
 ghost use Rattle.poll_tasks.specs.Asks.{WasLet};
 ghost use Rattle.poll_tasks.specs.Stops.{IsStop};
 
@@ -14,7 +13,7 @@ use crate::acts::{Act, Device};
 use napi_calls::{Between, Caller, Control, DropBomb, Granted, Napi, Off, On, Sched};
 use napi_model::Kind;
 use poll_list::ListIn;
-use poll_tasks::{Bell, Gate, Setting, Stop, Task};
+use poll_tasks::{Gate, RunContext, Stop, Task, Waker};
 use rx_ring::{Packet, RxIn};
 use std::sync::Wait;
 use std::thread;
@@ -29,26 +28,22 @@ impl Between for Yields {
     }
 }
 
-/// The controller, in its state: the instance is on or off.
-pub(crate) enum Power {
+/// The controller of an instance, which is on or off.
+pub enum ControlState {
+    /// The instance is enabled.
     On(Control<On>),
+    /// It is disabled.
     Off(Control<Off>),
 }
 
-/// A worker's handles on its instance. A linear value: it can't be dropped.
-pub(crate) struct Access {
-    pub(crate) caller: Caller,
-    pub(crate) power: Power,
-    /// The device's threaded setting, which an enable writes (`dev_set_threaded`).
-    pub(crate) threaded: bool,
-}
-
-/// The worker's handles on its instance, which is off. A linear value: they can't be dropped.
-pub struct OwnSeats {
+/// A worker's handles on its instance. A linear value: they can't be dropped.
+pub struct WorkerHandles {
     /// The caller that requests polls.
     pub caller: Caller,
     /// The controller of the instance.
-    pub control: Control<Off>,
+    pub control: ControlState,
+    /// The device's threaded setting, which an enable writes (`dev_set_threaded`).
+    pub threaded: bool,
 }
 
 /// Where a worker's interrupts go.
@@ -61,9 +56,9 @@ pub struct InterruptHandler<'p, 'n, R> {
     /// The instance.
     pub napi: &'n Napi,
     /// The waker of its thread, if it has one.
-    pub thread: Option<&'n Bell>,
+    pub thread: Option<&'n Waker>,
     /// The waker of the poller of its list.
-    pub poller: &'p Bell,
+    pub poller: &'p Waker,
 }
 
 impl<'p, 'n, R: Wait> InterruptHandler<'p, 'n, R> {
@@ -88,14 +83,14 @@ impl<'p, 'n, R: Wait> InterruptHandler<'p, 'n, R> {
         ensures handed { HandsOver (is_some self.now.thread) granted.pass result.pass }
         ensures lists { Lists self.now.number granted.pass result.pass list.old list.new }
     {
-        let Some(bell) = self.thread else {
+        let Some(waker) = self.thread else {
             return self.hand_to_list(list, granted);
         };
         if !granted.look(self.napi).flags.threaded {
             return self.hand_to_list(list, granted);
         }
         let caller = granted.hand(self.napi, Kind::Thread);
-        bell.wake();
+        waker.wake();
         caller
     }
 
@@ -114,26 +109,30 @@ impl<'p, 'n, R: Wait> InterruptHandler<'p, 'n, R> {
     }
 
     // Enables an instance that is off.
-    fn turn_on(&self, power: Power, threaded: bool) -> Power
-        requires { IsPowerOf self.now.napi.now power }
-        ensures of { IsPowerOf self.now.napi.now result }
-        ensures power { TurnsOn threaded power result }
+    fn turn_on(&self, control: ControlState, threaded: bool) -> ControlState
+        requires { IsSeatOf self.now.napi.now (pass_of control) }
+        ensures of { IsSeatOf self.now.napi.now (pass_of result) }
+        ensures turns { TurnsOn threaded control result }
     {
-        match power {
-            Power::On(control) => Power::On(control),
-            Power::Off(control) => Power::On(control.enable(&self.rt, self.napi, threaded)),
+        match control {
+            ControlState::On(control) => ControlState::On(control),
+            ControlState::Off(control) => {
+                ControlState::On(control.enable(&self.rt, self.napi, threaded))
+            }
         }
     }
 
     // Disables an instance that is on, which waits until its polls have ended.
-    fn turn_off(&self, power: Power) -> Control<Off>
-        requires { IsPowerOf self.now.napi.now power }
-        ensures of { IsSeatOf self.now.napi.now result.pass }
-        ensures power { Leaves power result.pass }
+    fn turn_off(&self, control: ControlState) -> ControlState
+        requires { IsSeatOf self.now.napi.now (pass_of control) }
+        ensures of { IsSeatOf self.now.napi.now (pass_of result) }
+        ensures turns { TurnsOff control result }
     {
-        match power {
-            Power::On(control) => control.disable_pausing(&self.rt, self.napi, &mut Yields),
-            Power::Off(control) => control,
+        match control {
+            ControlState::On(control) => {
+                ControlState::Off(control.disable_pausing(&self.rt, self.napi, &mut Yields))
+            }
+            ControlState::Off(control) => ControlState::Off(control),
         }
     }
 
@@ -144,15 +143,15 @@ impl<'p, 'n, R: Wait> InterruptHandler<'p, 'n, R> {
         list: &mut ListIn<R>,
         device: &mut D,
         k: u32,
-        access: Access,
+        handles: WorkerHandles,
         rx: &mut RxIn,
-    ) -> Access
+    ) -> WorkerHandles
         requires below { k < D.acts device.old }
-        requires of { IsAccessOf self.now.napi.now access }
-        ensures of { IsAccessOf self.now.napi.now result }
+        requires of { AreHandlesOf self.now.napi.now handles }
+        ensures of { AreHandlesOf self.now.napi.now result }
         ensures made { Acts (is_some self.now.thread)
-            (D.answer device.old k) access result rx.old rx.new }
-        ensures lists { Lists self.now.number access.caller.pass result.caller.pass
+            (D.answer device.old k) handles result rx.old rx.new }
+        ensures lists { Lists self.now.number handles.caller.pass result.caller.pass
             list.old list.new }
         ensures device { device.new ≡ D.after device.old k }
         ensures acts { D.acts device.new ≡ D.acts device.old }
@@ -162,40 +161,40 @@ impl<'p, 'n, R: Wait> InterruptHandler<'p, 'n, R> {
             ≤ capacity_of rx.old
             → put_list rx.new ≡ put_list rx.old ++ brings (D.answer device.old k) }
     {
-        let mut access = access;
+        let mut handles = handles;
         match device.act(k) {
             Act::Arrive(packet) => match rx.put(packet) {
                 Ok(()) => {
-                    access.caller = self.interrupt(list, access.caller, rx, packet);
-                    access
+                    handles.caller = self.interrupt(list, handles.caller, rx, packet);
+                    handles
                 }
-                Err(_dropped) => access,
+                Err(_dropped) => handles,
             },
             Act::Disable => {
-                access.power = Power::Off(self.turn_off(access.power));
-                access
+                handles.control = self.turn_off(handles.control);
+                handles
             }
             Act::Enable => {
-                access.power = self.turn_on(access.power, access.threaded);
-                access
+                handles.control = self.turn_on(handles.control, handles.threaded);
+                handles
             }
             Act::SetThreaded(threaded) => {
-                access.caller.set_threaded(self.napi, threaded);
-                access.threaded = threaded;
-                access
+                handles.caller.set_threaded(self.napi, threaded);
+                handles.threaded = threaded;
+                handles
             }
-            Act::Nothing => access,
+            Act::Nothing => handles,
         }
     }
 
     // Returns why the worker may not make its next act, if so. If the gate returns false, the run stops.
-    fn stop_before<G: Gate>(&self, setting: &Setting<R, G>, k: u32) -> Option<Stop>
-        ensures open { result ≡ None → G.answers setting.now.gate.now self.now.number k true }
+    fn stop_before<G: Gate>(&self, context: &RunContext<R, G>, k: u32) -> Option<Stop>
+        ensures open { result ≡ None → G.answers context.now.gate.now self.now.number k true }
         ensures why { IfSome result (IsStop G.may_shut) }
     {
-        match setting.flags.stop() {
+        match context.flags.stop() {
             Some(stop) => Some(stop),
-            None => setting.ask(self.number, k),
+            None => context.ask(self.number, k),
         }
     }
 
@@ -205,21 +204,21 @@ impl<'p, 'n, R: Wait> InterruptHandler<'p, 'n, R> {
         &self,
         list: &mut ListIn<R>,
         device: &mut D,
-        access: Access,
+        handles: WorkerHandles,
         rx: &mut RxIn,
-        setting: &Setting<R, G>,
-    ) -> (Access, Option<Stop>)
-        requires { IsAccessOf self.now.napi.now access }
-        ensures of { IsAccessOf self.now.napi.now result.0 }
-        ensures same { IsSameAccess access result.0 }
-        ensures lists { Lists self.now.number access.caller.pass result.0.caller.pass
+        context: &RunContext<R, G>,
+    ) -> (WorkerHandles, Option<Stop>)
+        requires { AreHandlesOf self.now.napi.now handles }
+        ensures of { AreHandlesOf self.now.napi.now result.0 }
+        ensures same { AreSameHandles handles result.0 }
+        ensures lists { Lists self.now.number handles.caller.pass result.0.caller.pass
             list.old list.new }
         ensures why { IfSome result.1 (IsStop G.may_shut) }
         ensures made { result.1 ≡ None
             → AllActs (is_some self.now.thread) D.answer D.after device.old
-            (D.acts device.old) access result.0 rx.old rx.new }
+            (D.acts device.old) handles result.0 rx.old rx.new }
         ensures let_go { result.1 ≡ None
-            → WasLet (G.answers setting.now.gate.now) self.now.number (D.acts device.old) }
+            → WasLet (G.answers context.now.gate.now) self.now.number (D.acts device.old) }
         ensures device { result.1 ≡ None
             → device.new ≡ after_acts D.after device.old (D.acts device.old) }
         ensures ring { SameIn rx.old rx.new }
@@ -230,14 +229,14 @@ impl<'p, 'n, R: Wait> InterruptHandler<'p, 'n, R> {
             → put_list rx.new ≡ put_list rx.old
             ++ arrivals D.answer D.after device.old (D.acts device.old) }
     {
-        let mut access = access;
+        let mut handles = handles;
         for k in 0..device.acts() {
-            if let Some(stop) = self.stop_before(setting, k) {
-                return (access, Some(stop));
+            if let Some(stop) = self.stop_before(context, k) {
+                return (handles, Some(stop));
             }
-            access = self.make_act(list, device, k, access, rx);
+            handles = self.make_act(list, device, k, handles, rx);
         }
-        (access, None)
+        (handles, None)
     }
 }
 
@@ -246,7 +245,7 @@ impl<'p, 'n, R: Wait> InterruptHandler<'p, 'n, R> {
 #[derive(Drop)]
 pub struct InterruptWorker<'t, 'p, 'n, R: Wait + Drop, D, G: Gate> {
     /// What all threads of the run share.
-    pub setting: &'t Setting<'t, R, G>,
+    pub context: &'t RunContext<'t, R, G>,
     /// Where its interrupts go.
     pub handler: InterruptHandler<'p, 'n, R>,
     /// Its end of the list of its poller.
@@ -256,17 +255,22 @@ pub struct InterruptWorker<'t, 'p, 'n, R: Wait + Drop, D, G: Gate> {
     /// The input of the device's receive ring.
     pub rx: RxIn,
     /// Its handles on the instance, which is off.
-    pub seats: DropBomb<R, OwnSeats>,
+    pub handles: DropBomb<R, WorkerHandles>,
     /// Why not all acts were made, if so.
     pub stop: Option<Stop>,
-    ghost of: { AreSeatsOf handler.napi.now seats.value },
+    ghost of: { AreAtRest handler.napi.now handles.value },
 }
 
 impl<'t, 'p, 'n, R: Wait + Copy + Drop, D: Device + Drop, G: Gate> Task
     for InterruptWorker<'t, 'p, 'n, R, D, G> {
     ghost use Rattle.poll_interrupts.specs.Works.{IsWorked};
+    ghost use Rattle.poll_tasks.specs.Stops.{IsStop};
 
     ghost gives = { IsWorked D.acts D.answer D.after G.may_shut G.answers };
+
+    ghost stopped = { λ w. w.stop };
+
+    ghost may_stop = { IsStop G.may_shut };
 
     fn is_idle(&self) -> bool {
         false
@@ -274,54 +278,39 @@ impl<'t, 'p, 'n, R: Wait + Copy + Drop, D: Device + Drop, G: Gate> Task
 
     fn run(self) -> InterruptWorker<'t, 'p, 'n, R, D, G> {
         let InterruptWorker {
-            setting,
+            context,
             handler,
             mut list,
             mut device,
             mut rx,
-            seats,
+            handles,
             stop: _,
         } = self;
-        let OwnSeats { caller, control } = seats.open();
-        let access = Access {
-            caller,
-            power: handler.turn_on(Power::Off(control), false),
-            threaded: false,
-        };
-        let (access, stop) = handler.make_acts(&mut list, &mut device, access, &mut rx, setting);
-        let Access {
-            caller,
-            power,
-            threaded: _threaded,
-        } = access;
-        let control = handler.turn_off(power);
-        if let Some(bell) = handler.thread {
-            bell.tell();
+        let mut handles = handles.open();
+        handles.control = handler.turn_on(handles.control, handles.threaded);
+        let (mut handles, stop) = handler.make_acts(
+            &mut list,
+            &mut device,
+            handles,
+            &mut rx,
+            context,
+        );
+        handles.control = handler.turn_off(handles.control);
+        if let Some(waker) = handler.thread {
+            waker.close();
         }
         InterruptWorker {
-            setting,
+            context,
             handler,
             list,
             device,
             rx,
-            seats: DropBomb::new(setting.rt, OwnSeats { caller, control }),
+            handles: DropBomb::new(context.rt, handles),
             stop,
         }
     }
-}
 
-/// Returns why the first worker that didn't make all its acts didn't.
-pub fn worker_stop<'t, 'p, 'n, R: Wait + Drop, D, G: Gate>(
-    all: &[InterruptWorker<'t, 'p, 'n, R, D, G>],
-) -> Option<Stop>
-    requires { All (λ w. IfSome w.stop (IsStop G.may_shut)) all.now }
-    ensures none { result ≡ None → All (λ w. w.stop ≡ None) all.now }
-    ensures some { IfSome result (IsStop G.may_shut) }
-{
-    for one in all {
-        if let Some(stop) = one.stop {
-            return Some(stop);
-        }
+    fn stop(&self) -> Option<Stop> {
+        self.stop
     }
-    None
 }

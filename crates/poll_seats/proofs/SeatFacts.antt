@@ -4,25 +4,25 @@ use Rattle.std.{proofs.Common.{set, get_or, arith}, specs.{Prelude.{◌==◌, Is
 use Rattle.poll_runs.specs.Polls.{At, Chain, Poll}
 use Rattle.poll_runs.specs.declared.bench.Once.{Once}
 use Rattle.{napi_calls.specs.declared.kept.DropBomb.DropBomb, poll_seats.specs.SeatKeeping.{AreSameSeats, IsSameSeat}}
-use Rattle.poll_seats.specs.declared.{seat.Seat.Seat, list_poller.{SeatBench.SeatBench, ListPoller.ListPoller}}
+use Rattle.poll_seats.specs.declared.{handle.PollHandle.PollHandle, list_poller.{HandleBench.HandleBench, ListPoller.ListPoller}}
 use Rattle.poll_seats.specs.declared.thread_poller.ThreadPoller.{ThreadPoller}
-use Rattle.poll_seats.specs.SeatBenches.{IsNowhere, IsPolledAt}
-use Rattle.poll_seats.specs.{SeatBenches.PollsSeat, Serving.IsServed, Turns.{TurnsAlone, TurnsByRun}}
+use Rattle.poll_seats.specs.HandleBenches.{IsNowhere, IsPolledAt}
+use Rattle.poll_seats.specs.{HandleBenches.PollsSeat, Serving.IsServed, Turns.{TurnsAlone, TurnsByRun}}
 
 -- a seat that wasn't used
-pub seat_stays : (x : Seat) → IsSameSeat x x
+pub seat_stays : (x : PollHandle) → IsSameSeat x x
 seat_stays x = record { number = refl; napi = refl; thread = refl; caller = λ s. s }
 
-pub seats_stay : {R : Type 0} (l : List (DropBomb R Seat)) → AreSameSeats l l
+pub seats_stay : {R : Type 0} (l : List (DropBomb R PollHandle)) → AreSameSeats l l
 seats_stay [] = tt
 seats_stay (x ∷ xs) = (seat_stays x.value, seats_stay xs)
 
 -- what is preserved from a first moment to a second and from there to a third
-pub seat_joins : (x y z : Seat) → IsSameSeat x y → IsSameSeat y z → IsSameSeat x z
+pub seat_joins : (x y z : PollHandle) → IsSameSeat x y → IsSameSeat y z → IsSameSeat x z
 seat_joins x y z p q =
     record { number = q.number ∙ p.number; napi = q.napi ∙ p.napi; thread = q.thread ∙ p.thread; caller = λ s. q.caller (p.caller s) }
 
-pub seats_join : {R : Type 0} (a b c : List (DropBomb R Seat)) → AreSameSeats a b → AreSameSeats b c → AreSameSeats a c
+pub seats_join : {R : Type 0} (a b c : List (DropBomb R PollHandle)) → AreSameSeats a b → AreSameSeats b c → AreSameSeats a c
 seats_join [] [] [] p q = tt
 seats_join [] [] (z ∷ c) p q = absurd q
 seats_join [] (y ∷ b) c p q = absurd p
@@ -31,21 +31,21 @@ seats_join (x ∷ a) (y ∷ b) [] p q = absurd q
 seats_join (x ∷ a) (y ∷ b) (z ∷ c) p q = (seat_joins x.value y.value z.value p.0 q.0, seats_join a b c p.1 q.1)
 
 -- callers that were present are present again
-pub still_there : {R : Type 0} (a b : List (DropBomb R Seat)) → AreSameSeats a b → AllByRecursion (λ s. IsSome s.value.caller) a
+pub still_there : {R : Type 0} (a b : List (DropBomb R PollHandle)) → AreSameSeats a b → AllByRecursion (λ s. IsSome s.value.caller) a
     → AllByRecursion (λ s. IsSome s.value.caller) b
 still_there [] [] p there = tt
 still_there (x ∷ a) (y ∷ b) p there = (p.0.caller there.0, still_there a b p.1 there.1)
 still_there a b p there = absurd p
 
 -- one seat was polled
-pub seats_set : {R : Type 0} (l : List (DropBomb R Seat)) (k : ℕ) (x y : DropBomb R Seat) → k < length l → get_or l k x ≡ x
+pub seats_set : {R : Type 0} (l : List (DropBomb R PollHandle)) (k : ℕ) (x y : DropBomb R PollHandle) → k < length l → get_or l k x ≡ x
     → IsSameSeat x.value y.value → AreSameSeats l (set l k y)
 seats_set [] k x y b e s = absurd (omega arith)
 seats_set (a ∷ l) zero x y b e s = (subst (λ z. IsSameSeat z.value y.value) (sym e) s, seats_stay l)
 seats_set (a ∷ l) (suc k) x y b e s = (seat_stays a.value, seats_set l k x y (omega arith) e s)
 
 -- a poll, at the place where the instance has its seat, or nowhere
-poll_keeps_at : {R : Type 0} (place : Option ℕ) (weight : ℕ) (once : Once) (before after : SeatBench R)
+poll_keeps_at : {R : Type 0} (place : Option ℕ) (weight : ℕ) (once : Once) (before after : HandleBench R)
     → MatchOption place (IsNowhere before once after) (IsPolledAt before weight once after)
     → AreSameSeats (vec_items before.seats) (vec_items after.seats)
 poll_keeps_at None weight once before after p =
@@ -55,51 +55,53 @@ poll_keeps_at (Some place) weight once before after p =
     (seats_set (vec_items before.seats) place p.was p.now p.within p.there p.same)
 
 -- the poll of an instance at which there is a seat, and of one at which there is none
-pub polls_there : {R : Type 0} (seen : List (DropBomb R Seat)) (before : SeatBench R) (id weight : ℕ) (once : Once)
-    (after : SeatBench R) (place : ℕ)
+pub polls_there : {R : Type 0} (seen : List (DropBomb R PollHandle)) (before : HandleBench R) (id weight : ℕ) (once : Once)
+    (after : HandleBench R) (place : ℕ)
     → seen ≡ vec_items before.seats → Some place ≡ position (λ seat. seat.value.number == id) seen
     → IsPolledAt before weight once after place
     → PollsSeat before id weight once after
 polls_there {R} seen before id weight once after place s e p =
     subst (λ at. MatchOption at (IsNowhere before once after) (IsPolledAt before weight once after))
-    (e ∙ ap (λ l. position (λ (seat : DropBomb R Seat). seat.value.number == id) l) s) p
+    (e ∙ ap (λ l. position (λ (seat : DropBomb R PollHandle). seat.value.number == id) l) s) p
 
-pub polls_nowhere : {R : Type 0} (seen : List (DropBomb R Seat)) (before : SeatBench R) (id weight : ℕ) (once : Once) (after : SeatBench R)
+pub polls_nowhere : {R : Type 0} (seen : List (DropBomb R PollHandle)) (before : HandleBench R) (id weight : ℕ) (once : Once)
+    (after : HandleBench R)
     → seen ≡ vec_items before.seats → None ≡ position (λ seat. seat.value.number == id) seen → IsNowhere before once after
     → PollsSeat before id weight once after
 polls_nowhere {R} seen before id weight once after s e p =
     subst (λ at. MatchOption at (IsNowhere before once after) (IsPolledAt before weight once after))
-    (e ∙ ap (λ l. position (λ (seat : DropBomb R Seat). seat.value.number == id) l) s) p
+    (e ∙ ap (λ l. position (λ (seat : DropBomb R PollHandle). seat.value.number == id) l) s) p
 
 -- a run preserves the seats
-pub run_keeps : {R : Type 0} (weight : ℕ) (polls : List Poll) (before after : SeatBench R) → Chain (At PollsSeat weight) before polls after
+pub run_keeps : {R : Type 0} (weight : ℕ) (polls : List Poll) (before after : HandleBench R) → Chain
+    (At PollsSeat weight) before polls after
     → AreSameSeats (vec_items before.seats) (vec_items after.seats)
 run_keeps {R} weight [] before after c =
-    subst (λ (x : SeatBench R). AreSameSeats (vec_items before.seats) (vec_items x.seats)) (sym c) (seats_stay (vec_items before.seats))
+    subst (λ (x : HandleBench R). AreSameSeats (vec_items before.seats) (vec_items x.seats)) (sym c) (seats_stay (vec_items before.seats))
 run_keeps {R} weight (p ∷ polls) before after c =
-    let one = poll_keeps_at (position (λ (seat : DropBomb R Seat). seat.value.number == p.id)
+    let one = poll_keeps_at (position (λ (seat : DropBomb R PollHandle). seat.value.number == p.id)
     (vec_items before.seats)) weight p.once before c.0 c.1 in
     seats_join (vec_items before.seats) (vec_items c.0.seats) (vec_items after.seats) one (run_keeps weight polls c.0 after c.2)
 
 -- a poller's turn preserves them
 turn_keeps : {R : Type 0} (found : Bool) (before after : ListPoller R) → TurnsByRun before found after
-    → AreSameSeats (vec_items before.seat_bench.seats) (vec_items after.seat_bench.seats)
-turn_keeps found before after t = run_keeps before.pace.weight t.run.polls before.seat_bench after.seat_bench t.run.seats
+    → AreSameSeats (vec_items before.bench.seats) (vec_items after.bench.seats)
+turn_keeps found before after t = run_keeps before.limits.weight t.run.polls before.bench after.bench t.run.seats
 
 turns_keep : {R : Type 0} (found : List Bool) (before after : ListPoller R) → Chain TurnsByRun before found after
-    → AreSameSeats (vec_items before.seat_bench.seats) (vec_items after.seat_bench.seats)
+    → AreSameSeats (vec_items before.bench.seats) (vec_items after.bench.seats)
 turns_keep {R} [] before after c =
-    subst (λ (x : ListPoller R). AreSameSeats (vec_items before.seat_bench.seats) (vec_items x.seat_bench.seats)) (sym c)
-    (seats_stay (vec_items before.seat_bench.seats))
+    subst (λ (x : ListPoller R). AreSameSeats (vec_items before.bench.seats) (vec_items x.bench.seats)) (sym c)
+    (seats_stay (vec_items before.bench.seats))
 turns_keep {R} (one ∷ more) before after c =
-    seats_join (vec_items before.seat_bench.seats) (vec_items c.0.seat_bench.seats) (vec_items after.seat_bench.seats)
+    seats_join (vec_items before.bench.seats) (vec_items c.0.bench.seats) (vec_items after.bench.seats)
     (turn_keeps one before c.0 c.1)
     (turns_keep more c.0 after c.2)
 
 pub served_keeps : {R : Type 0} (before after : ListPoller R) → IsServed TurnsByRun before after
-    → AreSameSeats (vec_items before.seat_bench.seats) (vec_items after.seat_bench.seats)
+    → AreSameSeats (vec_items before.bench.seats) (vec_items after.bench.seats)
 served_keeps before after s =
-    seats_join (vec_items before.seat_bench.seats) (vec_items s.last.seat_bench.seats) (vec_items after.seat_bench.seats)
+    seats_join (vec_items before.bench.seats) (vec_items s.last.bench.seats) (vec_items after.bench.seats)
     (turns_keep s.found before s.last s.earlier) (turn_keeps _ s.last after s.empty)
 
 -- so do the turns of an instance's thread

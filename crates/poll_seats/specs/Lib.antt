@@ -1,6 +1,6 @@
 pub mod SeatKeeping
 pub mod Polled
-pub mod SeatBenches
+pub mod HandleBenches
 pub mod Serving
 pub mod Turns
 pub mod Gives

@@ -3,23 +3,23 @@ use Rattle.std.specs.Prelude.{◌≡◌, ◌++◌, ◌==◌, not, is_some, Bool,
 use Rattle.poll_list.specs.SharedList.{IsAllPopped, PopsCame, in_hand, pushed_by}
 use Rattle.poll_runs.specs.{Polls.{At, Chain, Poll}, Run.IsRun, declared.{bench.ThreadReport.ThreadReport, run.RunReport.RunReport}}
 use Rattle.poll_seats.specs.declared.{list_poller.ListPoller.ListPoller, thread_poller.ThreadPoller.ThreadPoller}
-use Rattle.poll_seats.specs.{SeatBenches.PollsSeat, Polled.PollsByThread}
+use Rattle.poll_seats.specs.{HandleBenches.PollsSeat, Polled.PollsByThread}
 use Rattle.poll_seats.specs.{Polled.handed_on, SeatKeeping.IsSameSeat}
 
 module _ {R : Type 0} where
   -- a poller without seats has nothing to poll, and neither has the thread of an instance that has none
   abbrev pub has_no_seat : ListPoller R → Bool
-  has_no_seat served = vec_len served.seat_bench.seats == 0
+  has_no_seat served = vec_len served.bench.seats == 0
 
   abbrev pub has_no_thread : ThreadPoller R → Bool
   has_no_thread served = not (is_some served.seat.value.thread)
 
-  -- a run over the list, by the budget, the weight and the window of the pace (`net_rx_action`)
+  -- a run over the list, by the budget, the weight and the window of the limits (`net_rx_action`)
   pub record RunsOnce (before : ListPoller R) (report : RunReport) (after : ListPoller R) : Type 0 where
     pub polls : List Poll
-    pub seats : Chain (At PollsSeat before.pace.weight) before.seat_bench polls after.seat_bench
-    pub run : IsRun in_hand PopsCame IsAllPopped before.pace.budget before.pace.window before.list polls after.list report
-    pub pace : after.pace ≡ before.pace
+    pub seats : Chain (At PollsSeat before.limits.weight) before.bench polls after.bench
+    pub run : IsRun in_hand PopsCame IsAllPopped before.limits.budget before.limits.window before.list polls after.list report
+    pub limits : after.limits ≡ before.limits
 
   -- a poller's turn is one run, and reports whether it polled anything
   pub record TurnsByRun (before : ListPoller R) (found : Bool) (after : ListPoller R) : Type 0 where
@@ -27,13 +27,13 @@ module _ {R : Type 0} where
     pub run : RunsOnce before report after
     pub found_polls : found ≡ nat_lt 0 report.polls
 
-  -- a thread's turn is one polling, by the weight and the window of the pace (`napi_threaded_poll`); it reports whether it
+  -- a thread's turn is one polling, by the weight and the window of the limits (`napi_threaded_poll`); it reports whether it
   -- polled anything, and hands over what it may not poll again
   pub record TurnsAlone (before : ThreadPoller R) (found : Bool) (after : ThreadPoller R) : Type 0 where
     pub report : ThreadReport
     pub same : IsSameSeat before.seat.value after.seat.value
-    pub polls : PollsByThread before.pace.weight before.pace.window before.seat.value.caller report
+    pub polls : PollsByThread before.limits.weight before.limits.window before.seat.value.caller report
         after.batch.items after.seat.value.caller
     pub handed : pushed_by after.list ≡ pushed_by before.list ++ handed_on report.next before.seat.value.number
-    pub pace : after.pace ≡ before.pace
+    pub limits : after.limits ≡ before.limits
     pub found_polls : found ≡ nat_lt 0 report.polls

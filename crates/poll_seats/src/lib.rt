@@ -2,12 +2,12 @@
 //! one.
 #![tactic(auto)]
 
+mod handle;
 mod list_poller;
 mod poller;
-mod seat;
 mod thread_poller;
 
-pub use list_poller::{ListPoller, SeatBench};
-pub use poller::{Poller, Serves, first_stop};
-pub use seat::Seat;
+pub use handle::PollHandle;
+pub use list_poller::{HandleBench, ListPoller};
+pub use poller::{Poller, Serves};
 pub use thread_poller::ThreadPoller;

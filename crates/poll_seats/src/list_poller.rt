@@ -1,35 +1,35 @@
 //! What a poller with a list polls: its seats are a bench, over which it runs while there is an instance on the list.
 
 ghost use Rattle.std.specs.Prelude.{◌≡◌, ◌==◌, position, vec_items};
-ghost use Rattle.poll_tasks.specs.Paces.{IsLawful};
+ghost use Rattle.poll_tasks.specs.Limits.{IsLawful};
 
+use crate::handle::PollHandle;
 use crate::poller::Serves;
-use crate::seat::Seat;
 use napi_calls::DropBomb;
 use poll_list::SharedList;
 use poll_runs::{Bench, BusyReport, Next, Once, RunReport, ThreadReport, run_softirq};
-use poll_tasks::Pace;
+use poll_tasks::PollLimits;
 use rx_ring::Batch;
 use std::sync::Wait;
 
 /// A poller's seats, as the bench of the instances' numbers.
 #[derive(Drop)]
-pub struct SeatBench<'n, R: Wait + Drop> {
+pub struct HandleBench<'n, R: Wait + Drop> {
     rt: R,
     /// The seats.
-    pub seats: Vec<DropBomb<R, Seat<'n>>>,
+    pub seats: Vec<DropBomb<R, PollHandle<'n>>>,
     batch: Batch,
 }
 
 // Returns the place of the seat at the instance with this number.
-fn find<'n, R: Wait + Drop>(seats: &[DropBomb<R, Seat<'n>>], number: u32) -> Option<usize>
+fn find<'n, R: Wait + Drop>(seats: &[DropBomb<R, PollHandle<'n>>], number: u32) -> Option<usize>
     ensures { result ≡ position (λ seat. seat.value.number == number) seats.now }
 {
     seats.iter().position(|seat| seat.value.number == number)
 }
 
-impl<'n, R: Wait + Drop> Bench for SeatBench<'n, R> {
-    ghost use Rattle.poll_seats.specs.SeatBenches.{PollsSeat};
+impl<'n, R: Wait + Drop> Bench for HandleBench<'n, R> {
+    ghost use Rattle.poll_seats.specs.HandleBenches.{PollsSeat};
 
     ghost polls = { PollsSeat };
 
@@ -58,60 +58,65 @@ pub struct ListPoller<'n, R: Wait + Drop> {
     /// The list of instances that the poller polls.
     pub list: SharedList<R>,
     /// Its seats at its instances.
-    pub seat_bench: SeatBench<'n, R>,
+    pub bench: HandleBench<'n, R>,
     /// How it polls.
-    pub pace: Pace,
-    ghost lawful: { IsLawful pace },
+    pub limits: PollLimits,
+    ghost lawful: { IsLawful limits },
 }
 
 impl<'n, R: Wait + Drop> ListPoller<'n, R> {
     ghost use Rattle.poll_seats.specs.Turns.{RunsOnce};
 
     /// Creates the poller of this list, with these seats.
-    pub fn new(rt: R, list: SharedList<R>, seats: Vec<DropBomb<R, Seat<'n>>>, pace: Pace) -> Self
-        requires { IsLawful pace }
+    pub fn new(
+        rt: R,
+        list: SharedList<R>,
+        seats: Vec<DropBomb<R, PollHandle<'n>>>,
+        limits: PollLimits,
+    ) -> Self
+        requires { IsLawful limits }
         ensures list { result.list ≡ list }
-        ensures seats { vec_items result.seat_bench.seats ≡ vec_items seats.entry }
-        ensures pace { result.pace ≡ pace }
+        ensures seats { vec_items result.bench.seats ≡ vec_items seats.entry }
+        ensures limits { result.limits ≡ limits }
     {
         ListPoller {
             list,
-            seat_bench: SeatBench {
+            bench: HandleBench {
                 rt,
                 seats,
                 batch: Batch::new(),
             },
-            pace,
+            limits,
         }
     }
 
     /// Returns the seats.
-    pub fn leave(self) -> Vec<DropBomb<R, Seat<'n>>>
-        ensures { result ≡ self.entry.seat_bench.seats }
+    pub fn leave(self) -> Vec<DropBomb<R, PollHandle<'n>>>
+        ensures { result ≡ self.entry.bench.seats }
     {
         let ListPoller {
             list: _,
-            seat_bench,
-            pace: _,
+            bench,
+            limits: _,
         } = self;
-        let SeatBench {
+        let HandleBench {
             rt: _,
             seats,
             batch: _,
-        } = seat_bench;
+        } = bench;
         seats
     }
 
-    // Runs over the instances on the list, with the budget, the weight and the window of the pace (`net_rx_action`).
+    // Runs over the instances on the list, with the budget, the weight and the window of the limits (`net_rx_action`).
     fn run(&mut self) -> RunReport
         ensures { RunsOnce self.old result self.new }
     {
-        let Pace {
+        let PollLimits {
             budget,
             weight,
             window,
-        } = self.pace;
-        run_softirq(&mut self.list, &mut self.seat_bench, budget, weight, window)
+        } = self.limits;
+        run_softirq(&mut self.list, &mut self.bench, budget, weight, window)
     }
 }
 
@@ -123,7 +128,7 @@ impl<'n, R: Wait + Drop> Serves for ListPoller<'n, R> {
     ghost turns = { TurnsByRun };
 
     fn is_idle(&self) -> bool {
-        self.seat_bench.seats.is_empty()
+        self.bench.seats.is_empty()
     }
 
     fn turn(&mut self) -> bool {

@@ -1,12 +1,10 @@
 //! The thread of a poller: it takes turns until nothing will be handed over any more.
 
-ghost use Rattle.std.specs.Prelude.{◌≡◌, None, IfSome};
-ghost use Rattle.std.specs.List.{All};
 ghost use Rattle.poll_seats.specs.Serving.{IsServed};
-ghost use Rattle.poll_tasks.specs.Stops.{IsStop};
 
-use poll_tasks::{Bell, Gate, Pause, Setting, Stop, Task};
+use poll_tasks::{Gate, IdleWait, RunContext, Stop, Task, Waker};
 use std::sync::Wait;
+use std::sync::atomic::Ordering;
 
 /// What a poller polls: the instances on a list, or the one instance that it is the thread of.
 pub trait Serves {
@@ -28,17 +26,17 @@ pub trait Serves {
 
 // Takes turns while there is something to poll. A turn that finds nothing is the last one if it was signalled before that turn
 // that nothing will be handed over any more: a hand-over comes before that signal.
-fn serve<R: Wait, S: Serves>(rt: &R, bell: &Bell, pause: &Pause, served: &mut S)
+fn serve<R: Wait, S: Serves>(rt: &R, waker: &Waker, wait: &IdleWait, served: &mut S)
     ensures { IsServed S.turns served.old served.new }
 {
     for _ in rt.forever() {
-        let is_last = bell.is_told();
+        let is_last = waker.is_closed();
         if served.turn() {
-            pause.is_over();
+            wait.reset();
         } else if is_last {
             return;
         } else {
-            pause.wait(rt);
+            wait.wait(rt);
         }
     }
     unreachable!()
@@ -48,13 +46,13 @@ fn serve<R: Wait, S: Serves>(rt: &R, bell: &Bell, pause: &Pause, served: &mut S)
 #[derive(Drop)]
 pub struct Poller<'t, 'p, R: Wait + Drop, G: Gate, S: Drop> {
     /// What all threads of the run share.
-    pub setting: &'t Setting<'t, R, G>,
+    pub context: &'t RunContext<'t, R, G>,
     /// The number that identifies the poller to the gate.
     pub name: u32,
     /// The waker of the poller.
-    pub bell: &'p Bell,
+    pub waker: &'p Waker,
     /// How the poller waits.
-    pub pause: Pause,
+    pub wait: IdleWait,
     /// What it polls.
     pub served: S,
     /// Why its run ended early: a thread couldn't be started, and it took no turn; or its gate returned false.
@@ -63,8 +61,13 @@ pub struct Poller<'t, 'p, R: Wait + Drop, G: Gate, S: Drop> {
 
 impl<'t, 'p, R: Wait + Drop, G: Gate, S: Serves + Drop> Task for Poller<'t, 'p, R, G, S> {
     ghost use Rattle.poll_seats.specs.Gives.{IsPolled};
+    ghost use Rattle.poll_tasks.specs.Stops.{IsStop};
 
     ghost gives = { IsPolled S.idle S.turns G.may_shut G.answers };
+
+    ghost stopped = { λ p. p.stop };
+
+    ghost may_stop = { IsStop G.may_shut };
 
     fn is_idle(&self) -> bool {
         self.served.is_idle()
@@ -76,30 +79,18 @@ impl<'t, 'p, R: Wait + Drop, G: Gate, S: Serves + Drop> Task for Poller<'t, 'p, 
             poller.stop = None;
             return poller;
         }
-        let setting = poller.setting;
-        if setting.flags.unpolled.is_told() {
+        let context = poller.context;
+        if context.flags.unpolled.load(Ordering::SeqCst) != 0 {
             poller.stop = Some(Stop::Refused);
             return poller;
         }
-        poller.stop = setting.ask(poller.name, 0);
+        poller.stop = context.ask(poller.name, 0);
         let own = &mut poller;
-        serve(&setting.rt, own.bell, &own.pause, &mut own.served);
+        serve(&context.rt, own.waker, &own.wait, &mut own.served);
         poller
     }
-}
 
-/// Returns why the first of these pollers whose run ended early did so.
-pub fn first_stop<'t, 'p, R: Wait + Drop, G: Gate, S: Drop>(
-    all: &[Poller<'t, 'p, R, G, S>],
-) -> Option<Stop>
-    requires { All (λ p. IfSome p.stop (IsStop G.may_shut)) all.now }
-    ensures none { result ≡ None → All (λ p. p.stop ≡ None) all.now }
-    ensures some { IfSome result (IsStop G.may_shut) }
-{
-    for one in all {
-        if let Some(stop) = one.stop {
-            return Some(stop);
-        }
+    fn stop(&self) -> Option<Stop> {
+        self.stop
     }
-    None
 }

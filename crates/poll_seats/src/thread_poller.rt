@@ -2,16 +2,16 @@
 
 ghost use Rattle.std.specs.Prelude.{◌≡◌, ◌++◌, not, is_some};
 ghost use Rattle.poll_list.specs.SharedList.{pushed_by};
-ghost use Rattle.poll_tasks.specs.Paces.{IsLawful};
+ghost use Rattle.poll_tasks.specs.Limits.{IsLawful};
 ghost use Rattle.poll_seats.specs.Polled.{handed_on};
 
+use crate::handle::PollHandle;
 use crate::poller::Serves;
-use crate::seat::Seat;
 use napi_calls::DropBomb;
 use napi_model::Kind;
 use poll_list::ListIn;
 use poll_runs::Next;
-use poll_tasks::{Bell, Pace};
+use poll_tasks::{PollLimits, Waker};
 use rx_ring::Batch;
 use std::sync::Wait;
 
@@ -21,20 +21,20 @@ pub struct ThreadPoller<'p, 'n, R: Wait + Drop> {
     /// The runtime, which waits.
     pub rt: R,
     /// The handle that polls as the instance's thread. It has a waker if the instance has a thread.
-    pub seat: DropBomb<R, Seat<'n>>,
+    pub seat: DropBomb<R, PollHandle<'n>>,
     /// The list that gets the instance if the thread may not poll it again, or if THREADED was cleared.
     pub list: ListIn<R>,
     /// The waker of that list's poller.
-    pub poller: &'p Bell,
+    pub poller: &'p Waker,
     /// How it polls.
-    pub pace: Pace,
+    pub limits: PollLimits,
     /// The packets of a poll.
     pub batch: Batch,
-    ghost lawful: { IsLawful pace },
+    ghost lawful: { IsLawful limits },
 }
 
 // Hands an instance to the list, if a poll ended such that its thread may not poll it again, and wakes the poller of the list.
-fn hand_on<R: Wait>(list: &mut ListIn<R>, poller: &Bell, number: u32, next: Next)
+fn hand_on<R: Wait>(list: &mut ListIn<R>, poller: &Waker, number: u32, next: Next)
     ensures { pushed_by list.new ≡ pushed_by list.old ++ handed_on next number }
 {
     if matches!(next, Next::Repoll | Next::Again(Kind::List)) {
@@ -57,8 +57,8 @@ impl<'p, 'n, R: Wait + Drop> Serves for ThreadPoller<'p, 'n, R> {
     fn turn(&mut self) -> bool {
         let report = self.seat.value.poll_thread(
             &self.rt,
-            self.pace.weight,
-            self.pace.window,
+            self.limits.weight,
+            self.limits.window,
             &mut self.batch,
         );
         hand_on(

@@ -1,5 +1,5 @@
 pub mod Tasks
-pub mod Paces
+pub mod Limits
 pub mod Asks
 pub mod Refusals
 pub mod Stops

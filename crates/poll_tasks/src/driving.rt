@@ -4,9 +4,10 @@ ghost use Rattle.std.specs.Prelude.{vec_len};
 ghost use Rattle.std.specs.List.{AllZip};
 ghost use Rattle.poll_tasks.specs.Tasks.{HasRoom};
 
-use crate::signals::{Bell, Refusal};
+use crate::signals::{SpawnFailure, Waker};
 use crate::tasks::{Spawned, Task, join_all, spawn_all};
 use std::sync::Wait;
+use std::sync::atomic::{AtomicIn, Ordering};
 use std::thread;
 use std::thread::Threads;
 
@@ -28,9 +29,9 @@ pub fn drive<R, P, W, S>(
     rt: &R,
     tasks: Tasks<P, W, S>,
     room: Tasks<Spawned<P>, Spawned<W>, Spawned<S>>,
-    bells: &[Bell],
-    unpolled: &Refusal,
-    refused: &Refusal,
+    wakers: &[Waker],
+    unpolled: &AtomicIn<SpawnFailure>,
+    refused: &AtomicIn<SpawnFailure>,
 ) -> Tasks<P, W, S>
 where
     R: Threads + Wait + Sync,
@@ -67,13 +68,13 @@ where
             } = room;
             spawn_all(scope, &mut threads, unpolled, &mut siding);
             spawn_all(scope, &mut pollers, unpolled, &mut polling);
-            if unpolled.is_told() {
-                refused.tell();
+            if unpolled.load(Ordering::SeqCst) != 0 {
+                refused.store(1, Ordering::SeqCst);
             }
             spawn_all(scope, &mut workers, refused, &mut working);
             join_all(rt, &mut working, &mut workers);
-            for bell in bells {
-                bell.tell();
+            for waker in wakers {
+                waker.close();
             }
             join_all(rt, &mut polling, &mut pollers);
             join_all(rt, &mut siding, &mut threads);

@@ -3,12 +3,12 @@
 
 mod driving;
 mod gate;
-mod pace;
+mod limits;
 mod signals;
 mod tasks;
 
 pub use driving::{Tasks, drive};
 pub use gate::{Gate, OpenGate};
-pub use pace::{Pace, Setting};
-pub use signals::{Bell, Pause, Refusal, Stop, StopFlags};
-pub use tasks::{Gives, Spawned, Task, join_all, spawn, spawn_all};
+pub use limits::{PollLimits, RunContext};
+pub use signals::{IdleWait, SpawnFailure, Stop, StopFlags, Waker};
+pub use tasks::{Gives, Spawned, Task, first_stop, join_all, spawn, spawn_all};

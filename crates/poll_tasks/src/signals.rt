@@ -1,8 +1,7 @@
 //! The signals between the threads of a run. Proofs rest on three facts: a stop has its reason, and a waker wakes the
 //! thread that it was created for.
 
-ghost use Rattle.std.specs.Prelude.{◌≡◌, true, IfOk, IfSome};
-ghost use Rattle.poll_tasks.specs.Refusals.{IsRefused};
+ghost use Rattle.std.specs.Prelude.{IfOk, IfSome};
 ghost use Rattle.poll_tasks.specs.Stops.{IsStop};
 ghost use Rattle.poll_tasks.specs.Wakers.{Wakes};
 
@@ -14,43 +13,23 @@ use std::marker::PhantomData;
 use std::sync::Wait;
 use std::sync::atomic::{AtomicBool, AtomicIn, Ordering, Rule};
 
-// A word that isn't 0 only if a thread could not be started.
-struct Refused;
+/// The rule of a flag that isn't 0 only if a thread could not be started.
+pub struct SpawnFailure;
 
-impl Rule for Refused {
+impl Rule for SpawnFailure {
     ghost use Rattle.std.specs.Prelude.{◌≡◌, ◌⊎◌};
     ghost use Rattle.poll_tasks.specs.Refusals.{IsRefused};
 
     ghost invariant = { λ n. (n ≡ 0) ⊎ IsRefused };
 }
 
-/// A flag: whether one of some threads could not be started.
-#[derive(Drop)]
-pub struct Refusal {
-    told: AtomicIn<Refused>,
-}
+// The rule of a flag that isn't 0 only if the gate may return false.
+struct Shut<G>(PhantomData<G>);
 
-impl Refusal {
-    /// Creates a flag that isn't set.
-    pub fn new() -> Refusal {
-        Refusal {
-            told: AtomicIn::new(0),
-        }
-    }
+impl<G: Gate> Rule for Shut<G> {
+    ghost use Rattle.std.specs.Prelude.{◌≡◌, ◌⊎◌};
 
-    /// Sets the flag: a thread could not be started.
-    pub fn tell(&self)
-        requires { IsRefused }
-    {
-        self.told.store(1, Ordering::SeqCst);
-    }
-
-    /// Returns whether a thread could not be started.
-    pub fn is_told(&self) -> bool
-        ensures { result ≡ true → IsRefused }
-    {
-        self.told.load(Ordering::SeqCst) != 0
-    }
+    ghost invariant = { λ n. (n ≡ 0) ⊎ G.may_shut };
 }
 
 /// Why a thread's work ended early.
@@ -62,23 +41,14 @@ pub enum Stop {
     Shut,
 }
 
-// A word that isn't 0 only if the gate may return false.
-struct Shut<G>(PhantomData<G>);
-
-impl<G: Gate> Rule for Shut<G> {
-    ghost use Rattle.std.specs.Prelude.{◌≡◌, ◌⊎◌};
-
-    ghost invariant = { λ n. (n ≡ 0) ⊎ G.may_shut };
-}
-
-/// The flags that say why no further acts are made.
+/// The flags that say why no further acts are made, each 0 or 1.
 #[derive(Drop)]
 pub struct StopFlags<G: Gate> {
     /// The thread of a poller could not be started. This is set before any worker begins.
-    pub unpolled: Refusal,
+    pub unpolled: AtomicIn<SpawnFailure>,
     /// A thread could not be started.
-    pub refused: Refusal,
-    // 1 after the gate has returned false.
+    pub refused: AtomicIn<SpawnFailure>,
+    // The gate has returned false.
     shut: AtomicIn<Shut<G>>,
 }
 
@@ -86,8 +56,8 @@ impl<G: Gate> StopFlags<G> {
     /// Creates the flags of a run that isn't stopped.
     pub fn new() -> StopFlags<G> {
         StopFlags {
-            unpolled: Refusal::new(),
-            refused: Refusal::new(),
+            unpolled: AtomicIn::new(0),
+            refused: AtomicIn::new(0),
             shut: AtomicIn::new(0),
         }
     }
@@ -103,7 +73,7 @@ impl<G: Gate> StopFlags<G> {
     pub fn stop(&self) -> Option<Stop>
         ensures { IfSome result (IsStop G.may_shut) }
     {
-        if self.refused.is_told() {
+        if self.refused.load(Ordering::SeqCst) != 0 {
             return Some(Stop::Refused);
         }
         if self.shut.load(Ordering::SeqCst) != 0 {
@@ -115,24 +85,24 @@ impl<G: Gate> StopFlags<G> {
 
 /// Wakes a poller, and signals it that nothing will be handed over any more.
 #[derive(Drop)]
-pub struct Bell {
+pub struct Waker {
     unparker: Unparker,
-    told: AtomicBool,
+    closed: AtomicBool,
 }
 
-impl Bell {
+impl Waker {
     /// Creates a waker, and the wait of its poller.
-    pub fn new(alloc: Global) -> Result<(Bell, Pause), AllocError>
+    pub fn new(alloc: Global) -> Result<(Waker, IdleWait), AllocError>
         ensures { IfOk result (λ r. Wakes r.0 r.1) }
     {
         let parker = Parker::new(alloc)?;
         let unparker = parker.unparker().clone()?;
-        let told = AtomicBool::new(false);
-        let pause = Pause {
+        let closed = AtomicBool::new(false);
+        let wait = IdleWait {
             parker,
             backoff: Backoff::new(),
         };
-        Ok((Bell { unparker, told }, pause))
+        Ok((Waker { unparker, closed }, wait))
     }
 
     /// Wakes the poller, or keeps it awake if it is about to sleep. Called after an instance was handed over.
@@ -141,28 +111,28 @@ impl Bell {
     }
 
     /// Signals the poller that nothing will be handed over any more.
-    pub fn tell(&self) {
-        self.told.store(true, Ordering::SeqCst);
+    pub fn close(&self) {
+        self.closed.store(true, Ordering::SeqCst);
         self.unparker.unpark();
     }
 
     /// Returns whether that was signalled.
-    pub fn is_told(&self) -> bool {
-        self.told.load(Ordering::SeqCst)
+    pub fn is_closed(&self) -> bool {
+        self.closed.load(Ordering::SeqCst)
     }
 }
 
 /// How a poller waits while there is nothing to poll: it spins and yields for a while, then it sleeps. A wake-up before the
 /// sleep is kept, so none is lost.
 #[derive(Drop)]
-pub struct Pause {
+pub struct IdleWait {
     parker: Parker,
     backoff: Backoff,
 }
 
-impl Pause {
+impl IdleWait {
     /// Something was polled.
-    pub fn is_over(&self) {
+    pub fn reset(&self) {
         self.backoff.reset();
     }
 

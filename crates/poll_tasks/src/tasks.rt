@@ -1,17 +1,27 @@
 //! Tasks, each in its own thread.
 
-ghost use Rattle.std.specs.Prelude.{◌≤◌, ◌≡◌, List, vec_len, vec_capacity};
-ghost use Rattle.std.specs.List.{AllZip};
+ghost use Rattle.std.specs.Prelude.{◌≤◌, ◌≡◌, List, None, IfSome, vec_len, vec_capacity};
+ghost use Rattle.std.specs.List.{All, AllZip};
 ghost use Rattle.poll_tasks.specs.Tasks.{HasRoom, IsSpawned};
 
-use crate::signals::Refusal;
+use crate::signals::{SpawnFailure, Stop};
 use std::snapshot::Snapshot;
+use std::sync::atomic::{AtomicIn, Ordering};
 use std::thread::{Promise, PromisedHandle, Scope, Threads};
 
 /// What one thread does. A task returns itself, so its results are in its own fields.
 pub trait Task {
+    ghost use Rattle.std.specs.Prelude.{◌≡◌, Option};
+    ghost use Rattle.poll_tasks.specs.declared.signals.Stop.{Stop};
+
     /// `gives before after`: the task as it was, and as it returned itself.
     ghost gives: { Self → Self → Type 0 };
+
+    /// Why its work ended early, if it did.
+    ghost stopped: { Self → Option Stop };
+
+    /// `may_stop stop`: what is true if it ended early for this reason.
+    ghost may_stop: { Stop → Type 0 };
 
     /// Returns whether it needs no thread, because it waits for no other one.
     fn is_idle(&self) -> bool;
@@ -19,6 +29,10 @@ pub trait Task {
     /// Does the work of the task.
     fn run(self) -> Self
         ensures { gives self result };
+
+    /// Returns why its work ended early, if it did.
+    fn stop(&self) -> Option<Stop>
+        ensures { result ≡ stopped self.now };
 }
 
 /// The postcondition of a thread: it returns its task after running it.
@@ -43,7 +57,7 @@ pub enum Spawned<J: Task> {
 pub fn spawn<'s, E, J: Task + Drop + Send + 's>(
     scope: &Scope<'s, E>,
     task: J,
-    refused: &Refusal,
+    refused: &AtomicIn<SpawnFailure>,
 ) -> Spawned<J>
     ensures { IsSpawned J.gives task result }
 {
@@ -57,7 +71,7 @@ pub fn spawn<'s, E, J: Task + Drop + Send + 's>(
     match scope.spawn_with(promise, run) {
         Ok(handle) => Spawned::Running(handle),
         Err(not_started) => {
-            refused.tell();
+            refused.store(1, Ordering::SeqCst);
             Spawned::Ended((not_started.value)())
         }
     }
@@ -67,7 +81,7 @@ pub fn spawn<'s, E, J: Task + Drop + Send + 's>(
 pub fn spawn_all<'s, E, J: Task + Drop + Send + 's>(
     scope: &Scope<'s, E>,
     tasks: &mut Vec<J>,
-    refused: &Refusal,
+    refused: &AtomicIn<SpawnFailure>,
     spawned: &mut Vec<Spawned<J>>,
 )
     requires { HasRoom (vec_len tasks.old) spawned.old }
@@ -92,4 +106,18 @@ pub fn join_all<R: Threads, J: Task>(rt: &R, spawned: &mut Vec<Spawned<J>>, task
         };
         tasks.push_reserved(task);
     }
+}
+
+/// Returns why the first of these tasks whose work ended early did so.
+pub fn first_stop<J: Task>(tasks: &[J]) -> Option<Stop>
+    requires { All (λ j. IfSome (J.stopped j) J.may_stop) tasks.now }
+    ensures none { result ≡ None → All (λ j. J.stopped j ≡ None) tasks.now }
+    ensures some { IfSome result J.may_stop }
+{
+    for task in tasks {
+        if let Some(stop) = task.stop() {
+            return Some(stop);
+        }
+    }
+    None
 }

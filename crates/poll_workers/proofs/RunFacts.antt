@@ -8,21 +8,23 @@ use Rattle.poll_interrupts.specs.{Runs.HasRun, Deals.{is_dealt, is_own, poller_b
 use Rattle.poll_interrupts.specs.{Runs.{Ledger, Whose, WorksBy, IsEnded, blank, controller_number, worker_number}}
 use Rattle.poll_interrupts.specs.{declared.station.Station.Station}
 use Rattle.poll_interrupts.specs.declared.{station.Finished.Finished}
-use Rattle.poll_interrupts.specs.declared.{worker.{InterruptWorker.InterruptWorker, InterruptHandler.InterruptHandler, OwnSeats.OwnSeats}}
+use Rattle.poll_interrupts.specs.declared.worker.{InterruptWorker.InterruptWorker, InterruptHandler.InterruptHandler}
+use Rattle.poll_interrupts.specs.declared.worker.WorkerHandles.{WorkerHandles}
 use Rattle.poll_interrupts.specs.{declared.{opening.{Loose.Loose, Placed.Placed}, acts.Act.Act}}
 use Rattle.poll_interrupts.specs.{Works.{IsDoneBy, IsWorked, ledger_of, whose}}
-use Rattle.poll_interrupts.specs.{Seats.AreSeatsOf, Opens.{IsHome, IsInputOf, IsKeptLoose, IsKeptPartOf, IsKeptSideOf, IsLoose}}
+use Rattle.poll_interrupts.specs.Handles.{AreAtRest, is_on, pass_of}
+use Rattle.poll_interrupts.specs.Opens.{IsHome, IsInputOf, IsKeptLoose, IsKeptPartOf, IsKeptSideOf, IsLoose}
 use Rattle.poll_list.specs.declared.{list_in.ListIn.ListIn, shared.SharedList.SharedList}
 use Rattle.poll_tasks.proofs.ListFacts.{at_mapped, at_place, each_index, each_zip, zip_and}
 use Rattle.poll_tasks.proofs.ListFacts.{zip_both, zip_each, zip_empty, zip_filtered, zip_flip}
 use Rattle.poll_tasks.proofs.ListFacts.{zip_right, zip_same}
 use Rattle.poll_tasks.specs.{Tasks.{EachAt, IsAt}, Asks.IsAsked}
-use Rattle.poll_tasks.specs.{Stops.IsStop, declared.{signals.Bell.Bell, pace.{Setting.Setting, Pace.Pace}}}
+use Rattle.poll_tasks.specs.{Stops.IsStop, declared.{signals.Waker.Waker, limits.{RunContext.RunContext, PollLimits.PollLimits}}}
 use Rattle.rx_ring.specs.{Ends.{SameIn, capacity_of, put_list}}
 use Rattle.rx_ring.specs.{ReceiveRing.{bytes_of, capped}, declared.{ends.RxIn.RxIn, packet.Packet.Packet}}
 use Rattle.poll_seats.specs.{SeatKeeping.{AreSameSeats, IsSameSeat}}
 use Rattle.poll_seats.specs.{Serving.IsServed, Turns.{TurnsAlone, TurnsByRun, has_no_seat, has_no_thread}}
-use Rattle.poll_seats.specs.declared.{seat.Seat.Seat, poller.Poller.Poller, list_poller.ListPoller.ListPoller}
+use Rattle.poll_seats.specs.declared.{handle.PollHandle.PollHandle, poller.Poller.Poller, list_poller.ListPoller.ListPoller}
 use Rattle.poll_seats.specs.declared.thread_poller.ThreadPoller.{ThreadPoller}
 use Rattle.poll_seats.{specs.Gives.{IsPolled}, proofs.SeatFacts.{seats_stay, seat_stays, served_alone, served_keeps}}
 use Rattle.napi_calls.specs.declared.{kept.DropBomb.DropBomb, types.{Caller.Caller, Napi.Napi}}
@@ -48,9 +50,9 @@ capped_small : (n : ℕ) → n ≤ 4294967295 → capped n ≡ n
 capped_small n h = omega arith
 
 -- the state of a station's worker after all its acts
-module _ {R D G : Type 0} (acts : D → ℕ) (answer : D → ℕ → Act) (after : D → ℕ → D) (answers : ℕ → ℕ → Bool → Type 0)
-    (lists : List (SharedList R)) (pollers : ℕ) (station : Station D) (loose : DropBomb R (Loose D)) (worked : InterruptWorker R D G)
-    (poller : DropBomb R Seat) (thread : OwnThread R G) (left : Loose D) (end : Finished D) (opened : IsLoose station loose.value)
+module _ {R D G : Type 0} {acts : D → ℕ} {answer : D → ℕ → Act} {after : D → ℕ → D} {answers : ℕ → ℕ → Bool → Type 0}
+    {lists : List (SharedList R)} {pollers : ℕ} {station : Station D} {loose : DropBomb R (Loose D)} {worked : InterruptWorker R D G}
+    {poller : DropBomb R PollHandle} {thread : OwnThread R G} {left : Loose D} {end : Finished D} (opened : IsLoose station loose.value)
     (made : IsWorkedOf acts answer after answers lists pollers loose worked) (whole : worked.stop ≡ None)
     (taken : IsLeftBy worked poller thread left) (ended : IsFinishOf left end) where
   run_of : HasRun answer after station.capacity station.thread station.device (acts station.device) end.closed end.totals
@@ -59,34 +61,33 @@ module _ {R D G : Type 0} (acts : D → ℕ) (answer : D → ℕ → Act) (after
       let done = made.is in
       let new = opened.unused in
       let device : work.device ≡ station.device = made.device ∙ opened.same_device in
-      let seats = worked.seats.value in
-      let left = ledger_of seats worked.rx (done.run whole).0 in
+      let left = ledger_of worked.handles.value worked.rx in
       let w : Whose =
       record { caller = worker_number; controller = controller_number; places = station.capacity; thread = station.thread } in
-      let number : pass_number work.seats.value.caller.pass ≡ worker_number =
-      ap (λ (s : OwnSeats). pass_number s.caller.pass) made.seats ∙ new.caller.number_is in
-      let controller : pass_number work.seats.value.control.pass ≡ controller_number =
-      ap (λ (s : OwnSeats). pass_number s.control.pass) made.seats ∙ new.number in
-      let same_whose : whose work.seats.value work.rx (loose.value.has_thread) ≡ w = λ i. record {
+      let number : pass_number work.handles.value.caller.pass ≡ worker_number =
+      ap (λ (h : WorkerHandles). pass_number h.caller.pass) made.handles ∙ new.caller.number_is in
+      let controller : pass_number (pass_of work.handles.value.control) ≡ controller_number =
+      ap (λ (h : WorkerHandles). pass_number (pass_of h.control)) made.handles ∙ new.number in
+      let same_whose : whose work.handles.value work.rx (loose.value.has_thread) ≡ w = λ i. record {
         caller = number i;
         controller = controller i;
         places = (ap (λ (r : RxIn). capacity_of r) made.rx ∙ opened.places) i;
         thread = opened.thread i;
       } in
-      let nothing : ledger_of work.seats.value work.rx false ≡ blank = λ i. record {
-        calls = (ap (λ (s : OwnSeats). own_list s.caller.pass) made.seats ∙ new.caller.nothing_done) i;
-        controls = (ap (λ (s : OwnSeats). own_list s.control.pass) made.seats ∙ new.control) i;
+      let nothing : ledger_of work.handles.value work.rx ≡ blank = λ i. record {
+        calls = (ap (λ (h : WorkerHandles). own_list h.caller.pass) made.handles ∙ new.caller.nothing_done) i;
+        controls = (ap (λ (h : WorkerHandles). own_list (pass_of h.control)) made.handles ∙ new.control) i;
         put = (ap (λ (r : RxIn). put_list r) made.rx ∙ opened.nothing_put) i;
-        on = false;
-        threaded = false;
+        on = (ap (λ (h : WorkerHandles). is_on h.control) made.handles ∙ new.off) i;
+        threaded = (ap (λ (h : WorkerHandles). h.threaded) made.handles ∙ new.unthreaded) i;
       } in
       let by_whose =
-      subst (λ (v : Whose). WorksBy v answer after work.device (acts work.device) (ledger_of work.seats.value work.rx false) left)
-      same_whose (done.run whole).1 in
+      subst (λ (v : Whose). WorksBy v answer after work.device (acts work.device) (ledger_of work.handles.value work.rx) left)
+      same_whose (done.run whole) in
       let by_device =
-      subst (λ (d : D). WorksBy w answer after d (acts d) (ledger_of work.seats.value work.rx false) left) device by_whose in
-      let as_worker = ap (λ (c : Caller). c.pass) (ended.of.worker_is ∙ ap (λ (s : OwnSeats). s.caller) taken.seats) in
-      let as_control = ap (λ c. c.pass) (ended.of.control_is ∙ ap (λ (s : OwnSeats). s.control) taken.seats) in
+      subst (λ (d : D). WorksBy w answer after d (acts d) (ledger_of work.handles.value work.rx) left) device by_whose in
+      let as_worker = ap (λ (c : Caller). c.pass) (ended.of.worker_is ∙ ap (λ (h : WorkerHandles). h.caller) taken.handles) in
+      let as_control = ap (λ c. pass_of c) (sym ended.of.control_is ∙ ap (λ (h : WorkerHandles). h.control) taken.handles) in
       record {
         left = left;
         works = subst (λ (l : Ledger). WorksBy w answer after station.device (acts station.device) l left) nothing by_device;
@@ -103,9 +104,9 @@ module _ {R D G : Type 0} (acts : D → ℕ) (answer : D → ℕ → Act) (after
   pushes_of =
       let new = made.list in
       let pushed = made.is.lists in
-      let none : own_list made.before.seats.value.caller.pass ≡ [] =
-      ap (λ (s : OwnSeats). own_list s.caller.pass) made.seats ∙ opened.unused.caller.nothing_done in
-      let did : own_list worked.seats.value.caller.pass ≡ pushed.did = pushed.grown ∙ ap (λ l. l ++ pushed.did) none in
+      let none : own_list made.before.handles.value.caller.pass ≡ [] =
+      ap (λ (h : WorkerHandles). own_list h.caller.pass) made.handles ∙ opened.unused.caller.nothing_done in
+      let did : own_list worked.handles.value.caller.pass ≡ pushed.did = pushed.grown ∙ ap (λ l. l ++ pushed.did) none in
       record {
         list = new.0;
         there = subst (λ n. IsAt lists (poller_by pollers n) new.0) opened.same_number new.1;
@@ -114,7 +115,7 @@ module _ {R D G : Type 0} (acts : D → ℕ) (answer : D → ℕ → Act) (after
         pushed = pushed.pushed ∙ ap (λ l. l ++ listings loose.value.number pushed.did) new.2.1
             ∙ ap (λ n. listings n pushed.did) opened.same_number
             ∙ ap (λ l. listings station.number l) (sym did ∙ sym (ap (λ (c : Caller). own_list c.pass) (ended.of.worker_is
-            ∙ ap (λ (s : OwnSeats). s.caller) taken.seats)));
+            ∙ ap (λ (h : WorkerHandles). h.caller) taken.handles)));
       }
 
   -- a station whose worker made all its acts, and which was closed, is finished
@@ -150,32 +151,30 @@ module _ {R D G : Type 0} (acts : D → ℕ) (answer : D → ℕ → Act) (after
 -- ---- the stations of a run, how they ended, and what polled them
 
 module _ {R D G : Type 0} (acts : D → ℕ) (answer : D → ℕ → Act) (after : D → ℕ → D) (answers : ℕ → ℕ → Bool → Type 0)
-    (asked : ℕ → Type 0) (pace : Pace) (lists : List (SharedList R)) (pollers : ℕ) where
+    (asked : ℕ → Type 0) (limits : PollLimits) (lists : List (SharedList R)) (pollers : ℕ) where
   -- the worker of this station ended in this state, and so did its thread
   abbrev Works : Station D → InterruptWorker R D G → Type 0
   Works station worked = (loose : DropBomb R (Loose D)) × IsKeptLoose station loose
       × IsWorkedOf acts answer after answers lists pollers loose worked
 
   abbrev Turns : Station D → OwnThread R G → Type 0
-  Turns station thread = (loose : DropBomb R (Loose D)) × IsKeptLoose station loose × HasTurned asked pace lists pollers loose thread
+  Turns station thread = (loose : DropBomb R (Loose D)) × IsKeptLoose station loose × HasTurned asked limits lists pollers loose thread
 
   abbrev IsLeft : Outcome R D G → Type 0
   IsLeft o = IsLeftBy o.worker o.poller o.thread o.loose.value
 
   course_of : (station : Station D) (o : Outcome R D G) (end : Finished D) → Works station o.worker → Turns station o.thread
       → o.worker.stop ≡ None → o.thread.stop ≡ None → IsLeft o → IsKeptFinishOf o.loose end
-      → IsCourse R asked pace lists pollers acts answer after (record { station = station; end = end })
+      → IsCourse R asked limits lists pollers acts answer after (record { station = station; end = end })
   course_of station o end works turns whole polled taken finish =
       let loose = turns.0.value in
-      let TurnsIf : Bool → ℕ → Caller → Type 0 = λ b n after. TurnsIfThread R asked pace lists pollers b n loose.thread after in
+      let TurnsIf : Bool → ℕ → Caller → Type 0 = λ b n after. TurnsIfThread R asked limits lists pollers b n loose.thread after in
       let back = o.loose.value.thread in
       let by_number = subst (λ n. TurnsIf loose.has_thread n back) turns.1.same_number (turns.2 back taken.thread_is polled) in
       let by_thread = subst (λ b. TurnsIf b station.number back) turns.1.thread by_number in
       record {
-        run = run_of acts answer after answers lists pollers station works.0 o.worker o.poller o.thread o.loose.value end works.1 works.2
-            whole taken finish;
-        pushes = pushes_of acts answer after answers lists pollers station works.0 o.worker o.poller o.thread o.loose.value end works.1
-            works.2 whole taken finish;
+        run = run_of works.1 works.2 whole taken finish;
+        pushes = pushes_of works.1 works.2 whole taken finish;
         thread = loose.thread;
         unused = turns.1.own;
         turns = subst (λ c. TurnsIf station.thread station.number c) (sym finish.of.thread_is) by_thread;
@@ -188,7 +187,7 @@ module _ {R D G : Type 0} (acts : D → ℕ) (answer : D → ℕ → Act) (after
     pub ends_are : map (λ c. c.end) all ≡ ends
     pub beside : AllZip (λ c o. (o.poller.value.caller ≡ Some c.end.closed.poller.value)
         × (o.worker.handler.number ≡ c.station.number)) all outcomes
-    pub each : AllByRecursion (IsCourse R asked pace lists pollers acts answer after) all
+    pub each : AllByRecursion (IsCourse R asked limits lists pollers acts answer after) all
     pub finished : AllZip (IsFinished acts answer after answers) stations ends
 
   courses_of : (stations : List (Station D)) (outcomes : List (Outcome R D G)) (ends : List (Finished D))
@@ -204,8 +203,6 @@ module _ {R D G : Type 0} (acts : D → ℕ) (answer : D → ℕ → Act) (after
   courses_of (s ∷ ss) (o ∷ os) [] works turns whole polled taken finish = absurd finish
   courses_of (s ∷ ss) (o ∷ os) (e ∷ es) works turns whole polled taken finish =
       let more = courses_of ss os es works.1 turns.1 whole.1 polled.1 taken.1 finish.1 in
-      let done = finished_of acts answer after answers lists pollers s works.0.0 o.worker o.poller o.thread o.loose.value e works.0.1
-      works.0.2 whole.0 taken.0 finish.0 in
       record {
         all = record { station = s; end = e } ∷ more.all;
         stations_are = ap (λ l. s ∷ l) more.stations_are;
@@ -215,7 +212,7 @@ module _ {R D G : Type 0} (acts : D → ℕ) (answer : D → ℕ → Act) (after
           more.beside,
         );
         each = (course_of s o e works.0 turns.0 whole.0 polled.0 taken.0 finish.0, more.each);
-        finished = (done, more.finished);
+        finished = (finished_of works.0.1 works.0.2 whole.0 taken.0 finish.0, more.finished);
       }
 
 -- of what is mapped
@@ -236,7 +233,7 @@ pub each_of : {A : Type 0} (P : A → Type 0) (xs : List A) → All P xs → All
 each_of P [] h = tt
 each_of P (x ∷ xs) h = (h 0 x (omega arith), each_of P xs (λ k d b. h (suc k) d (omega arith)))
 
-fresh_of : {R D : Type 0} (station : Station D) (seat : DropBomb R Seat)
+fresh_of : {R D : Type 0} (station : Station D) (seat : DropBomb R PollHandle)
     → (loose : DropBomb R (Loose D)) × IsKeptLoose station loose × IsKeptSeatFor loose seat → IsFreshSeat station seat
 fresh_of station seat (loose, opened, for) =
     record {
@@ -248,53 +245,54 @@ fresh_of station seat (loose, opened, for) =
     }
 
 -- a poller without stations doesn't exist
-crew_is : {D : Type 0} (R : Type 0) (asked : ℕ → Type 0) (pace : Pace) (lists : List (SharedList R)) (pollers : ℕ) (number : ℕ)
+crew_is : {D : Type 0} (R : Type 0) (asked : ℕ → Type 0) (limits : PollLimits) (lists : List (SharedList R)) (pollers : ℕ) (number : ℕ)
     (courses : List (Course D))
-    → (courses ≢ [] → TakesTurns R asked pace lists pollers number courses) → IsCrew R asked pace lists pollers number courses
-crew_is R asked pace lists pollers number [] turns = tt
-crew_is R asked pace lists pollers number (c ∷ cs) turns = turns (λ e. absurd (let n = ap (λ l. length l) e in omega (arith, n)))
+    → (courses ≢ [] → TakesTurns R asked limits lists pollers number courses) → IsCrew R asked limits lists pollers number courses
+crew_is R asked limits lists pollers number [] turns = tt
+crew_is R asked limits lists pollers number (c ∷ cs) turns = turns (λ e. absurd (let n = ap (λ l. length l) e in omega (arith, n)))
 
 -- what the threads of a run return if none failed
 module _ {R D G : Type 0} (acts : D → ℕ) (answer : D → ℕ → Act) (after : D → ℕ → D) (answers : G → ℕ → ℕ → Bool → Type 0)
-    (setting : Setting R G) (lists : List (SharedList R)) (pollers : ℕ) (stations : List (Station D))
-    (loose left : List (DropBomb R (Loose D)))
-    (opened : AllZip IsKeptLoose stations loose) (ran : HaveRun acts answer after answers setting lists pollers loose left)
+    (context : RunContext R G) (lists : List (SharedList R)) (pollers : ℕ) (stations : List (Station D)) (loose left : List (DropBomb R
+    (Loose D)))
+    (opened : AllZip IsKeptLoose stations loose) (ran : HaveRun acts answer after answers context lists pollers loose left)
     (ends : List (Finished D)) (finish : AllZip IsKeptFinishOf left ends) where
   abbrev asked : ℕ → Type 0
-  asked = IsAsked answers setting.gate.now
+  asked = IsAsked answers context.gate.now
 
-  run_courses : Courses acts answer after (answers setting.gate.now) asked setting.pace lists pollers stations ran.left_by.all ends
+  run_courses : Courses acts answer after (answers context.gate.now) asked context.limits lists pollers stations ran.left_by.all ends
   run_courses =
       let by = ran.left_by in
-      courses_of acts answer after (answers setting.gate.now) asked setting.pace lists pollers stations by.all ends
-      (subst (λ l. AllZip (Works acts answer after (answers setting.gate.now) asked setting.pace lists pollers) stations l)
+      courses_of acts answer after (answers context.gate.now) asked context.limits lists pollers stations by.all ends
+      (subst (λ l. AllZip (Works acts answer after (answers context.gate.now) asked context.limits lists pollers) stations l)
       (sym by.workers_are)
       (zip_both _ _ _ _ _ opened ran.made))
-      (subst (λ l. AllZip (Turns acts answer after (answers setting.gate.now) asked setting.pace lists pollers) stations l)
+      (subst (λ l. AllZip (Turns acts answer after (answers context.gate.now) asked context.limits lists pollers) stations l)
       (sym by.threads_are)
       (zip_both _ _ _ _ _ opened ran.turned))
       (subst (λ l. AllByRecursion (λ (w : InterruptWorker R D G). w.stop ≡ None) l) (sym by.workers_are) (each_of _ _ ran.whole))
       (subst (λ l. AllByRecursion (λ (t : OwnThread R G). t.stop ≡ None) l) (sym by.threads_are) (each_of _ _ ran.whole_turns))
       by.each (subst (λ l. AllZip IsKeptFinishOf l ends) (sym by.loose_are) finish)
 
-  pub all_finished : AllZip (IsFinished acts answer after (answers setting.gate.now)) stations ends
+  pub all_finished : AllZip (IsFinished acts answer after (answers context.gate.now)) stations ends
   all_finished = run_courses.finished
 
   -- the poller's own courses are those that it polled
-  crew_of : (number : ℕ) (p : OwnPoller R G) → HasPolled asked setting.pace lists pollers loose number p
+  crew_of : (number : ℕ) (p : OwnPoller R G) → HasPolled asked context.limits lists pollers loose number p
       → map (λ o. o.poller) (filter (λ o. is_own number pollers o.worker.handler.number) ran.left_by.all)
-      ≡ vec_items p.served.seat_bench.seats → p.stop ≡ None
-      → IsCrew R asked setting.pace lists pollers number (filter (λ c. is_dealt number pollers c.station) run_courses.all)
-  crew_of number p has back did = crew_is R asked setting.pace lists pollers number own (λ some. record {
+      ≡ vec_items p.served.bench.seats → p.stop ≡ None
+      → IsCrew R asked context.limits lists pollers number (filter (λ c. is_dealt number pollers c.station) run_courses.all)
+  crew_of number p has back did = crew_is R asked context.limits lists pollers number own (λ some. record {
     list = has.list;
     there = has.there;
     ends = has.ends;
     new = has.new;
     before = has.before;
-    after = vec_items p.served.seat_bench.seats;
+    after = vec_items p.served.bench.seats;
     from = fresh;
     turns = has.turns did (λ none. some (zip_empty _ _ _ (zip_flip _ _ _ fresh) none));
-    to = subst (λ l. AllZip (λ (c : Course D) (seat : DropBomb R Seat). seat.value.caller ≡ Some c.end.closed.poller.value) own l) back
+    to = subst (λ l. AllZip (λ (c : Course D) (seat : DropBomb R PollHandle). seat.value.caller ≡ Some c.end.closed.poller.value) own l)
+        back
         (zip_to_mapped (λ o. o.poller) _ own _ (zip_same _ _ _ _ (λ c o h. h.0) beside));
   })
     where
@@ -316,7 +314,7 @@ module _ {R D G : Type 0} (acts : D → ℕ) (answer : D → ℕ → Act) (after
       fresh = zip_same _ _ _ _ (λ c b h. fresh_of c.station b h) (zip_both _ _ _ _ _
           (zip_filtered _ _ _ _ _ (λ c l h. ap (λ n. is_own number pollers n) (sym h.same_number)) opens) has.from)
 
-  pub all_polled : ArePolled R asked setting.pace acts answer after pollers stations ends
+  pub all_polled : ArePolled R asked context.limits acts answer after pollers stations ends
   all_polled = record {
     lists = lists;
     courses = run_courses.all;
@@ -326,7 +324,7 @@ module _ {R D G : Type 0} (acts : D → ℕ) (answer : D → ℕ → Act) (after
     crews = λ number below.
         let by = ran.left_by in
         let polled = ran.polled in
-        let Polled : ℕ → OwnPoller R G → Type 0 = λ k p. IsAt polled k p × HasPolled asked setting.pace lists pollers loose k p
+        let Polled : ℕ → OwnPoller R G → Type 0 = λ k p. IsAt polled k p × HasPolled asked context.limits lists pollers loose k p
         × (p.stop ≡ None) in
         let low : number < length polled = (let same = ran.same in omega (arith, same, below)) in
         let t = at_place Polled polled (λ k d low. (
@@ -334,20 +332,21 @@ module _ {R D G : Type 0} (acts : D → ℕ) (answer : D → ℕ → Act) (after
           ran.ran k d low,
           ran.whole_polls k d low,
         )) number low in
-        let seats = map (λ p. p.served.seat_bench.seats) polled in
-        let own = t.0.served.seat_bench.seats in
-        let here = at_mapped (λ p. p.served.seat_bench.seats) polled number t.0 t.1.0 in
+        let seats = map (λ p. p.served.bench.seats) polled in
+        let own = t.0.served.bench.seats in
+        let here = at_mapped (λ p. p.served.bench.seats) polled number t.0 t.1.0 in
         let by_poller : map (λ o. o.poller) (filter (λ o. is_own number (length seats) o.worker.handler.number) by.all)
         ≡ vec_items (get_or seats number own) = by.callers number own here.0 in
         crew_of number t.0 t.1.1
         (subst (λ n. map (λ o. o.poller) (filter (λ o. is_own number n o.worker.handler.number) by.all) ≡ vec_items own)
-        (length-map polled (λ p. p.served.seat_bench.seats) ∙ ran.same) (by_poller ∙ ap (λ v. vec_items v) here.1)) t.1.2;
+        (length-map polled (λ p. p.served.bench.seats) ∙ ran.same) (by_poller ∙ ap (λ v. vec_items v) here.1)) t.1.2;
   }
 
 -- each station has a poller
-pub none_polled : {D : Type 0} (R : Type 0) (asked : ℕ → Type 0) (pace : Pace) (acts : D → ℕ) (answer : D → ℕ → Act) (after : D → ℕ → D)
-    (pollers : ℕ) → ArePolled R asked pace acts answer after pollers [] []
-none_polled R asked pace acts answer after pollers =
+pub none_polled : {D : Type 0} (R : Type 0) (asked : ℕ → Type 0) (limits : PollLimits) (acts : D → ℕ) (answer : D → ℕ → Act)
+    (after : D → ℕ → D)
+    (pollers : ℕ) → ArePolled R asked limits acts answer after pollers [] []
+none_polled R asked limits acts answer after pollers =
     record { lists = []; courses = []; stations_are = refl; ends_are = refl; each = tt; crews = λ number below. tt }
 
 -- the ends that were made with the pollers' lists are ends of these
@@ -368,9 +367,9 @@ each_mapped f P (x ∷ xs) h (suc k) d low =
     each_mapped f (λ n y. P (suc n) y) xs (λ n a b. h (suc n) a (omega (arith, b))) k d (omega (arith, low))
 
 -- a poller with seats isn't idle
-some_seat : {R : Type 0} (served : ListPoller R) → vec_items served.seat_bench.seats ≢ [] → has_no_seat served ≡ false
+some_seat : {R : Type 0} (served : ListPoller R) → vec_items served.bench.seats ≢ [] → has_no_seat served ≡ false
 some_seat served some =
-    let seats = served.seat_bench.seats in
+    let seats = served.bench.seats in
     ne_eqb (vec_len seats) 0 (λ e. some (nil_from_length (vec_items seats) (grind (arith, common_steps, e))))
 
 some_is : {A : Type 0} {x y : A} → Some x ≡ Some y → x ≡ y
@@ -378,74 +377,22 @@ some_is {x = x} e = ap (λ o. unwrap_or o x) e
 
 -- ---- what came back of the distributed parts
 
-module _ {R D G : Type 0} (acts : D → ℕ) (answer : D → ℕ → Act) (after : D → ℕ → D) (may_shut : Type 0)
-    (answers : G → ℕ → ℕ → Bool → Type 0) (setting : Setting R G) (lists : List (SharedList R)) (bells : List Bell) where
-  worked_of : (loose : DropBomb R (Loose D)) (job done : InterruptWorker R D G) → IsKeptJobOf setting loose job → IsWiredJob lists bells job
-      → IsWorked acts answer after may_shut answers job done
-      → IsWorkedOf acts answer after (answers setting.gate.now) lists (length bells) loose done
-  worked_of loose job done given wired made = record {
-    napi = job.handler.napi.now;
-    before = job;
-    device = given.same_device;
-    rx = given.same_rx;
-    seats = given.same_seats;
-    list = subst (λ n. IsEndOf lists (poller_by (length bells) n) job.list) given.same_number wired.list;
-    same_number = ap (λ (h : InterruptHandler R). h.number) made.same_handler ∙ given.same_number;
-    is = subst (λ (s : Setting R G). IsDone (answers s.gate.now) loose.value.has_thread loose.value.number) given.has
-        (subst (λ b. IsDone (answers job.setting.now.gate.now) b loose.value.number) given.thread
-        (subst (λ n. IsDone (answers job.setting.now.gate.now) (is_some job.handler.thread) n) given.same_number made.is));
-  }
-    where
-      IsDone : (ℕ → ℕ → Bool → Type 0) → Bool → ℕ → Type 0
-      IsDone asks thread number = IsDoneBy acts answer after asks job.handler.napi.now thread number job done
-
-  pub all_worked : (loose : List (DropBomb R (Loose D))) (jobs done : List (InterruptWorker R D G))
-      → AllZip (IsKeptJobOf setting) loose jobs
-      → AllByRecursion (IsWiredJob lists bells) jobs → AllZip (IsWorked acts answer after may_shut answers) jobs done
-      → AllZip (IsWorkedOf acts answer after (answers setting.gate.now) lists (length bells)) loose done
-  all_worked loose jobs done given wired made =
-      zip_same _ _ _ _ (λ l d h. worked_of l h.0 d h.1.0 h.1.1 h.2) (zip_both _ _ _ _ _ (zip_right _ _ _ _ given wired) made)
-
+module _ {R D G : Type 0} where
   -- the worker came back at the instance that stayed with the caller
   pub record IsBackAt (placed : DropBomb R Placed) (done : InterruptWorker R D G) : Type 0 where
     pub number : done.handler.number ≡ placed.value.number
     pub napi : done.handler.napi.now ≡ placed.value.napi
-    pub seats : AreSeatsOf placed.value.napi done.seats.value
-    pub controller : pass_number done.seats.value.control.pass ≡ controller_number
+    pub handles : AreAtRest placed.value.napi done.handles.value
+    pub controller : pass_number (pass_of done.handles.value.control) ≡ controller_number
     pub ring : IsInputOf done.rx placed.value.napi
     pub home : IsHome placed.value
-
-  back_at : (placed : DropBomb R Placed) (loose : DropBomb R (Loose D)) (job done : InterruptWorker R D G) → IsKeptSideOf loose placed
-      → IsKeptJobOf setting loose job → IsJobAt placed job → IsWorked acts answer after may_shut answers job done → IsBackAt placed done
-  back_at placed loose job done side given at made = record {
-    number = ap (λ (h : InterruptHandler R). h.number) made.same_handler ∙ given.same_number ∙ sym side.part.number;
-    napi = ap (λ (h : InterruptHandler R). h.napi.now) made.same_handler ∙ at;
-    seats = subst (λ (n : Napi). AreSeatsOf n done.seats.value) at made.is.seats;
-    controller = made.is.same.1 ∙ ap (λ (s : OwnSeats). pass_number s.control.pass) given.same_seats ∙ side.part.controller;
-    ring = same_ring loose.value.rx job.rx done.rx placed.value.napi given.same_rx made.is.ring side.part.ring;
-    home = side.part.home;
-  }
-
-  pub all_back_at : (placed : List (DropBomb R Placed)) (loose : List (DropBomb R (Loose D))) (jobs done : List (InterruptWorker R D G))
-      → AllZip IsKeptSideOf loose placed → AllZip (IsKeptJobOf setting) loose jobs → AllZip IsJobAt placed jobs
-      → AllZip (IsWorked acts answer after may_shut answers) jobs done → AllZip IsBackAt placed done
-  all_back_at placed loose jobs done sides given at made =
-      let a = zip_both _ _ _ _ _ (zip_flip _ _ _ sides) given in
-      let b = zip_both _ _ _ _ _ (zip_and _ _ _ _ a at) made in
-      zip_same _ _ _ _ (λ p d h. back_at p h.1.0.0 h.0 d h.1.0.1 h.1.0.2 h.1.1 h.2) b
-
-  pub all_worker_stops : (jobs done : List (InterruptWorker R D G)) → AllZip (IsWorked acts answer after may_shut answers) jobs done
-      → All (λ w. IfSome w.stop (IsStop may_shut)) done
-  all_worker_stops jobs done made = each_index _ _ (zip_each _ _ _ _ (λ j d h. h.why) made)
-
-  -- ---- the parts after the threads have ended
 
   part_of : (placed : DropBomb R Placed) (o : Outcome R D G) → IsBackAt placed o.worker
       → IsLeftBy o.worker o.poller o.thread o.loose.value → IsKeptPartOf o.loose placed
   part_of placed o back taken = record {
     number = sym (taken.number ∙ back.number);
-    seats = subst (λ (s : OwnSeats). AreSeatsOf placed.value.napi s) (sym taken.seats) back.seats;
-    controller = ap (λ (s : OwnSeats). pass_number s.control.pass) taken.seats ∙ back.controller;
+    handles = subst (λ (h : WorkerHandles). AreAtRest placed.value.napi h) (sym taken.handles) back.handles;
+    controller = ap (λ (h : WorkerHandles). pass_number (pass_of h.control)) taken.handles ∙ back.controller;
     poller = subst (λ (n : Napi). IsSeatOf n o.loose.value.poller.pass) back.napi taken.poller_of;
     thread = subst (λ (n : Napi). IsSeatOf n o.loose.value.thread.pass) back.napi taken.thread_of;
     ring = subst (λ (r : RxIn). IsInputOf r placed.value.napi) (sym taken.rx) back.ring;
@@ -460,97 +407,83 @@ module _ {R D G : Type 0} (acts : D → ℕ) (answer : D → ℕ → Act) (after
   parts_of (p ∷ ps) [] back taken = absurd back
   parts_of (p ∷ ps) (o ∷ os) back taken = (part_of p o back.0 taken.0, parts_of ps os back.1 taken.1)
 
-  pub all_parts : (placed : List (DropBomb R Placed)) (workers : List (InterruptWorker R D G)) (seats : List (Vec (DropBomb R Seat)))
+  pub all_parts : (placed : List (DropBomb R Placed)) (workers : List (InterruptWorker R D G)) (seats : List (Vec (DropBomb R PollHandle)))
       (threads : List (OwnThread R G)) (left : List (DropBomb R (Loose D))) → AllZip IsBackAt placed workers
       → AreLeftBy workers seats threads left → AllZip IsKeptPartOf left placed
   all_parts placed workers seats threads left back by =
       subst (λ l. AllZip IsKeptPartOf l placed) by.loose_are
       (parts_of placed by.all (subst (λ l. AllZip IsBackAt placed l) (sym by.workers_are) back) by.each)
 
-  -- ---- the pollers
-
-  seat_with : (placed : DropBomb R Placed) (done : InterruptWorker R D G) (seat after : DropBomb R Seat) → IsBackAt placed done
+  seat_with : (placed : DropBomb R Placed) (done : InterruptWorker R D G) (seat after : DropBomb R PollHandle) → IsBackAt placed done
       → IsSeatAt placed seat → IsSameSeat seat.value after.value → IsSeatWith done after
   seat_with placed done seat after back at same = record {
     napi = ap (λ b. b.now) same.napi ∙ at.napi ∙ sym back.napi;
     caller = same.caller at.caller;
   }
 
+module _ {R D G : Type 0} {acts : D → ℕ} {answer : D → ℕ → Act} {after : D → ℕ → D} {may_shut : Type 0}
+    {answers : G → ℕ → ℕ → Bool → Type 0} {context : RunContext R G} where
+  back_at : (placed : DropBomb R Placed) (loose : DropBomb R (Loose D)) (job done : InterruptWorker R D G) → IsKeptSideOf loose placed
+      → IsKeptJobOf context loose job → IsJobAt placed job → IsWorked acts answer after may_shut answers job done → IsBackAt placed done
+  back_at placed loose job done side given at made = record {
+    number = ap (λ (h : InterruptHandler R). h.number) made.same_handler ∙ given.same_number ∙ sym side.part.number;
+    napi = ap (λ (h : InterruptHandler R). h.napi.now) made.same_handler ∙ at;
+    handles = subst (λ (n : Napi). AreAtRest n done.handles.value) at made.is.handles;
+    controller = made.is.same.1 ∙ ap (λ (h : WorkerHandles). pass_number (pass_of h.control)) given.same_handles ∙ side.part.controller;
+    ring = same_ring loose.value.rx job.rx done.rx placed.value.napi given.same_rx made.is.ring side.part.ring;
+    home = side.part.home;
+  }
+
+  pub all_back_at : (placed : List (DropBomb R Placed)) (loose : List (DropBomb R (Loose D))) (jobs done : List (InterruptWorker R D G))
+      → AllZip IsKeptSideOf loose placed → AllZip (IsKeptJobOf context) loose jobs → AllZip IsJobAt placed jobs
+      → AllZip (IsWorked acts answer after may_shut answers) jobs done → AllZip IsBackAt placed done
+  all_back_at placed loose jobs done sides given at made =
+      let a = zip_both _ _ _ _ _ (zip_flip _ _ _ sides) given in
+      let b = zip_both _ _ _ _ _ (zip_and _ _ _ _ a at) made in
+      zip_same _ _ _ _ (λ p d h. back_at p h.1.0.0 h.0 d h.1.0.1 h.1.0.2 h.1.1 h.2) b
+
+  module _ {lists : List (SharedList R)} {wakers : List Waker} where
+    worked_of : (loose : DropBomb R (Loose D)) (job done : InterruptWorker R D G) → IsKeptJobOf context loose job
+        → IsWiredJob lists wakers job
+        → IsWorked acts answer after may_shut answers job done
+        → IsWorkedOf acts answer after (answers context.gate.now) lists (length wakers) loose done
+    worked_of loose job done given wired made = record {
+      napi = job.handler.napi.now;
+      before = job;
+      device = given.same_device;
+      rx = given.same_rx;
+      handles = given.same_handles;
+      list = subst (λ n. IsEndOf lists (poller_by (length wakers) n) job.list) given.same_number wired.list;
+      same_number = ap (λ (h : InterruptHandler R). h.number) made.same_handler ∙ given.same_number;
+      is = subst (λ (s : RunContext R G). IsDone (answers s.gate.now) loose.value.has_thread loose.value.number) given.has
+          (subst (λ b. IsDone (answers job.context.now.gate.now) b loose.value.number) given.thread
+          (subst (λ n. IsDone (answers job.context.now.gate.now) (is_some job.handler.thread) n) given.same_number made.is));
+    }
+      where
+        IsDone : (ℕ → ℕ → Bool → Type 0) → Bool → ℕ → Type 0
+        IsDone asks thread number = IsDoneBy acts answer after asks job.handler.napi.now thread number job done
+
+    pub all_worked : (loose : List (DropBomb R (Loose D))) (jobs done : List (InterruptWorker R D G))
+        → AllZip (IsKeptJobOf context) loose jobs
+        → AllByRecursion (IsWiredJob lists wakers) jobs → AllZip (IsWorked acts answer after may_shut answers) jobs done
+        → AllZip (IsWorkedOf acts answer after (answers context.gate.now) lists (length wakers)) loose done
+    all_worked loose jobs done given wired made =
+        zip_same _ _ _ _ (λ l d h. worked_of l h.0 d h.1.0 h.1.1 h.2) (zip_both _ _ _ _ _ (zip_right _ _ _ _ given wired) made)
+
+-- ---- the pollers
+
+module _ {R G : Type 0} {may_shut : Type 0} {answers : G → ℕ → ℕ → Bool → Type 0} where
   polled_keeps : (before after : OwnPoller R G) → IsPolled has_no_seat TurnsByRun may_shut answers before after
-      → AreSameSeats (vec_items before.served.seat_bench.seats) (vec_items after.served.seat_bench.seats)
+      → AreSameSeats (vec_items before.served.bench.seats) (vec_items after.served.bench.seats)
   polled_keeps before after p = keeps before.served after.served p.kept
     where
       keeps : (b a : ListPoller R) → (a ≡ b) ⊎ IsServed TurnsByRun b a
-          → AreSameSeats (vec_items b.seat_bench.seats) (vec_items a.seat_bench.seats)
-      keeps b a (inl same) = subst (λ (x : ListPoller R). AreSameSeats (vec_items b.seat_bench.seats) (vec_items x.seat_bench.seats))
+          → AreSameSeats (vec_items b.bench.seats) (vec_items a.bench.seats)
+      keeps b a (inl same) = subst (λ (x : ListPoller R). AreSameSeats (vec_items b.bench.seats) (vec_items x.bench.seats))
           (sym same) (seats_stay _)
       keeps b a (inr served) = served_keeps b a served
 
-  module _ (n : ℕ) (placed : List (DropBomb R Placed)) (loose : List (DropBomb R (Loose D))) (workers : List (InterruptWorker R D G))
-      (sat : List (DropBomb R Seat)) (pollers polled : List (OwnPoller R G))
-      (back : AllZip IsBackAt placed workers) (at : AllZip IsSeatAt placed sat) (for : AllZip IsKeptSeatFor loose sat)
-      (have : ArePollers setting bells n sat pollers)
-      (did : AllZip (IsPolled has_no_seat TurnsByRun may_shut answers) pollers polled)
-      (are : map (λ p. p.served.list) pollers ≡ lists) where
-    record CameBack (k : ℕ) (poller : OwnPoller R G) : Type 0 where
-      pub seats : AreSeatsAt n workers k poller.served.seat_bench.seats
-      pub has : HasPolled (IsAsked answers setting.gate.now) setting.pace lists n loose k poller
-
-    came_back : (k : ℕ) (after before : OwnPoller R G) → IsAt pollers k before
-        → IsPoller setting bells (filter (λ (s : DropBomb R Seat). is_own k n s.value.number) sat) k before
-        → IsPolled has_no_seat TurnsByRun may_shut answers before after → CameBack k after
-    came_back k after before at_k p did =
-        let by : ℕ → Bool = λ m. is_own k n m in
-        let own : List (DropBomb R Seat) = filter (λ (s : DropBomb R Seat). by s.value.number) sat in
-        let ends = vec_items after.served.seat_bench.seats in
-        let same : AreSameSeats own ends = subst (λ l. AreSameSeats l ends) p.seats_are (polled_keeps before after did) in
-        let Beside : InterruptWorker R D G → DropBomb R Seat
-        → Type 0 = λ w s. (place : DropBomb R Placed) × IsBackAt place w × IsSeatAt place s in
-        let both : AllZip Beside workers sat = zip_both _ _ _ _ _ (zip_flip _ _ _ back) at in
-        let places : AllZip Beside (filter (λ (w : InterruptWorker R D G). by w.handler.number) workers) own =
-        zip_filtered Beside _ _ workers sat (λ w s h. ap by (h.1.number ∙ sym h.2.number)) both in
-        record {
-          seats = zip_same _ _ _ _ (λ w s h. seat_with h.1.0 w h.0 s h.1.1 h.1.2 h.2) (zip_both _ _ _ _ _ places same);
-          has = record {
-            before = own;
-            list = before.served.list;
-            there = subst (λ l. IsAt l k before.served.list) are (at_mapped (λ p. p.served.list) pollers k before at_k);
-            ends = p.new.0;
-            new = p.new.1;
-            from = zip_filtered IsKeptSeatFor _ _ loose sat (λ l s h. ap by (sym h.number)) for;
-            turns = λ whole some.
-                let busy = some_seat before.served (λ none. some (sym p.seats_are ∙ none)) in record {
-                  first = before.served;
-                  last = after.served;
-                  started = subst (λ m. IsAsked answers setting.gate.now m) p.named
-                      (subst (λ (s : Setting R G). IsAsked answers s.gate.now before.name) p.has (did.started whole busy));
-                  paced = p.paced;
-                  over = refl;
-                  from = p.seats_are;
-                  turns = did.turned whole busy;
-                  to = refl;
-                };
-          };
-        }
-
-    all_came : (k : ℕ) (d : OwnPoller R G) → k < length polled → CameBack k (get_or polled k d)
-    all_came k d low =
-        let Mine : ℕ → OwnPoller R G → Type 0 =
-        λ k p. IsAt pollers k p × IsPoller setting bells (filter (λ (s : DropBomb R Seat). is_own k n s.value.number) sat) k p in
-        let h = each_zip Mine (IsPolled has_no_seat TurnsByRun may_shut answers) pollers polled did
-        (λ k d low. ((low, sym (get_or_default pollers k d (get_or pollers k d) low)), have k d low)) k d low in
-        came_back k (get_or polled k d) h.0 h.1.0 h.1.1 h.2
-
-    -- each poller came back with its seats at its own instances
-    pub all_seats_at : EachAt (λ k p. AreSeatsAt n workers k p.served.seat_bench.seats) polled
-    all_seats_at k d low = (all_came k d low).seats
-
-    -- and polled them
-    pub all_have_polled : EachAt (HasPolled (IsAsked answers setting.gate.now) setting.pace lists n loose) polled
-    all_have_polled k d low = (all_came k d low).has
-
-  -- ---- the threads of instances
-
+module _ {R D G : Type 0} {may_shut : Type 0} {answers : G → ℕ → ℕ → Bool → Type 0} where
   thread_with : (placed : DropBomb R Placed) (done : InterruptWorker R D G) (before after : OwnThread R G) → IsBackAt placed done
       → IsThreadAt placed before → IsPolled has_no_thread TurnsAlone may_shut answers before after → IsThreadWith done after
   thread_with placed done before after back at p = seat_with placed done before.served.seat after.served.seat back at.seat
@@ -567,26 +500,94 @@ module _ {R D G : Type 0} (acts : D → ℕ) (answer : D → ℕ → Act) (after
       zip_same _ _ _ _ (λ w t h. thread_with h.1.0 w h.0 t h.1.1 h.1.2 h.2)
       (zip_both _ _ _ _ _ (zip_both _ _ _ _ _ (zip_flip _ _ _ back) at) did)
 
-  -- and these took their turns
+module _ {R D G : Type 0} {may_shut : Type 0} {answers : G → ℕ → ℕ → Bool → Type 0} {context : RunContext R G}
+    {lists : List (SharedList R)} {wakers : List Waker} (n : ℕ) (placed : List (DropBomb R Placed)) (loose : List (DropBomb R (Loose D)))
+    (workers : List (InterruptWorker R D G)) (sat : List (DropBomb R PollHandle)) (pollers polled : List (OwnPoller R G))
+    (back : AllZip IsBackAt placed workers) (at : AllZip IsSeatAt placed sat) (for : AllZip IsKeptSeatFor loose sat)
+    (have : ArePollers context wakers n sat pollers)
+    (did : AllZip (IsPolled has_no_seat TurnsByRun may_shut answers) pollers polled)
+    (are : map (λ p. p.served.list) pollers ≡ lists) where
+  record CameBack (k : ℕ) (poller : OwnPoller R G) : Type 0 where
+    pub seats : AreSeatsAt n workers k poller.served.bench.seats
+    pub has : HasPolled (IsAsked answers context.gate.now) context.limits lists n loose k poller
+
+  came_back : (k : ℕ) (after before : OwnPoller R G) → IsAt pollers k before
+      → IsPoller context wakers (filter (λ (s : DropBomb R PollHandle). is_own k n s.value.number) sat) k before
+      → IsPolled has_no_seat TurnsByRun may_shut answers before after → CameBack k after
+  came_back k after before at_k p did =
+      let by : ℕ → Bool = λ m. is_own k n m in
+      let own : List (DropBomb R PollHandle) = filter (λ (s : DropBomb R PollHandle). by s.value.number) sat in
+      let ends = vec_items after.served.bench.seats in
+      let same : AreSameSeats own ends = subst (λ l. AreSameSeats l ends) p.seats_are (polled_keeps before after did) in
+      let Beside : InterruptWorker R D G → DropBomb R PollHandle → Type 0 = λ w s. (place : DropBomb R Placed) × IsBackAt place w
+      × IsSeatAt place s in
+      let both : AllZip Beside workers sat = zip_both _ _ _ _ _ (zip_flip _ _ _ back) at in
+      let places : AllZip Beside (filter (λ (w : InterruptWorker R D G). by w.handler.number) workers) own =
+      zip_filtered Beside _ _ workers sat (λ w s h. ap by (h.1.number ∙ sym h.2.number)) both in
+      record {
+        seats = zip_same _ _ _ _ (λ w s h. seat_with h.1.0 w h.0 s h.1.1 h.1.2 h.2) (zip_both _ _ _ _ _ places same);
+        has = record {
+          before = own;
+          list = before.served.list;
+          there = subst (λ l. IsAt l k before.served.list) are (at_mapped (λ p. p.served.list) pollers k before at_k);
+          ends = p.new.0;
+          new = p.new.1;
+          from = zip_filtered IsKeptSeatFor _ _ loose sat (λ l s h. ap by (sym h.number)) for;
+          turns = λ whole some.
+              let busy = some_seat before.served (λ none. some (sym p.seats_are ∙ none)) in record {
+                first = before.served;
+                last = after.served;
+                started = subst (λ m. IsAsked answers context.gate.now m) p.named
+                    (subst (λ (s : RunContext R G). IsAsked answers s.gate.now before.name) p.has (did.started whole busy));
+                paced = p.paced;
+                over = refl;
+                from = p.seats_are;
+                turns = did.turned whole busy;
+                to = refl;
+              };
+        };
+      }
+
+  all_came : (k : ℕ) (d : OwnPoller R G) → k < length polled → CameBack k (get_or polled k d)
+  all_came k d low =
+      let Mine : ℕ → OwnPoller R G → Type 0 =
+      λ k p. IsAt pollers k p × IsPoller context wakers (filter (λ (s : DropBomb R PollHandle). is_own k n s.value.number) sat) k p in
+      let h = each_zip Mine (IsPolled has_no_seat TurnsByRun may_shut answers) pollers polled did
+      (λ k d low. ((low, sym (get_or_default pollers k d (get_or pollers k d) low)), have k d low)) k d low in
+      came_back k (get_or polled k d) h.0 h.1.0 h.1.1 h.2
+
+  -- each poller came back with its seats at its own instances
+  pub all_seats_at : EachAt (λ k p. AreSeatsAt n workers k p.served.bench.seats) polled
+  all_seats_at k d low = (all_came k d low).seats
+
+  -- and polled them
+  pub all_have_polled : EachAt (HasPolled (IsAsked answers context.gate.now) context.limits lists n loose) polled
+  all_have_polled k d low = (all_came k d low).has
+
+-- ---- the threads of instances took their turns
+
+module _ {R D G : Type 0} {may_shut : Type 0} {answers : G → ℕ → ℕ → Bool → Type 0} {context : RunContext R G}
+    {lists : List (SharedList R)} {wakers : List Waker} where
   turned_by : (loose : DropBomb R (Loose D)) (side thread : OwnThread R G) (has : Bool) → is_some side.served.seat.value.thread ≡ has
-      → IsKeptThreadFor setting loose side → IsWiredSide lists bells side
+      → IsKeptThreadFor context loose side → IsWiredSide lists wakers side
       → IsPolled has_no_thread TurnsAlone may_shut answers side thread → thread.stop ≡ None
       → (after : Caller) → thread.served.seat.value.caller ≡ Some after
-      → TurnsIfThread R (IsAsked answers setting.gate.now) setting.pace lists (length bells) has loose.value.number loose.value.thread after
+      → TurnsIfThread R (IsAsked answers context.gate.now) context.limits lists
+      (length wakers) has loose.value.number loose.value.thread after
   turned_by loose side thread false has for wired p whole after is =
       some_is (sym is ∙ ap (λ (s : ThreadPoller R). s.seat.value.caller) (p.none (ap (λ b. not b) has)) ∙ for.seat.caller_is)
   turned_by loose side thread true has for wired p whole after is =
       let busy = ap (λ b. not b) has in (
         side.served.list,
-        subst (λ n. IsEndOf lists (poller_by (length bells) n) side.served.list) for.seat.number wired.list,
+        subst (λ n. IsEndOf lists (poller_by (length wakers) n) side.served.list) for.seat.number wired.list,
         record {
           first = side.served;
           last = thread.served;
-          started = subst (λ m. IsAsked answers setting.gate.now m) for.named
-              (subst (λ (s : Setting R G). IsAsked answers s.gate.now side.name) for.has (p.started whole busy));
+          started = subst (λ m. IsAsked answers context.gate.now m) for.named
+              (subst (λ (s : RunContext R G). IsAsked answers s.gate.now side.name) for.has (p.started whole busy));
           paced = for.paced;
           at = for.seat.number;
-          bell = has;
+          waker = has;
           over = refl;
           from = for.seat.caller_is;
           turns = p.turned whole busy;
@@ -595,18 +596,12 @@ module _ {R D G : Type 0} (acts : D → ℕ) (answer : D → ℕ → Act) (after
       )
 
   pub all_turned : (loose : List (DropBomb R (Loose D))) (sides threads : List (OwnThread R G))
-      → AllZip (IsKeptThreadFor setting) loose sides
-      → AllByRecursion (IsWiredSide lists bells) sides → AllZip (IsPolled has_no_thread TurnsAlone may_shut answers) sides threads
-      → AllZip (HasTurned (IsAsked answers setting.gate.now) setting.pace lists (length bells)) loose threads
+      → AllZip (IsKeptThreadFor context) loose sides
+      → AllByRecursion (IsWiredSide lists wakers) sides → AllZip (IsPolled has_no_thread TurnsAlone may_shut answers) sides threads
+      → AllZip (HasTurned (IsAsked answers context.gate.now) context.limits lists (length wakers)) loose threads
   all_turned loose sides threads for wired did =
       zip_same _ _ _ _ (λ l t h after is whole.
-      subst (λ b. TurnsIfThread R (IsAsked answers setting.gate.now) setting.pace lists
-      (length bells) b l.value.number l.value.thread after)
+      subst (λ b. TurnsIfThread R (IsAsked answers context.gate.now) context.limits lists
+      (length wakers) b l.value.number l.value.thread after)
       h.1.0.seat.thread (turned_by l h.0 t _ refl h.1.0 h.1.1 h.2 whole after is))
       (zip_both _ _ _ _ _ (zip_right _ _ _ _ for wired) did)
-
--- why the runs of pollers ended early
-pub all_stops : {R G S : Type 0} (idle : S → Bool) (turns : S → Bool → S → Type 0) (may_shut : Type 0) (answers : G → ℕ → ℕ → Bool → Type 0)
-    (before after : List (Poller R G S)) → AllZip (IsPolled idle turns may_shut answers) before after
-    → All (λ p. IfSome p.stop (IsStop may_shut)) after
-all_stops idle turns may_shut answers before after did = each_index _ _ (zip_each _ _ _ _ (λ p q h. h.why) did)

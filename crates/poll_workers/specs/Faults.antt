@@ -11,12 +11,12 @@ number_of SpawnFailed = 3
 
 -- The result of a run, or the error of one that ended early, by whether a thread could not be started: out of memory takes
 -- precedence over the thread, and the thread over the gate.
-abbrev pub told : {A : Type 0} → Result (Result A Stop) AllocError → Bool → Result A WorkFault
-told (Err e) refused = Err OutOfMemory
-told (Ok came) true = Err SpawnFailed
-told (Ok (Err stop.Refused)) false = Err SpawnFailed
-told (Ok (Err stop.Shut)) false = Err GateShut
-told (Ok (Ok all)) false = Ok all
+abbrev pub run_result : {A : Type 0} → Result (Result A Stop) AllocError → Bool → Result A WorkFault
+run_result (Err e) refused = Err OutOfMemory
+run_result (Ok came) true = Err SpawnFailed
+run_result (Ok (Err stop.Refused)) false = Err SpawnFailed
+run_result (Ok (Err stop.Shut)) false = Err GateShut
+run_result (Ok (Ok all)) false = Ok all
 
 -- An allocation failed. Only the error of the allocation proves it.
 pub IsWantOfMemory : Type 0

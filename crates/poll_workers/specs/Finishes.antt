@@ -28,7 +28,7 @@ module _ {D : Type 0} (acts : D → ℕ) (answer : D → ℕ → Act) (after : D
     pub before : InterruptWorker R D G
     pub device : before.device ≡ loose.value.device
     pub rx : before.rx ≡ loose.value.rx
-    pub seats : before.seats.value ≡ loose.value.seats
+    pub handles : before.handles.value ≡ loose.value.handles
     pub list : IsEndOf lists (poller_by pollers loose.value.number) before.list
     pub same_number : done.handler.number ≡ loose.value.number
     pub is : IsDoneBy acts answer after answers napi loose.value.has_thread loose.value.number before done

@@ -1,6 +1,7 @@
 pub mod Faults
 pub mod Numbers
 pub mod Spreads
+pub mod Rooms
 pub mod Finishes
 pub mod Outcomes
 pub mod Courses

@@ -4,64 +4,64 @@ use Rattle.std.specs.Prelude.{slice_index_or, slice_set}
 use Rattle.std.specs.{Prelude.{vec_items, vec_capacity}, Global.Vec}
 use Rattle.poll_list.specs.{SharedList.{IsInOf, IsNewList, pushed_by}, declared.{list_in.ListIn.ListIn, shared.SharedList.SharedList}}
 use Rattle.{std.specs.List.All}
-use Rattle.{poll_tasks.specs.{Wakers.Wakes, declared.signals.Bell.Bell}, poll_interrupts.specs.Deals.{is_own, poller_by}}
+use Rattle.{poll_tasks.specs.{Wakers.Wakes, declared.signals.Waker.Waker}, poll_interrupts.specs.Deals.{is_own, poller_by}}
 use Rattle.{poll_tasks.specs.Tasks.{EachAt, IsAt}, poll_workers.specs.declared.pollers.Begin.Begin}
-use Rattle.{napi_calls.specs.declared.{kept.DropBomb.DropBomb, types.Caller.Caller}, poll_tasks.specs.declared.pace.Setting.Setting}
+use Rattle.{napi_calls.specs.declared.{kept.DropBomb.DropBomb, types.Caller.Caller}, poll_tasks.specs.declared.limits.RunContext.RunContext}
 use Rattle.poll_interrupts.specs.declared.{opening.{Placed.Placed, Loose.Loose}, worker.InterruptWorker.InterruptWorker}
-use Rattle.poll_seats.specs.declared.{seat.Seat.Seat, poller.Poller.Poller, list_poller.ListPoller.ListPoller}
+use Rattle.poll_seats.specs.declared.{handle.PollHandle.PollHandle, poller.Poller.Poller, list_poller.ListPoller.ListPoller}
 use Rattle.poll_seats.specs.{declared.thread_poller.ThreadPoller.ThreadPoller, Gives.{poller_name, thread_name}}
 
 module _ {R D G : Type 0} where
-  -- the worker has what all threads share, the device, its number, its end of the ring and its seats, and the waker of its
+  -- the worker has what all threads share, the device, its number, its end of the ring and its handles, and the waker of its
   -- thread
-  pub record IsJobOf (setting : Setting R G) (loose : Loose D) (job : InterruptWorker R D G) : Type 0 where
-    pub has : job.setting.now ≡ setting
+  pub record IsJobOf (context : RunContext R G) (loose : Loose D) (job : InterruptWorker R D G) : Type 0 where
+    pub has : job.context.now ≡ context
     pub same_number : job.handler.number ≡ loose.number
     pub same_device : job.device ≡ loose.device
     pub same_rx : job.rx ≡ loose.rx
-    pub same_seats : job.seats.value ≡ loose.seats
+    pub same_handles : job.handles.value ≡ loose.handles
     pub thread : is_some job.handler.thread ≡ loose.has_thread
 
-  abbrev pub IsKeptJobOf : Setting R G → DropBomb R (Loose D) → InterruptWorker R D G → Type 0
-  IsKeptJobOf setting loose job = IsJobOf setting loose.value job
+  abbrev pub IsKeptJobOf : RunContext R G → DropBomb R (Loose D) → InterruptWorker R D G → Type 0
+  IsKeptJobOf context loose job = IsJobOf context loose.value job
 
   abbrev pub IsJobAt : DropBomb R Placed → InterruptWorker R D G → Type 0
   IsJobAt placed job = job.handler.napi.now ≡ placed.value.napi
 
 module _ {R D : Type 0} where
   -- the seat has the number and this caller, and has a waker exactly if there is a thread
-  pub record IsSeatFor (loose : Loose D) (caller : Caller) (seat : DropBomb R Seat) : Type 0 where
+  pub record IsSeatFor (loose : Loose D) (caller : Caller) (seat : DropBomb R PollHandle) : Type 0 where
     pub number : seat.value.number ≡ loose.number
     pub thread : is_some seat.value.thread ≡ loose.has_thread
     pub caller_is : seat.value.caller ≡ Some caller
 
-  abbrev pub IsKeptSeatFor : DropBomb R (Loose D) → DropBomb R Seat → Type 0
+  abbrev pub IsKeptSeatFor : DropBomb R (Loose D) → DropBomb R PollHandle → Type 0
   IsKeptSeatFor loose seat = IsSeatFor loose.value loose.value.poller seat
 
   module _ {G : Type 0} where
     -- the instance's thread has the name and the thread's caller, and what all threads share
-    pub record IsThreadFor (setting : Setting R G) (loose : Loose D) (side : Poller R G (ThreadPoller R)) : Type 0 where
-      pub has : side.setting.now ≡ setting
-      pub paced : side.served.pace ≡ setting.pace
+    pub record IsThreadFor (context : RunContext R G) (loose : Loose D) (side : Poller R G (ThreadPoller R)) : Type 0 where
+      pub has : side.context.now ≡ context
+      pub paced : side.served.limits ≡ context.limits
       pub named : side.name ≡ thread_name loose.number
       pub seat : IsSeatFor loose loose.thread side.served.seat
 
-    abbrev pub IsKeptThreadFor : Setting R G → DropBomb R (Loose D) → Poller R G (ThreadPoller R) → Type 0
-    IsKeptThreadFor setting loose side = IsThreadFor setting loose.value side
+    abbrev pub IsKeptThreadFor : RunContext R G → DropBomb R (Loose D) → Poller R G (ThreadPoller R) → Type 0
+    IsKeptThreadFor context loose side = IsThreadFor context loose.value side
 
 module _ {R : Type 0} where
   -- it is at the instance, and has the waker of its thread, if there is one
-  pub record IsSeatAt (placed : DropBomb R Placed) (seat : DropBomb R Seat) : Type 0 where
+  pub record IsSeatAt (placed : DropBomb R Placed) (seat : DropBomb R PollHandle) : Type 0 where
     pub number : seat.value.number ≡ placed.value.number
     pub napi : seat.value.napi.now ≡ placed.value.napi
-    pub bell : IfSome seat.value.thread (λ b. b.now ≡ placed.value.bell)
+    pub waker : IfSome seat.value.thread (λ b. b.now ≡ placed.value.waker)
     pub caller : IsSome seat.value.caller
 
   -- the thread's seat is at the instance, whose waker wakes the thread
   pub record IsThreadAt {G : Type 0} (placed : DropBomb R Placed) (side : Poller R G (ThreadPoller R)) : Type 0 where
     pub seat : IsSeatAt placed side.served.seat
-    pub bell : side.bell.now ≡ placed.value.bell
-    pub wakes : Wakes side.bell.now side.pause
+    pub waker : side.waker.now ≡ placed.value.waker
+    pub wakes : Wakes side.waker.now side.wait
 
 module _ {R : Type 0} where
   -- an end of this list, by which nothing was pushed
@@ -76,16 +76,16 @@ module _ {R : Type 0} where
   abbrev pub AreEndsOf : List (SharedList R) → List (Vec (ListIn R)) → Type 0
   AreEndsOf lists ends = EachAt (λ k own. All (IsEndOf lists k) (vec_items own)) ends
 
-  module _ {G : Type 0} (lists : List (SharedList R)) (bells : List Bell) where
+  module _ {G : Type 0} (lists : List (SharedList R)) (wakers : List Waker) where
     -- a worker pushes into the list of the poller of its station, and wakes that poller
     pub record IsWiredJob {D : Type 0} (job : InterruptWorker R D G) : Type 0 where
-      pub list : IsEndOf lists (poller_by (length bells) job.handler.number) job.list
-      pub bell : IsAt bells (poller_by (length bells) job.handler.number) job.handler.poller.now
+      pub list : IsEndOf lists (poller_by (length wakers) job.handler.number) job.list
+      pub waker : IsAt wakers (poller_by (length wakers) job.handler.number) job.handler.poller.now
 
     -- the same for the thread of an instance
     pub record IsWiredSide (side : Poller R G (ThreadPoller R)) : Type 0 where
-      pub list : IsEndOf lists (poller_by (length bells) side.served.seat.value.number) side.served.list
-      pub bell : IsAt bells (poller_by (length bells) side.served.seat.value.number) side.served.poller.now
+      pub list : IsEndOf lists (poller_by (length wakers) side.served.seat.value.number) side.served.list
+      pub waker : IsAt wakers (poller_by (length wakers) side.served.seat.value.number) side.served.poller.now
 
 -- a poller starts with a new list
 abbrev pub IsBegin : {R : Type 0} → Begin R → Type 0
@@ -93,16 +93,16 @@ IsBegin begin = (ends : ℕ) × IsNewList ends begin.list
 
 module _ {R : Type 0} where
   -- each of so many pollers has its own seats, and room for so many
-  abbrev pub HaveOwn : ℕ → ℕ → List (DropBomb R Seat) → List (Vec (DropBomb R Seat)) → Type 0
+  abbrev pub HaveOwn : ℕ → ℕ → List (DropBomb R PollHandle) → List (Vec (DropBomb R PollHandle)) → Type 0
   HaveOwn count pollers seats =
-      EachAt (λ k own. (vec_items own ≡ filter (λ (s : DropBomb R Seat). is_own k pollers s.value.number) seats)
-      × (count ≤ vec_capacity own))
+      EachAt (λ k own. (vec_items own ≡ filter (λ (s : DropBomb R PollHandle). is_own k pollers s.value.number) seats) ×
+      (count ≤ vec_capacity own))
 
   -- a poller has one more seat
-  pub record TakesSeat (before : List (Vec (DropBomb R Seat))) (poller : ℕ) (seat : DropBomb R Seat) (after : List (Vec
-      (DropBomb R Seat))) : Type 0 where
-    pub was : Vec (DropBomb R Seat)
-    pub now : Vec (DropBomb R Seat)
+  pub record TakesSeat (before : List (Vec (DropBomb R PollHandle))) (poller : ℕ) (seat : DropBomb R PollHandle) (after : List (Vec
+      (DropBomb R PollHandle))) : Type 0 where
+    pub was : Vec (DropBomb R PollHandle)
+    pub now : Vec (DropBomb R PollHandle)
     pub there : slice_index_or before poller was ≡ was
     pub more : vec_items now ≡ vec_items was ++ seat ∷ []
     pub capacity : vec_capacity now ≡ vec_capacity was
@@ -111,17 +111,17 @@ module _ {R : Type 0} where
 module _ {R G : Type 0} where
   -- The poller with this number has what all threads share, the waker of this number, which wakes it, a new list, and these
   -- seats.
-  pub record IsPoller (setting : Setting R G) (bells : List Bell) (seats : List (DropBomb R Seat)) (number : ℕ)
+  pub record IsPoller (context : RunContext R G) (wakers : List Waker) (seats : List (DropBomb R PollHandle)) (number : ℕ)
       (poller : Poller R G (ListPoller R)) : Type 0 where
-    pub has : poller.setting.now ≡ setting
-    pub paced : poller.served.pace ≡ setting.pace
+    pub has : poller.context.now ≡ context
+    pub paced : poller.served.limits ≡ context.limits
     pub named : poller.name ≡ poller_name number
-    pub bell : IsAt bells number poller.bell.now
-    pub wakes : Wakes poller.bell.now poller.pause
+    pub waker : IsAt wakers number poller.waker.now
+    pub wakes : Wakes poller.waker.now poller.wait
     pub new : (ends : ℕ) × IsNewList ends poller.served.list
-    pub seats_are : vec_items poller.served.seat_bench.seats ≡ seats
+    pub seats_are : vec_items poller.served.bench.seats ≡ seats
 
   -- the same for all of so many pollers, each with its own seats
-  abbrev pub ArePollers : Setting R G → List Bell → ℕ → List (DropBomb R Seat) → List (Poller R G (ListPoller R)) → Type 0
-  ArePollers setting bells pollers seats =
-      EachAt (λ k poller. IsPoller setting bells (filter (λ (s : DropBomb R Seat). is_own k pollers s.value.number) seats) k poller)
+  abbrev pub ArePollers : RunContext R G → List Waker → ℕ → List (DropBomb R PollHandle) → List (Poller R G (ListPoller R)) → Type 0
+  ArePollers context wakers pollers seats =
+      EachAt (λ k poller. IsPoller context wakers (filter (λ (s : DropBomb R PollHandle). is_own k pollers s.value.number) seats) k poller)

@@ -6,11 +6,10 @@ ghost use Rattle.std.specs.Global.{Vec};
 ghost use Rattle.poll_tasks.specs.Tasks.{EachAt, HasRoom};
 ghost use Rattle.poll_workers.specs.Outcomes.{AreLeftBy, AreSeatsAt, IsLeftBy, IsSeatWith, IsThreadWith, TakesNext};
 
-use crate::pollers::OwnPoller;
-use crate::spreading::OwnThread;
+use crate::pollers::{OwnPoller, OwnThread};
 use napi_calls::DropBomb;
 use poll_interrupts::{InterruptWorker, Loose, poller_of};
-use poll_seats::{Poller, Seat, ThreadPoller};
+use poll_seats::{PollHandle, Poller, ThreadPoller};
 use poll_tasks::{Gate, Tasks};
 use std::sync::Wait;
 
@@ -24,7 +23,7 @@ pub(crate) type RunTasks<'t, 'p, 'n, R, D, G> = Tasks<
 // The parts of one instance, as its threads hold them.
 fn leave<'t, 'p, 'n, R: Wait + Drop, D: Drop, G: Gate>(
     worker: InterruptWorker<'t, 'p, 'n, R, D, G>,
-    poller: DropBomb<R, Seat<'n>>,
+    poller: DropBomb<R, PollHandle<'n>>,
     thread: OwnThread<'t, 'p, 'n, R, G>,
 ) -> Loose<D>
     requires poller { IsSeatWith worker poller }
@@ -32,19 +31,19 @@ fn leave<'t, 'p, 'n, R: Wait + Drop, D: Drop, G: Gate>(
     ensures { IsLeftBy worker.entry poller.entry thread.entry result }
 {
     let InterruptWorker {
-        setting: _,
+        context: _,
         handler,
         list: _,
         device,
         rx,
-        seats,
+        handles,
         stop: _,
     } = worker;
     let Poller {
-        setting: _,
+        context: _,
         name: _,
-        bell: _,
-        pause,
+        waker: _,
+        wait,
         served,
         stop: _,
     } = thread;
@@ -53,37 +52,37 @@ fn leave<'t, 'p, 'n, R: Wait + Drop, D: Drop, G: Gate>(
         seat,
         list: _,
         poller: _,
-        pace: _,
+        limits: _,
         batch: _,
     } = served;
     Loose {
         number: handler.number,
         device,
         rx,
-        seats: seats.open(),
+        handles: handles.open(),
         poller: poller.open().leave(),
         thread: seat.open().leave(),
         has_thread: handler.thread.is_some(),
-        pause,
+        wait,
     }
 }
 
 /// Returns the seats of all pollers. Requires room for them.
 pub(crate) fn seats_left<'t, 'p, 'n, R: Wait + Drop, G: Gate>(
     pollers: Vec<OwnPoller<'t, 'p, 'n, R, G>>,
-    room: Vec<Vec<DropBomb<R, Seat<'n>>>>,
-) -> Vec<Vec<DropBomb<R, Seat<'n>>>>
+    room: Vec<Vec<DropBomb<R, PollHandle<'n>>>>,
+) -> Vec<Vec<DropBomb<R, PollHandle<'n>>>>
     requires { HasRoom (vec_len pollers) room }
-    ensures { map (λ p. p.served.seat_bench.seats) (vec_items pollers.entry) ≡ vec_items result }
+    ensures { map (λ p. p.served.bench.seats) (vec_items pollers.entry) ≡ vec_items result }
 {
     let mut seats = room;
     let mut all = pollers.into_iter();
     while let Some(poller) = all.next() {
         let Poller {
-            setting: _,
+            context: _,
             name: _,
-            bell: _,
-            pause: _,
+            waker: _,
+            wait: _,
             served,
             stop: _,
         } = poller;
@@ -94,9 +93,9 @@ pub(crate) fn seats_left<'t, 'p, 'n, R: Wait + Drop, G: Gate>(
 
 // Returns the next of a poller's seats.
 fn next_of<'n, R: Wait + Drop>(
-    seats: &mut Vec<Vec<DropBomb<R, Seat<'n>>>>,
+    seats: &mut Vec<Vec<DropBomb<R, PollHandle<'n>>>>,
     poller: usize,
-) -> DropBomb<R, Seat<'n>>
+) -> DropBomb<R, PollHandle<'n>>
     requires within { poller < vec_len seats.old }
     requires some { (own : Vec (DropBomb _ _))
         → slice_index_or (vec_items seats.old) poller own ≡ own
@@ -110,7 +109,7 @@ fn next_of<'n, R: Wait + Drop>(
 pub(crate) fn gather<'t, 'p, 'n, R: Wait + Drop + Copy, D: Drop, G: Gate>(
     rt: R,
     workers: Vec<InterruptWorker<'t, 'p, 'n, R, D, G>>,
-    seats: Vec<Vec<DropBomb<R, Seat<'n>>>>,
+    seats: Vec<Vec<DropBomb<R, PollHandle<'n>>>>,
     threads: Vec<OwnThread<'t, 'p, 'n, R, G>>,
     room: Vec<DropBomb<R, Loose<D>>>,
 ) -> Vec<DropBomb<R, Loose<D>>>

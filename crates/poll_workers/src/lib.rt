@@ -6,6 +6,7 @@ mod fault;
 mod gathering;
 mod numbers;
 mod pollers;
+mod rooms;
 mod run;
 mod spreading;
 

@@ -4,17 +4,17 @@ ghost use Rattle.std.specs.Prelude.{◌≡◌, ◌≤◌, ◌<◌, ◌+◌, ℕ,
 ghost use Rattle.std.specs.Global.{Vec};
 ghost use Rattle.std.specs.List.{All, AllByRecursion, AllZip};
 ghost use Rattle.napi_calls.specs.declared.kept.DropBomb.{DropBomb};
-ghost use Rattle.poll_seats.specs.declared.seat.Seat.{Seat};
+ghost use Rattle.poll_seats.specs.declared.handle.PollHandle.{PollHandle};
 ghost use Rattle.poll_tasks.specs.Tasks.{HasRoom};
 ghost use Rattle.poll_list.specs.declared.shared.SharedList.{SharedList};
 ghost use Rattle.poll_tasks.specs.Wakers.{Wakes};
-ghost use Rattle.poll_tasks.specs.Paces.{IsLawful};
+ghost use Rattle.poll_tasks.specs.Limits.{IsLawful};
 ghost use Rattle.poll_workers.specs.Spreads.{AreEndsOf, ArePollers, HaveOwn, IsBegin, IsEndOf, IsNewEnd, TakesSeat};
 
 use napi_calls::DropBomb;
 use poll_list::{ListIn, SharedList, shared_list};
-use poll_seats::{ListPoller, Poller, Seat};
-use poll_tasks::{Bell, Gate, Pause, Setting};
+use poll_seats::{ListPoller, PollHandle, Poller, ThreadPoller};
+use poll_tasks::{Gate, IdleWait, RunContext, Waker};
 use std::alloc::{AllocError, Global};
 use std::sync::Wait;
 
@@ -24,18 +24,14 @@ const FIRST_POLLER: u32 = 100;
 /// A poller with a list.
 pub(crate) type OwnPoller<'t, 'p, 'n, R, G> = Poller<'t, 'p, R, G, ListPoller<'n, R>>;
 
+/// The thread of an instance.
+pub(crate) type OwnThread<'t, 'p, 'n, R, G> = Poller<'t, 'n, R, G, ThreadPoller<'p, 'n, R>>;
+
 /// What a poller starts with, apart from its waker and its seats: its list, and how it waits.
 #[derive(Drop)]
 pub(crate) struct Begin<R: Wait + Drop> {
     list: SharedList<R>,
-    pause: Pause,
-}
-
-/// What all pollers start with, and the ends of their lists.
-#[derive(Drop)]
-pub(crate) struct Begins<R: Wait + Drop> {
-    pub(crate) pollers: Vec<Begin<R>>,
-    pub(crate) ends: Vec<Vec<ListIn<R>>>,
+    wait: IdleWait,
 }
 
 // Returns what a poller of at most so many stations starts with, and two ends of its list for each.
@@ -43,54 +39,49 @@ fn begin_of<R: Wait + Drop + Copy>(
     rt: R,
     alloc: Global,
     count: usize,
-    pause: Pause,
+    wait: IdleWait,
 ) -> Result<(Begin<R>, Vec<ListIn<R>>), AllocError>
     requires { count ≤ 16 }
     ensures begin { IfOk result (λ r. IsBegin r.0) }
     ensures ends { IfOk result (λ r. count + count ≤ vec_len r.1) }
     ensures own { IfOk result (λ r. All (IsNewEnd r.0.list) (vec_items r.1)) }
-    ensures pause { IfOk result (λ r. r.0.pause ≡ pause) }
+    ensures wait { IfOk result (λ r. r.0.wait ≡ wait) }
 {
     let Ok((list, ends)) = shared_list(rt, alloc, 2 * count as u32) else {
         return Err(AllocError);
     };
-    Ok((Begin { list, pause }, ends))
+    Ok((Begin { list, wait }, ends))
 }
 
-/// Returns the wakers of so many pollers, and what these start with, each with room for so many stations.
+/// Returns the wakers of so many pollers, what these start with, and two ends of its list for each of so many stations.
 pub(crate) fn begins_of<R: Wait + Drop + Copy>(
     rt: R,
     alloc: Global,
     pollers: usize,
     count: usize,
-) -> Result<(Vec<Bell>, Begins<R>), AllocError>
+) -> Result<(Vec<Waker>, Vec<Begin<R>>, Vec<Vec<ListIn<R>>>), AllocError>
     requires { count ≤ 16 }
     ensures len { IfOk result
-        (λ r. (length (vec_items r.0) ≡ pollers) × (length (vec_items r.1.pollers) ≡ pollers)
-        × (length (vec_items r.1.ends) ≡ pollers)) }
-    ensures begins { IfOk result
-        (λ r. AllByRecursion IsBegin (vec_items r.1.pollers)) }
-    ensures ends { IfOk result (λ r. All (λ e. count + count ≤ vec_len e) (vec_items r.1.ends)) }
-    ensures wakes { IfOk result (λ r. AllZip (λ bell begin. Wakes bell begin.pause) (vec_items r.0)
-        (vec_items r.1.pollers)) }
+        (λ r. (length (vec_items r.0) ≡ pollers) × (length (vec_items r.1) ≡ pollers)
+        × (length (vec_items r.2) ≡ pollers)) }
+    ensures begins { IfOk result (λ r. AllByRecursion IsBegin (vec_items r.1)) }
+    ensures ends { IfOk result (λ r. All (λ e. count + count ≤ vec_len e) (vec_items r.2)) }
+    ensures wakes { IfOk result (λ r. AllZip (λ waker begin. Wakes waker begin.wait) (vec_items r.0)
+        (vec_items r.1)) }
     ensures own { IfOk result (λ r. AllZip (λ begin e. All (IsNewEnd begin.list) (vec_items e))
-        (vec_items r.1.pollers) (vec_items r.1.ends)) }
+        (vec_items r.1) (vec_items r.2)) }
 {
-    let mut bells = Vec::with_capacity(alloc, pollers)?;
+    let mut wakers = Vec::with_capacity(alloc, pollers)?;
     let mut begins = Vec::with_capacity(alloc, pollers)?;
     let mut ends = Vec::with_capacity(alloc, pollers)?;
     for _ in 0..pollers {
-        let (bell, pause) = Bell::new(alloc)?;
-        let (begin, own_ends) = begin_of(rt, alloc, count, pause)?;
-        bells.push_reserved(bell);
+        let (waker, wait) = Waker::new(alloc)?;
+        let (begin, own_ends) = begin_of(rt, alloc, count, wait)?;
+        wakers.push_reserved(waker);
         begins.push_reserved(begin);
         ends.push_reserved(own_ends);
     }
-    let begins = Begins {
-        pollers: begins,
-        ends,
-    };
-    Ok((bells, begins))
+    Ok((wakers, begins, ends))
 }
 
 /// Returns room for the seats of so many pollers, for so many of each.
@@ -98,7 +89,7 @@ pub(crate) fn seats_of<'n, R: Wait + Drop + Copy>(
     alloc: Global,
     pollers: usize,
     count: usize,
-) -> Result<Vec<Vec<DropBomb<R, Seat<'n>>>>, AllocError>
+) -> Result<Vec<Vec<DropBomb<R, PollHandle<'n>>>>, AllocError>
     ensures seats { IfOk result (λ r. (n : ℕ) → HaveOwn count n [] (vec_items r)) }
     ensures len { IfOk result (λ r. length (vec_items r) ≡ pollers) }
 {
@@ -111,9 +102,9 @@ pub(crate) fn seats_of<'n, R: Wait + Drop + Copy>(
 
 /// Gives a poller one more seat. Requires room for it.
 pub(crate) fn seat_at<'n, R: Wait + Drop>(
-    seats: &mut Vec<Vec<DropBomb<R, Seat<'n>>>>,
+    seats: &mut Vec<Vec<DropBomb<R, PollHandle<'n>>>>,
     poller: usize,
-    seat: DropBomb<R, Seat<'n>>,
+    seat: DropBomb<R, PollHandle<'n>>,
 )
     requires within { poller < length (vec_items seats.old) }
     requires room { (own : Vec (DropBomb _ _))
@@ -148,46 +139,46 @@ pub(crate) fn two_ends<R: Wait + Drop>(
 
 /// Returns the pollers with these wakers, what they start with, and their seats. Requires room for them.
 pub(crate) fn pollers_of<'t, 'p, 'n, R: Wait + Drop + Copy, G: Gate>(
-    setting: &'t Setting<'t, R, G>,
-    bells: &'p [Bell],
+    context: &'t RunContext<'t, R, G>,
+    wakers: &'p [Waker],
     begins: Vec<Begin<R>>,
-    seats: Vec<Vec<DropBomb<R, Seat<'n>>>>,
+    seats: Vec<Vec<DropBomb<R, PollHandle<'n>>>>,
     room: Vec<OwnPoller<'t, 'p, 'n, R, G>>,
 ) -> Vec<OwnPoller<'t, 'p, 'n, R, G>>
-    requires bells { length (vec_items begins) ≡ length bells.now }
-    requires seats { length (vec_items seats) ≡ length bells.now }
-    requires few { length bells.now ≤ 8 }
-    requires room { HasRoom (length bells.now) room }
+    requires wakers { length (vec_items begins) ≡ length wakers.now }
+    requires seats { length (vec_items seats) ≡ length wakers.now }
+    requires few { length wakers.now ≤ 8 }
+    requires room { HasRoom (length wakers.now) room }
     requires begins { AllByRecursion IsBegin (vec_items begins) }
-    requires wakes { AllZip (λ bell begin. Wakes bell begin.pause) bells.now (vec_items begins) }
-    requires pace { IsLawful setting.now.pace }
-    ensures pollers { (count n : ℕ) (sat : List (DropBomb _ Seat))
+    requires wakes { AllZip (λ waker begin. Wakes waker begin.wait) wakers.now (vec_items begins) }
+    requires limits { IsLawful context.now.limits }
+    ensures pollers { (count n : ℕ) (sat : List (DropBomb _ PollHandle))
         → HaveOwn count n sat (vec_items seats.entry)
-        → ArePollers setting.now bells.now n sat (vec_items result) }
+        → ArePollers context.now wakers.now n sat (vec_items result) }
     ensures lists { map (λ p. p.served.list) (vec_items result)
         ≡ map (λ b. b.list) (vec_items begins) }
-    ensures len { length (vec_items result) ≡ length bells.now }
+    ensures len { length (vec_items result) ≡ length wakers.now }
 {
     let mut pollers = room;
-    let mut rest = bells;
+    let mut rest = wakers;
     let mut begins = begins.into_iter();
     let mut seats = seats.into_iter();
     while let Some(begin) = begins.next() {
         let Some(own) = seats.next() else {
             unreachable!()
         };
-        let Some((bell, more)) = rest.split_first() else {
+        let Some((waker, more)) = rest.split_first() else {
             unreachable!()
         };
         rest = more;
-        let Begin { list, pause } = begin;
+        let Begin { list, wait } = begin;
         let name = FIRST_POLLER + pollers.len() as u32;
         pollers.push_reserved(Poller {
-            setting,
+            context,
             name,
-            bell,
-            pause,
-            served: ListPoller::new(setting.rt, list, own, setting.pace),
+            waker,
+            wait,
+            served: ListPoller::new(context.rt, list, own, context.limits),
             stop: None,
         });
     }

@@ -1,86 +1,38 @@
 //! A run of all stations.
 
-ghost use Rattle.std.specs.Prelude.{◌≡◌, ◌≤◌, ◌+◌, ℕ, [], IfErr, IfOk, IfSome, IsErrOf, IsTrue, None, length, map, vec_items, vec_len};
-ghost use Rattle.std.specs.List.{All, AllByRecursion, AllZip};
+ghost use Rattle.std.specs.Prelude.{◌≡◌, ◌≤◌, IfErr, IfOk, IfSome, IsErrOf, IsTrue, None, length, map, vec_items, vec_len};
+ghost use Rattle.std.specs.List.{All, AllZip};
 ghost use Rattle.std.specs.Borrow.{Bor};
 ghost use Rattle.poll_tasks.specs.Asks.{IsAsked};
-ghost use Rattle.poll_tasks.specs.Tasks.{HasRoom};
-ghost use Rattle.poll_workers.specs.Courses.{ArePolled, HaveRun, pace_of};
+ghost use Rattle.poll_workers.specs.Courses.{ArePolled, HaveRun, limits_of};
 ghost use Rattle.poll_workers.specs.Finishes.{IsFinished};
 ghost use Rattle.poll_workers.specs.declared.fault.WorkFault.TheVariants.{GateShut, OutOfMemory, SpawnFailed};
-ghost use Rattle.poll_workers.specs.Faults.{IsWantOfMemory, told};
+ghost use Rattle.poll_workers.specs.Faults.{IsWantOfMemory, run_result};
 ghost use Rattle.poll_workers.specs.Numbers.{have_distinct_numbers};
-ghost use Rattle.poll_workers.specs.Spreads.{HaveOwn, IsBegin, IsNewEnd};
+ghost use Rattle.poll_workers.specs.Rooms.{AreRooms};
 ghost use Rattle.poll_interrupts.specs.Opens.{IsKeptPartOf, IsKeptSideOf, IsStation};
-ghost use Rattle.poll_tasks.specs.Paces.{IsLawful};
+ghost use Rattle.poll_tasks.specs.Limits.{IsLawful};
 ghost use Rattle.poll_tasks.specs.Refusals.{IsRefused};
 ghost use Rattle.poll_tasks.specs.Stops.{IsStop};
-ghost use Rattle.poll_tasks.specs.Wakers.{Wakes};
 
 use crate::fault::WorkFault;
 use crate::gathering::{RunTasks, gather, seats_left};
-use crate::pollers::{Begins, begins_of, pollers_of, seats_of};
-use crate::spreading::{Parts, spread};
+use crate::pollers::pollers_of;
+use crate::rooms::{Rooms, RunRooms, rooms_of};
+use crate::spreading::spread;
 use napi_calls::DropBomb;
-use poll_interrupts::{
-    Device, Finished, Loose, Placed, Station, end_all, open_all, shut_all, worker_stop,
-};
-use poll_seats::{Seat, first_stop};
-use poll_tasks::{Bell, Gate, Pace, Setting, Spawned, Stop, StopFlags, Task, Tasks, drive};
+use poll_interrupts::{Device, Finished, Loose, Placed, Station, end_all, open_all};
+use poll_tasks::{Gate, PollLimits, RunContext, Stop, StopFlags, Tasks, Waker, drive, first_stop};
 use std::alloc::{AllocError, Global};
 use std::sync::Wait;
+use std::sync::atomic::Ordering;
 use std::thread::Threads;
 
 // The parts of the instances after the threads have ended, and why the run ended early, if so.
 type Ended<R, D> = (Vec<DropBomb<R, Loose<D>>>, Option<Stop>);
 
-// Room for what goes to the threads of so many pollers and stations, for the threads, and for their results.
-struct Rooms<'n, R: Wait + Drop, P: Task, W: Task, S: Task, D> {
-    pollers: Vec<P>,
-    parts: Parts<'n, R, W, S>,
-    spawned: Tasks<Spawned<P>, Spawned<W>, Spawned<S>>,
-    seats: Vec<Vec<DropBomb<R, Seat<'n>>>>,
-    left: Vec<DropBomb<R, Loose<D>>>,
-}
-
-fn rooms_of<'n, R, P, W, S, D>(
-    alloc: Global,
-    pollers: usize,
-    count: usize,
-) -> Result<Rooms<'n, R, P, W, S, D>, AllocError>
-where
-    R: Wait + Drop + Copy,
-    P: Task + Drop,
-    W: Task + Drop,
-    S: Task + Drop,
-    D: Drop,
-    ensures tasks { IfOk result (λ r. HasRoom pollers r.pollers × HasRoom count r.parts.workers
-        × HasRoom count r.parts.threads) }
-    ensures spawned { IfOk result (λ r. HasRoom pollers r.spawned.pollers
-        × HasRoom count r.spawned.workers × HasRoom count r.spawned.threads) }
-    ensures seats { IfOk result (λ r. (n : ℕ) → HaveOwn count n [] (vec_items r.parts.seats)) }
-    ensures len { IfOk result (λ r. length (vec_items r.parts.seats) ≡ pollers) }
-    ensures left { IfOk result (λ r. HasRoom pollers r.seats × HasRoom count r.left) }
-{
-    Ok(Rooms {
-        pollers: Vec::with_capacity(alloc, pollers)?,
-        parts: Parts {
-            seats: seats_of(alloc, pollers, count)?,
-            workers: Vec::with_capacity(alloc, count)?,
-            threads: Vec::with_capacity(alloc, count)?,
-        },
-        spawned: Tasks {
-            pollers: Vec::with_capacity(alloc, pollers)?,
-            workers: Vec::with_capacity(alloc, count)?,
-            threads: Vec::with_capacity(alloc, count)?,
-        },
-        seats: Vec::with_capacity(alloc, pollers)?,
-        left: Vec::with_capacity(alloc, count)?,
-    })
-}
-
 // Returns why a run ended early, if so.
-fn stop_of_run<'t, 'p, 'n, R: Wait + Drop, D: Drop, G: Gate>(
+fn stop_of_run<'t, 'p, 'n, R: Wait + Drop + Copy, D: Device + Drop, G: Gate>(
     tasks: &RunTasks<'t, 'p, 'n, R, D, G>,
 ) -> Option<Stop>
     requires workers { All (λ w. IfSome w.stop (IsStop G.may_shut)) (vec_items tasks.now.workers) }
@@ -97,87 +49,65 @@ fn stop_of_run<'t, 'p, 'n, R: Wait + Drop, D: Drop, G: Gate>(
     if let Some(stop) = first_stop(tasks.threads.as_slice()) {
         return Some(stop);
     }
-    worker_stop(tasks.workers.as_slice())
+    first_stop(tasks.workers.as_slice())
 }
 
-// Runs all threads, in one scope. If an allocation fails, no thread starts, and the parts that would have gone to them are
-// returned.
+// Runs all threads, in one scope.
 fn run_threads<'t, 'p, 'n, R, D, G>(
-    setting: &'t Setting<'t, R, G>,
-    alloc: Global,
-    bells: &'p [Bell],
-    begins: Begins<R>,
+    context: &'t RunContext<'t, R, G>,
+    wakers: &'p [Waker],
+    rooms: RunRooms<'t, 'p, 'n, R, D, G>,
     placed: &'n [DropBomb<R, Placed>],
     loose: Vec<DropBomb<R, Loose<D>>>,
-) -> Result<Ended<R, D>, Vec<DropBomb<R, Loose<D>>>>
+) -> Ended<R, D>
 where
     R: Threads + Wait + Copy + Drop + Send + Sync,
     D: Device + Drop + Send,
     G: Gate + Sync,
-    requires pollers { (1 ≤ length bells.now) × (length bells.now ≤ 8) }
-    requires begins { AllByRecursion IsBegin (vec_items begins.pollers)
-        × (length (vec_items begins.pollers) ≡ length bells.now) }
-    requires ends { All (λ e. vec_len loose + vec_len loose ≤ vec_len e) (vec_items begins.ends)
-        × (length (vec_items begins.ends) ≡ length bells.now) }
-    requires wakes { AllZip (λ bell begin. Wakes bell begin.pause) bells.now
-        (vec_items begins.pollers) }
-    requires own { AllZip (λ begin e. All (IsNewEnd begin.list) (vec_items e))
-        (vec_items begins.pollers) (vec_items begins.ends) }
-    requires pace { IsLawful setting.now.pace }
+    requires pollers { (1 ≤ length wakers.now) × (length wakers.now ≤ 8) }
+    requires rooms { AreRooms wakers.now (vec_len loose) rooms }
+    requires limits { IsLawful context.now.limits }
     requires sides { AllZip IsKeptSideOf (vec_items loose) placed.now }
-    requires count { vec_len loose ≤ 16 }
-    ensures parts { IfOk result (λ e. AllZip IsKeptPartOf (vec_items e.0) placed.now) }
-    ensures len { IfOk result (λ e. vec_len e.0 ≡ vec_len loose) }
-    ensures why { IfOk result (λ e. IfSome e.1 (IsStop G.may_shut)) }
-    ensures ran { IfOk result (λ e. e.1 ≡ None
-        → HaveRun D.acts D.answer D.after G.answers setting.now
-        (map (λ b. b.list) (vec_items begins.pollers)) (length bells.now)
-        (vec_items loose) (vec_items e.0)) }
-    ensures back { IfErr result (λ b. vec_items b ≡ vec_items loose) }
+    ensures parts { AllZip IsKeptPartOf (vec_items result.0) placed.now }
+    ensures len { vec_len result.0 ≡ vec_len loose }
+    ensures why { IfSome result.1 (IsStop G.may_shut) }
+    ensures ran { result.1 ≡ None
+        → HaveRun D.acts D.answer D.after G.answers context.now
+        (map (λ b. b.list) (vec_items rooms.entry.begins)) (length wakers.now)
+        (vec_items loose) (vec_items result.0) }
 {
-    let Ok(rooms) = rooms_of(alloc, bells.len(), loose.len()) else {
-        return Err(loose);
-    };
     let Rooms {
-        pollers: room,
-        parts,
-        spawned,
-        seats: seat_room,
-        left,
-    } = rooms;
-    let Begins { pollers, ends } = begins;
-    let Parts {
-        seats,
-        workers,
-        threads,
-    } = spread(setting, bells, placed, loose, ends, parts);
-    let tasks = Tasks {
-        pollers: pollers_of(setting, bells, pollers, seats, room),
-        workers,
-        threads,
-    };
-    let flags = setting.flags;
-    let tasks = drive(
-        &setting.rt,
+        begins,
+        ends: _,
         tasks,
         spawned,
-        bells,
+        seats,
+        left_seats,
+        left,
+    } = spread(context, wakers, placed, loose, rooms);
+    let tasks = Tasks {
+        pollers: pollers_of(context, wakers, begins, seats, tasks.pollers),
+        workers: tasks.workers,
+        threads: tasks.threads,
+    };
+    let flags = context.flags;
+    let tasks = drive(
+        &context.rt,
+        tasks,
+        spawned,
+        wakers,
         &flags.unpolled,
         &flags.refused,
     );
     let stop = stop_of_run(&tasks);
-    let Tasks {
-        pollers,
-        workers,
-        threads,
-    } = tasks;
-    let seats = seats_left(pollers, seat_room);
-    Ok((gather(setting.rt, workers, seats, threads, left), stop))
+    let seats = seats_left(tasks.pollers, left_seats);
+    let left = gather(context.rt, tasks.workers, seats, tasks.threads, left);
+    (left, stop)
 }
 
 // Opens all stations, and runs them. If an allocation fails, no thread starts; if a run ended early, it returns why.
 fn run_all<'t, R, D, G>(
-    setting: &'t Setting<'t, R, G>,
+    context: &'t RunContext<'t, R, G>,
     alloc: Global,
     pollers: usize,
     stations: Vec<Station<D>>,
@@ -187,16 +117,16 @@ where
     D: Device + Drop + Send,
     G: Gate + Sync,
     requires pollers { (1 ≤ pollers) × (pollers ≤ 8) }
-    requires pace { IsLawful setting.now.pace }
+    requires limits { IsLawful context.now.limits }
     requires stations { All IsStation (vec_items stations) }
     requires count { vec_len stations ≤ 16 }
     ensures finished { IfOk result
         (λ came. IfOk came
-        (λ all. AllZip (IsFinished D.acts D.answer D.after (G.answers setting.now.gate.now))
+        (λ all. AllZip (IsFinished D.acts D.answer D.after (G.answers context.now.gate.now))
         (vec_items stations) (vec_items all))) }
     ensures polled { IfOk result
         (λ came. IfOk came
-        (λ all. ArePolled R (IsAsked G.answers setting.now.gate.now) setting.now.pace
+        (λ all. ArePolled R (IsAsked G.answers context.now.gate.now) context.now.limits
         D.acts D.answer D.after pollers (vec_items stations) (vec_items all))) }
     ensures why { IfOk result (λ came. IfErr came (IsStop G.may_shut)) }
 {
@@ -204,28 +134,24 @@ where
     if count == 0 {
         return Ok(Ok(Vec::new(alloc)));
     }
-    let (bells, begins) = begins_of(setting.rt, alloc, pollers, count)?;
+    let (wakers, rooms) = rooms_of(context.rt, alloc, pollers, count)?;
     let finished = Vec::with_capacity(alloc, count)?;
-    let (placed, loose) = open_all(setting.rt, alloc, stations)?;
+    let (placed, loose) = open_all(context.rt, alloc, stations)?;
     let here = placed.as_slice();
-    match run_threads(setting, alloc, bells.as_slice(), begins, here, loose) {
-        Ok((left, stop)) => {
-            let finished = end_all(placed, left, finished);
-            match stop {
-                Some(stop) => Ok(Err(stop)),
-                None => Ok(Ok(finished)),
-            }
-        }
-        Err(loose) => {
-            shut_all(placed, loose);
-            Err(AllocError)
-        }
+    let (left, stop) = run_threads(context, wakers.as_slice(), rooms, here, loose);
+    let finished = end_all(placed, left, finished);
+    match stop {
+        Some(stop) => Ok(Err(stop)),
+        None => Ok(Ok(finished)),
     }
 }
 
 // Returns the result of a run.
-fn tell<T: Drop>(came: Result<Result<T, Stop>, AllocError>, refused: bool) -> Result<T, WorkFault>
-    ensures { result ≡ told came refused }
+fn run_result<T: Drop>(
+    came: Result<Result<T, Stop>, AllocError>,
+    refused: bool,
+) -> Result<T, WorkFault>
+    ensures { result ≡ run_result came refused }
 {
     match came {
         Err(AllocError) => Err(WorkFault::OutOfMemory),
@@ -277,7 +203,7 @@ where
     // The one history of each instance has the polls of its poller, in runs by these numbers, and of its thread exactly if it
     // has one; its worker pushed to the list of that poller. The gate allowed each of them to start.
     ensures polled { IfOk result
-        (λ all. ArePolled (Bor R) (IsAsked G.answers gate.now) (pace_of budget weight window)
+        (λ all. ArePolled (Bor R) (IsAsked G.answers gate.now) (limits_of budget weight window)
         D.acts D.answer D.after pollers (vec_items stations) (vec_items all)) }
     // Only if an allocation failed.
     ensures memory { IsErrOf result OutOfMemory → IsWantOfMemory }
@@ -287,16 +213,16 @@ where
     ensures spawn { IsErrOf result SpawnFailed → IsRefused }
 {
     let flags = StopFlags::new();
-    let setting = Setting {
+    let context = RunContext {
         rt,
         gate,
         flags: &flags,
-        pace: Pace {
+        limits: PollLimits {
             budget,
             weight,
             window,
         },
     };
-    let came = run_all(&setting, alloc, pollers as usize, stations);
-    tell(came, flags.refused.is_told())
+    let came = run_all(&context, alloc, pollers as usize, stations);
+    run_result(came, flags.refused.load(Ordering::SeqCst) != 0)
 }

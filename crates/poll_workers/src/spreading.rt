@@ -1,86 +1,69 @@
 //! What goes to the threads of a run.
 
-ghost use Rattle.std.specs.Prelude.{◌≡◌, ◌+◌, ◌<◌, ◌≤◌, [], List, IfSome, Some, is_some, length, vec_items, vec_len};
-ghost use Rattle.std.specs.List.{All, AllByRecursion, AllZip};
+ghost use Rattle.std.specs.Prelude.{◌≡◌, ◌<◌, ◌≤◌, List, IfSome, Some, is_some, length, vec_items, vec_len};
+ghost use Rattle.std.specs.List.{AllByRecursion, AllZip};
 ghost use Rattle.napi_calls.specs.Instance.{IsSeatOf};
 ghost use Rattle.poll_list.specs.declared.shared.SharedList.{SharedList};
-ghost use Rattle.poll_seats.specs.declared.seat.Seat.{Seat};
+ghost use Rattle.poll_seats.specs.declared.handle.PollHandle.{PollHandle};
 ghost use Rattle.napi_calls.specs.declared.kept.DropBomb.{DropBomb};
 ghost use Rattle.poll_interrupts.specs.Opens.{IsKeptSideOf, IsSideOf};
-ghost use Rattle.poll_tasks.specs.Paces.{IsLawful};
+ghost use Rattle.poll_tasks.specs.Limits.{IsLawful};
 ghost use Rattle.poll_workers.specs.Spreads.{AreEndsOf, HaveOwn, IsJobAt, IsJobOf, IsKeptJobOf, IsKeptSeatFor, IsKeptThreadFor, IsSeatAt, IsSeatFor, IsThreadAt, IsThreadFor, IsWiredJob, IsWiredSide};
-ghost use Rattle.poll_tasks.specs.Tasks.{HasRoom, IsAt};
+ghost use Rattle.poll_tasks.specs.Tasks.{IsAt};
+ghost use Rattle.poll_workers.specs.Rooms.{AreRooms};
 
-use crate::pollers::{seat_at, two_ends};
+use crate::pollers::{OwnThread, seat_at, two_ends};
+use crate::rooms::RunRooms;
 use napi_calls::{Caller, DropBomb};
-use poll_interrupts::{InterruptHandler, InterruptWorker, Loose, Placed, poller_of};
+use poll_interrupts::{Device, InterruptHandler, InterruptWorker, Loose, Placed, poller_of};
 use poll_list::ListIn;
-use poll_seats::{Poller, Seat, ThreadPoller};
-use poll_tasks::{Bell, Gate, Setting};
+use poll_seats::{PollHandle, Poller, ThreadPoller};
+use poll_tasks::{Gate, RunContext, Waker};
 use rx_ring::Batch;
 use std::sync::Wait;
-
-/// What goes to the threads of a run: the seats for its pollers, its workers, and the threads of its instances.
-#[derive(Drop)]
-pub(crate) struct Parts<'n, R: Wait + Drop, W, S> {
-    pub(crate) seats: Vec<Vec<DropBomb<R, Seat<'n>>>>,
-    pub(crate) workers: Vec<W>,
-    pub(crate) threads: Vec<S>,
-}
-
-/// The parts of an instance's thread.
-pub(crate) type OwnThread<'t, 'p, 'n, R, G> = Poller<'t, 'n, R, G, ThreadPoller<'p, 'n, R>>;
-
-/// Those of all threads of a run.
-pub(crate) type RunParts<'t, 'p, 'n, R, D, G> = Parts<
-    'n,
-    R,
-    InterruptWorker<'t, 'p, 'n, R, D, G>,
-    OwnThread<'t, 'p, 'n, R, G>,
->;
 
 // The name of a thread poller is 200 plus its device's number (`thread_name`).
 const FIRST_THREAD: u32 = 200;
 
 // Returns the waker of an instance's own thread, if it has one.
-fn thread_bell<'n>(placed: &'n Placed) -> Option<&'n Bell>
+fn thread_waker<'n>(placed: &'n Placed) -> Option<&'n Waker>
     ensures thread { is_some result ≡ placed.now.has_thread }
-    ensures bell { IfSome result (λ b. b.now ≡ placed.now.bell) }
+    ensures waker { IfSome result (λ b. b.now ≡ placed.now.waker) }
 {
     if placed.has_thread {
-        Some(&placed.bell)
+        Some(&placed.waker)
     } else {
         None
     }
 }
 
-// Returns the bell of the poller with this number.
-fn bell_at(bells: &[Bell], poller: usize) -> &Bell
-    requires { poller < length bells.now }
-    ensures { IsAt bells.now poller result.now }
+// Returns the waker of the poller with this number.
+fn waker_at(wakers: &[Waker], poller: usize) -> &Waker
+    requires { poller < length wakers.now }
+    ensures { IsAt wakers.now poller result.now }
 {
-    &bells[poller]
+    &wakers[poller]
 }
 
 // Returns where the interrupts of an instance's worker go.
 fn handler_at<'t, 'p, 'n, R: Copy, G: Gate>(
-    setting: &Setting<'t, R, G>,
-    bell: &'p Bell,
+    context: &RunContext<'t, R, G>,
+    waker: &'p Waker,
     placed: &'n Placed,
     number: u32,
 ) -> InterruptHandler<'p, 'n, R>
     ensures number { result.number ≡ number }
     ensures napi { result.napi.now ≡ placed.now.napi }
     ensures thread { is_some result.thread ≡ placed.now.has_thread }
-    ensures poller { result.poller.now ≡ bell.now }
+    ensures poller { result.poller.now ≡ waker.now }
 {
-    let thread = thread_bell(placed);
+    let thread = thread_waker(placed);
     InterruptHandler {
-        rt: setting.rt,
+        rt: context.rt,
         number,
         napi: &placed.napi,
         thread,
-        poller: bell,
+        poller: waker,
     }
 }
 
@@ -90,20 +73,20 @@ fn seat_of<'n, R: Wait + Drop + Copy>(
     placed: &'n Placed,
     number: u32,
     caller: Caller,
-) -> DropBomb<R, Seat<'n>>
+) -> DropBomb<R, PollHandle<'n>>
     requires { IsSeatOf placed.now.napi caller.pass }
     ensures number { result.value.number ≡ number }
     ensures napi { result.value.napi.now ≡ placed.now.napi }
     ensures thread { is_some result.value.thread ≡ placed.now.has_thread }
-    ensures bell { IfSome result.value.thread (λ b. b.now ≡ placed.now.bell) }
+    ensures waker { IfSome result.value.thread (λ b. b.now ≡ placed.now.waker) }
     ensures caller { result.value.caller ≡ Some caller }
 {
     DropBomb::new(
         rt,
-        Seat {
+        PollHandle {
             number,
             napi: &placed.napi,
-            thread: thread_bell(placed),
+            thread: thread_waker(placed),
             caller: Some(caller),
         },
     )
@@ -111,58 +94,58 @@ fn seat_of<'n, R: Wait + Drop + Copy>(
 
 // Returns the parts of one instance: its worker, the seat of the poller of its list, and its thread.
 fn split<'t, 'p, 'n, R: Wait + Drop + Copy, D: Drop, G: Gate>(
-    setting: &'t Setting<'t, R, G>,
-    bell: &'p Bell,
+    context: &'t RunContext<'t, R, G>,
+    waker: &'p Waker,
     placed: &'n DropBomb<R, Placed>,
     loose: Loose<D>,
     ends: (ListIn<R>, ListIn<R>),
 ) -> (
     InterruptWorker<'t, 'p, 'n, R, D, G>,
-    DropBomb<R, Seat<'n>>,
+    DropBomb<R, PollHandle<'n>>,
     OwnThread<'t, 'p, 'n, R, G>,
 )
     requires side { IsSideOf loose placed.now.value }
-    requires pace { IsLawful setting.now.pace }
-    ensures job { IsJobOf setting.now loose result.0 × IsJobAt placed.now result.0 }
+    requires limits { IsLawful context.now.limits }
+    ensures job { IsJobOf context.now loose result.0 × IsJobAt placed.now result.0 }
     ensures seat { IsSeatAt placed.now result.1 × IsSeatFor loose loose.poller result.1 }
-    ensures thread { IsThreadAt placed.now result.2 × IsThreadFor setting.now loose result.2 }
+    ensures thread { IsThreadAt placed.now result.2 × IsThreadFor context.now loose result.2 }
     ensures lists { (result.0.list ≡ ends.0) × (result.2.served.list ≡ ends.1) }
-    ensures bells { (result.0.handler.poller.now ≡ bell.now)
-        × (result.2.served.poller.now ≡ bell.now) }
+    ensures wakers { (result.0.handler.poller.now ≡ waker.now)
+        × (result.2.served.poller.now ≡ waker.now) }
 {
     let Loose {
         number,
         device,
         rx,
-        seats,
+        handles,
         poller,
         thread,
         has_thread: _,
-        pause,
+        wait,
     } = loose;
     let (list, own_list) = ends;
-    let rt = setting.rt;
+    let rt = context.rt;
     let worker = InterruptWorker {
-        setting,
-        handler: handler_at(setting, bell, &placed.value, number),
+        context,
+        handler: handler_at(context, waker, &placed.value, number),
         list,
         device,
         rx,
-        seats: DropBomb::new(rt, seats),
+        handles: DropBomb::new(rt, handles),
         stop: None,
     };
     let seat = seat_of(rt, &placed.value, number, poller);
     let side = Poller {
-        setting,
+        context,
         name: FIRST_THREAD + number,
-        bell: &placed.value.bell,
-        pause,
+        waker: &placed.value.waker,
+        wait,
         served: ThreadPoller {
             rt,
             seat: seat_of(rt, &placed.value, number, thread),
             list: own_list,
-            poller: bell,
-            pace: setting.pace,
+            poller: waker,
+            limits: context.limits,
             batch: Batch::new(),
         },
         stop: None,
@@ -170,45 +153,41 @@ fn split<'t, 'p, 'n, R: Wait + Drop + Copy, D: Drop, G: Gate>(
     (worker, seat, side)
 }
 
-/// Distributes the opened instances over the threads of the run. Requires room for them, and two ends of its poller's list for
-/// each instance.
-pub(crate) fn spread<'t, 'p, 'n, R: Wait + Drop + Copy, D: Drop, G: Gate>(
-    setting: &'t Setting<'t, R, G>,
-    bells: &'p [Bell],
+/// Distributes the opened instances over the threads of the run.
+pub(crate) fn spread<'t, 'p, 'n, R: Wait + Drop + Copy, D: Device + Drop, G: Gate>(
+    context: &'t RunContext<'t, R, G>,
+    wakers: &'p [Waker],
     placed: &'n [DropBomb<R, Placed>],
     loose: Vec<DropBomb<R, Loose<D>>>,
-    ends: Vec<Vec<ListIn<R>>>,
-    room: RunParts<'t, 'p, 'n, R, D, G>,
-) -> RunParts<'t, 'p, 'n, R, D, G>
+    rooms: RunRooms<'t, 'p, 'n, R, D, G>,
+) -> RunRooms<'t, 'p, 'n, R, D, G>
     requires sides { AllZip IsKeptSideOf (vec_items loose) placed.now }
-    requires pace { IsLawful setting.now.pace }
-    requires some { 1 ≤ length bells.now }
-    requires seats { HaveOwn (vec_len loose) (length bells.now) [] (vec_items room.seats) }
-    requires len { (length (vec_items room.seats) ≡ length bells.now)
-        × (length (vec_items ends) ≡ length bells.now) }
-    requires ends { All (λ e. vec_len loose + vec_len loose ≤ vec_len e) (vec_items ends) }
-    requires room { HasRoom (vec_len loose) room.workers × HasRoom (vec_len loose) room.threads }
-    ensures jobs { AllZip (IsKeptJobOf setting.now) (vec_items loose) (vec_items result.workers) }
-    ensures job_places { AllZip IsJobAt placed.now (vec_items result.workers) }
-    ensures thread_places { AllZip IsThreadAt placed.now (vec_items result.threads) }
-    ensures threads { AllZip (IsKeptThreadFor setting.now) (vec_items loose)
-        (vec_items result.threads) }
+    requires limits { IsLawful context.now.limits }
+    requires some { 1 ≤ length wakers.now }
+    requires rooms { AreRooms wakers.now (vec_len loose) rooms }
+    ensures jobs { AllZip (IsKeptJobOf context.now) (vec_items loose)
+        (vec_items result.tasks.workers) }
+    ensures job_places { AllZip IsJobAt placed.now (vec_items result.tasks.workers) }
+    ensures thread_places { AllZip IsThreadAt placed.now (vec_items result.tasks.threads) }
+    ensures threads { AllZip (IsKeptThreadFor context.now) (vec_items loose)
+        (vec_items result.tasks.threads) }
     // Each worker and each thread pushes into the list of its own poller, and wakes that one.
-    ensures wired_jobs { (lists : List (SharedList _)) → AreEndsOf lists (vec_items ends)
-        → AllByRecursion (IsWiredJob lists bells.now) (vec_items result.workers) }
-    ensures wired_threads { (lists : List (SharedList _)) → AreEndsOf lists (vec_items ends)
-        → AllByRecursion (IsWiredSide lists bells.now) (vec_items result.threads) }
-    ensures seats { (sat : List (DropBomb _ Seat)) × AllZip IsSeatAt placed.now sat
+    ensures wired_jobs { (lists : List (SharedList _))
+        → AreEndsOf lists (vec_items rooms.entry.ends)
+        → AllByRecursion (IsWiredJob lists wakers.now) (vec_items result.tasks.workers) }
+    ensures wired_threads { (lists : List (SharedList _))
+        → AreEndsOf lists (vec_items rooms.entry.ends)
+        → AllByRecursion (IsWiredSide lists wakers.now) (vec_items result.tasks.threads) }
+    ensures seats { (sat : List (DropBomb _ PollHandle)) × AllZip IsSeatAt placed.now sat
         × AllZip IsKeptSeatFor (vec_items loose) sat
-        × HaveOwn (vec_len loose) (length bells.now) sat (vec_items result.seats) }
-    ensures len { length (vec_items result.seats) ≡ length bells.now }
+        × HaveOwn (vec_len loose) (length wakers.now) sat (vec_items result.seats) }
+    ensures len { length (vec_items result.seats) ≡ length wakers.now }
+    ensures pollers { (result.begins ≡ rooms.entry.begins)
+        × (result.tasks.pollers ≡ rooms.entry.tasks.pollers) }
+    ensures rest { (result.spawned ≡ rooms.entry.spawned)
+        × (result.left_seats ≡ rooms.entry.left_seats) × (result.left ≡ rooms.entry.left) }
 {
-    let Parts {
-        mut seats,
-        mut workers,
-        mut threads,
-    } = room;
-    let mut lists = ends;
+    let mut rooms = rooms;
     let mut places = placed;
     let mut rests = loose.into_iter();
     while let Some(rest) = rests.next() {
@@ -216,16 +195,12 @@ pub(crate) fn spread<'t, 'p, 'n, R: Wait + Drop + Copy, D: Drop, G: Gate>(
             unreachable!()
         };
         places = more;
-        let poller = poller_of(place.value.number, bells.len());
-        let both = two_ends(&mut lists, poller);
-        let (job, seat, side) = split(setting, bell_at(bells, poller), place, rest.open(), both);
-        seat_at(&mut seats, poller, seat);
-        workers.push_reserved(job);
-        threads.push_reserved(side);
+        let poller = poller_of(place.value.number, wakers.len());
+        let both = two_ends(&mut rooms.ends, poller);
+        let (job, seat, side) = split(context, waker_at(wakers, poller), place, rest.open(), both);
+        seat_at(&mut rooms.seats, poller, seat);
+        rooms.tasks.workers.push_reserved(job);
+        rooms.tasks.threads.push_reserved(side);
     }
-    Parts {
-        seats,
-        workers,
-        threads,
-    }
+    rooms
 }

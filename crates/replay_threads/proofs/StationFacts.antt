@@ -11,8 +11,8 @@ use Rattle.{poll_tasks.{proofs.Zips.zip_push, specs.Refusals.IsRefused}, rx_ring
 use Rattle.device_script.proofs.{Rows.{filter-long, find-among, find-here, find-more, range-more}, ScriptFacts.{acts-made, arrivals-are}}
 use Rattle.device_script.specs.Script.{has_thread, is_act_of, is_open, is_rx, opening_of, openings_of, rx_of, script_of}
 use Rattle.{device_script.specs.ScriptShown.{Script, acts, script_after, answer}, poll_workers.specs.declared.fault.WorkFault.WorkFault}
-use Rattle.{poll_workers.specs.{Finishes.IsFinished, Courses.{ArePolled, pace_of}}}
-use Rattle.{replay_words.specs.declared.settings.ReplaySettings.ReplaySettings}
+use Rattle.poll_workers.specs.{Finishes.IsFinished, Courses.{ArePolled, limits_of}}
+use Rattle.replay_words.specs.declared.settings.ReplaySettings.{ReplaySettings}
 use Rattle.replay_text.specs.declared.fault.ReplayFault.{ReplayFault, TheVariants.{OutputFailed, RingTooSmall}}
 use Rattle.replay_threads.specs.{ThreadsReport.{arrived, bytes, threads_device_lines, is_opened, opened_devices}}
 use Rattle.replay_threads.specs.{Stations.{AreRunBy, IsStationEnd, IsStationOf}}
@@ -186,7 +186,7 @@ pub run-if-ok : (R : Type 0) (asked : ℕ → Type 0) (settings : ReplaySettings
     (answered : Result (Vec (Finished Script)) ReplayFault)
     → AllZip (IsStationOf rows) (opened_devices rows) stations
     → IfOk answered
-    (λ all. ArePolled R asked (pace_of settings.budget settings.weight settings.window) acts answer script_after settings.pollers stations
+    (λ all. ArePolled R asked (limits_of settings.budget settings.weight settings.window) acts answer script_after settings.pollers stations
     (vec_items all))
     → IfOk answered (λ all. AreRunBy R asked settings rows (vec_items all))
 run-if-ok R asked settings rows stations answered of polled = grind (arith, common_steps)

@@ -7,7 +7,7 @@ ghost use Rattle.device_places.specs.Range.{IsWithin};
 ghost use Rattle.device_rows.specs.Trace.{AcceptedAfter};
 ghost use Rattle.device_rows.specs.declared.row.Row.{Row};
 ghost use Rattle.poll_tasks.specs.Asks.{IsAsked};
-ghost use Rattle.poll_workers.specs.Courses.{ArePolled, pace_of};
+ghost use Rattle.poll_workers.specs.Courses.{ArePolled, limits_of};
 ghost use Rattle.poll_workers.specs.Finishes.{IsFinished};
 ghost use Rattle.poll_workers.specs.Numbers.{have_distinct_numbers};
 ghost use Rattle.poll_interrupts.specs.Opens.{IsStation};
@@ -130,7 +130,7 @@ fn work_fault(fault: WorkFault) -> ReplayFault
 }
 
 // Returns the settings' budget, weight and window.
-fn pace_of(settings: &ReplaySettings) -> (u32, u32, u32)
+fn limits_of(settings: &ReplaySettings) -> (u32, u32, u32)
     ensures { result ≡ (settings.now.budget, settings.now.weight, settings.now.window) }
 {
     (settings.budget, settings.weight, settings.window)
@@ -155,13 +155,13 @@ where
         (vec_items all)) }
     ensures polled { IfOk result
         (λ all. ArePolled (Bor P) (IsAsked G.answers gate.now)
-        (pace_of settings.now.budget settings.now.weight settings.now.window) acts answer
+        (limits_of settings.now.budget settings.now.weight settings.now.window) acts answer
         script_after
         settings.now.pollers (vec_items stations) (vec_items all)) }
     ensures fault { IfErr result (λ fault. IsThreadsOutside G.may_shut fault) }
     ensures unwritten { IfErr result (λ fault. fault ≢ OutputFailed) }
 {
-    let (budget, weight, window) = pace_of(settings);
+    let (budget, weight, window) = limits_of(settings);
     let pollers = settings.pollers;
     match run_workers(rt, alloc, stations, pollers, budget, weight, window, gate) {
         Ok(finished) => Ok(finished),

@@ -2,9 +2,9 @@
 
 ghost use Rattle.std.specs.Prelude.{◌≡◌, ◌≤◌, IfOk, true, length};
 ghost use Rattle.driver_core.specs.Driver.{IsDue, driver_devices};
-ghost use Rattle.driver_core.specs.declared.todo.Todo.TheVariants.{Sleep};
+ghost use Rattle.driver_core.specs.declared.todo.What.TheVariants.{Sleep};
 
-use driver_core::{Driver, NotDue, Todo};
+use driver_core::{Driver, Refused, What};
 
 /// A card: its interrupt mask and its receive ring.
 pub trait LoopCard {
@@ -23,38 +23,34 @@ pub trait LoopCard {
 }
 
 // Does what the driver says. Returns whether that is nothing.
-fn act<C: LoopCard>(driver: &mut Driver, cards: &mut [C]) -> Result<bool, NotDue>
+fn act<C: LoopCard>(driver: &mut Driver, cards: &mut [C]) -> Result<bool, Refused>
     requires { length (driver_devices driver.old) ≡ length cards.old }
     ensures sleep { IfOk result (λ sleeps. sleeps ≡ true → IsDue driver.new Sleep) }
     ensures cards { length cards.new ≡ length cards.old }
     ensures devices { length (driver_devices driver.new) ≡ length (driver_devices driver.old) }
 {
-    match driver.next() {
-        Todo::Mask(device) => {
+    let todo = driver.next();
+    let packets = match todo.what {
+        What::Mask(device) => {
             cards[device as usize].mask();
-            driver.masked(device)?;
+            0
         }
-        Todo::Unmask(device) => {
+        What::Unmask(device) => {
             cards[device as usize].unmask();
-            driver.unmasked(device)?;
+            0
         }
-        Todo::Look(device) => {
-            let has_more = cards[device as usize].has_packets();
-            driver.looked(device, has_more)?;
-        }
-        Todo::Fetch(device, most) => {
-            let packets = cards[device as usize].fetch(most);
-            driver.fetched(device, packets)?;
-        }
-        Todo::Ended(_) => {}
-        Todo::Sleep => return Ok(true),
-    }
+        What::Look(device) => u32::from(cards[device as usize].has_packets()),
+        What::Fetch(device, most) => cards[device as usize].fetch(most),
+        What::Ended(_) => return Ok(false),
+        What::Sleep => return Ok(true),
+    };
+    driver.done(todo.number, packets)?;
     Ok(false)
 }
 
 /// Does what the driver says until it says to sleep, at most so many times. Returns whether it may sleep: then each device is at
 /// rest, and nothing is on the poll list.
-pub fn drive<C: LoopCard>(driver: &mut Driver, cards: &mut [C], most: u32) -> Result<bool, NotDue>
+pub fn drive<C: LoopCard>(driver: &mut Driver, cards: &mut [C], most: u32) -> Result<bool, Refused>
     requires { length (driver_devices driver.old) ≡ length cards.old }
     ensures { IfOk result (λ sleeps. sleeps ≡ true → IsDue driver.new Sleep) }
 {

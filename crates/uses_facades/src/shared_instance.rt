@@ -1,9 +1,10 @@
 //! A program that uses only `napi_calls`: its contract states that the controller's seat still belongs to its instance, how the
-//! instance's history continues, and which state the type of the controller implies.
+//! instance's history continues, which deliveries it still knows, and which state the type of the controller implies.
 
 ghost use Rattle.std.specs.Prelude.{◌≡◌, false};
 ghost use mathlib.Core.List.{IsPrefix};
 ghost use Rattle.napi_calls.specs.Instance.{IsSeatOf};
+ghost use Rattle.napi_calls.specs.Packets.{delivered};
 ghost use Rattle.napi_calls.specs.Seats.{SameSeat, ShowsLegal, shown, state_shown};
 
 use napi_calls::{Control, Napi, On};
@@ -14,6 +15,7 @@ pub fn reset<R: Wait>(rt: &R, napi: &Napi, control: Control<On>) -> Control<On>
     requires { IsSeatOf napi.now control.pass }
     ensures seat { SameSeat control.pass result.pass }
     ensures begins { IsPrefix (shown control.pass) (shown result.pass) }
+    ensures dealt { IsPrefix (delivered control.pass) (delivered result.pass) }
     ensures legal { ShowsLegal result.pass }
     ensures enabled { (state_shown result.pass).flags.disable ≡ false }
 {

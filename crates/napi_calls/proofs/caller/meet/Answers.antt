@@ -8,8 +8,8 @@ pub invariant_of-second : goal.invariant_of-second
 invariant_of-second c = record { stands = looked c.meet.new.second c.args.second.now.stands c.meet.ensures.second.event }
 
 pub returns-clause-first : goal.returns-clause-first
-returns-clause-first c = (_, step c.meet.new.first (nothing c.args.first.now.stands) c.meet.ensures.first.table c.meet.ensures.first.event)
+returns-clause-first c = (_, step (nothing c.args.first.now.stands) c.meet.ensures.first)
 
 pub returns-clause-second : goal.returns-clause-second
 returns-clause-second c =
-    (_, step c.meet.new.second (nothing c.args.second.now.stands) c.meet.ensures.second.table c.meet.ensures.second.event)
+    (_, step (nothing c.args.second.now.stands) c.meet.ensures.second)

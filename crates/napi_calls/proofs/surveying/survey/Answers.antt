@@ -36,4 +36,4 @@ invariant_of-result-3 g c =
 pub returns-clause-look : goal.returns-clause-look
 returns-clause-look g c =
     let m = c.survey-a.ensures.look in
-    step _ (nothing c.args.control.now.controls.stands) m.table m.event
+    step (nothing c.args.control.now.controls.stands) m

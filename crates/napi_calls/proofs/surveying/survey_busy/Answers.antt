@@ -16,4 +16,4 @@ invariant_of-busy g c =
 pub returns-clause-look : goal.returns-clause-look
 returns-clause-look g c =
     let m = c.survey_beside-first.ensures.look in
-    step _ (nothing c.args.busy.stands) m.table m.event
+    step (nothing c.args.busy.stands) m

@@ -7,7 +7,7 @@ returns-clause-side g c =
     let new = c.in-Ok-new.ensures in record {
       part = record {
         number = refl;
-        seats = (c.next-caller.ensures.caller.instance, new.control.instance);
+        handles = ((c.next-caller.ensures.caller.instance, new.control.instance), refl);
         controller = new.control.number_is;
         poller = c.next-poller.ensures.caller.instance;
         thread = c.next-thread.ensures.caller.instance;
@@ -23,7 +23,7 @@ returns-clause-side g c =
       };
       name = c.requires.number.1;
       has_thread = refl;
-      wakes = c.in_ok-bell.ensures;
+      wakes = c.in_ok-waker.ensures;
     }
 
 pub returns-clause-loose : goal.returns-clause-loose
@@ -46,6 +46,8 @@ returns-clause-loose g c =
             };
         control = new.control.nothing_done;
         number = new.control.number_is;
+        off = refl;
+        unthreaded = refl;
       };
       poller =
           record {

@@ -35,6 +35,3 @@ returns-clause-loose g c =
 
 pub shut_all-requires : goal.shut_all-requires
 shut_all-requires g c = zip_same _ _ _ _ (λ l p h. h.part) c.loop-station.invariant.sides
-
-pub returns-clause-parts : goal.returns-clause-parts
-returns-clause-parts g c = zip_same _ _ _ _ (λ l p h. h.part) c.loop-station.invariant.sides

@@ -1,5 +1,6 @@
+use Rattle.std.proofs.Common.{inr}
 use Rattle.poll_tasks.specs.Refusals.{refused_by}
 use Rattle.poll_tasks.proofs.tasks.spawn.Goals as goal
 
-pub tell-requires : goal.tell-requires
-tell-requires g c = refused_by c.in-Err.not_started
+pub store-requires : goal.store-requires
+store-requires g c = inr (refused_by c.in-Err.not_started)

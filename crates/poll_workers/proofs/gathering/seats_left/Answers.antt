@@ -24,8 +24,8 @@ loop-poller-preserved g c =
       i.0 ++ c.in-Some.poller ∷ [],
       record {
         whole = more.2;
-        seats = map-append (λ p. p.served.seat_bench.seats) i.0 (c.in-Some.poller ∷ [])
-            ∙ ap (λ x. map (λ p. p.served.seat_bench.seats) i.0 ++ x ∷ []) (sym c.leave.ensures)
+        seats = map-append (λ p. p.served.bench.seats) i.0 (c.in-Some.poller ∷ [])
+            ∙ ap (λ x. map (λ p. p.served.bench.seats) i.0 ++ x ∷ []) (sym c.leave.ensures)
             ∙ ap (λ l. l ++ c.leave.result ∷ []) now.seats ∙ sym c.push_reserved.ensures.items;
         count = grind (arith, common_steps, now.count, c.in-Some.ensures.len, c.push_reserved.ensures.len);
         room = grind (arith, now.room, c.push_reserved.ensures.capacity);
@@ -40,4 +40,4 @@ returns g c =
     let empty : into_iter_items c.loop-poller.all ≡ [] =
     nil_from_length _ (grind (arith, common_steps, now.long, c.in_default.ensures.len)) in
     let whole = none_left _ _ _ now.whole empty in
-    ap (λ l. map (λ p. p.served.seat_bench.seats) l) (sym whole) ∙ now.seats
+    ap (λ l. map (λ p. p.served.bench.seats) l) (sym whole) ∙ now.seats

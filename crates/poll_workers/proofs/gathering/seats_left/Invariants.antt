@@ -6,7 +6,7 @@ use Rattle.poll_workers.proofs.gathering.seats_left.Given as goal
 abbrev pub invariant-loop-poller : goal.invariant-loop-poller
 invariant-loop-poller g l = (did : List (Poller g.row.R.Denot g.row.G.Denot (ListPoller g.row.R.Denot))) × record {
   whole : did ++ into_iter_items l.all ≡ vec_items l.fn.pollers;
-  seats : map (λ p. p.served.seat_bench.seats) did ≡ vec_items l.seats;
+  seats : map (λ p. p.served.bench.seats) did ≡ vec_items l.seats;
   count : vec_len l.seats + into_iter_len l.all ≡ vec_len l.fn.pollers;
   room : vec_len l.fn.pollers ≤ vec_capacity l.seats;
   long : into_iter_len l.all ≡ length (into_iter_items l.all);

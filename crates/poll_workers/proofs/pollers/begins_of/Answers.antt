@@ -7,14 +7,14 @@ use Rattle.poll_workers.proofs.pollers.begins_of.Goals as goal
 pub loop-preserved : goal.loop-preserved
 loop-preserved g c =
     let now = c.loop.invariant in
-    let bells = length-append (vec_items c.loop.bells) (c.in_ok-bell.bell ∷ []) in
+    let wakers = length-append (vec_items c.loop.wakers) (c.in_ok-waker.waker ∷ []) in
     let begins = length-append (vec_items c.loop.begins) (c.in_ok-begin.begin ∷ []) in
     let ends = length-append (vec_items c.loop.ends) (c.in_ok-begin.own_ends ∷ []) in
     record {
-      bells = same_next _ _ _ now.bells (ap (λ l. length l) c.push_reserved.ensures.items ∙ bells);
+      wakers = same_next _ _ _ now.wakers (ap (λ l. length l) c.push_reserved.ensures.items ∙ wakers);
       begins = same_next _ _ _ now.begins (ap (λ l. length l) c.push_reserved-in-loop.ensures.items ∙ begins);
       ends = same_next _ _ _ now.ends (ap (λ l. length l) c.push_reserved-in-loop-2.ensures.items ∙ ends);
-      bell_room = c.push_reserved.ensures.capacity ∙ now.bell_room;
+      waker_room = c.push_reserved.ensures.capacity ∙ now.waker_room;
       begin_room = c.push_reserved-in-loop.ensures.capacity ∙ now.begin_room;
       end_room = c.push_reserved-in-loop-2.ensures.capacity ∙ now.end_room;
       each = rw c.push_reserved-in-loop.ensures.items
@@ -23,7 +23,7 @@ loop-preserved g c =
           (each_more (λ k e. c.args.count + c.args.count ≤ vec_len e) (vec_items c.loop.ends) c.in_ok-begin.own_ends now.own
           c.in_ok-begin.ensures.ends);
       wakes = rw (c.push_reserved.ensures.items, c.push_reserved-in-loop.ensures.items) (zip_push _ _ _ _ _ now.wakes
-          (subst (λ p. Wakes c.in_ok-bell.bell p) (sym c.in_ok-begin.ensures.pause) c.in_ok-bell.ensures));
+          (subst (λ p. Wakes c.in_ok-waker.waker p) (sym c.in_ok-begin.ensures.wait) c.in_ok-waker.ensures));
       joined = rw (c.push_reserved-in-loop.ensures.items, c.push_reserved-in-loop-2.ensures.items)
           (zip_push _ _ _ _ _ now.joined c.in_ok-begin.ensures.own);
     }

@@ -4,14 +4,16 @@ use Rattle.std.{specs.Vec.Iter.{into_iter_items, into_iter_len}, proofs.lemmas.L
 use Rattle.poll_tasks.proofs.{Zips.{zip_push, before_more}, ListFacts.{none_left, zip_empty}}
 use Rattle.poll_interrupts.specs.Deals.{is_own}
 use Rattle.{poll_tasks.specs.Tasks.IsAt, poll_workers.proofs.EndFacts.each_push}
-use Rattle.poll_workers.proofs.PollerFacts.{by_station, count_of, ends_of, has_room, one_more, same_count, wired_bell, wired_end}
+use Rattle.poll_workers.proofs.PollerFacts.{by_station, count_of, ends_of, has_room, one_more, same_count, wired_waker, wired_end}
 use Rattle.poll_workers.proofs.PollerFacts.{within_of}
 use Rattle.poll_workers.proofs.spreading.spread.Goals as goal
 
 pub loop-rest-init : goal.loop-rest-init
 loop-rest-init g c =
-    let no_jobs : vec_items c.args.room.workers ≡ [] = nil_from_length _ (grind (arith, common_steps)) in
-    let no_sides : vec_items c.args.room.threads ≡ [] = nil_from_length _ (grind (arith, common_steps)) in (
+    let no_jobs : vec_items c.args.rooms.tasks.workers ≡ [] = nil_from_length _ (grind
+    (arith, common_steps, c.requires.rooms.tasks.workers.0)) in
+    let no_sides : vec_items c.args.rooms.tasks.threads ≡ [] = nil_from_length _ (grind
+    (arith, common_steps, c.requires.rooms.tasks.threads.0)) in (
       [],
       [],
       [],
@@ -28,16 +30,18 @@ loop-rest-init g c =
         sitting = tt;
         thread_places = rw no_sides tt;
         threads = rw no_sides tt;
-        own = c.requires.seats;
-        poller_count = c.requires.len.0;
-        list_count = c.requires.len.1;
-        ends = rw c.into_iter-rests.ensures.len c.requires.ends;
+        own = c.requires.rooms.seats _;
+        poller_count = c.requires.rooms.seat_len;
+        list_count = c.requires.rooms.end_len;
+        ends = rw c.into_iter-rests.ensures.len c.requires.rooms.ends;
         count = grind (arith, common_steps);
         seat_count = grind (arith, common_steps);
         side_count = grind (arith, common_steps);
-        room = c.requires.room.0.1;
-        side_room = c.requires.room.1.1;
+        room = c.requires.rooms.tasks.workers.1;
+        side_room = c.requires.rooms.tasks.threads.1;
         long = grind (arith, common_steps);
+        pollers = (refl, refl);
+        rest = (refl, refl, refl);
       },
     )
 
@@ -49,7 +53,7 @@ two_ends-both-requires-clause-some g c k d low =
 pub seat_at-requires-clause-room : goal.seat_at-requires-clause-room
 seat_at-requires-clause-room g c task there =
     let now = c.loop-rest.invariant.3 in
-    let within : c.poller_of-poller.result < length (vec_items c.loop-rest.seats) =
+    let within : c.poller_of-poller.result < length (vec_items c.loop-rest.rooms.seats) =
     grind (arith, common_steps, now.poller_count, c.poller_of-poller.ensures.within) in
     let long = has_room _ _ _ _ _ now.own within task there
     (grind (arith, common_steps, now.seat_count, now.count, c.in-Some.ensures.len)) in
@@ -69,7 +73,7 @@ loop-rest-preserved g c =
     let thread = rw c.open.ensures at c.split-job.ensures.thread.1 in
     let by_job = by_station _ _ _ _ c.poller_of-poller.ensures.own (made.same_number ∙ sym side.0.part.number) in
     let by_side = by_station _ _ _ _ c.poller_of-poller.ensures.own (thread.seat.number ∙ sym side.0.part.number) in
-    let bell = c.bell_at.ensures in (
+    let waker = c.waker_at.ensures in (
       i.0 ++ c.in-Some.rest ∷ [],
       i.1 ++ c.in-Some-split_first.place.now ∷ [],
       i.2 ++ c.split-job.result.1 ∷ [],
@@ -82,12 +86,12 @@ loop-rest-preserved g c =
         wired_jobs = λ lists are. rw c.push_reserved.ensures.items
             (each_push _ _ _ (now.wired_jobs lists are) (record {
               list = wired_end _ _ _ _ _ (c.two_ends-both.ensures.own lists (now.are_ends lists are)).0 c.split-job.ensures.lists.0 by_job;
-              bell = wired_bell _ _ _ _ _ bell c.split-job.ensures.bells.0 by_job;
+              waker = wired_waker _ _ _ _ _ waker c.split-job.ensures.wakers.0 by_job;
             }));
         wired_threads = λ lists are. rw c.push_reserved-in-Some.ensures.items
             (each_push _ _ _ (now.wired_threads lists are) (record {
               list = wired_end _ _ _ _ _ (c.two_ends-both.ensures.own lists (now.are_ends lists are)).1 c.split-job.ensures.lists.1 by_side;
-              bell = wired_bell _ _ _ _ _ bell c.split-job.ensures.bells.1 by_side;
+              waker = wired_waker _ _ _ _ _ waker c.split-job.ensures.wakers.1 by_side;
             }));
         are_ends = λ lists are. (c.two_ends-both.ensures.own lists (now.are_ends lists are)).2;
         seat_places = zip_push _ _ _ _ _ now.seat_places c.split-job.ensures.seat.0;
@@ -95,11 +99,12 @@ loop-rest-preserved g c =
         thread_places = rw c.push_reserved-in-Some.ensures.items (zip_push _ _ _ _ _ now.thread_places c.split-job.ensures.thread.0);
         threads = rw c.push_reserved-in-Some.ensures.items (zip_push _ _ _ _ _ now.threads thread);
         own =
-            (let own = subst (λ n. is_own c.poller_of-poller.result (length c.args.bells.now) n ≡ true)
+            (let own = subst (λ n. is_own c.poller_of-poller.result (length c.args.wakers.now) n ≡ true)
             (sym c.split-job.ensures.seat.0.number) c.poller_of-poller.ensures.own in
             one_more _ _ _ _ _ now.own (within_of _ _ _ _ now.poller_count c.poller_of-poller.ensures.within refl) _ _ own
             c.seat_at.ensures);
-        poller_count = ap (λ l. length l) c.seat_at.ensures.rest ∙ length-set (vec_items c.loop-rest.seats) c.poller_of-poller.result _
+        poller_count = ap (λ l. length l) c.seat_at.ensures.rest ∙ length-set
+            (vec_items c.loop-rest.rooms.seats) c.poller_of-poller.result _
             ∙ now.poller_count;
         list_count = c.two_ends-both.ensures.len ∙ now.list_count;
         ends = c.two_ends-both.ensures.left _ (λ k d low. ends_of _ _ _ fewer (now.ends k d low));
@@ -110,6 +115,8 @@ loop-rest-preserved g c =
         side_room = grind (arith, now.side_room, c.push_reserved-in-Some.ensures.capacity);
         long = (let a = now.long in let b = c.in-Some.ensures.items in let d = c.in-Some.ensures.len in
             grind (arith, common_steps, a, b, d));
+        pollers = now.pollers;
+        rest = now.rest;
       },
     )
 
@@ -129,4 +136,6 @@ returns g c =
       wired_threads = now.wired_threads;
       seats = (c.loop-rest.invariant.2, rw (← places) now.seat_places, rw (← whole) now.sitting, now.own);
       len = now.poller_count;
+      pollers = now.pollers;
+      rest = now.rest;
     }

@@ -4,36 +4,39 @@ use Rattle.{napi_calls.specs.declared.kept.DropBomb.DropBomb}
 use Rattle.poll_interrupts.specs.{declared.opening.{Loose.Loose, Placed.Placed}, Opens.IsKeptSideOf}
 use Rattle.poll_workers.specs.Spreads.{AreEndsOf, HaveOwn, IsJobAt, IsKeptJobOf, IsKeptSeatFor, IsKeptThreadFor, IsSeatAt, IsThreadAt}
 use Rattle.{poll_workers.specs.Spreads.{IsWiredJob, IsWiredSide}, poll_list.specs.declared.shared.SharedList.SharedList}
-use Rattle.poll_seats.specs.declared.seat.Seat.{Seat}
+use Rattle.poll_seats.specs.declared.handle.PollHandle.{PollHandle}
 use Rattle.poll_workers.proofs.spreading.spread.Given as goal
 
 abbrev pub invariant-loop-rest : goal.invariant-loop-rest
 invariant-loop-rest g l = (did : List (DropBomb g.row.R.Denot (Loose g.row.D.Denot))) × (here : List (DropBomb g.row.R.Denot Placed))
-    × (sat : List (DropBomb g.row.R.Denot Seat)) × record {
+    × (sat : List (DropBomb g.row.R.Denot PollHandle)) × record {
       whole : did ++ into_iter_items l.rests ≡ vec_items l.fn.loose;
       all_places : here ++ l.places ≡ l.fn.placed;
       sides : AllZip IsKeptSideOf (into_iter_items l.rests) l.places;
-      made : AllZip (IsKeptJobOf l.setting) did (vec_items l.workers);
-      job_places : AllZip IsJobAt here (vec_items l.workers);
-      wired_jobs : (lists : List (SharedList g.row.R.Denot)) → AreEndsOf lists (vec_items l.fn.ends)
-          → AllByRecursion (IsWiredJob lists l.fn.bells) (vec_items l.workers);
-      wired_threads : (lists : List (SharedList g.row.R.Denot)) → AreEndsOf lists (vec_items l.fn.ends)
-          → AllByRecursion (IsWiredSide lists l.fn.bells) (vec_items l.threads);
-      are_ends : (lists : List (SharedList g.row.R.Denot)) → AreEndsOf lists (vec_items l.fn.ends) → AreEndsOf lists (vec_items l.lists);
+      made : AllZip (IsKeptJobOf l.context) did (vec_items l.rooms.tasks.workers);
+      job_places : AllZip IsJobAt here (vec_items l.rooms.tasks.workers);
+      wired_jobs : (lists : List (SharedList g.row.R.Denot)) → AreEndsOf lists (vec_items l.fn.rooms.ends)
+          → AllByRecursion (IsWiredJob lists l.fn.wakers) (vec_items l.rooms.tasks.workers);
+      wired_threads : (lists : List (SharedList g.row.R.Denot)) → AreEndsOf lists (vec_items l.fn.rooms.ends)
+          → AllByRecursion (IsWiredSide lists l.fn.wakers) (vec_items l.rooms.tasks.threads);
+      are_ends : (lists : List (SharedList g.row.R.Denot)) → AreEndsOf lists (vec_items l.fn.rooms.ends) → AreEndsOf lists
+          (vec_items l.rooms.ends);
       seat_places : AllZip IsSeatAt here sat;
       sitting : AllZip IsKeptSeatFor did sat;
-      thread_places : AllZip IsThreadAt here (vec_items l.threads);
-      threads : AllZip (IsKeptThreadFor l.setting) did (vec_items l.threads);
-      own : HaveOwn (vec_len l.fn.loose) (length l.fn.bells) sat (vec_items l.seats);
-      poller_count : length (vec_items l.seats) ≡ length l.fn.bells;
-      list_count : length (vec_items l.lists) ≡ length l.fn.bells;
-      ends : All (λ e. into_iter_len l.rests + into_iter_len l.rests ≤ vec_len e) (vec_items l.lists);
-      count : vec_len l.workers + into_iter_len l.rests ≡ vec_len l.fn.loose;
-      seat_count : length sat ≡ vec_len l.workers;
-      side_count : vec_len l.threads ≡ vec_len l.workers;
-      room : vec_len l.fn.loose ≤ vec_capacity l.workers;
-      side_room : vec_len l.fn.loose ≤ vec_capacity l.threads;
+      thread_places : AllZip IsThreadAt here (vec_items l.rooms.tasks.threads);
+      threads : AllZip (IsKeptThreadFor l.context) did (vec_items l.rooms.tasks.threads);
+      own : HaveOwn (vec_len l.fn.loose) (length l.fn.wakers) sat (vec_items l.rooms.seats);
+      poller_count : length (vec_items l.rooms.seats) ≡ length l.fn.wakers;
+      list_count : length (vec_items l.rooms.ends) ≡ length l.fn.wakers;
+      ends : All (λ e. into_iter_len l.rests + into_iter_len l.rests ≤ vec_len e) (vec_items l.rooms.ends);
+      count : vec_len l.rooms.tasks.workers + into_iter_len l.rests ≡ vec_len l.fn.loose;
+      seat_count : length sat ≡ vec_len l.rooms.tasks.workers;
+      side_count : vec_len l.rooms.tasks.threads ≡ vec_len l.rooms.tasks.workers;
+      room : vec_len l.fn.loose ≤ vec_capacity l.rooms.tasks.workers;
+      side_room : vec_len l.fn.loose ≤ vec_capacity l.rooms.tasks.threads;
       long : into_iter_len l.rests ≡ length (into_iter_items l.rests);
+      pollers : (l.rooms.begins ≡ l.fn.rooms.begins) × (l.rooms.tasks.pollers ≡ l.fn.rooms.tasks.pollers);
+      rest : (l.rooms.spawned ≡ l.fn.rooms.spawned) × (l.rooms.left_seats ≡ l.fn.rooms.left_seats) × (l.rooms.left ≡ l.fn.rooms.left);
     }
 
 abbrev pub decreases-loop-rest : goal.decreases-loop-rest

@@ -5,13 +5,13 @@ use Rattle.poll_shared.proofs.TriesFacts.{asked}
 use Rattle.device_shared.proofs.seats.Seats.busy_take.Goals as goal
 use Rattle.napi_model.specs.declared.event.Call.TheVariants as call
 
-pub returns-in-Err-clause-acts : goal.returns-in-Err-clause-acts
-returns-in-Err-clause-acts g c =
+pub returns-in-Err : goal.returns-in-Err
+returns-in-Err g c =
     let e = c.in-Err.ensures in
     rw e.0 ([], rw e.1 (refl, refl), none_turn List _ _ c.requires)
 
-pub returns-clause-acts : goal.returns-clause-acts
-returns-clause-acts g c =
+pub returns : goal.returns
+returns g c =
     let was = c.in-Ok.ensures in
     let seats = rw was at c.requires in
     elim c.match-busy.branch [

@@ -3,8 +3,8 @@ use Rattle.device_shared.specs.declared.seats.{Pollers.Pollers, Turn.TheVariants
 use Rattle.device_shared.proofs.{ActingFacts.{first_turn, given, second_turn}, seats.Seats.complete.Goals.{in-ListPolls, in-ThreadPolls}}
 use Rattle.device_shared.proofs.seats.Seats.complete.Goals as goal
 
-pub returns-clause-acts : goal.returns-clause-acts
-returns-clause-acts g c = elim c.match-pollers.branch [
+pub returns : goal.returns
+returns g c = elim c.match-pollers.branch [
   | in-ListPolls w ↦
       let was = c.in-On.is ∙ ap (λ (x : Pollers). On x c.in-On.enabled) w.in-ListPolls.is in
       let e = w.complete-poller.ensures in

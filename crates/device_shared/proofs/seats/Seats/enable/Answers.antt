@@ -1,8 +1,8 @@
 use Rattle.{std.proofs.Common.refl, napi_calls.proofs.Dealing.delivers_back, device_shared.proofs.ActingFacts.{control_turn, given}}
 use Rattle.device_shared.proofs.seats.Seats.enable.Goals as goal
 
-pub returns-clause-acts : goal.returns-clause-acts
-returns-clause-acts g c =
+pub returns : goal.returns
+returns g c =
     let e = c.enable-control.ensures in
     let m = e.events in
     let x = c.in-Off.control.state.ctx in (

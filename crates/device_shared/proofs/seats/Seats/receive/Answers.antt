@@ -20,8 +20,8 @@ poll_busily-requires-clause-input c =
     subst (λ (t : Turn). PutsIntoRingOf c.args.input.now (poller_of t))
     (c.in-On.is ∙ ap (λ (x : Pollers). On x c.in-On.enabled) c.in-PollsBusily.is) c.requires.one
 
-pub returns-clause-next : goal.returns-clause-next
-returns-clause-next c = elim c.match-pollers.branch [
+pub returns : goal.returns
+returns c = elim c.match-pollers.branch [
   | in-ListPolls w ↦
       let was = c.in-On.is ∙ ap (λ (x : Pollers). On x c.in-On.enabled) w.in-ListPolls.is in
       let q = w.poll in

@@ -4,8 +4,8 @@ use Rattle.device_shared.{specs.declared.seats.Turn.TheVariants.On, proofs.Actin
 use Rattle.device_shared.proofs.seats.Seats.requeue.Goals.{in-ListPolls, in-ThreadPolls}
 use Rattle.device_shared.proofs.seats.Seats.requeue.Goals as goal
 
-pub returns-clause-acts : goal.returns-clause-acts
-returns-clause-acts c = elim c.match-pollers.branch [
+pub returns : goal.returns
+returns c = elim c.match-pollers.branch [
   | in-ListPolls w ↦
       let was = c.in-On.is ∙ ap (λ (x : Pollers). On x c.in-On.enabled) w.in-ListPolls.is in
       let e = w.requeue.ensures in

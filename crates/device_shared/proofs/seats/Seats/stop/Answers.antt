@@ -3,8 +3,8 @@ use Rattle.device_shared.specs.declared.seats.{Pollers.Pollers, Turn.TheVariants
 use Rattle.device_shared.proofs.ActingFacts.{first_turn, held}
 use Rattle.device_shared.proofs.seats.Seats.stop.Goals as goal
 
-pub returns-clause-acts : goal.returns-clause-acts
-returns-clause-acts g c =
+pub returns : goal.returns
+returns g c =
     let e = c.stop.ensures in
     let m = e.events in
     let was = c.in-On.is ∙ ap (λ (x : Pollers). On x c.in-On.enabled) c.in-PollsBusily.is in (

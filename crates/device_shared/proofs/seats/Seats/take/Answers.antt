@@ -3,13 +3,13 @@ use Rattle.device_shared.proofs.seats.Seats.take.Goals.{in-List+in-Ok-take, in-L
 use Rattle.device_shared.proofs.seats.Seats.take.Goals.{in-Thread+in-Err-take-2}
 use Rattle.device_shared.proofs.seats.Seats.take.Goals as goal
 
-pub returns-in-Err-clause-acts : goal.returns-in-Err-clause-acts
-returns-in-Err-clause-acts c =
+pub returns-in-Err : goal.returns-in-Err
+returns-in-Err c =
     let e = c.in-Err.ensures in
     rw e.0 ([], rw e.1 (refl, refl), none_turn c.args.kind _ _ c.requires)
 
-pub returns-clause-acts : goal.returns-clause-acts
-returns-clause-acts c =
+pub returns : goal.returns
+returns c =
     let was = c.in-Ok.ensures in
     let seats = rw was at c.requires in
     elim c.match-kind.branch [

@@ -5,8 +5,8 @@ use Rattle.device_shared.proofs.ActingFacts.{control_turn, idle, not_rest, tried
 use Rattle.device_shared.proofs.seats.Seats.try_take.Goals.{in-Rest, in_default-pollers}
 use Rattle.device_shared.proofs.seats.Seats.try_take.Goals as goal
 
-pub returns-clause-acts : goal.returns-clause-acts
-returns-clause-acts c =
+pub returns : goal.returns
+returns c =
     let i = c.args.self.interrupt in
     let t = c.args.self.turn in
     let pollers = c.in-On.pollers in

@@ -1,6 +1,6 @@
 use Rattle.std.proofs.Common.{◌∙◌, ℕ, ap}
 use Rattle.{device_bench.specs.Receive.done_by, napi_model.specs.Step.complete_reply}
-use Rattle.device_shared.{specs.SharedReceive.napi_at, proofs.{Reading.{may_complete, completed}, WholeFacts.{called, kept_as, legal}}}
+use Rattle.device_shared.{specs.SharedReceive.napi_at, proofs.{Reading.{may_complete, completed}, WholeFacts.{called, kept, legal}}}
 use Rattle.device_shared.proofs.WholeFacts.{packets, role_before, role_there, state, viewed}
 use Rattle.device_shared.proofs.shared_receive.SharedReceiveReceiveSide.complete.Goals as goal
 
@@ -11,22 +11,20 @@ complete-seats-requires-clause-polls g c =
 
 pub invariant_of-self : goal.invariant_of-self
 invariant_of-self g c =
-    let a = c.complete-seats.ensures.acts in
-    let k = called c.take_out-seats.result c.take_out-seats.ensures.was c.self.invariant.0 a.2 c.keep.ensures in
-    let m = may_complete _ _ (role_before k) (rw (← c.self.view_is) at c.requires) in
-    let r = completed _ _ _ _ _ (role_before k) m.0 a.1 (legal k) in
-    (kept_as k c.complete-seats.ensures.role r.2, c.self.invariant.1)
+    let t = c.take_out-seats in
+    (kept (called t.result t.ensures.was c.self.invariant.0 c.complete-seats.ensures.2 c.keep.ensures), c.self.invariant.1)
 
 pub returns : goal.returns
 returns g c =
-    let a = c.complete-seats.ensures.acts in
+    let a = c.complete-seats.ensures in
     let k = called c.take_out-seats.result c.take_out-seats.ensures.was c.self.invariant.0 a.2 c.keep.ensures in
-    let m = may_complete _ _ (role_before k) (rw (← c.self.view_is) at c.requires) in
-    let r = completed _ _ _ _ _ (role_before k) m.0 a.1 (legal k) in
+    let polls = rw (← c.self.view_is) at c.requires in
+    let by = (may_complete _ _ (role_before k) polls).1 in
+    let r = completed _ _ _ _ polls.1 a.1 (legal k) in
     record {
       kind = rw (← c.self.view_is) r.0;
       side = rw (← c.self.view_is)
           (viewed c.self.inside.capacity
-          (state k ∙ r.1 ∙ ap (λ (n : ℕ). done_by n (complete_reply (napi_at c.self.inside.seats)) (napi_at c.self.inside.seats)) m.1)
+          (state k ∙ r.1 ∙ ap (λ (n : ℕ). done_by n (complete_reply (napi_at c.self.inside.seats)) (napi_at c.self.inside.seats)) by)
           (packets k));
     }

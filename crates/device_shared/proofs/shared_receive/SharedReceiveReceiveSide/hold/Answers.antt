@@ -1,6 +1,5 @@
 use Rattle.std.proofs.Common.{◌∙◌}
-use Rattle.device_shared.proofs.{Reading.{held, polls_busily}, WholeFacts.{called, kept_at, packets, role_before}}
-use Rattle.device_shared.proofs.WholeFacts.{role_there, state, viewed}
+use Rattle.device_shared.proofs.{Reading.{leads_one, polls_busily}, WholeFacts.{called, kept, packets, role_there, state, viewed}}
 use Rattle.device_shared.proofs.shared_receive.SharedReceiveReceiveSide.hold.Goals as goal
 
 pub hold-seats-requires-clause-polls : goal.hold-seats-requires-clause-polls
@@ -10,14 +9,11 @@ hold-seats-requires-clause-polls g c =
 
 pub invariant_of-self : goal.invariant_of-self
 invariant_of-self g c =
-    let a = c.hold-seats.ensures.acts in
-    let k = called c.take_out-seats.result c.take_out-seats.ensures.was c.self.invariant.0 a c.keep.ensures in
-    let r = held _ in
-    (kept_at k c.hold-seats.ensures.role r (role_before k), c.self.invariant.1)
+    let t = c.take_out-seats in
+    (kept (called t.result t.ensures.was c.self.invariant.0 c.hold-seats.ensures c.keep.ensures), c.self.invariant.1)
 
 pub returns : goal.returns
 returns g c =
-    let a = c.hold-seats.ensures.acts in
+    let a = c.hold-seats.ensures in
     let k = called c.take_out-seats.result c.take_out-seats.ensures.was c.self.invariant.0 a c.keep.ensures in
-    let r = held _ in
-    rw (← c.self.view_is) (viewed c.self.inside.capacity (state k ∙ r) (packets k))
+    rw (← c.self.view_is) (viewed c.self.inside.capacity (state k ∙ leads_one 1 _ _) (packets k))

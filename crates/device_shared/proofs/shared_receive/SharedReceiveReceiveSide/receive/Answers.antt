@@ -1,7 +1,7 @@
 use Rattle.std.proofs.Common.{◌∙◌, ap}
 use Rattle.{device_bench.specs.Receive.{ReceiveView, is_polling_place}, device_shared.specs.Seats.role_of}
 use Rattle.device_shared.{specs.Seats.seats_state, proofs.{Reading.polling_of, RingFacts.{bytes_given, input_of_two, received_side}}}
-use Rattle.device_shared.proofs.RingFacts.{received_whole, side_in, whole_in}
+use Rattle.device_shared.proofs.{RingFacts.{received_whole, side_in, whole_in}, Roles.role_is}
 use Rattle.device_shared.proofs.shared_receive.SharedReceiveReceiveSide.receive.Goals as goal
 
 pub receive-seats-requires-clause-one : goal.receive-seats-requires-clause-one
@@ -24,7 +24,7 @@ receive-seats-requires-clause-polls g c =
     let s = c.take_out-seats.result in
     let w = whole_in i.napi i.seats s i.input i.held i.capacity i.seen c.take_out-seats.ensures.was c.self.invariant.0 in
     let view = side_in i.seats s i.input i.capacity c.args.self.now c.take_out-seats.ensures.was c.self.view_is in
-    polling_of (role_of s.turn) (seats_state s) w.gathered.role
+    polling_of (role_of s.turn) (seats_state s) (role_is i.napi w.first s w.gathered)
     (ap (λ (v : ReceiveView). is_polling_place v.napi.place) view ∙ c.requires.polled)
 
 pub invariant_of-self : goal.invariant_of-self
@@ -33,8 +33,8 @@ invariant_of-self g c =
     let s = c.take_out-seats.result in
     let r = c.receive-seats in
     let w = whole_in i.napi i.seats s i.input i.held i.capacity i.seen c.take_out-seats.ensures.was c.self.invariant.0 in (
-      received_whole i.napi c.args.weight s r.result i.input r.new.input r.new.batch.items i.held i.capacity i.seen w r.ensures.next
-          c.put_back.new.place c.len-given.result c.put_back.ensures c.len-given.ensures.value r.ensures.role,
+      received_whole i.napi c.args.weight s r.result i.input r.new.input r.new.batch.items i.held i.capacity i.seen w r.ensures
+          c.put_back.new.place c.len-given.result c.put_back.ensures c.len-given.ensures.value,
       c.self.invariant.1,
     )
 
@@ -46,7 +46,7 @@ returns-clause-bytes g c =
     let w = whole_in i.napi i.seats s i.input i.held i.capacity i.seen c.take_out-seats.ensures.was c.self.invariant.0 in
     let view = side_in i.seats s i.input i.capacity c.args.self.now c.take_out-seats.ensures.was c.self.view_is in
     c.batch_bytes.ensures.sum
-    ∙ bytes_given i.napi c.args.weight s r.result i.input r.new.input r.new.batch.items i.held i.capacity i.seen w r.ensures.next
+    ∙ bytes_given i.napi c.args.weight s r.result i.input r.new.input r.new.batch.items i.held i.capacity i.seen w r.ensures
     c.args.self.now view
 
 pub returns-clause-side : goal.returns-clause-side
@@ -56,5 +56,5 @@ returns-clause-side g c =
     let r = c.receive-seats in
     let w = whole_in i.napi i.seats s i.input i.held i.capacity i.seen c.take_out-seats.ensures.was c.self.invariant.0 in
     let view = side_in i.seats s i.input i.capacity c.args.self.now c.take_out-seats.ensures.was c.self.view_is in
-    received_side i.napi c.args.weight s r.result i.input r.new.input r.new.batch.items i.held i.capacity i.seen w r.ensures.next
+    received_side i.napi c.args.weight s r.result i.input r.new.input r.new.batch.items i.held i.capacity i.seen w r.ensures
     c.put_back.new.place c.args.self.now c.put_back.ensures view

@@ -1,18 +1,15 @@
 use Rattle.std.proofs.Common.{◌∙◌}
-use Rattle.device_shared.proofs.{Reading.{asked, asked_role}, WholeFacts.{called, kept_at, legal, packets}}
-use Rattle.device_shared.proofs.WholeFacts.{role_before, sound, state, viewed}
+use Rattle.device_shared.proofs.{Reading.asked, WholeFacts.{called, kept, legal, packets, state, viewed}}
 use Rattle.device_shared.proofs.shared_receive.SharedReceiveReceiveSide.request.Goals as goal
 
 pub invariant_of-self : goal.invariant_of-self
 invariant_of-self g c =
-    let a = c.request-seats.ensures.acts in
-    let k = called c.take_out-seats.result c.take_out-seats.ensures.was c.self.invariant.0 a.2 c.keep.ensures in
-    let r = asked _ _ _ a.0 a.1 (legal k) in
-    (kept_at k c.request-seats.ensures.role r.2 (asked_role _ _ _ (role_before k) (sound k) r.0), c.self.invariant.1)
+    let t = c.take_out-seats in
+    (kept (called t.result t.ensures.was c.self.invariant.0 c.request-seats.ensures.2 c.keep.ensures), c.self.invariant.1)
 
 pub returns : goal.returns
 returns g c =
-    let a = c.request-seats.ensures.acts in
+    let a = c.request-seats.ensures in
     let k = called c.take_out-seats.result c.take_out-seats.ensures.was c.self.invariant.0 a.2 c.keep.ensures in
     let r = asked _ _ _ a.0 a.1 (legal k) in
     record {

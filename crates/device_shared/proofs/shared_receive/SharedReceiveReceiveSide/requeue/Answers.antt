@@ -1,6 +1,6 @@
 use Rattle.std.proofs.Common.{◌∙◌, ℕ, ap}
 use Rattle.napi_model.specs.{Step.{after, event}, declared.event.Operation.TheVariants.Hand}
-use Rattle.device_shared.{specs.SharedReceive.napi_at, proofs.{Reading.{may_complete, requeued}, WholeFacts.{called, kept_as, packets}}}
+use Rattle.device_shared.{specs.SharedReceive.napi_at, proofs.{Reading.{leads_one, may_complete}, WholeFacts.{called, kept, packets}}}
 use Rattle.device_shared.proofs.WholeFacts.{role_before, role_there, state, viewed}
 use Rattle.napi_model.specs.declared.state.Kind.TheVariants as kind
 use Rattle.device_shared.proofs.shared_receive.SharedReceiveReceiveSide.requeue.Goals as goal
@@ -12,20 +12,16 @@ requeue-seats-requires-clause-polls g c =
 
 pub invariant_of-self : goal.invariant_of-self
 invariant_of-self g c =
-    let a = c.requeue-seats.ensures.acts in
-    let k = called c.take_out-seats.result c.take_out-seats.ensures.was c.self.invariant.0 a c.keep.ensures in
-    let m = may_complete _ _ (role_before k) (rw (← c.self.view_is) at c.requires) in
-    let r = requeued _ _ _ (role_before k) m.0 in
-    (kept_as k c.requeue-seats.ensures.role r.1, c.self.invariant.1)
+    let t = c.take_out-seats in
+    (kept (called t.result t.ensures.was c.self.invariant.0 c.requeue-seats.ensures c.keep.ensures), c.self.invariant.1)
 
 pub returns : goal.returns
 returns g c =
-    let a = c.requeue-seats.ensures.acts in
+    let a = c.requeue-seats.ensures in
     let k = called c.take_out-seats.result c.take_out-seats.ensures.was c.self.invariant.0 a c.keep.ensures in
-    let m = may_complete _ _ (role_before k) (rw (← c.self.view_is) at c.requires) in
-    let r = requeued _ _ _ (role_before k) m.0 in
+    let by = (may_complete _ _ (role_before k) (rw (← c.self.view_is) at c.requires)).1 in
     record {
       side = rw (← c.self.view_is)
           (viewed c.self.inside.capacity
-          (state k ∙ r.0 ∙ ap (λ (n : ℕ). after (napi_at c.self.inside.seats) (event n (Hand kind.List))) m.1) (packets k));
+          (state k ∙ leads_one _ _ _ ∙ ap (λ (n : ℕ). after (napi_at c.self.inside.seats) (event n (Hand kind.List))) by) (packets k));
     }

@@ -1,6 +1,5 @@
 use Rattle.std.proofs.Common.{◌∙◌}
-use Rattle.device_shared.proofs.{Reading.{polls_busily, stopped}, WholeFacts.{called, kept_as, legal, packets}}
-use Rattle.device_shared.proofs.WholeFacts.{role_before, role_there, state, viewed}
+use Rattle.device_shared.proofs.{Reading.{polls_busily, stopped}, WholeFacts.{called, kept, legal, packets, role_there, state, viewed}}
 use Rattle.device_shared.proofs.shared_receive.SharedReceiveReceiveSide.stop.Goals as goal
 
 pub stop-seats-requires-clause-polls : goal.stop-seats-requires-clause-polls
@@ -10,14 +9,11 @@ stop-seats-requires-clause-polls g c =
 
 pub invariant_of-self : goal.invariant_of-self
 invariant_of-self g c =
-    let a = c.stop-seats.ensures.acts in
-    let k = called c.take_out-seats.result c.take_out-seats.ensures.was c.self.invariant.0 a.2 c.keep.ensures in
-    let r = stopped _ _ _ (role_before k) (polls_busily _ _ (role_before k) (rw (← c.self.view_is) at c.requires)) a.1 (legal k) in
-    (kept_as k c.stop-seats.ensures.role r.1, c.self.invariant.1)
+    let t = c.take_out-seats in
+    (kept (called t.result t.ensures.was c.self.invariant.0 c.stop-seats.ensures.2 c.keep.ensures), c.self.invariant.1)
 
 pub returns : goal.returns
 returns g c =
-    let a = c.stop-seats.ensures.acts in
+    let a = c.stop-seats.ensures in
     let k = called c.take_out-seats.result c.take_out-seats.ensures.was c.self.invariant.0 a.2 c.keep.ensures in
-    let r = stopped _ _ _ (role_before k) (polls_busily _ _ (role_before k) (rw (← c.self.view_is) at c.requires)) a.1 (legal k) in
-    record { side = rw (← c.self.view_is) (viewed c.self.inside.capacity (state k ∙ r.0) (packets k)) }
+    record { side = rw (← c.self.view_is) (viewed c.self.inside.capacity (state k ∙ stopped _ _ a.1 (legal k)) (packets k)) }

@@ -1,5 +1,5 @@
 use Rattle.std.proofs.Common.{◌∙◌}
-use Rattle.device_shared.proofs.{Reading.{marked_of, tried}, WholeFacts.{called, kept_as, legal, packets}}
+use Rattle.device_shared.proofs.{Reading.{marked_of, tried}, WholeFacts.{called, kept, legal, packets}}
 use Rattle.device_shared.proofs.WholeFacts.{role_before, role_there, sound, state, viewed}
 use Rattle.device_shared.proofs.shared_receive.SharedReceiveReceiveSide.try_take.Goals as goal
 
@@ -10,14 +10,12 @@ try_take-seats-requires-clause-marked g c =
 
 pub invariant_of-self : goal.invariant_of-self
 invariant_of-self g c =
-    let a = c.try_take-seats.ensures.acts in
-    let k = called c.take_out-seats.result c.take_out-seats.ensures.was c.self.invariant.0 a.2 c.keep.ensures in
-    let r = tried _ _ _ _ (role_before k) (sound k) (marked_of _ _ (role_before k) (rw (← c.self.view_is) at c.requires)) a.1 (legal k) in
-    (kept_as k c.try_take-seats.ensures.role r.2, c.self.invariant.1)
+    let t = c.take_out-seats in
+    (kept (called t.result t.ensures.was c.self.invariant.0 c.try_take-seats.ensures.2 c.keep.ensures), c.self.invariant.1)
 
 pub returns : goal.returns
 returns g c =
-    let a = c.try_take-seats.ensures.acts in
+    let a = c.try_take-seats.ensures in
     let k = called c.take_out-seats.result c.take_out-seats.ensures.was c.self.invariant.0 a.2 c.keep.ensures in
     let r = tried _ _ _ _ (role_before k) (sound k) (marked_of _ _ (role_before k) (rw (← c.self.view_is) at c.requires)) a.1 (legal k) in
     record { reply = rw (← c.self.view_is) r.0; side = rw (← c.self.view_is) (viewed c.self.inside.capacity (state k ∙ r.1) (packets k)) }

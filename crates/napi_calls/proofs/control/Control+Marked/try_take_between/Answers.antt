@@ -15,7 +15,7 @@ invariant_of-result g c = record {
 
 pub returns-in_default-clause-events : goal.returns-in_default-clause-events
 returns-in_default-clause-events g c =
-    step c.take_load.new.pass (nothing c.args.self.controls.stands) c.take_load.ensures.step.table c.in_default.ensures.step.event
+    step (nothing c.args.self.controls.stands) c.in_default.ensures.step
 
 pub unmark-requires-clause-owner : goal.unmark-requires-clause-owner
 unmark-requires-clause-owner g c =
@@ -75,18 +75,17 @@ invariant_of-result-in-Err g c = record {
 pub returns-in-Ok-clause-events : goal.returns-in-Ok-clause-events
 returns-in-Ok-clause-events g c =
     let e = c.slot_out-ctx.ensures in
-    let one = step c.take_load.new.pass (nothing c.args.self.controls.stands) c.take_load.ensures.step.table c.in-Some.ensures.step.event in
-    let two = step c.take_swap.new.pass one c.take_swap.ensures.step.table c.in-Ok.ensures.step.event in (
+    let one = step (nothing c.args.self.controls.stands) c.in-Some.ensures.step in
+    let two = step one c.in-Ok.ensures.step in (
       _,
-      step c.unmark.new.pass
-          (still c.slot_out-ctx.new.pass two e.keeps.table e.keeps.view) c.unmark.ensures.step.table c.unmark.ensures.step.event,
+      step (still two e.keeps) c.unmark.ensures.step,
     )
 
 pub returns-in-Err-clause-events : goal.returns-in-Err-clause-events
 returns-in-Err-clause-events g c =
-    let one = step c.take_load.new.pass (nothing c.args.self.controls.stands) c.take_load.ensures.step.table c.in-Some.ensures.step.event in
+    let one = step (nothing c.args.self.controls.stands) c.in-Some.ensures.step in
     lost call.TakeDisable _ _ c.in-Some.ensures.idle c.in-Err.ensures.other
-    (step c.take_swap.new.pass one c.take_swap.ensures.step.table c.in-Err.ensures.step.event)
+    (step one c.in-Err.ensures.step)
 
 pub returns-in_default-clause-packets : goal.returns-in_default-clause-packets
 returns-in_default-clause-packets g c =

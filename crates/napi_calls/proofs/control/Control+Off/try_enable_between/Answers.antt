@@ -51,22 +51,19 @@ invariant_of-result-in-Err g c =
 
 pub returns-in-Ok-clause-events : goal.returns-in-Ok-clause-events
 returns-in-Ok-clause-events g c =
-    let one =
-    step c.look-seen.new.pass (nothing c.args.self.controls.stands) c.look-seen.ensures.step.table c.look-seen.ensures.step.event in
-    let in_slot = still c.slot_in.new.pass one c.slot_in.ensures.keeps.table c.slot_in.ensures.keeps.view in
-    (_, step c.enable_swap.new.pass in_slot c.enable_swap.ensures.step.table c.in-Ok.ensures.step.event)
+    let one = step (nothing c.args.self.controls.stands) c.look-seen.ensures.step in
+    let in_slot = still one c.slot_in.ensures.keeps in
+    (_, step in_slot c.in-Ok.ensures.step)
 
 pub returns-in-Err-clause-events : goal.returns-in-Err-clause-events
 returns-in-Err-clause-events g c =
-    let one =
-    step c.look-seen.new.pass (nothing c.args.self.controls.stands) c.look-seen.ensures.step.table c.look-seen.ensures.step.event in
-    let in_slot = still c.slot_in.new.pass one c.slot_in.ensures.keeps.table c.slot_in.ensures.keeps.view in
+    let one = step (nothing c.args.self.controls.stands) c.look-seen.ensures.step in
+    let in_slot = still one c.slot_in.ensures.keeps in
     let e = c.slot_out-ctx.ensures in
     let k = control_looked c.look-seen.new.pass c.args.self.controls c.look-seen.ensures.step.event in
     let on = ap (λ (f : Flags). f.disable) (looked_flags c.args.self.pass c.look-seen.new.pass c.look-seen.ensures.step.event) ∙ k.flag in
     lost (Call.Enable c.args.threaded) _ _ on c.in-Err.ensures.other
-    (still c.slot_out-ctx.new.pass
-    (step c.enable_swap.new.pass in_slot c.enable_swap.ensures.step.table c.in-Err.ensures.step.event) e.keeps.table e.keeps.view)
+    (still (step in_slot c.in-Err.ensures.step) e.keeps)
 
 pub returns-in-Ok-clause-packets : goal.returns-in-Ok-clause-packets
 returns-in-Ok-clause-packets g c =

@@ -10,7 +10,7 @@ invariant_of-result c = record {
 }
 
 pub returns-clause-event : goal.returns-clause-event
-returns-clause-event c = step c.mark.new.pass (nothing c.args.self.controls.stands) c.mark.ensures.step.table c.mark.ensures.step.event
+returns-clause-event c = step (nothing c.args.self.controls.stands) c.mark.ensures.step
 
 pub returns-clause-packets : goal.returns-clause-packets
 returns-clause-packets c = quiet_step c.args.self.pass c.mark.new.pass c.mark.ensures.step.event c.mark.ensures.step.packets

@@ -15,7 +15,7 @@ invariant_of-self c = record {
 
 pub returns-clause-event : goal.returns-clause-event
 returns-clause-event c =
-    step c.complete_load.new.pass (nothing c.args.self.now.stands) c.complete_load.ensures.table c.complete_load.ensures.event
+    step (nothing c.args.self.now.stands) c.complete_load.ensures
 
 pub returns-clause-packets : goal.returns-clause-packets
 returns-clause-packets c =

@@ -38,17 +38,17 @@ invariant_of-result-in-Err g c =
 
 pub returns-in-Ok-clause-events : goal.returns-in-Ok-clause-events
 returns-in-Ok-clause-events g c =
-    let one = step c.look-seen.new.pass (nothing c.args.self.stands) c.look-seen.ensures.step.table c.look-seen.ensures.step.event in
-    (_, step c.stop_swap.new.pass one c.stop_swap.ensures.step.table c.in-Ok.ensures.step.event)
+    let one = step (nothing c.args.self.stands) c.look-seen.ensures.step in
+    (_, step one c.in-Ok.ensures.step)
 
 pub returns-in-Err-clause-events : goal.returns-in-Err-clause-events
 returns-in-Err-clause-events g c =
-    let one = step c.look-seen.new.pass (nothing c.args.self.stands) c.look-seen.ensures.step.table c.look-seen.ensures.step.event in
+    let one = step (nothing c.args.self.stands) c.look-seen.ensures.step in
     let busy = busy_looked c.look-seen.new.pass c.args.self.stands c.args.self.busy c.look-seen.ensures.step.event in
     let on =
     ap (λ (f : Flags). f.in_busy_poll) (looked_flags c.args.self.pass c.look-seen.new.pass c.look-seen.ensures.step.event) ∙ busy in
     lost Call.BusyStop _ _ on c.in-Err.ensures.other
-    (step c.stop_swap.new.pass one c.stop_swap.ensures.step.table c.in-Err.ensures.step.event)
+    (step one c.in-Err.ensures.step)
 
 pub returns-in-Ok-clause-packets : goal.returns-in-Ok-clause-packets
 returns-in-Ok-clause-packets g c =

@@ -6,7 +6,7 @@ invariant_of-self c = record { stands = kept c.threaded.new.pass c.args.self.now
 
 pub returns-clause-event : goal.returns-clause-event
 returns-clause-event c =
-    step c.threaded.new.pass (nothing c.args.self.now.stands) c.threaded.ensures.step.table c.threaded.ensures.step.event
+    step (nothing c.args.self.now.stands) c.threaded.ensures.step
 
 pub returns-clause-packets : goal.returns-clause-packets
 returns-clause-packets c = quiet_step c.args.self.now.pass c.threaded.new.pass c.threaded.ensures.step.event c.threaded.ensures.step.packets

@@ -7,7 +7,7 @@ invariant_of-result c = record { stands = kept c.take.new.pass c.args.self.stand
 
 pub returns-then-not-take-clause-event : goal.returns-then-not-take-clause-event
 returns-then-not-take-clause-event c =
-    step c.take.new.pass (nothing c.args.self.stands) c.take.ensures.step.table c.if-not-take.ensures.step.event
+    step (nothing c.args.self.stands) c.if-not-take.ensures.step
 
 pub returns-then-not-take-clause-packets : goal.returns-then-not-take-clause-packets
 returns-then-not-take-clause-packets c =
@@ -26,9 +26,7 @@ invariant_of-result-2 c =
 pub returns-clause-event : goal.returns-clause-event
 returns-clause-event c =
     let e = c.slot_out-ctx.ensures in
-    still c.slot_out-ctx.new.pass
-    (step c.take.new.pass (nothing c.args.self.stands) c.take.ensures.step.table c.if-not-take.ensures.step.event) e.keeps.table
-    e.keeps.view
+    still (step (nothing c.args.self.stands) c.if-not-take.ensures.step) e.keeps
 
 pub returns-clause-packets : goal.returns-clause-packets
 returns-clause-packets c =

@@ -11,7 +11,7 @@ pub returns-then-not-may_busy_take-clause-events : goal.returns-then-not-may_bus
 returns-then-not-may_busy_take-clause-events g c = (
   c.look-seen.result,
   λ may. true≢false (sym (c.may_busy_take.ensures.1 may) ∙ c.if-not-may_busy_take.true),
-  step c.look-seen.new.pass (nothing c.args.self.stands) c.look-seen.ensures.step.table c.look-seen.ensures.step.event,
+  step (nothing c.args.self.stands) c.look-seen.ensures.step,
 )
 
 pub invariant_of-result-in-Ok : goal.invariant_of-result-in-Ok
@@ -33,14 +33,14 @@ invariant_of-result-in-Err g c =
 pub returns-in-Ok-clause-events : goal.returns-in-Ok-clause-events
 returns-in-Ok-clause-events g c =
     let e = c.slot_out-ctx.ensures in
-    let one = step c.look-seen.new.pass (nothing c.args.self.stands) c.look-seen.ensures.step.table c.look-seen.ensures.step.event in
-    let two = step c.busy_swap.new.pass one c.busy_swap.ensures.step.table c.in-Ok.ensures.step.event in
-    (_, c.may_busy_take.ensures.0 c.if-not-may_busy_take.false, still c.slot_out-ctx.new.pass two e.keeps.table e.keeps.view)
+    let one = step (nothing c.args.self.stands) c.look-seen.ensures.step in
+    let two = step one c.in-Ok.ensures.step in
+    (_, c.may_busy_take.ensures.0 c.if-not-may_busy_take.false, still two e.keeps)
 
 pub returns-in-Err-clause-events : goal.returns-in-Err-clause-events
 returns-in-Err-clause-events g c =
-    let one = step c.look-seen.new.pass (nothing c.args.self.stands) c.look-seen.ensures.step.table c.look-seen.ensures.step.event in
-    let two = step c.busy_swap.new.pass one c.busy_swap.ensures.step.table c.in-Err.ensures.step.event in
+    let one = step (nothing c.args.self.stands) c.look-seen.ensures.step in
+    let two = step one c.in-Err.ensures.step in
     lost Call.BusyTake _ _ (c.may_busy_take.ensures.0 c.if-not-may_busy_take.false) c.in-Err.ensures.other two
 
 pub returns-then-not-may_busy_take-clause-packets : goal.returns-then-not-may_busy_take-clause-packets

@@ -11,7 +11,7 @@ invariant_of-result g c = record { stands = kept c.schedule_load.new.pass c.args
 
 pub returns-in_default-clause-events : goal.returns-in_default-clause-events
 returns-in_default-clause-events g c =
-    step c.schedule_load.new.pass (nothing c.args.self.stands) c.schedule_load.ensures.step.table c.in_default.ensures.step.event
+    step (nothing c.args.self.stands) c.in_default.ensures.step
 
 pub invariant_of-result-in-Ok-Granted : goal.invariant_of-result-in-Ok-Granted
 invariant_of-result-in-Ok-Granted g c =
@@ -41,27 +41,23 @@ invariant_of-result-in-Err g c =
 
 pub returns-in-Ok-Granted-clause-events : goal.returns-in-Ok-Granted-clause-events
 returns-in-Ok-Granted-clause-events g c =
-    let one =
-    step c.schedule_load.new.pass (nothing c.args.self.stands) c.schedule_load.ensures.step.table c.in-Some.ensures.step.event in (
+    let one = step (nothing c.args.self.stands) c.in-Some.ensures.step in (
       _,
-      step c.schedule_swap.new.pass one c.schedule_swap.ensures.step.table
-          (rw c.in-Ok-Granted.field-0-is at c.in-Ok-Granted.ensures).step.event,
+      step one (rw c.in-Ok-Granted.field-0-is at c.in-Ok-Granted.ensures).step,
     )
 
 pub returns-in-Ok-Missed-clause-events : goal.returns-in-Ok-Missed-clause-events
 returns-in-Ok-Missed-clause-events g c =
-    let one =
-    step c.schedule_load.new.pass (nothing c.args.self.stands) c.schedule_load.ensures.step.table c.in-Some.ensures.step.event in (
+    let one = step (nothing c.args.self.stands) c.in-Some.ensures.step in (
       _,
-      step c.schedule_swap.new.pass one c.schedule_swap.ensures.step.table
-          (rw c.in-Ok-Missed.field-0-is at c.in-Ok-Missed.ensures).step.event,
+      step one (rw c.in-Ok-Missed.field-0-is at c.in-Ok-Missed.ensures).step,
     )
 
 pub returns-in-Err-clause-events : goal.returns-in-Err-clause-events
 returns-in-Err-clause-events g c =
-    let one = step c.schedule_load.new.pass (nothing c.args.self.stands) c.schedule_load.ensures.step.table c.in-Some.ensures.step.event in
+    let one = step (nothing c.args.self.stands) c.in-Some.ensures.step in
     lost call.Schedule _ _ c.in-Some.ensures.enabled c.in-Err.ensures.other
-    (step c.schedule_swap.new.pass one c.schedule_swap.ensures.step.table c.in-Err.ensures.step.event)
+    (step one c.in-Err.ensures.step)
 
 pub returns-in_default-clause-packets : goal.returns-in_default-clause-packets
 returns-in_default-clause-packets g c =

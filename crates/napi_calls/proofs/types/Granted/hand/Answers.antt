@@ -8,7 +8,7 @@ invariant_of-result c =
     record { stands = made Free c.hand.new.pass c.args.self.stands c.hand.ensures.step.event (λ s. hand_free c.args.kind _ s) }
 
 pub returns-clause-event : goal.returns-clause-event
-returns-clause-event c = step c.hand.new.pass (nothing c.args.self.stands) c.hand.ensures.step.table c.hand.ensures.step.event
+returns-clause-event c = step (nothing c.args.self.stands) c.hand.ensures.step
 
 pub returns-clause-packets : goal.returns-clause-packets
 returns-clause-packets c =

@@ -11,7 +11,7 @@ invariant_of-self c = record {
 }
 
 pub returns-clause-event : goal.returns-clause-event
-returns-clause-event c = step c.look.new.pass (nothing c.args.self.now.stands) c.look.ensures.step.table c.look.ensures.step.event
+returns-clause-event c = step (nothing c.args.self.now.stands) c.look.ensures.step
 
 pub returns-clause-packets : goal.returns-clause-packets
 returns-clause-packets c =

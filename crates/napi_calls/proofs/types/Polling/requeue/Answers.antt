@@ -14,8 +14,7 @@ invariant_of-result c =
 pub returns-clause-event : goal.returns-clause-event
 returns-clause-event c =
     let s = c.slot_in.ensures in
-    step c.hand.new.pass (still c.slot_in.new.pass (nothing c.args.self.stands) s.keeps.table s.keeps.view) c.hand.ensures.step.table
-    c.hand.ensures.step.event
+    step (still (nothing c.args.self.stands) s.keeps) c.hand.ensures.step
 
 pub returns-clause-packets : goal.returns-clause-packets
 returns-clause-packets c =

@@ -53,33 +53,30 @@ invariant_of-result-in-Err g c =
 
 pub returns-in-Ok-Released-clause-events : goal.returns-in-Ok-Released-clause-events
 returns-in-Ok-Released-clause-events g c =
-    let one = step c.look-seen.new.pass (nothing c.args.self.stands) c.look-seen.ensures.step.table c.look-seen.ensures.step.event in
-    let in_slot = still c.slot_in.new.pass one c.slot_in.ensures.keeps.table c.slot_in.ensures.keeps.view in (
+    let one = step (nothing c.args.self.stands) c.look-seen.ensures.step in
+    let in_slot = still one c.slot_in.ensures.keeps in (
       _,
-      step c.complete_swap.new.pass in_slot c.complete_swap.ensures.step.table
-          (rw c.in-Ok-Released.field-0-is at c.in-Ok-Released.ensures).step.event,
+      step in_slot (rw c.in-Ok-Released.field-0-is at c.in-Ok-Released.ensures).step,
     )
 
 pub returns-in-Ok-Again-clause-events : goal.returns-in-Ok-Again-clause-events
 returns-in-Ok-Again-clause-events g c =
-    let one = step c.look-seen.new.pass (nothing c.args.self.stands) c.look-seen.ensures.step.table c.look-seen.ensures.step.event in
-    let in_slot = still c.slot_in.new.pass one c.slot_in.ensures.keeps.table c.slot_in.ensures.keeps.view in (
+    let one = step (nothing c.args.self.stands) c.look-seen.ensures.step in
+    let in_slot = still one c.slot_in.ensures.keeps in (
       _,
-      step c.complete_swap.new.pass in_slot c.complete_swap.ensures.step.table
-          (rw c.in-Ok-Again.field-0-is at c.in-Ok-Again.ensures).step.event,
+      step in_slot (rw c.in-Ok-Again.field-0-is at c.in-Ok-Again.ensures).step,
     )
 
 pub returns-in-Err-clause-events : goal.returns-in-Err-clause-events
 returns-in-Err-clause-events g c =
-    let one = step c.look-seen.new.pass (nothing c.args.self.stands) c.look-seen.ensures.step.table c.look-seen.ensures.step.event in
-    let in_slot = still c.slot_in.new.pass one c.slot_in.ensures.keeps.table c.slot_in.ensures.keeps.view in
+    let one = step (nothing c.args.self.stands) c.look-seen.ensures.step in
+    let in_slot = still one c.slot_in.ensures.keeps in
     let e = c.slot_out-ctx.ensures in
     let busy = busy_looked c.look-seen.new.pass c.args.self.stands c.args.self.busy c.look-seen.ensures.step.event in
     let on =
     ap (λ (f : Flags). f.in_busy_poll) (looked_flags c.args.self.pass c.look-seen.new.pass c.look-seen.ensures.step.event) ∙ busy in
     lost call.Complete _ _ on c.in-Err.ensures.other
-    (still c.slot_out-ctx.new.pass
-    (step c.complete_swap.new.pass in_slot c.complete_swap.ensures.step.table c.in-Err.ensures.step.event) e.keeps.table e.keeps.view)
+    (still (step in_slot c.in-Err.ensures.step) e.keeps)
 
 pub returns-in-Ok-Released-clause-packets : goal.returns-in-Ok-Released-clause-packets
 returns-in-Ok-Released-clause-packets g c =

@@ -6,20 +6,20 @@ use Rattle.poll_interrupts.proofs.worker.InterruptHandler.make_acts.Goals as goa
 pub loop-k-preserved : goal.loop-k-preserved
 loop-k-preserved g c =
     let i = c.loop-k.invariant in
-    let e = c.make_act-access.ensures in
+    let e = c.make_act-handles.ensures in
     let after = g.D.Device.after in
     let d = c.args.device.now in
     let brought = brings (g.D.Device.answer (after_acts after d c.loop-k.k) c.loop-k.k) in
     let places : capacity_of c.loop-k.rx ≡ capacity_of c.args.rx.now = search rules in
     let then : length (put_list c.loop-k.rx) + length brought ≤ capacity_of c.args.rx.now
-    → put_list c.make_act-access.new.rx ≡ put_list c.loop-k.rx ++ brought = rw (← i.made, ← places) e.put in record {
+    → put_list c.make_act-handles.new.rx ≡ put_list c.loop-k.rx ++ brought = rw (← i.made, ← places) e.put in record {
       of = e.of;
       lists = lists_more i.lists e.lists;
       let_go = below_more _ _ i.let_go (c.stop_before.ensures.open (search rules));
       acted =
-          acts-more (is_some c.args.self.now.thread) g.D.Device.answer after d c.loop-k.k c.args.access c.loop-k.access
-          c.make_act-access.result
-          c.args.rx.now c.loop-k.rx c.make_act-access.new.rx i.acted e.ring (rw (← i.made) e.made);
+          acts-more (is_some c.args.self.now.thread) g.D.Device.answer after d c.loop-k.k c.args.handles c.loop-k.handles
+          c.make_act-handles.result
+          c.args.rx.now c.loop-k.rx c.make_act-handles.new.rx i.acted e.ring (rw (← i.made) e.made);
       made = e.device ∙ ap (λ x. after x c.loop-k.k) i.made ∙ sym (after_acts-more after d c.loop-k.k);
       acts = e.acts ∙ i.acts;
       ring = search rules;
@@ -42,10 +42,10 @@ loop-k-init g c = record {
 
 pub returns-in-Some-clause-same : goal.returns-in-Some-clause-same
 returns-in-Some-clause-same g c =
-    all_same (is_some c.args.self.now.thread) g.D.Device.answer g.D.Device.after c.args.device.now c.loop-k.k c.args.access c.loop-k.access
-    c.args.rx.now c.loop-k.rx c.loop-k.invariant.acted
+    all_same (is_some c.args.self.now.thread) g.D.Device.answer g.D.Device.after c.args.device.now c.loop-k.k c.args.handles
+    c.loop-k.handles c.args.rx.now c.loop-k.rx c.loop-k.invariant.acted
 
 pub returns-clause-same : goal.returns-clause-same
 returns-clause-same g c =
-    all_same (is_some c.args.self.now.thread) g.D.Device.answer g.D.Device.after c.args.device.now c.loop-k.k c.args.access c.loop-k.access
-    c.args.rx.now c.loop-k.rx c.loop-k.invariant.acted
+    all_same (is_some c.args.self.now.thread) g.D.Device.answer g.D.Device.after c.args.device.now c.loop-k.k c.args.handles
+    c.loop-k.handles c.args.rx.now c.loop-k.rx c.loop-k.invariant.acted

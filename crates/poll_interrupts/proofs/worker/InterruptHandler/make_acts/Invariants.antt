@@ -1,6 +1,6 @@
 use Rattle.std.proofs.Common.{◌≡◌, ◌+◌, ◌≤◌, ◌++◌, is_some, length}
 use Rattle.{poll_tasks.specs.Asks.WasLet, rx_ring.specs.Ends.{SameIn, capacity_of, put_list}}
-use Rattle.poll_interrupts.specs.{Acts.{after_acts, arrivals}, Calls.{AllActs, Lists}, Seats.IsAccessOf}
+use Rattle.poll_interrupts.specs.{Acts.{after_acts, arrivals}, Calls.{AllActs, Lists}, Handles.AreHandlesOf}
 use Rattle.poll_interrupts.proofs.worker.InterruptHandler.make_acts.Given as goal
 
 abbrev pub invariant-loop-k : goal.invariant-loop-k
@@ -8,10 +8,10 @@ invariant-loop-k g l =
     let d = l.initial.device in
     let after = g.D.Device.after in
     let brought = arrivals g.D.Device.answer after d l.k in record {
-      of : IsAccessOf l.self.napi.now l.access;
-      lists : Lists l.self.number l.fn.access.caller.pass l.access.caller.pass l.initial.list l.list;
-      let_go : WasLet (g.G.Gate.answers l.setting.gate.now) l.self.number l.k;
-      acted : AllActs (is_some l.self.thread) g.D.Device.answer after d l.k l.fn.access l.access l.initial.rx l.rx;
+      of : AreHandlesOf l.self.napi.now l.handles;
+      lists : Lists l.self.number l.fn.handles.caller.pass l.handles.caller.pass l.initial.list l.list;
+      let_go : WasLet (g.G.Gate.answers l.context.gate.now) l.self.number l.k;
+      acted : AllActs (is_some l.self.thread) g.D.Device.answer after d l.k l.fn.handles l.handles l.initial.rx l.rx;
       made : l.device ≡ after_acts after d l.k;
       acts : g.D.Device.acts l.device ≡ g.D.Device.acts d;
       ring : SameIn l.initial.rx l.rx;

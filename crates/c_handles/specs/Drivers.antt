@@ -1,0 +1,153 @@
+-- A driver for C: what it says, as numbers, and the status and the effect of each call.
+use Rattle.std.specs.Prelude.{◌≡◌, ◌≢◌, ◌⊎◌, ◌↔◌, ℕ, ◌<◌, ◌≤◌, ◌==◌, ◌||◌, Bool, true, false, not, nat_le, nat_lt, if◌then◌else◌}
+use Rattle.std.specs.{Prelude.{length, IsSome}, List.All}
+use Rattle.napi_model.specs.declared.event.Prep.{Prep, TheVariants.{Granted, Missed, Disabled}}
+use Rattle.napi_model.specs.Step.{schedule_reply}
+use Rattle.driver_core.specs.{Device.{after_interrupt, is_stopping, after_open, after_stop, MayStop}, Steps.{stage_is_scheduled, napi_of}}
+use Rattle.driver_core.specs.Driver.{counts_of, device_of, driver_devices, limits_of, number_of, polled_device, stage_of}
+use Rattle.driver_core.specs.Driver.{AreClosed, IsDue, IsFree, IsIdle, IsNumberedAs, IsReport, PutsDevice, Reports}
+use Rattle.driver_core.specs.declared.{driver.Driver.Driver, limits.Limits.Limits, device.Stage.{Stage, TheVariants.Closed}}
+use Rattle.driver_core.specs.declared.todo.What.{What, TheVariants.{Mask, Unmask, Look, Fetch, Ended, Sleep}}
+use Rattle.c_handles.specs.Status.{OK, GRANTED, MISSED, DISABLED, NOT_DUE, BAD_DEVICE, BAD_SIZE, BAD_WORK, BAD_COUNT, BAD_WEIGHT}
+use Rattle.c_handles.specs.{Status.BAD_BUDGET, declared.{lister.FqRunReport.FqRunReport, drive.{FqTodo.FqTodo, FqDeviceShown.FqDeviceShown}}}
+
+-- ---- a new driver
+
+abbrev pub new_status : ℕ → ℕ → ℕ → ℕ → ℕ
+new_status devices budget weight window =
+    if devices == 0 || nat_le 65 devices then BAD_COUNT
+    else (if weight == 0 || nat_le 65 weight then BAD_WEIGHT
+    else (if (budget == 0 || nat_le 65536 budget) || (window == 0 || nat_le 65536 window) then BAD_BUDGET else OK))
+
+pub record IsNewDriver (devices budget weight window : ℕ) (d : Driver) : Type 0 where
+  pub closed : AreClosed devices d
+  pub idle : IsIdle d
+  pub limits : ((limits_of d).budget ≡ budget) × ((limits_of d).weight ≡ weight) × ((limits_of d).window ≡ window)
+
+-- ---- what it says (`struct fq_todo`, `enum fq_what`)
+
+abbrev pub no_run : FqRunReport
+no_run = record { polls = 0; work = 0; squeezed = false }
+
+-- its number in C
+abbrev pub what_in : What → ℕ
+what_in Sleep = 0
+what_in (Mask id) = 1
+what_in (Unmask id) = 2
+what_in (Look id) = 3
+what_in (Fetch id most) = 4
+what_in (Ended report) = 5
+
+abbrev pub device_in : What → ℕ
+device_in (Mask id) = id
+device_in (Unmask id) = id
+device_in (Look id) = id
+device_in (Fetch id most) = id
+device_in _ = 0
+
+abbrev pub most_in : What → ℕ
+most_in (Fetch id most) = most
+most_in _ = 0
+
+abbrev pub run_in : What → FqRunReport
+run_in (Ended r) = record { polls = r.polls; work = r.work; squeezed = r.squeezed }
+run_in _ = no_run
+
+abbrev pub todo_in : ℕ → ℕ → What → FqTodo
+todo_in size number what = record {
+  size = size;
+  number = number;
+  what = what_in what;
+  device = device_in what;
+  most = most_in what;
+  packets = 0;
+  run = run_in what;
+}
+
+-- the driver says this, which is due; the same again until it is reported or isn't due any more, and otherwise under a new number
+pub record Says (size : ℕ) (d : Driver) (todo : FqTodo) (e : Driver) : Type 0 where
+  pub what : What
+  pub said : todo ≡ todo_in size todo.number what
+  pub due : IsDue e what
+  pub number : IsFree d → IsNumberedAs (number_of d) (number_of e) todo.number what
+  pub again : ¬ IsFree d → (e ≡ d) × (todo.number ≡ number_of d)
+  pub devices : driver_devices e ≡ driver_devices d
+  pub counts : e.counts ≡ d.counts
+
+-- of these structs the first is the caller's before, and the second after
+pub record IsNext (before after : FqTodo) (d : Driver) (n : ℕ) (e : Driver) : Type 0 where
+  pub size : (n ≡ BAD_SIZE) ↔ (before.size < 48)
+  pub status : (n ≡ OK) ⊎ (n ≡ BAD_SIZE)
+  pub says : n ≡ OK → Says before.size d after e
+  pub kept : n ≡ BAD_SIZE → (after ≡ before) × (e ≡ d)
+
+-- a report, and the driver after it
+pub record IsReported (number packets : ℕ) (d : Driver) (n : ℕ) (e : Driver) : Type 0 where
+  pub none : number ≡ 0 → (n ≡ OK) × (e ≡ d)
+  pub due : number ≢ 0 → (n ≡ OK) ↔ IsReport number packets d
+  pub reports : number ≢ 0 → n ≡ OK → Reports packets d e × IsFree e
+  pub many : number ≢ 0 → n ≢ OK → (n ≡ BAD_WORK) ↔ ((number ≡ number_of d) × IsSome (polled_device d))
+  pub status : (n ≡ OK) ⊎ (n ≡ NOT_DUE) ⊎ (n ≡ BAD_WORK)
+  pub kept : n ≢ OK → e ≡ d
+
+-- what the struct says is reported
+pub record IsDone (todo : FqTodo) (d : Driver) (n : ℕ) (e : Driver) : Type 0 where
+  pub size : (n ≡ BAD_SIZE) ↔ (todo.size < 48)
+  pub reported : n ≢ BAD_SIZE → IsReported todo.number todo.packets d n e
+  pub kept : n ≡ BAD_SIZE → e ≡ d
+
+-- ---- what happened at a device
+
+-- for a number that isn't a device's
+pub record IsNoDevice (device : ℕ) (d : Driver) (n : ℕ) (e : Driver) : Type 0 where
+  pub bad : (n ≡ BAD_DEVICE) ↔ (length (driver_devices d) ≤ device)
+  pub kept : n ≡ BAD_DEVICE → e ≡ d
+
+abbrev pub reply_status : Prep → ℕ
+reply_status Granted = GRANTED
+reply_status Missed = MISSED
+reply_status Disabled = DISABLED
+
+pub record IsInterrupt (device : ℕ) (d : Driver) (n : ℕ) (e : Driver) : Type 0 where
+  pub bad : IsNoDevice device d n e
+  pub reply : n ≢ BAD_DEVICE → n ≡ reply_status (schedule_reply (napi_of (device_of d device)))
+  pub puts : n ≢ BAD_DEVICE → PutsDevice device (after_interrupt (device_of d device)) d e
+
+pub record IsOpen (device : ℕ) (d : Driver) (n : ℕ) (e : Driver) : Type 0 where
+  pub bad : IsNoDevice device d n e
+  pub status : (n ≡ OK) ⊎ (n ≡ NOT_DUE) ⊎ (n ≡ BAD_DEVICE)
+  pub when : n ≢ BAD_DEVICE → (n ≡ OK) ↔ (stage_of d device ≡ Closed)
+  pub puts : n ≡ OK → PutsDevice device (after_open (device_of d device)) d e
+  pub kept : n ≢ OK → e ≡ d
+
+pub record IsStop (device : ℕ) (d : Driver) (n : ℕ) (e : Driver) : Type 0 where
+  pub bad : IsNoDevice device d n e
+  pub status : (n ≡ OK) ⊎ (n ≡ NOT_DUE) ⊎ (n ≡ BAD_DEVICE)
+  pub when : n ≢ BAD_DEVICE → (n ≡ OK) ↔ MayStop (stage_of d device)
+  pub puts : n ≡ OK → PutsDevice device (after_stop (device_of d device)) d e
+  pub kept : n ≢ OK → e ≡ d
+
+-- ---- what is shown of a device (`struct fq_device_shown`)
+
+-- 0 closed, 1 open, 2 being stopped
+abbrev pub state_in : Stage → ℕ
+state_in Closed = 0
+state_in stage = if is_stopping stage then 2 else 1
+
+abbrev pub shown_of : ℕ → Driver → ℕ → FqDeviceShown
+shown_of size d device = record {
+  size = size;
+  state = state_in (stage_of d device);
+  scheduled = stage_is_scheduled (stage_of d device);
+  missed = (device_of d device).missed;
+  polls = (counts_of d device).polls;
+  packets = (counts_of d device).packets;
+}
+
+pub record IsShow (before after : FqDeviceShown) (device : ℕ) (d : Driver) (n : ℕ) (e : Driver) : Type 0 where
+  pub size : (n ≡ BAD_SIZE) ↔ (before.size < 32)
+  pub bad : n ≢ BAD_SIZE → (n ≡ BAD_DEVICE) ↔ (length (driver_devices d) ≤ device)
+  pub status : (n ≡ OK) ⊎ (n ≡ BAD_DEVICE) ⊎ (n ≡ BAD_SIZE)
+  pub shows : n ≡ OK → after ≡ shown_of before.size d device
+  pub kept : n ≢ OK → after ≡ before
+  pub driver : e ≡ d

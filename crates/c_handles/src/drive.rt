@@ -1,0 +1,233 @@
+//! The calls of a driver, by their statuses.
+
+ghost use Rattle.std.specs.Prelude.{◌≡◌, length, nat_lt};
+ghost use Rattle.driver_core.specs.Driver.{driver_devices};
+ghost use Rattle.c_handles.specs.Drivers.{device_in, most_in, reply_status, run_in, shown_of, state_in, todo_in, what_in, IsDone, IsInterrupt, IsNext, IsOpen, IsReported, IsShow, IsStop, Says};
+
+use crate::lister::FqRunReport;
+use crate::status;
+use driver_core::{Driver, DriverDevice, Refused, Stage, Todo, What};
+use napi_model::Prep;
+use std::mem::size_of;
+
+/// What a driver has to do: `struct fq_todo`.
+#[repr(C)]
+#[derive(Clone, Copy)]
+pub struct FqTodo {
+    /// Its size in bytes, as the caller knows it.
+    pub size: usize,
+    /// The number by which it is reported; 0 if there is nothing to report.
+    pub number: u64,
+    /// What is to be done (`enum fq_what`).
+    pub what: u32,
+    /// The device.
+    pub device: u32,
+    /// The packets that a fetch may take.
+    pub most: u32,
+    /// The packets that a fetch took, or a look found: set by the caller.
+    pub packets: u32,
+    /// The report of a run that ended.
+    pub run: FqRunReport,
+}
+
+/// What is shown of a device: `struct fq_device_shown`.
+#[repr(C)]
+#[derive(Clone, Copy)]
+pub struct FqDeviceShown {
+    /// Its size in bytes, as the caller knows it.
+    pub size: usize,
+    /// Closed, open or being stopped (`enum fq_device_state`).
+    pub state: u32,
+    /// A poll was requested, and isn't completed.
+    pub scheduled: bool,
+    /// Another interrupt came meanwhile.
+    pub missed: bool,
+    /// The polls that were reported.
+    pub polls: u64,
+    /// Their packets.
+    pub packets: u64,
+}
+
+const NO_RUN: FqRunReport = FqRunReport {
+    polls: 0,
+    work: 0,
+    squeezed: false,
+};
+
+// The number of what is to be done (`enum fq_what`).
+fn what_in(what: What) -> u32
+    ensures { result ≡ what_in what }
+{
+    match what {
+        What::Sleep => 0,
+        What::Mask(_) => 1,
+        What::Unmask(_) => 2,
+        What::Look(_) => 3,
+        What::Fetch(_, _) => 4,
+        What::Ended(_) => 5,
+    }
+}
+
+// The device at which it is to be done, and the packets that a fetch may take.
+fn where_in(what: What) -> (u32, u32)
+    ensures device { result.0 ≡ device_in what }
+    ensures most { result.1 ≡ most_in what }
+{
+    match what {
+        What::Mask(device) | What::Unmask(device) | What::Look(device) => (device, 0),
+        What::Fetch(device, most) => (device, most),
+        What::Sleep | What::Ended(_) => (0, 0),
+    }
+}
+
+// The report of the run that ended.
+fn run_in(what: What) -> FqRunReport
+    ensures { result ≡ run_in what }
+{
+    match what {
+        What::Ended(report) => FqRunReport {
+            polls: report.polls,
+            work: report.work,
+            squeezed: report.squeezed,
+        },
+        _ => NO_RUN,
+    }
+}
+
+// What the driver says, as C has it.
+fn todo_in(size: usize, todo: Todo) -> FqTodo
+    ensures { result ≡ todo_in size todo.number todo.what }
+{
+    let (device, most) = where_in(todo.what);
+    FqTodo {
+        size,
+        number: todo.number,
+        what: what_in(todo.what),
+        device,
+        most,
+        packets: 0,
+        run: run_in(todo.what),
+    }
+}
+
+// What is to be done next, as C has it.
+fn say(driver: &mut Driver, size: usize) -> FqTodo
+    ensures { Says size driver.old result driver.new }
+{
+    let todo = driver.next();
+    todo_in(size, todo)
+}
+
+/// Sets `todo` to what is to be done next (`Driver::next`).
+pub fn next(driver: &mut Driver, todo: &mut FqTodo) -> u32
+    ensures { IsNext todo.old todo.new driver.old result driver.new }
+{
+    if todo.size < size_of::<FqTodo>() {
+        return status::BAD_SIZE;
+    }
+    *todo = say(driver, todo.size);
+    status::OK
+}
+
+// Reports what was done under this number; 0 reports nothing.
+fn report(driver: &mut Driver, number: u64, packets: u32) -> u32
+    ensures { IsReported number packets driver.old result driver.new }
+{
+    if number == 0 {
+        return status::OK;
+    }
+    match driver.done(number, packets) {
+        Ok(()) => status::OK,
+        Err(Refused::NotDue) => status::NOT_DUE,
+        Err(Refused::TooMany) => status::BAD_WORK,
+    }
+}
+
+/// Reports that what `todo` says was done (`Driver::done`).
+pub fn done(driver: &mut Driver, todo: &FqTodo) -> u32
+    ensures { IsDone todo.now driver.old result driver.new }
+{
+    if todo.size < size_of::<FqTodo>() {
+        return status::BAD_SIZE;
+    }
+    report(driver, todo.number, todo.packets)
+}
+
+fn has_device(driver: &Driver, device: u32) -> bool
+    ensures { result ≡ nat_lt device (length (driver_devices driver.now)) }
+{
+    (device as usize) < driver.len()
+}
+
+/// Reports an interrupt of a card (`Driver::interrupt`).
+pub fn interrupt(driver: &mut Driver, device: u32) -> u32
+    ensures { IsInterrupt device driver.old result driver.new }
+{
+    if !has_device(driver, device) {
+        return status::BAD_DEVICE;
+    }
+    match driver.interrupt(device) {
+        Prep::Granted => status::GRANTED,
+        Prep::Missed => status::MISSED,
+        Prep::Disabled => status::DISABLED,
+    }
+}
+
+/// Opens a device (`Driver::open`).
+pub fn open(driver: &mut Driver, device: u32) -> u32
+    ensures { IsOpen device driver.old result driver.new }
+{
+    if !has_device(driver, device) {
+        return status::BAD_DEVICE;
+    }
+    match driver.open(device) {
+        Ok(()) => status::OK,
+        Err(_) => status::NOT_DUE,
+    }
+}
+
+/// Stops a device (`Driver::stop`).
+pub fn stop(driver: &mut Driver, device: u32) -> u32
+    ensures { IsStop device driver.old result driver.new }
+{
+    if !has_device(driver, device) {
+        return status::BAD_DEVICE;
+    }
+    match driver.stop(device) {
+        Ok(()) => status::OK,
+        Err(_) => status::NOT_DUE,
+    }
+}
+
+// The number of a device's state (`enum fq_device_state`).
+fn state_of(device: DriverDevice) -> u32
+    ensures { result ≡ state_in device.stage }
+{
+    if device.stage == Stage::Closed {
+        return 0;
+    }
+    if device.is_stopping() { 2 } else { 1 }
+}
+
+/// Sets `shown` to the state and the counts of a device.
+pub fn show(driver: &Driver, device: u32, shown: &mut FqDeviceShown) -> u32
+    ensures { IsShow shown.old shown.new device driver.now result driver.now }
+{
+    if shown.size < size_of::<FqDeviceShown>() {
+        return status::BAD_SIZE;
+    }
+    if !has_device(driver, device) {
+        return status::BAD_DEVICE;
+    }
+    let is = driver.device(device);
+    let counts = driver.counts(device);
+    *shown = FqDeviceShown {
+        size: shown.size,
+        state: state_of(is),
+        scheduled: is.is_scheduled(),
+        missed: is.missed,
+        polls: counts.polls,
+        packets: counts.packets,
+    };
+    status::OK
+}

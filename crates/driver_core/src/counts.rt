@@ -1,0 +1,31 @@
+//! The counts of a device's polls.
+
+ghost use Rattle.std.specs.Prelude.{◌≡◌};
+ghost use Rattle.driver_core.specs.Counts.{counting};
+
+/// The counts of a device's polls, since the driver was created.
+#[derive(Clone, Copy, Debug, PartialEq, Eq)]
+pub struct PollCounts {
+    /// The polls that were reported. It saturates.
+    pub polls: u64,
+    /// Their packets. It saturates.
+    pub packets: u64,
+}
+
+impl PollCounts {
+    /// No polls.
+    pub const NONE: PollCounts = PollCounts {
+        polls: 0,
+        packets: 0,
+    };
+
+    // After one more poll, of so many packets.
+    pub(crate) fn and(self, packets: u32) -> PollCounts
+        ensures { result ≡ counting packets self }
+    {
+        PollCounts {
+            polls: self.polls.saturating_add(1),
+            packets: self.packets.saturating_add(u64::from(packets)),
+        }
+    }
+}

@@ -1,0 +1,102 @@
+//! The devices of a driver, and which of them have something to be done at their cards.
+
+ghost use Rattle.std.specs.Prelude.{◌≡◌, ◌≢◌, ◌≤◌, ◌<◌, ℕ, length, if◌then◌else◌, IfOk, IfNone, IfSome, Some, None, replicate, slice_set, slice_index_or, false};
+ghost use Rattle.std.specs.List.{All};
+ghost use Rattle.std.specs.Int.{bit_at};
+ghost use Rattle.driver_core.specs.Device.{in_stage, chore_at};
+ghost use Rattle.driver_core.specs.declared.device.Stage.TheVariants.{Closed};
+ghost use Rattle.driver_core.specs.Queue.{device_at, MarksChores};
+
+use crate::device::{Chore, DriverDevice};
+use std::alloc::{AllocError, Global};
+
+/// At most 64 devices.
+#[derive(Drop)]
+pub struct Devices {
+    pub(crate) all: Vec<DriverDevice>,
+    // Bit n is set if something is to be done at the card of device n, so that the first one is found at once.
+    chores: u64,
+    ghost few: { length all.items ≤ 64 },
+    ghost marks: { MarksChores all.items chores },
+}
+
+fn set_bit(bits: u64, device: u32) -> u64
+    requires { device < 64 }
+    ensures same { bit_at result device ≡ 1 }
+    ensures others { (k : ℕ) → k < 64 → k ≢ device → bit_at result k ≡ bit_at bits k }
+{
+    bits | 1u64 << device
+}
+
+fn clear_bit(bits: u64, device: u32) -> u64
+    requires { device < 64 }
+    ensures same { bit_at result device ≡ 0 }
+    ensures others { (k : ℕ) → k < 64 → k ≢ device → bit_at result k ≡ bit_at bits k }
+{
+    bits & !(1u64 << device)
+}
+
+// These bits, with that of one device set or cleared.
+fn with_bit(bits: u64, device: u32, on: bool) -> u64
+    requires { device < 64 }
+    ensures same { bit_at result device ≡ (if on then 1 else 0) }
+    ensures others { (k : ℕ) → k < 64 → k ≢ device → bit_at result k ≡ bit_at bits k }
+{
+    if on {
+        set_bit(bits, device)
+    } else {
+        clear_bit(bits, device)
+    }
+}
+
+impl Devices {
+    // So many closed devices.
+    #[tactic(auto, using(crate::proofs::ChoreFacts::new_marks))]
+    pub(crate) fn new(alloc: Global, count: u32) -> Result<Devices, AllocError>
+        requires { count ≤ 64 }
+        ensures { IfOk result (λ devices. devices.all.items
+            ≡ replicate count (in_stage Closed false)) }
+    {
+        Ok(Devices {
+            all: vec![in alloc; DriverDevice::NEW; count as usize]?,
+            chores: 0,
+        })
+    }
+
+    // A device, by its number.
+    pub(crate) fn get(&self, device: u32) -> DriverDevice
+        requires { device < length self.now.all.items }
+        ensures { result ≡ device_at self.now.all.items device }
+    {
+        self.all[device as usize]
+    }
+
+    // A device is so now.
+    #[tactic(auto, using(crate::proofs::ChoreFacts::put_marks))]
+    pub(crate) fn put(&mut self, device: u32, to: DriverDevice)
+        requires { device < length self.old.all.items }
+        ensures { self.new.all.items ≡ slice_set self.old.all.items device to }
+    {
+        self.all[device as usize] = to;
+        self.chores = with_bit(self.chores, device, to.chore().is_some());
+    }
+
+    // The first device at whose card something is to be done, and what.
+    #[tactic(auto, using(crate::proofs::ChoreFacts::first_in, crate::proofs::ChoreFacts::none_in))]
+    pub(crate) fn first_chore(&self) -> Option<(u32, Chore)>
+        ensures none { IfNone result
+            (All (λ device. chore_at device.stage ≡ None) self.now.all.items) }
+        ensures range { IfSome result (λ found. found.0 < length self.now.all.items) }
+        ensures found { IfSome result
+            (λ found. chore_at (device_at self.now.all.items found.0).stage ≡ Some found.1) }
+    {
+        if self.chores == 0 {
+            return None;
+        }
+        let device = self.chores.trailing_zeros();
+        match self.all[device as usize].chore() {
+            Some(chore) => Some((device, chore)),
+            None => unreachable!(),
+        }
+    }
+}

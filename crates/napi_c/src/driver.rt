@@ -1,0 +1,214 @@
+//! Drivers for C.
+ghost use Rattle.std.specs.Prelude.{◌≡◌, ◌≢◌, ◌↔◌, IsSome, IfOk, IfErr};
+ghost use Rattle.c_handles.specs.Drivers.{IsDone, IsInterrupt, IsNewDriver, IsNext, IsOpen, IsShow, IsStop, new_status};
+ghost use Rattle.c_handles.specs.Handles.{DriverMakes, DriverMakesIn, LeadsToDriver};
+ghost use Rattle.c_handles.specs.Status.{OK, IN_USE, OUT_OF_MEMORY, BAD_HANDLE};
+
+use c_handles::{FqDeviceShown, FqHandle, FqTodo, Object, drive, status};
+use driver_core::{Driver, Limits};
+use std::alloc::{AllocError, Global};
+
+// A driver as the object of a handle.
+fn boxed(alloc: Global, devices: u32, limits: Limits) -> Result<Box<Object, Global>, AllocError>
+    requires { devices ≤ 64 }
+    ensures { IfOk result (λ b. IsDriverWith
+        (IsNewDriver devices limits.budget limits.weight limits.window) b.value) }
+{
+    let driver = Driver::new(alloc, devices, limits)?;
+    let driver = Box::new(alloc, driver)?;
+    Box::new(alloc, Object::Driver(driver))
+}
+
+/// Makes a driver of so many devices, all closed.
+#[unsafe(no_mangle)]
+pub extern "C" fn fq_driver_new(
+    alloc: Global,
+    handle: &mut FqHandle,
+    devices: u32,
+    budget: u32,
+    weight: u32,
+    window: u32,
+) -> u32
+    ensures made { result ≡ OK → LeadsToDriver (IsNewDriver devices budget weight window)
+        handle.new.held.body }
+    ensures kept { result ≢ OK → handle.new ≡ handle.old }
+    ensures in_use { (result ≡ IN_USE) ↔ IsSome handle.old.held.body }
+    ensures status { result ≢ IN_USE → result ≢ OUT_OF_MEMORY
+        → result ≡ new_status devices budget weight window }
+{
+    if handle.is_set() {
+        return status::IN_USE;
+    }
+    if devices == 0 || devices > 64 {
+        return status::BAD_COUNT;
+    }
+    if weight == 0 || weight > 64 {
+        return status::BAD_WEIGHT;
+    }
+    if budget == 0 || budget > 65535 || window == 0 || window > 65535 {
+        return status::BAD_BUDGET;
+    }
+    let limits = Limits {
+        budget,
+        weight,
+        window,
+    };
+    match boxed(alloc, devices, limits) {
+        Ok(body) => {
+            handle.put(body);
+            status::OK
+        }
+        Err(_) => status::OUT_OF_MEMORY,
+    }
+}
+
+fn open_in(at: &mut Object, device: u32) -> u32
+    ensures { DriverMakesIn (IsOpen device) at.old result at.new }
+{
+    match at {
+        Object::Driver(driver) => drive::open(driver, device),
+        _ => status::BAD_HANDLE,
+    }
+}
+
+/// Opens a device, like `Driver::open`.
+#[unsafe(no_mangle)]
+pub extern "C" fn fq_driver_open(alloc: Global, handle: &mut FqHandle, device: u32) -> u32
+    ensures { DriverMakes (IsOpen device) handle.old result handle.new }
+{
+    let Some(mut boxed) = handle.take(alloc) else {
+        return status::BAD_HANDLE;
+    };
+    let status = open_in(&mut *boxed, device);
+    handle.put(boxed);
+    status
+}
+
+fn stop_in(at: &mut Object, device: u32) -> u32
+    ensures { DriverMakesIn (IsStop device) at.old result at.new }
+{
+    match at {
+        Object::Driver(driver) => drive::stop(driver, device),
+        _ => status::BAD_HANDLE,
+    }
+}
+
+/// Stops a device, like `Driver::stop`.
+#[unsafe(no_mangle)]
+pub extern "C" fn fq_driver_stop(alloc: Global, handle: &mut FqHandle, device: u32) -> u32
+    ensures { DriverMakes (IsStop device) handle.old result handle.new }
+{
+    let Some(mut boxed) = handle.take(alloc) else {
+        return status::BAD_HANDLE;
+    };
+    let status = stop_in(&mut *boxed, device);
+    handle.put(boxed);
+    status
+}
+
+fn interrupt_in(at: &mut Object, device: u32) -> u32
+    ensures { DriverMakesIn (IsInterrupt device) at.old result at.new }
+{
+    match at {
+        Object::Driver(driver) => drive::interrupt(driver, device),
+        _ => status::BAD_HANDLE,
+    }
+}
+
+/// Reports an interrupt of a device's card, like `Driver::interrupt`.
+#[unsafe(no_mangle)]
+pub extern "C" fn fq_driver_interrupt(alloc: Global, handle: &mut FqHandle, device: u32) -> u32
+    ensures { DriverMakes (IsInterrupt device) handle.old result handle.new }
+{
+    let Some(mut boxed) = handle.take(alloc) else {
+        return status::BAD_HANDLE;
+    };
+    let status = interrupt_in(&mut *boxed, device);
+    handle.put(boxed);
+    status
+}
+
+// Without a driver there is nothing to be done.
+fn sleeps(todo: &mut FqTodo) -> u32
+    ensures status { result ≡ BAD_HANDLE }
+    ensures sleeps { todo.new ≡ record todo.old { number = 0; what = 0 } }
+{
+    todo.number = 0;
+    todo.what = 0;
+    status::BAD_HANDLE
+}
+
+fn next_in(at: &mut Object, todo: &mut FqTodo) -> u32
+    ensures makes { DriverMakesIn (IsNext todo.old todo.new) at.old result at.new }
+    ensures none { result ≡ BAD_HANDLE → todo.new ≡ record todo.old { number = 0; what = 0 } }
+{
+    match at {
+        Object::Driver(driver) => drive::next(driver, todo),
+        _ => sleeps(todo),
+    }
+}
+
+/// Sets what is to be done next, like `Driver::next`.
+#[unsafe(no_mangle)]
+pub extern "C" fn fq_driver_next(alloc: Global, handle: &mut FqHandle, todo: &mut FqTodo) -> u32
+    ensures makes { DriverMakes (IsNext todo.old todo.new) handle.old result handle.new }
+    ensures none { result ≡ BAD_HANDLE → todo.new ≡ record todo.old { number = 0; what = 0 } }
+{
+    let Some(mut boxed) = handle.take(alloc) else {
+        return sleeps(todo);
+    };
+    let status = next_in(&mut *boxed, todo);
+    handle.put(boxed);
+    status
+}
+
+fn done_in(at: &mut Object, todo: &FqTodo) -> u32
+    ensures { DriverMakesIn (IsDone todo.now) at.old result at.new }
+{
+    match at {
+        Object::Driver(driver) => drive::done(driver, todo),
+        _ => status::BAD_HANDLE,
+    }
+}
+
+/// Reports what was done, like `Driver::done`.
+#[unsafe(no_mangle)]
+pub extern "C" fn fq_driver_done(alloc: Global, handle: &mut FqHandle, todo: &FqTodo) -> u32
+    ensures { DriverMakes (IsDone todo.now) handle.old result handle.new }
+{
+    let Some(mut boxed) = handle.take(alloc) else {
+        return status::BAD_HANDLE;
+    };
+    let status = done_in(&mut *boxed, todo);
+    handle.put(boxed);
+    status
+}
+
+fn show_in(at: &Object, device: u32, shown: &mut FqDeviceShown) -> u32
+    ensures makes { DriverMakesIn (IsShow shown.old shown.new device) at.now result at.now }
+    ensures none { result ≢ OK → shown.new ≡ shown.old }
+{
+    match at {
+        Object::Driver(driver) => drive::show(driver, device, shown),
+        _ => status::BAD_HANDLE,
+    }
+}
+
+/// Sets the state and the counts of a device.
+#[unsafe(no_mangle)]
+pub extern "C" fn fq_driver_show(
+    alloc: Global,
+    handle: &mut FqHandle,
+    device: u32,
+    shown: &mut FqDeviceShown,
+) -> u32
+    ensures makes { DriverMakes (IsShow shown.old shown.new device) handle.old result handle.new }
+    ensures none { result ≢ OK → shown.new ≡ shown.old }
+{
+    let Some(boxed) = handle.take(alloc) else {
+        return status::BAD_HANDLE;
+    };
+    let status = show_in(&*boxed, device, shown);
+    handle.put(boxed);
+    status
+}

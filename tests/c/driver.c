@@ -1,0 +1,223 @@
+/* driver: a driver as C uses it. Random calls, also under wrong numbers and sizes, beside cards that lose each interrupt while they are
+ * masked, and packets that arrive at any time: whenever the driver says to sleep, each open card is unmasked and has no packets, or an
+ * interrupt that wasn't reported, each closed one is masked, and what returns FQ_NOT_DUE or an error has changed nothing. And a driver
+ * program, which polls all packets in order. It exits with 9 if something is wrong. */
+#include <fintaqush.h>
+#include <stdio.h>
+#include <stdlib.h>
+#include <string.h>
+
+static uint64_t seed;
+static long calls;
+
+static void want(bool holds, const char *what) {
+    if (holds) return;
+    fprintf(stderr, "driver: %s, call %ld\n", what, calls);
+    exit(9);
+}
+
+static uint32_t below(uint32_t n) {
+    seed = seed * UINT64_C(6364136223846793005) + UINT64_C(1442695040888963407);
+    return (uint32_t)(seed >> 33) % n;
+}
+
+/* ---- the cards */
+
+enum { DEVICES = 64 };
+static struct card {
+    bool masked, interrupting;
+    uint64_t packets, taken;
+} cards[DEVICES];
+
+static void arrives(struct card *card) {
+    card->packets++;
+    if (!card->masked) card->interrupting = true;
+}
+
+/* Does what *todo says, at the card. */
+static void act(struct fq_todo *todo) {
+    struct card *const card = &cards[todo->device];
+    switch (todo->what) {
+    case FQ_TODO_MASK: card->masked = true; break;
+    case FQ_TODO_UNMASK: card->masked = false; break;
+    case FQ_TODO_LOOK: todo->packets = card->packets > 0; break;
+    case FQ_TODO_FETCH:
+        todo->packets = card->packets < todo->most ? (uint32_t)card->packets : todo->most;
+        card->packets -= todo->packets;
+        card->taken += todo->packets;
+        break;
+    default: break;
+    }
+}
+
+/* ---- random calls */
+
+static struct fq_device_shown shown_of(struct fq_handle *driver, uint32_t device) {
+    struct fq_device_shown shown = {sizeof shown, 9, true, true, 9, 9};
+    want(fq_driver_show(driver, device, &shown) == FQ_OK && shown.state <= FQ_DEVICE_STOPPING, "what a device shows");
+    return shown;
+}
+
+static bool same_shown(struct fq_device_shown a, struct fq_device_shown b) {
+    return a.state == b.state && a.scheduled == b.scheduled && a.missed == b.missed && a.polls == b.polls && a.packets == b.packets;
+}
+
+/* Nothing that is refused changes what is due, or the device. */
+static void refused(struct fq_handle *driver, uint32_t device, uint32_t said, uint32_t wanted, const struct fq_todo *due, struct fq_device_shown before) {
+    struct fq_todo again = FQ_TODO_INIT;
+    want(said == wanted, "the status of a call that is refused");
+    want(same_shown(shown_of(driver, device), before), "a refused call changed a device");
+    if (due->number == 0) return;
+    want(fq_driver_next(driver, &again) == FQ_OK && again.number == due->number && again.what == due->what && again.device == due->device,
+         "a refused call changed what is due");
+}
+
+static void tries_what_is_refused(struct fq_handle *driver, uint32_t devices, const struct fq_todo *due) {
+    const uint32_t device = below(devices);
+    const struct fq_device_shown before = shown_of(driver, device);
+    struct fq_todo old = *due, small = *due;
+    struct fq_device_shown none = {sizeof none - 1, 0, false, false, 0, 0};
+    old.number += 1 + below(3);
+    small.size--;
+    refused(driver, device, fq_driver_done(driver, &old), FQ_NOT_DUE, due, before);
+    refused(driver, device, fq_driver_done(driver, &small), FQ_BAD_SIZE, due, before);
+    refused(driver, device, fq_driver_next(driver, &small), FQ_BAD_SIZE, due, before);
+    refused(driver, device, fq_driver_open(driver, devices), FQ_BAD_DEVICE, due, before);
+    refused(driver, device, fq_driver_stop(driver, UINT32_MAX), FQ_BAD_DEVICE, due, before);
+    refused(driver, device, fq_driver_interrupt(driver, devices), FQ_BAD_DEVICE, due, before);
+    refused(driver, device, fq_driver_show(driver, devices, &none), FQ_BAD_SIZE, due, before);
+    if (before.state != FQ_DEVICE_CLOSED) refused(driver, device, fq_driver_open(driver, device), FQ_NOT_DUE, due, before);
+    if (before.state != FQ_DEVICE_OPEN) refused(driver, device, fq_driver_stop(driver, device), FQ_NOT_DUE, due, before);
+    if (due->what == FQ_TODO_FETCH) {
+        struct fq_todo many = *due;
+        many.packets = due->most + 1;
+        refused(driver, device, fq_driver_done(driver, &many), FQ_BAD_WORK, due, before);
+    }
+}
+
+static void interrupts(struct fq_handle *driver, uint32_t device) {
+    if (!cards[device].interrupting) return;
+    const struct fq_device_shown before = shown_of(driver, device);
+    const uint32_t said = fq_driver_interrupt(driver, device);
+    const uint32_t wanted = before.state == FQ_DEVICE_STOPPING ? FQ_DISABLED : before.scheduled ? FQ_MISSED : FQ_GRANTED;
+    want(said == wanted, "the reply to an interrupt");
+    cards[device].interrupting = false;
+}
+
+/* What the driver says is done and reported, perhaps after other calls, or forgotten. */
+static bool one_thing(struct fq_handle *driver, uint32_t devices) {
+    struct fq_todo todo = FQ_TODO_INIT;
+    want(fq_driver_next(driver, &todo) == FQ_OK && todo.device < devices && todo.packets == 0, "what is said");
+    want((todo.number == 0) == (todo.what == FQ_TODO_SLEEP || todo.what == FQ_TODO_ENDED), "what has a number");
+    if (below(8) == 0) tries_what_is_refused(driver, devices, &todo);
+    if (below(16) == 0) return todo.what != FQ_TODO_SLEEP;
+    act(&todo);
+    const uint32_t device = below(4) ? todo.device : below(devices);
+    if (below(4) == 0) arrives(&cards[device]);
+    if (below(4) == 0) interrupts(driver, device);
+    if (below(16) == 0) (void)!fq_driver_stop(driver, device);
+    if (below(16) == 0) (void)!fq_driver_open(driver, device);
+    const uint32_t said = fq_driver_done(driver, &todo);
+    want(said == FQ_OK || said == FQ_NOT_DUE, "a report");
+    return todo.what != FQ_TODO_SLEEP;
+}
+
+static void rests(struct fq_handle *driver, uint32_t devices) {
+    struct fq_todo todo = FQ_TODO_INIT;
+    if (fq_driver_next(driver, &todo) != FQ_OK || todo.what != FQ_TODO_SLEEP) return;
+    for (uint32_t i = 0; i < devices; i++) {
+        const struct fq_device_shown shown = shown_of(driver, i);
+        want(shown.state != FQ_DEVICE_STOPPING, "sleeps in a stop");
+        if (shown.state == FQ_DEVICE_CLOSED) want(cards[i].masked, "a closed card is unmasked");
+        else want(!cards[i].masked && (cards[i].packets == 0 || cards[i].interrupting), "sleeps with packets");
+    }
+}
+
+static void random_calls(uint32_t devices, uint32_t budget, uint32_t weight, uint32_t window) {
+    struct fq_handle driver = FQ_NONE;
+    want(fq_driver_new(&driver, devices, budget, weight, window) == FQ_OK, "a driver");
+    for (uint32_t i = 0; i < DEVICES; i++) cards[i] = (struct card){true, false, 0, 0};
+    for (calls = 0; calls < 200000; calls++) {
+        const uint32_t device = below(devices);
+        switch (below(8)) {
+        case 0: arrives(&cards[device]); break;
+        case 1: interrupts(&driver, device); break;
+        case 2: (void)!(below(64) ? fq_driver_open(&driver, device) : fq_driver_stop(&driver, device)); break;
+        default: (void)one_thing(&driver, devices); break;
+        }
+        if (below(32) == 0) rests(&driver, devices);
+    }
+    for (uint32_t i = 0; i < devices; i++) interrupts(&driver, i);
+    struct fq_todo todo = FQ_TODO_INIT;
+    for (long more = 0; fq_driver_next(&driver, &todo) == FQ_OK && todo.what != FQ_TODO_SLEEP; more++) {
+        act(&todo);
+        want(fq_driver_done(&driver, &todo) == FQ_OK && more < 10000000, "it comes to rest");
+    }
+    rests(&driver, devices);
+    for (uint32_t i = 0; i < devices; i++)
+        if (shown_of(&driver, i).state == FQ_DEVICE_OPEN) want(cards[i].packets == 0, "packets are left");
+    want(fq_free(&driver) == FQ_OK, "the end");
+}
+
+/* ---- a driver program */
+
+static uint64_t fetched_next, polled_in_all;
+
+static void program(void) {
+    struct fq_handle driver = FQ_NONE;
+    struct fq_todo todo = FQ_TODO_INIT;
+    uint32_t squeezed = 0, runs = 0;
+    want(fq_driver_new(&driver, 2, 128, 64, 10) == FQ_OK && fq_driver_open(&driver, 1) == FQ_OK, "a driver");
+    memset(cards, 0, sizeof cards);
+    cards[0].masked = cards[1].masked = true;
+    cards[1].packets = 1000;
+    while (fq_driver_next(&driver, &todo), todo.what != FQ_TODO_SLEEP) {
+        act(&todo);
+        if (todo.what == FQ_TODO_FETCH) fetched_next += todo.packets;
+        if (todo.what == FQ_TODO_ENDED) runs++, squeezed += todo.run.squeezed, polled_in_all += todo.run.work;
+        fq_driver_done(&driver, &todo);
+    }
+    const struct fq_device_shown shown = shown_of(&driver, 1);
+    want(fetched_next == 1000 && polled_in_all == 1000 && shown.packets == 1000 && shown.polls == 16, "each packet once");
+    want(runs == 8 && squeezed == 7 && shown.state == FQ_DEVICE_OPEN && !shown.scheduled && !cards[1].masked, "its runs");
+    want(fq_driver_stop(&driver, 1) == FQ_OK, "a stop");
+    while (fq_driver_next(&driver, &todo), todo.what != FQ_TODO_SLEEP) {
+        act(&todo);
+        fq_driver_done(&driver, &todo);
+    }
+    want(shown_of(&driver, 1).state == FQ_DEVICE_CLOSED && cards[1].masked, "it is closed");
+    want(fq_abandon(&driver) == FQ_OK, "the end");
+}
+
+static void without_a_driver(void) {
+    struct fq_handle none = FQ_NONE, list = FQ_NONE;
+    struct fq_todo todo = FQ_TODO_INIT;
+    struct fq_device_shown shown = {sizeof shown, 0, false, false, 0, 0};
+    want(fq_list_new(&list) == FQ_OK, "a list");
+    for (int i = 0; i < 2; i++) {
+        struct fq_handle *const handle = i ? &list : &none;
+        todo.what = FQ_TODO_FETCH, todo.number = 7;
+        want(fq_driver_done(handle, &todo) == FQ_BAD_HANDLE, "a report without a driver");
+        want(fq_driver_next(handle, &todo) == FQ_BAD_HANDLE && todo.what == FQ_TODO_SLEEP && todo.number == 0, "it sleeps");
+        want(fq_driver_open(handle, 0) == FQ_BAD_HANDLE && fq_driver_stop(handle, 0) == FQ_BAD_HANDLE, "an open without a driver");
+        want(fq_driver_interrupt(handle, 0) == FQ_BAD_HANDLE && fq_driver_show(handle, 0, &shown) == FQ_BAD_HANDLE, "an interrupt");
+    }
+    want(fq_driver_new(&list, 1, 300, 64, 10) == FQ_IN_USE, "a driver in place of a list");
+    want(fq_driver_new(&none, 0, 0, 0, 0) == FQ_BAD_COUNT && fq_driver_new(&none, 65, 0, 0, 0) == FQ_BAD_COUNT, "too many devices");
+    want(fq_driver_new(&none, 1, 0, 65, 0) == FQ_BAD_WEIGHT && fq_driver_new(&none, 1, 300, 0, 10) == FQ_BAD_WEIGHT, "a weight");
+    want(fq_driver_new(&none, 1, 65536, 64, 10) == FQ_BAD_BUDGET && fq_driver_new(&none, 1, 300, 64, 0) == FQ_BAD_BUDGET, "a budget");
+    want(fq_free(&list) == FQ_OK, "the end");
+}
+
+int main(int argc, char **argv) {
+    seed = argc > 1 ? strtoull(argv[1], NULL, 10) : 1;
+    without_a_driver();
+    program();
+    random_calls(1, 3, 2, 2);
+    random_calls(1, 300, 64, 1024);
+    random_calls(3, 300, 64, 10);
+    random_calls(DEVICES, 300, 64, 10);
+    random_calls(DEVICES, 1, 1, 1);
+    puts("a driver never sleeps with work left");
+    return 0;
+}
