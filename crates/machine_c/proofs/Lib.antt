@@ -1,1 +1,2 @@
 mod FlagFacts
+mod OutsideFacts
