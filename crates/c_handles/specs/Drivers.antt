@@ -1,15 +1,15 @@
 -- A driver for C: what it says, as numbers, and the status and the effect of each call.
-use Rattle.std.specs.Prelude.{◌≡◌, ◌≢◌, ◌⊎◌, ◌↔◌, ℕ, ◌<◌, ◌≤◌, ◌==◌, ◌||◌, Bool, true, false, not, nat_le, nat_lt, if◌then◌else◌}
-use Rattle.std.specs.{Prelude.{length, IsSome}, List.All}
+use Rattle.std.specs.Prelude.{◌≡◌, ◌≢◌, ◌⊎◌, ◌↔◌, ℕ, ◌<◌, ◌≤◌, ◌==◌, ◌||◌, false, nat_le, if◌then◌else◌}
+use Rattle.std.specs.Prelude.{length, IsSome}
 use Rattle.napi_model.specs.declared.event.Prep.{Prep, TheVariants.{Granted, Missed, Disabled}}
 use Rattle.napi_model.specs.Step.{schedule_reply}
 use Rattle.driver_core.specs.{Device.{interrupted, is_stopping, opened, stopped, MayStop}, Steps.{is_scheduled, napi_of}}
 use Rattle.driver_core.specs.Driver.{counts_of, device_of, devices_of, limits_of, number_of, polled_in, stage_of}
 use Rattle.driver_core.specs.Driver.{AreClosed, IsDue, IsFree, IsIdle, IsNumberedAs, IsReport, Puts, Reports}
-use Rattle.driver_core.specs.declared.{driver.Driver.Driver, limits.Limits.Limits, device.Stage.{Stage, TheVariants.Closed}}
+use Rattle.driver_core.specs.declared.{driver.Driver.Driver, device.Stage.{Stage, TheVariants.Closed}}
 use Rattle.driver_core.specs.declared.todo.What.{What, TheVariants.{Mask, Unmask, Look, Fetch, Ended, Sleep}}
-use Rattle.c_handles.specs.Status.{OK, GRANTED, MISSED, DISABLED, NOT_DUE, BAD_DEVICE, BAD_SIZE, BAD_WORK, BAD_COUNT, BAD_WEIGHT}
-use Rattle.c_handles.specs.{Status.BAD_BUDGET, declared.{lister.FqRunReport.FqRunReport, drive.{FqTodo.FqTodo, FqDeviceShown.FqDeviceShown}}}
+use Rattle.c_handles.specs.Status.{OK, GRANTED, MISSED, DISABLED, NOT_DUE, BAD_DEVICE, BAD_SIZE, BAD_WORK, BAD_COUNT}
+use Rattle.c_handles.specs.{Status.{BAD_BUDGET, BAD_WEIGHT}, declared.{lister.FqRunReport.FqRunReport, drive.{FqTodo.FqTodo, FqDeviceShown.FqDeviceShown}}}
 
 -- ---- a new driver
 

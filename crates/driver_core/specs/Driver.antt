@@ -10,7 +10,8 @@ use Rattle.driver_core.specs.declared.device.{Chore.Chore, Device.Device, Stage.
 use Rattle.driver_core.specs.declared.device.Chore.TheVariants as chore
 use Rattle.driver_core.specs.{Counts.{counting, no_counts}, declared.counts.PollCounts.PollCounts}
 use Rattle.driver_core.specs.{Device.{at, chore_at, did, is_listed, polled, IsAtRest}, Queue.{device_at, following}}
-use Rattle.driver_core.specs.declared.{driver.Driver.Driver, todo.{Todo.Todo, What.{What, TheVariants.{Mask, Unmask, Look, Fetch, Ended, Sleep}}}}
+use Rattle.driver_core.specs.declared.{driver.Driver.Driver, todo.Todo.Todo}
+use Rattle.driver_core.specs.declared.todo.What.{What, TheVariants.{Mask, Unmask, Look, Fetch, Ended, Sleep}}
 
 abbrev pub devices_of : Driver → List Device
 devices_of driver = driver.devices.all.items
