@@ -14,10 +14,10 @@ TOP = pathlib.Path(__file__).resolve().parent.parent
 PLACES = {
     "device_rows/src/fault.rt": (2, "`From<AllocError>`: the growth that `?` passes on; `ReadError::OutOfMemory` of the reader"),
     "device_rows/src/source.rt": (2, "`From<AllocError>`; a read with `ErrorKind::OutOfMemory`, of the reader's own buffer"),
-    "device_rows/src/trace.rt": (2, "the next record: `Next::OutOfMemory`"),
+    "device_rows/src/trace.rt": (2, "the next record: `NextRecord::OutOfMemory`"),
     "device_shared/src/opening.rt": (2, "the ring, the instance"),
     "device_transmit/src/transmit.rt": (1, "the transmit ring"),
-    "machine_report/src/arrivals.rt": (2, "the next record: `Next::OutOfMemory`"),
+    "machine_report/src/arrivals.rt": (2, "the next record: `NextRecord::OutOfMemory`"),
     "machine_report/src/fault.rt": (2, "`From<AllocError>`; `ReadError::OutOfMemory` of the reader"),
     "napi_c/src/ends.rt": (1, "a box"),
     "napi_c/src/list.rt": (2, "a box, the list"),

@@ -4,7 +4,7 @@ ghost use Rattle.napi_calls.specs.Instance.{IsSeatOf};
 
 use crate::tally::{PLACES, ReceivedCounts, packet};
 use anyhow::Result;
-use napi_calls::{Caller, Completed, Kept, Napi, NewBack, Polling, Sched, next_caller};
+use napi_calls::{Caller, Completed, DropBomb, Napi, NewBack, Polling, Sched, next_caller};
 use napi_model::Kind;
 use rx_ring::{Batch, Packet, RxIn, ring};
 use std::alloc::Global;
@@ -119,8 +119,8 @@ fn serve<R: Threads + Wait + Copy + Drop + Send>(
     let (first, poller) = seats;
     let ended = AtomicBool::new(false);
     let end = &ended;
-    let first = Kept::new(rt, first);
-    let poller = Kept::new(rt, poller);
+    let first = DropBomb::new(rt, first);
+    let poller = DropBomb::new(rt, poller);
     // If no thread can be started, the second closure is called first, and waits forever once the ring is full.
     let ((poller, tally), first) = join(
         &rt,

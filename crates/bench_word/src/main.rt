@@ -10,7 +10,7 @@ mod turns;
 mod typed;
 
 use anyhow::{Context, Result};
-use opened::Opened;
+use opened::OpenedWord;
 use rx_ring::ring;
 use std::env;
 use std::time::Instant;
@@ -23,7 +23,7 @@ fn main(rt: HostRuntime) -> Result<()> {
         .context("a number of turns is wanted")?;
     let turns: u64 = word.as_str().parse().context("the number of turns")?;
     let (_input, ctx) = ring(rt.alloc(), 4)?;
-    let mut opened = Opened::enabled(rt.alloc(), ctx).context("no memory")?;
+    let mut opened = OpenedWord::enabled(rt.alloc(), ctx).context("no memory")?;
 
     let start = Instant::now(&rt)?;
     let Tally { polls, again, lost } = make_turns(&opened.table, &mut opened.poller, turns);

@@ -1,7 +1,7 @@
 //! A table that was enabled, with two passes that hold nothing.
 ghost use Rattle.std.specs.Prelude.{IfSome};
 ghost use Rattle.bench_word.specs.Ready.{IsReady};
-ghost use Rattle.napi_word.specs.Passes.{IsNew};
+ghost use Rattle.napi_word.specs.Passes.{IsNewPass};
 
 use napi_model::decode;
 use napi_word::{Pass, StateTable};
@@ -10,7 +10,7 @@ use std::alloc::Global;
 
 /// An instance, and the passes of two callers and its controller.
 #[derive(Drop)]
-pub struct Opened {
+pub struct OpenedWord {
     /// The instance's state word, and the slot of its poll context.
     pub table: StateTable,
     /// The pass that makes the cycles.
@@ -20,11 +20,11 @@ pub struct Opened {
     control: Pass,
 }
 
-impl Opened {
-    fn new(alloc: Global, ctx: RxCtx) -> Option<Opened>
-        ensures poller { IfSome result (λ o. IsNew o.table 2 ctx 0 o.poller) }
-        ensures scheduler { IfSome result (λ o. IsNew o.table 2 ctx 1 o.scheduler) }
-        ensures control { IfSome result (λ o. IsNew o.table 2 ctx 2 o.control) }
+impl OpenedWord {
+    fn new(alloc: Global, ctx: RxCtx) -> Option<OpenedWord>
+        ensures poller { IfSome result (λ o. IsNewPass o.table 2 ctx 0 o.poller) }
+        ensures scheduler { IfSome result (λ o. IsNewPass o.table 2 ctx 1 o.scheduler) }
+        ensures control { IfSome result (λ o. IsNewPass o.table 2 ctx 2 o.control) }
     {
         let Ok((table, mut passes)) = StateTable::new(alloc, ctx, 3) else {
             return None;
@@ -37,7 +37,7 @@ impl Opened {
         };
         let last = passes.pop();
         let Some(poller) = last else { unreachable!() };
-        Some(Opened {
+        Some(OpenedWord {
             table,
             poller,
             scheduler,
@@ -46,11 +46,11 @@ impl Opened {
     }
 
     /// Makes a table of three passes, and enables it by the last of them. Returns `None` if an allocation fails.
-    pub fn enabled(alloc: Global, ctx: RxCtx) -> Option<Opened>
+    pub fn enabled(alloc: Global, ctx: RxCtx) -> Option<OpenedWord>
         ensures poller { IfSome result (λ o. IsReady o.table o.poller) }
         ensures scheduler { IfSome result (λ o. IsReady o.table o.scheduler) }
     {
-        let mut opened = Opened::new(alloc, ctx)?;
+        let mut opened = OpenedWord::new(alloc, ctx)?;
         // A new instance has SCHED and NPSVC.
         let disabled = decode(9)?;
         opened

@@ -1,6 +1,6 @@
 //! The cycles: each requests a poll, and polls if the instance waits on the list.
 ghost use Rattle.std.specs.Prelude.{false};
-ghost use Rattle.napi_word.specs.Passes.{IsWithin, Polls};
+ghost use Rattle.napi_word.specs.Passes.{IsSlotFilled, PassPolls};
 ghost use Rattle.bench_word.specs.Ready.{IsReady};
 
 use napi_model::{Done, Kind, Prep};
@@ -41,7 +41,7 @@ fn schedule(table: &StateTable, pass: &mut Pass, tally: &mut Tally)
 // would go back on the list.
 fn complete(table: &StateTable, pass: &mut Pass, tally: &mut Tally)
     requires ready { IsReady table.now pass.old }
-    requires polls { Polls false pass.old }
+    requires polls { PassPolls false pass.old }
     ensures { IsReady table.now pass.new }
 {
     let mut seen = table.look(pass);

@@ -5,10 +5,10 @@ use denote.Signature.{Slot, plain}
 use Rattle.{std_alloc.proofs.BoxSteps.Form.Bx, std_heap.specs.contracts.GlobalAllocator.TheImpl.{ghosts, dict}}
 use Rattle.std_heap.specs.contracts.Global as Heap
 use Rattle.std_heap.proofs.Global.TheLaws as heap
-use Rattle.c_handles.specs.contracts.body.Body as Body
-use Rattle.c_handles.proofs.body.Body.TheLaws as body
-use Rattle.c_handles.specs.contracts.parts.Parts as Parts
-use Rattle.c_handles.specs.contracts.held.Held as Held
+use Rattle.c_handles.specs.contracts.body.Object as Body
+use Rattle.c_handles.proofs.body.Object.TheLaws as body
+use Rattle.c_handles.specs.contracts.parts.RawBox as Parts
+use Rattle.c_handles.specs.contracts.held.OwnedPtr as Held
 
 abbrev pub E : Bx
 E = record {

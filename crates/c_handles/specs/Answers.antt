@@ -10,8 +10,8 @@ no_answers = record { granted = 0; missed = 0; disabled = 0; released = 0; again
 abbrev pub one_more : ℕ → ℕ → ℕ → ℕ
 one_more of said count = if said == of then capped (count + 1) else count
 
-abbrev pub counting : ℕ → FqAnswers → FqAnswers
-counting said a = record {
+abbrev pub count_answer : ℕ → FqAnswers → FqAnswers
+count_answer said a = record {
   granted = one_more GRANTED said a.granted;
   missed = one_more MISSED said a.missed;
   disabled = one_more DISABLED said a.disabled;

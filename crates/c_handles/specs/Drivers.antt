@@ -3,9 +3,9 @@ use Rattle.std.specs.Prelude.{◌≡◌, ◌≢◌, ◌⊎◌, ◌↔◌, ℕ, �
 use Rattle.std.specs.Prelude.{length, IsSome}
 use Rattle.napi_model.specs.declared.event.Prep.{Prep, TheVariants.{Granted, Missed, Disabled}}
 use Rattle.napi_model.specs.Step.{schedule_reply}
-use Rattle.driver_core.specs.{Device.{interrupted, is_stopping, opened, stopped, MayStop}, Steps.{is_scheduled, napi_of}}
-use Rattle.driver_core.specs.Driver.{counts_of, device_of, devices_of, limits_of, number_of, polled_in, stage_of}
-use Rattle.driver_core.specs.Driver.{AreClosed, IsDue, IsFree, IsIdle, IsNumberedAs, IsReport, Puts, Reports}
+use Rattle.driver_core.specs.{Device.{after_interrupt, is_stopping, after_open, after_stop, MayStop}, Steps.{stage_is_scheduled, napi_of}}
+use Rattle.driver_core.specs.Driver.{counts_of, device_of, driver_devices, limits_of, number_of, polled_device, stage_of}
+use Rattle.driver_core.specs.Driver.{AreClosed, IsDue, IsFree, IsIdle, IsNumberedAs, IsReport, PutsDevice, Reports}
 use Rattle.driver_core.specs.declared.{driver.Driver.Driver, device.Stage.{Stage, TheVariants.Closed}}
 use Rattle.driver_core.specs.declared.todo.What.{What, TheVariants.{Mask, Unmask, Look, Fetch, Ended, Sleep}}
 use Rattle.c_handles.specs.Status.{OK, GRANTED, MISSED, DISABLED, NOT_DUE, BAD_DEVICE, BAD_SIZE, BAD_WORK, BAD_COUNT}
@@ -71,7 +71,7 @@ pub record Says (size : ℕ) (d : Driver) (todo : FqTodo) (e : Driver) : Type 0 
   pub due : IsDue e what
   pub number : IsFree d → IsNumberedAs (number_of d) (number_of e) todo.number what
   pub again : ¬ IsFree d → (e ≡ d) × (todo.number ≡ number_of d)
-  pub devices : devices_of e ≡ devices_of d
+  pub devices : driver_devices e ≡ driver_devices d
   pub counts : e.counts ≡ d.counts
 
 -- of these structs the first is the caller's before, and the second after
@@ -86,7 +86,7 @@ pub record IsReported (number packets : ℕ) (d : Driver) (n : ℕ) (e : Driver)
   pub none : number ≡ 0 → (n ≡ OK) × (e ≡ d)
   pub due : number ≢ 0 → (n ≡ OK) ↔ IsReport number packets d
   pub reports : number ≢ 0 → n ≡ OK → Reports packets d e × IsFree e
-  pub many : number ≢ 0 → n ≢ OK → (n ≡ BAD_WORK) ↔ ((number ≡ number_of d) × IsSome (polled_in d))
+  pub many : number ≢ 0 → n ≢ OK → (n ≡ BAD_WORK) ↔ ((number ≡ number_of d) × IsSome (polled_device d))
   pub status : (n ≡ OK) ⊎ (n ≡ NOT_DUE) ⊎ (n ≡ BAD_WORK)
   pub kept : n ≢ OK → e ≡ d
 
@@ -100,7 +100,7 @@ pub record IsDone (todo : FqTodo) (d : Driver) (n : ℕ) (e : Driver) : Type 0 w
 
 -- for a number that isn't a device's
 pub record IsNoDevice (device : ℕ) (d : Driver) (n : ℕ) (e : Driver) : Type 0 where
-  pub bad : (n ≡ BAD_DEVICE) ↔ (length (devices_of d) ≤ device)
+  pub bad : (n ≡ BAD_DEVICE) ↔ (length (driver_devices d) ≤ device)
   pub kept : n ≡ BAD_DEVICE → e ≡ d
 
 abbrev pub reply_status : Prep → ℕ
@@ -111,20 +111,20 @@ reply_status Disabled = DISABLED
 pub record IsInterrupt (device : ℕ) (d : Driver) (n : ℕ) (e : Driver) : Type 0 where
   pub bad : IsNoDevice device d n e
   pub reply : n ≢ BAD_DEVICE → n ≡ reply_status (schedule_reply (napi_of (device_of d device)))
-  pub puts : n ≢ BAD_DEVICE → Puts device (interrupted (device_of d device)) d e
+  pub puts : n ≢ BAD_DEVICE → PutsDevice device (after_interrupt (device_of d device)) d e
 
 pub record IsOpen (device : ℕ) (d : Driver) (n : ℕ) (e : Driver) : Type 0 where
   pub bad : IsNoDevice device d n e
   pub status : (n ≡ OK) ⊎ (n ≡ NOT_DUE) ⊎ (n ≡ BAD_DEVICE)
   pub when : n ≢ BAD_DEVICE → (n ≡ OK) ↔ (stage_of d device ≡ Closed)
-  pub puts : n ≡ OK → Puts device (opened (device_of d device)) d e
+  pub puts : n ≡ OK → PutsDevice device (after_open (device_of d device)) d e
   pub kept : n ≢ OK → e ≡ d
 
 pub record IsStop (device : ℕ) (d : Driver) (n : ℕ) (e : Driver) : Type 0 where
   pub bad : IsNoDevice device d n e
   pub status : (n ≡ OK) ⊎ (n ≡ NOT_DUE) ⊎ (n ≡ BAD_DEVICE)
   pub when : n ≢ BAD_DEVICE → (n ≡ OK) ↔ MayStop (stage_of d device)
-  pub puts : n ≡ OK → Puts device (stopped (device_of d device)) d e
+  pub puts : n ≡ OK → PutsDevice device (after_stop (device_of d device)) d e
   pub kept : n ≢ OK → e ≡ d
 
 -- ---- what is shown of a device (`struct fq_device_shown`)
@@ -138,7 +138,7 @@ abbrev pub shown_of : ℕ → Driver → ℕ → FqDeviceShown
 shown_of size d device = record {
   size = size;
   state = state_in (stage_of d device);
-  scheduled = is_scheduled (stage_of d device);
+  scheduled = stage_is_scheduled (stage_of d device);
   missed = (device_of d device).missed;
   polls = (counts_of d device).polls;
   packets = (counts_of d device).packets;
@@ -146,7 +146,7 @@ shown_of size d device = record {
 
 pub record IsShow (before after : FqDeviceShown) (device : ℕ) (d : Driver) (n : ℕ) (e : Driver) : Type 0 where
   pub size : (n ≡ BAD_SIZE) ↔ (before.size < 32)
-  pub bad : n ≢ BAD_SIZE → (n ≡ BAD_DEVICE) ↔ (length (devices_of d) ≤ device)
+  pub bad : n ≢ BAD_SIZE → (n ≡ BAD_DEVICE) ↔ (length (driver_devices d) ≤ device)
   pub status : (n ≡ OK) ⊎ (n ≡ BAD_DEVICE) ⊎ (n ≡ BAD_SIZE)
   pub shows : n ≡ OK → after ≡ shown_of before.size d device
   pub kept : n ≢ OK → after ≡ before

@@ -2,19 +2,20 @@
 -- than the call is for, gets BAD_HANDLE and is unchanged.
 use Rattle.std.specs.Prelude.{◌≡◌, ◌⊎◌, ℕ, List, Option, Some, None}
 use Rattle.napi_model.specs.{declared.state.Seen.Seen, Word.word_of}
-use Rattle.{rx_ring.specs.declared.packet.Packet.Packet, c_handles.specs.declared.seat.{Seat.Seat, Controller.Controller}}
+use Rattle.{rx_ring.specs.declared.packet.Packet.Packet, c_handles.specs.declared.seat.{CallerObject.CallerObject, Controller.Controller}}
 use Rattle.driver_core.specs.declared.driver.Driver.{Driver}
-use Rattle.c_handles.specs.declared.{lister.Lister.Lister, body.Body.Body, handle.FqHandle.FqHandle, hold.{Hold.Hold, SeatCall.SeatCall}}
-use Rattle.c_handles.specs.{declared.power.ControlCall.ControlCall, Answers.counting, Status.{OK, BAD_HANDLE}, SeatCalls.Refused}
+use Rattle.c_handles.specs.declared.{lister.ListObject.ListObject, body.Object.Object, handle.FqHandle.FqHandle}
+use Rattle.c_handles.specs.declared.{hold.{CallerState.CallerState, SeatCall.SeatCall}}
+use Rattle.c_handles.specs.{declared.power.ControlCall.ControlCall, Answers.count_answer, Status.{OK, BAD_HANDLE}, SeatCalls.Refused}
 use Rattle.c_handles.specs.SeatCalls.{SeatAnswers, SeatLooks, SeatPolls, ControlAnswers}
-use Rattle.c_handles.specs.declared.body.Body.TheVariants as body
+use Rattle.c_handles.specs.declared.body.Object.TheVariants as body
 
 -- another kind of object
-abbrev pub OtherKind : Body → ℕ → Body → Type 0
+abbrev pub OtherKind : Object → ℕ → Object → Type 0
 OtherKind before n after = (n ≡ BAD_HANDLE) × (after ≡ before)
 
 -- the call on the handle's object returned this status and had this effect, and the handle has the new object then
-abbrev pub OnHandle : (Body → ℕ → Body → Type 0) → Option Body → ℕ → Option Body → Type 0
+abbrev pub OnHandle : (Object → ℕ → Object → Type 0) → Option Object → ℕ → Option Object → Type 0
 OnHandle P None n after = (n ≡ BAD_HANDLE) × (after ≡ None)
 OnHandle P (Some x) n None = ⊥
 OnHandle P (Some x) n (Some y) = P x n y
@@ -22,27 +23,27 @@ OnHandle P (Some x) n (Some y) = P x n y
 -- ---- callers
 
 -- it is a caller with this property
-abbrev pub IsSeatWith : (Seat → Type 0) → Body → Type 0
-IsSeatWith P (body.Seat s) = P s
-IsSeatWith P _ = ⊥
+abbrev pub IsCallerWith : (CallerObject → Type 0) → Object → Type 0
+IsCallerWith P (body.Seat s) = P s
+IsCallerWith P _ = ⊥
 
 -- for a caller, this
-abbrev pub OnSeat : (Seat → ℕ → Body → Type 0) → Body → ℕ → Body → Type 0
+abbrev pub OnSeat : (CallerObject → ℕ → Object → Type 0) → Object → ℕ → Object → Type 0
 OnSeat P (body.Seat s) n after = P s n after
 OnSeat P other n after = OtherKind other n after
 
-abbrev pub SeatMakesIn : SeatCall → Body → ℕ → Body → Type 0
-SeatMakesIn call = OnSeat (λ s n after. IsSeatWith (λ t. SeatAnswers call s.hold n t.hold × (t.answers ≡ counting n s.answers)) after)
+abbrev pub SeatMakesIn : SeatCall → Object → ℕ → Object → Type 0
+SeatMakesIn call = OnSeat (λ s n after. IsCallerWith (λ t. SeatAnswers call s.hold n t.hold × (t.answers ≡ count_answer n s.answers)) after)
 
-abbrev pub SeatGivesIn : ℕ → List Packet → Body → ℕ → Body → Type 0
-SeatGivesIn weight given = OnSeat (λ s n after. IsSeatWith (λ t. SeatPolls weight given s.hold n t.hold × (t.answers ≡ s.answers)) after)
+abbrev pub SeatGivesIn : ℕ → List Packet → Object → ℕ → Object → Type 0
+SeatGivesIn weight given = OnSeat (λ s n after. IsCallerWith (λ t. SeatPolls weight given s.hold n t.hold × (t.answers ≡ s.answers)) after)
 
 -- A look shows this word. Of the two words the first is the caller's variable before the call, and the second after it.
-abbrev pub ShowsWord : ℕ → ℕ → Hold → ℕ → Hold → Type 0
+abbrev pub ShowsWord : ℕ → ℕ → CallerState → ℕ → CallerState → Type 0
 ShowsWord before after h n k = ((n ≡ OK) × ((x : Seen) × SeatLooks h (Some x) k × (after ≡ word_of x))) ⊎ (Refused h n k × (after ≡ before))
 
-abbrev pub SeatShowsIn : ℕ → ℕ → Body → ℕ → Body → Type 0
-SeatShowsIn before after = OnSeat (λ s n b. IsSeatWith (λ t. ShowsWord before after s.hold n t.hold × (t.answers ≡ s.answers)) b)
+abbrev pub SeatShowsIn : ℕ → ℕ → Object → ℕ → Object → Type 0
+SeatShowsIn before after = OnSeat (λ s n b. IsCallerWith (λ t. ShowsWord before after s.hold n t.hold × (t.answers ≡ s.answers)) b)
 
 abbrev pub SeatShows : ℕ → ℕ → FqHandle → ℕ → FqHandle → Type 0
 SeatShows before after old n new = OnHandle (SeatShowsIn before after) old.held.body n new.held.body
@@ -56,20 +57,20 @@ SeatGives weight given old n new = OnHandle (SeatGivesIn weight given) old.held.
 -- ---- controllers
 
 -- it is a controller with this property
-abbrev pub IsControllerWith : (Controller → Type 0) → Body → Type 0
+abbrev pub IsControllerWith : (Controller → Type 0) → Object → Type 0
 IsControllerWith P (body.Controller c) = P c
 IsControllerWith P _ = ⊥
 
-abbrev pub LeadsToController : (Controller → Type 0) → Option Body → Type 0
+abbrev pub LeadsToController : (Controller → Type 0) → Option Object → Type 0
 LeadsToController P None = ⊥
 LeadsToController P (Some x) = IsControllerWith P x
 
 -- for a controller, this
-abbrev pub OnController : (Controller → ℕ → Body → Type 0) → Body → ℕ → Body → Type 0
+abbrev pub OnController : (Controller → ℕ → Object → Type 0) → Object → ℕ → Object → Type 0
 OnController P (body.Controller c) n after = P c n after
 OnController P other n after = OtherKind other n after
 
-abbrev pub ControlMakesIn : ControlCall → Body → ℕ → Body → Type 0
+abbrev pub ControlMakesIn : ControlCall → Object → ℕ → Object → Type 0
 ControlMakesIn call = OnController (λ c n after. IsControllerWith (λ d. ControlAnswers call c.power n d.power) after)
 
 abbrev pub ControlMakes : ControlCall → FqHandle → ℕ → FqHandle → Type 0
@@ -78,43 +79,43 @@ ControlMakes call old n new = OnHandle (ControlMakesIn call) old.held.body n new
 -- ---- lists
 
 -- it is a list with this property
-abbrev pub IsListWith : (Lister → Type 0) → Body → Type 0
+abbrev pub IsListWith : (ListObject → Type 0) → Object → Type 0
 IsListWith P (body.List l) = P l.value
 IsListWith P _ = ⊥
 
-abbrev pub LeadsToList : (Lister → Type 0) → Option Body → Type 0
+abbrev pub LeadsToList : (ListObject → Type 0) → Option Object → Type 0
 LeadsToList P None = ⊥
 LeadsToList P (Some x) = IsListWith P x
 
 -- for a list, this
-abbrev pub OnList : (Lister → ℕ → Body → Type 0) → Body → ℕ → Body → Type 0
+abbrev pub OnList : (ListObject → ℕ → Object → Type 0) → Object → ℕ → Object → Type 0
 OnList P (body.List l) n after = P l.value n after
 OnList P other n after = OtherKind other n after
 
-abbrev pub ListMakesIn : (Lister → ℕ → Lister → Type 0) → Body → ℕ → Body → Type 0
+abbrev pub ListMakesIn : (ListObject → ℕ → ListObject → Type 0) → Object → ℕ → Object → Type 0
 ListMakesIn P = OnList (λ l n after. IsListWith (λ m. P l n m) after)
 
 -- for a handle to a list: the call returned this status, and the handle has that list then
-abbrev pub ListMakes : (Lister → ℕ → Lister → Type 0) → FqHandle → ℕ → FqHandle → Type 0
+abbrev pub ListMakes : (ListObject → ℕ → ListObject → Type 0) → FqHandle → ℕ → FqHandle → Type 0
 ListMakes P old n new = OnHandle (ListMakesIn P) old.held.body n new.held.body
 
 -- ---- drivers
 
 -- it is a driver with this property
-abbrev pub IsDriverWith : (Driver → Type 0) → Body → Type 0
+abbrev pub IsDriverWith : (Driver → Type 0) → Object → Type 0
 IsDriverWith P (body.Driver d) = P d.value
 IsDriverWith P _ = ⊥
 
-abbrev pub LeadsToDriver : (Driver → Type 0) → Option Body → Type 0
+abbrev pub LeadsToDriver : (Driver → Type 0) → Option Object → Type 0
 LeadsToDriver P None = ⊥
 LeadsToDriver P (Some x) = IsDriverWith P x
 
 -- for a driver, this
-abbrev pub OnDriver : (Driver → ℕ → Body → Type 0) → Body → ℕ → Body → Type 0
+abbrev pub OnDriver : (Driver → ℕ → Object → Type 0) → Object → ℕ → Object → Type 0
 OnDriver P (body.Driver d) n after = P d.value n after
 OnDriver P other n after = OtherKind other n after
 
-abbrev pub DriverMakesIn : (Driver → ℕ → Driver → Type 0) → Body → ℕ → Body → Type 0
+abbrev pub DriverMakesIn : (Driver → ℕ → Driver → Type 0) → Object → ℕ → Object → Type 0
 DriverMakesIn P = OnDriver (λ d n after. IsDriverWith (λ e. P d n e) after)
 
 -- for a handle to a driver: the call returned this status, and the handle has that driver then

@@ -4,9 +4,9 @@ use Rattle.{std.specs.Prelude.{ℕ, Bool, true, false, Option, Some, None}, poll
 use Rattle.poll_runs.specs.declared.polling_run.PollingRun.{PollingRun}
 
 -- how many of the list's numbers it holds
-abbrev pub held_in : Option PollingRun → ℕ
-held_in None = 0
-held_in (Some run) = held run
+abbrev pub held_by_run : Option PollingRun → ℕ
+held_by_run None = 0
+held_by_run (Some run) = held run
 
 -- the stored run, if it is in progress
 abbrev pub run_in : Bool → PollingRun → Option PollingRun

@@ -1,49 +1,50 @@
 -- The objects of handles.
 use Rattle.rx_ring.specs.{declared.{ends.RxCtx.RxCtx, packet.{Packet.Packet, RxCounts.RxCounts}}, Ends.{GivesNext, SameIn, put_list}}
-use Rattle.{rx_ring.specs.Ends.{capacity_of, received_list}, c_handles.specs.declared.{body.{Ring.Ring, Body.Body}, input.Input.Input}}
+use Rattle.{rx_ring.specs.Ends.{capacity_of, received_list}}
+use Rattle.{c_handles.specs.declared.{body.{Ring.Ring, Object.Object}, input.RingInput.RingInput}}
 use Rattle.std.specs.Prelude.{◌≡◌, ℕ, ◌==◌, if◌then◌else◌, List, Option, Some, None, [], ◌++◌, length}
 use Rattle.c_handles.specs.Status.{BAD_HANDLE}
 use Rattle.c_handles.specs.{declared.handle.FqHandle.FqHandle, SeatCalls.{ctx_counts, hold_counts, power_counts}, Status.{OK, FULL}}
-use Rattle.c_handles.specs.declared.body.Body.TheVariants as body
+use Rattle.c_handles.specs.declared.body.Object.TheVariants as body
 
 -- the handle has this ring
 abbrev pub LeadsTo : FqHandle → Ring → Type 0
 LeadsTo handle ring = handle.held.body ≡ Some (body.Ring ring)
 
 -- it is a ring with this property
-abbrev pub IsRingWith : (Ring → Type 0) → Body → Type 0
+abbrev pub IsRingWith : (Ring → Type 0) → Object → Type 0
 IsRingWith P (body.Ring ring) = P ring
 IsRingWith P _ = ⊥
 
 -- the handle has a ring with this property
-abbrev pub LeadsToRing : (Ring → Type 0) → Option Body → Type 0
+abbrev pub LeadsToRing : (Ring → Type 0) → Option Object → Type 0
 LeadsToRing P None = ⊥
 LeadsToRing P (Some x) = IsRingWith P x
 
 -- only the input of a ring, and only the other end
-abbrev pub IsInputWith : (Input → Type 0) → Body → Type 0
+abbrev pub IsInputWith : (RingInput → Type 0) → Object → Type 0
 IsInputWith P (body.In input) = P input
 IsInputWith P _ = ⊥
 
-abbrev pub LeadsToInput : (Input → Type 0) → Option Body → Type 0
+abbrev pub LeadsToInput : (RingInput → Type 0) → Option Object → Type 0
 LeadsToInput P None = ⊥
 LeadsToInput P (Some x) = IsInputWith P x
 
 -- it has this input, as part of a whole ring or on its own
-abbrev pub HasInput : Input → Body → Type 0
+abbrev pub HasInput : RingInput → Object → Type 0
 HasInput i (body.Ring ring) = ring.input ≡ i
 HasInput i (body.In input) = input ≡ i
 HasInput i _ = ⊥
 
-abbrev pub LeadsToItsInput : Input → Option Body → Type 0
+abbrev pub LeadsToItsInput : RingInput → Option Object → Type 0
 LeadsToItsInput i None = ⊥
 LeadsToItsInput i (Some x) = HasInput i x
 
-abbrev pub IsCtxWith : (RxCtx → Type 0) → Body → Type 0
+abbrev pub IsCtxWith : (RxCtx → Type 0) → Object → Type 0
 IsCtxWith P (body.Ctx ctx) = P ctx
 IsCtxWith P _ = ⊥
 
-abbrev pub LeadsToCtx : (RxCtx → Type 0) → Option Body → Type 0
+abbrev pub LeadsToCtx : (RxCtx → Type 0) → Option Object → Type 0
 LeadsToCtx P None = ⊥
 LeadsToCtx P (Some x) = IsCtxWith P x
 
@@ -59,17 +60,17 @@ pub record IsAfterPut (before : Ring) (packets : List Packet) (after : Ring) : T
   pub ctx : after.ctx ≡ before.ctx
 
 -- the same, if the other end is elsewhere
-pub record IsAfterInput (before : Input) (packets : List Packet) (after : Input) : Type 0 where
+pub record IsAfterInput (before : RingInput) (packets : List Packet) (after : RingInput) : Type 0 where
   pub ring : SameIn before.end after.end
   pub put : put_list after.end ≡ put_list before.end ++ packets
 
 -- the status of a burst of which this many packets were put
-abbrev pub burst_in : Body → ℕ → List Packet → ℕ
+abbrev pub burst_in : Object → ℕ → List Packet → ℕ
 burst_in (body.Ring ring) count packets = if count == length packets then OK else FULL
 burst_in (body.In input) count packets = if count == length packets then OK else FULL
 burst_in _ count packets = BAD_HANDLE
 
-abbrev pub burst_status : Option Body → ℕ → List Packet → ℕ
+abbrev pub burst_status : Option Object → ℕ → List Packet → ℕ
 burst_status None count packets = BAD_HANDLE
 burst_status (Some x) count packets = burst_in x count packets
 
@@ -81,13 +82,13 @@ pub record IsAfterPoll (weight : ℕ) (before : Ring) (given : List Packet) (aft
 -- ---- what is counted
 
 -- of the polls, if an object has the ring's poll end
-abbrev pub counts_in : Body → Option RxCounts
-counts_in (body.Ring ring) = Some (ctx_counts ring.ctx)
-counts_in (body.Ctx ctx) = Some (ctx_counts ctx)
-counts_in (body.Seat seat) = hold_counts seat.hold
-counts_in (body.Controller controller) = power_counts controller.power
-counts_in _ = None
+abbrev pub ring_counts_in : Object → Option RxCounts
+ring_counts_in (body.Ring ring) = Some (ctx_counts ring.ctx)
+ring_counts_in (body.Ctx ctx) = Some (ctx_counts ctx)
+ring_counts_in (body.Seat seat) = hold_counts seat.hold
+ring_counts_in (body.Controller controller) = power_counts controller.power
+ring_counts_in _ = None
 
-abbrev pub CountsAre : RxCounts → Option Body → Type 0
+abbrev pub CountsAre : RxCounts → Option Object → Type 0
 CountsAre counts None = ⊥
-CountsAre counts (Some x) = counts_in x ≡ Some counts
+CountsAre counts (Some x) = ring_counts_in x ≡ Some counts

@@ -1,18 +1,19 @@
 -- The callers and the controller of a shared instance, as objects of C's handles.
-use Rattle.{std.proofs.Props.props, napi_calls.specs.{declared.types.Napi.Napi, Instance.IsSeatOf}, c_handles.specs.declared.hold.Hold.Hold}
-use Rattle.c_handles.specs.declared.power.Power.{Power}
-use Rattle.c_handles.specs.declared.hold.Hold.TheVariants as hold
-use Rattle.c_handles.specs.declared.power.Power.TheVariants as power
+use Rattle.{std.proofs.Props.props, napi_calls.specs.{declared.types.Napi.Napi, Instance.IsSeatOf}}
+use Rattle.{c_handles.specs.declared.hold.CallerState.CallerState}
+use Rattle.c_handles.specs.declared.power.ControlState.{ControlState}
+use Rattle.c_handles.specs.declared.hold.CallerState.TheVariants as hold
+use Rattle.c_handles.specs.declared.power.ControlState.TheVariants as power
 
 -- the caller belongs to the instance, or is within a call
-abbrev pub SitsAt : Napi → Hold → Type 0
+abbrev pub SitsAt : Napi → CallerState → Type 0
 SitsAt n (hold.Rests c) = IsSeatOf n c.pass
 SitsAt n (hold.Granted g) = IsSeatOf n g.pass
 SitsAt n (hold.Polls w) = IsSeatOf n w.pass
 SitsAt n (hold.Busy b) = IsSeatOf n b.pass
 SitsAt n hold.Gone = Unit {0}
 
-pub sits_prop : (n : Napi) (h : Hold) → IsProp (SitsAt n h)
+pub sits_prop : (n : Napi) (h : CallerState) → IsProp (SitsAt n h)
 sits_prop n (hold.Rests c) = Prim.hlevel props
 sits_prop n (hold.Granted g) = Prim.hlevel props
 sits_prop n (hold.Polls w) = Prim.hlevel props
@@ -20,30 +21,30 @@ sits_prop n (hold.Busy b) = Prim.hlevel props
 sits_prop n hold.Gone = Prim.hlevel props
 
 -- its state
-abbrev pub IsResting : Hold → Type 0
+abbrev pub IsResting : CallerState → Type 0
 IsResting (hold.Rests c) = Unit
 IsResting _ = ⊥
 
-abbrev pub IsGranted : Hold → Type 0
-IsGranted (hold.Granted g) = Unit
-IsGranted _ = ⊥
+abbrev pub IsGrantedCaller : CallerState → Type 0
+IsGrantedCaller (hold.Granted g) = Unit
+IsGrantedCaller _ = ⊥
 
-abbrev pub IsPolling : Hold → Type 0
+abbrev pub IsPolling : CallerState → Type 0
 IsPolling (hold.Polls w) = Unit
 IsPolling _ = ⊥
 
-abbrev pub IsBusy : Hold → Type 0
+abbrev pub IsBusy : CallerState → Type 0
 IsBusy (hold.Busy b) = Unit
 IsBusy _ = ⊥
 
 -- the controller belongs to the instance, or is within a call
-abbrev pub ControlsAt : Napi → Power → Type 0
+abbrev pub ControlsAt : Napi → ControlState → Type 0
 ControlsAt n (power.Off c) = IsSeatOf n c.pass
 ControlsAt n (power.On c) = IsSeatOf n c.pass
 ControlsAt n (power.Marked c) = IsSeatOf n c.pass
 ControlsAt n power.Gone = Unit {0}
 
-pub controls_prop : (n : Napi) (m : Power) → IsProp (ControlsAt n m)
+pub controls_prop : (n : Napi) (m : ControlState) → IsProp (ControlsAt n m)
 controls_prop n (power.Off c) = Prim.hlevel props
 controls_prop n (power.On c) = Prim.hlevel props
 controls_prop n (power.Marked c) = Prim.hlevel props

@@ -1,6 +1,6 @@
 -- The statuses of calls, no number twice: 0 for a call that succeeded without another result; 1 to 15 for the errors of a queue
 -- limit, as in `DqlFault::number`; 16 to 99 for the result of a call that succeeded; from 100 on for why a call failed.
-use Rattle.{std.specs.Prelude.{ℕ, Option, Some, None}, dql_core.specs.{declared.event.DqlFault.DqlFault, Fault.number_of}}
+use Rattle.{std.specs.Prelude.{ℕ, Option, Some, None}, dql_core.specs.{declared.event.DqlFault.DqlFault, Fault.dql_fault_number}}
 
 abbrev pub OK : ℕ
 OK = 0
@@ -95,4 +95,4 @@ BAD_SIZE = 122
 -- the number of a queue limit's error, or that there is none
 abbrev pub dql_status : Option DqlFault → ℕ
 dql_status None = OK
-dql_status (Some fault) = number_of fault
+dql_status (Some fault) = dql_fault_number fault

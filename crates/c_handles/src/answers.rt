@@ -1,6 +1,6 @@
 //! The counts of the results of a seat's calls.
 ghost use Rattle.std.specs.Prelude.{◌≡◌};
-ghost use Rattle.c_handles.specs.Answers.{no_answers, counting};
+ghost use Rattle.c_handles.specs.Answers.{no_answers, count_answer};
 
 use crate::status;
 
@@ -43,7 +43,7 @@ impl FqAnswers {
     /// Counts one more result.
     #[inline(always)]
     pub(crate) fn count(&mut self, status: u32)
-        ensures { self.new ≡ counting status self.old }
+        ensures { self.new ≡ count_answer status self.old }
     {
         match status {
             status::GRANTED => self.granted = self.granted.saturating_add(1),

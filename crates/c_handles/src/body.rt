@@ -1,9 +1,9 @@
 //! The objects of C's handles.
 ghost use Rattle.rx_ring.specs.Ends.{IsOneRing};
 
-use crate::input::Input;
-use crate::lister::Lister;
-use crate::seat::{Controller, Seat};
+use crate::input::RingInput;
+use crate::lister::ListObject;
+use crate::seat::{CallerObject, Controller};
 use driver_core::Driver;
 use rx_ring::RxCtx;
 use std::alloc::Global;
@@ -13,7 +13,7 @@ use tx_ring::TxRing;
 #[derive(Drop)]
 pub struct Ring {
     /// The producer's end.
-    pub input: Input,
+    pub input: RingInput,
     /// The consumer's end, which polls.
     pub ctx: RxCtx,
     /// They belong to the same ring.
@@ -22,19 +22,19 @@ pub struct Ring {
 
 /// The object of a handle.
 #[derive(Drop)]
-pub enum Body {
+pub enum Object {
     /// A ring with both ends, without an instance.
     Ring(Ring),
     /// The input of a ring whose other end an instance has, or another handle.
-    In(Input),
+    In(RingInput),
     /// The other end of a ring, without an instance.
     Ctx(RxCtx),
     /// A poll list.
-    List(Box<Lister, Global>),
+    List(Box<ListObject, Global>),
     /// A driver.
     Driver(Box<Driver, Global>),
     /// A caller of a shared instance.
-    Seat(Seat),
+    Seat(CallerObject),
     /// The controller of a shared instance.
     Controller(Controller),
     /// A transmit ring.

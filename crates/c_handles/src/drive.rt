@@ -1,12 +1,12 @@
 //! The calls of a driver, by their statuses.
 
 ghost use Rattle.std.specs.Prelude.{◌≡◌, length, nat_lt};
-ghost use Rattle.driver_core.specs.Driver.{devices_of};
+ghost use Rattle.driver_core.specs.Driver.{driver_devices};
 ghost use Rattle.c_handles.specs.Drivers.{device_in, most_in, reply_status, run_in, shown_of, state_in, todo_in, what_in, IsDone, IsInterrupt, IsNext, IsOpen, IsReported, IsShow, IsStop, Says};
 
 use crate::lister::FqRunReport;
 use crate::status;
-use driver_core::{Device, Driver, Refused, Stage, Todo, What};
+use driver_core::{Driver, DriverDevice, Refused, Stage, Todo, What};
 use napi_model::Prep;
 use std::mem::size_of;
 
@@ -154,7 +154,7 @@ pub fn done(driver: &mut Driver, todo: &FqTodo) -> u32
 }
 
 fn has_device(driver: &Driver, device: u32) -> bool
-    ensures { result ≡ nat_lt device (length (devices_of driver.now)) }
+    ensures { result ≡ nat_lt device (length (driver_devices driver.now)) }
 {
     (device as usize) < driver.len()
 }
@@ -200,7 +200,7 @@ pub fn stop(driver: &mut Driver, device: u32) -> u32
 }
 
 // The number of a device's state (`enum fq_device_state`).
-fn state_of(device: Device) -> u32
+fn state_of(device: DriverDevice) -> u32
     ensures { result ≡ state_in device.stage }
 {
     if device.stage == Stage::Closed {

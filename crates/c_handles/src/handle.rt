@@ -1,10 +1,10 @@
 //! C's handles.
 ghost use Rattle.std.specs.Prelude.{◌≡◌, Option, None, Some, is_some, IfSome, IsNone};
-ghost use Rattle.c_handles.specs.declared.body.Body.{Body};
+ghost use Rattle.c_handles.specs.declared.body.Object.{Object};
 
-use crate::body::Body;
-use crate::held::Held;
-use crate::parts::Parts;
+use crate::body::Object;
+use crate::held::OwnedPtr;
+use crate::parts::RawBox;
 use std::alloc::Global;
 use std::mem;
 
@@ -14,7 +14,7 @@ use std::mem;
 pub struct FqHandle {
     set: bool,
     /// Its object.
-    pub held: Held,
+    pub held: OwnedPtr,
     ghost is_set: { is_some held.body ≡ set },
 }
 
@@ -26,18 +26,18 @@ impl FqHandle {
     {
         FqHandle {
             set: false,
-            held: Held::none(alloc),
+            held: OwnedPtr::none(alloc),
         }
     }
 
     /// Returns a handle to this object.
     #[inline]
-    fn of(body: Box<Body, Global>) -> FqHandle
+    fn of(body: Box<Object, Global>) -> FqHandle
         ensures { result.held.body ≡ Some body.value }
     {
         FqHandle {
             set: true,
-            held: Held::of_parts(Parts::of(body)),
+            held: OwnedPtr::of_parts(RawBox::of(body)),
         }
     }
 
@@ -50,7 +50,7 @@ impl FqHandle {
     }
 
     #[inline]
-    fn open(self) -> Option<Box<Body, Global>>
+    fn open(self) -> Option<Box<Object, Global>>
         ensures some { IfSome result (λ b. self.held.body ≡ Some b.value) }
         ensures none { IsNone result → self.held.body ≡ None }
     {
@@ -64,7 +64,7 @@ impl FqHandle {
 
     /// Takes out its object.
     #[inline]
-    pub fn take(&mut self, alloc: Global) -> Option<Box<Body, Global>>
+    pub fn take(&mut self, alloc: Global) -> Option<Box<Object, Global>>
         ensures some { IfSome result (λ b. self.old.held.body ≡ Some b.value) }
         ensures none { IsNone result → self.old.held.body ≡ None }
         ensures left { self.new.held.body ≡ None }
@@ -74,7 +74,7 @@ impl FqHandle {
 
     /// Sets the object of a handle to nothing.
     #[inline]
-    pub fn put(&mut self, body: Box<Body, Global>)
+    pub fn put(&mut self, body: Box<Object, Global>)
         ensures { self.new.held.body ≡ Some body.value }
     {
         *self = FqHandle::of(body);

@@ -1,10 +1,10 @@
 //! A pointer in C's memory that owns a value on the heap, or nothing.
 ghost use Rattle.std.specs.Prelude.{◌≡◌, Option, None, Some};
 ghost use Rattle.c_handles.specs.Held.{held_owns, body_coded};
-ghost use Rattle.c_handles.specs.declared.body.Body.{Body};
+ghost use Rattle.c_handles.specs.declared.body.Object.{Object};
 
-use crate::body::Body;
-use crate::parts::Parts;
+use crate::body::Object;
+use crate::parts::RawBox;
 use std::alloc::Global;
 use std::marker::Model;
 use std::ptr;
@@ -12,27 +12,27 @@ use std::ptr;
 /// Owns the value at the pointer, or nothing. Its drop would leak the value: open it first.
 #[repr(C)]
 #[derive(Drop)]
-pub struct Held {
+pub struct OwnedPtr {
     ptr: *mut u8,
     alloc: Global,
     /// The value, if there is one.
-    pub ghost body: { Option Body } by { body_coded },
+    pub ghost body: { Option Object } by { body_coded },
 }
 
-impl Model for Held {
+impl Model for OwnedPtr {
     ghost also_owns = { λ h. held_owns h.alloc h.ptr h.body };
 }
 
-unsafe impl Send for Held {}
+unsafe impl Send for OwnedPtr {}
 
-impl Held {
+impl OwnedPtr {
     /// Returns an owning pointer from a box's parts.
     #[inline]
-    pub fn of_parts(parts: Parts<Body, Global>) -> Held
+    pub fn of_parts(parts: RawBox<Object, Global>) -> OwnedPtr
         ensures { result.body ≡ Some parts.value }
     {
-        let Parts { ptr, alloc } = parts;
-        Held {
+        let RawBox { ptr, alloc } = parts;
+        OwnedPtr {
             ptr: ptr as *mut u8,
             alloc,
         }
@@ -40,23 +40,23 @@ impl Held {
 
     /// Returns the parts of the box, if there is one.
     #[inline]
-    pub fn into_parts(self) -> Parts<Body, Global>
-        requires { (x : Body) × (self.body ≡ Some x) }
+    pub fn into_parts(self) -> RawBox<Object, Global>
+        requires { (x : Object) × (self.body ≡ Some x) }
         ensures { self.body ≡ Some result.value }
     {
-        let Held { ptr, alloc } = self;
-        Parts {
-            ptr: ptr as *mut Body,
+        let OwnedPtr { ptr, alloc } = self;
+        RawBox {
+            ptr: ptr as *mut Object,
             alloc,
         }
     }
 
     /// Returns a pointer that owns nothing.
     #[inline]
-    pub fn none(alloc: Global) -> Held
+    pub fn none(alloc: Global) -> OwnedPtr
         ensures { result.body ≡ None }
     {
-        Held {
+        OwnedPtr {
             ptr: ptr::null_mut(),
             alloc,
         }

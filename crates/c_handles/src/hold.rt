@@ -1,8 +1,8 @@
 //! The state of a caller of a shared instance: its type, at run time.
 ghost use Rattle.std.specs.Prelude.{◌≡◌};
 ghost use Rattle.c_handles.specs.SeatCalls.{SeatAnswers, SeatLooks, hold_counts};
-ghost use Rattle.c_handles.specs.Seats.{SitsAt, IsResting, IsGranted, IsPolling, IsBusy};
-ghost use Rattle.c_handles.specs.declared.hold.Hold.TheVariants as hold;
+ghost use Rattle.c_handles.specs.Seats.{SitsAt, IsResting, IsGrantedCaller, IsPolling, IsBusy};
+ghost use Rattle.c_handles.specs.declared.hold.CallerState.TheVariants as hold;
 ghost use Rattle.c_handles.specs.declared.hold.SeatCall.TheVariants as seat_call;
 
 use crate::status;
@@ -33,7 +33,7 @@ pub enum SeatCall {
 }
 
 /// The state of a caller.
-pub enum Hold {
+pub enum CallerState {
     /// It owns nothing.
     Rests(Caller),
     /// It has to hand the instance over.
@@ -46,19 +46,19 @@ pub enum Hold {
     Gone,
 }
 
-impl Drop for Hold {
+impl Drop for CallerState {
     fn drop(self) {
         match self {
-            Hold::Rests(caller) => caller.abandon(),
-            Hold::Granted(granted) => granted.abandon(),
-            Hold::Polls(polling) => polling.abandon(),
-            Hold::Busy(busy) => busy.abandon(),
-            Hold::Gone => {}
+            CallerState::Rests(caller) => caller.abandon(),
+            CallerState::Granted(granted) => granted.abandon(),
+            CallerState::Polls(polling) => polling.abandon(),
+            CallerState::Busy(busy) => busy.abandon(),
+            CallerState::Gone => {}
         }
     }
 }
 
-impl Hold {
+impl CallerState {
     // Returns the caller, if it owns nothing.
     #[inline]
     fn into_caller(self) -> Caller
@@ -66,7 +66,7 @@ impl Hold {
         ensures { self ≡ hold.Rests result }
     {
         match self {
-            Hold::Rests(caller) => caller,
+            CallerState::Rests(caller) => caller,
             _ => unreachable!(),
         }
     }
@@ -74,11 +74,11 @@ impl Hold {
     // Returns the caller, if it was granted the instance.
     #[inline]
     fn into_granted(self) -> Granted
-        requires { IsGranted self }
+        requires { IsGrantedCaller self }
         ensures { self ≡ hold.Granted result }
     {
         match self {
-            Hold::Granted(granted) => granted,
+            CallerState::Granted(granted) => granted,
             _ => unreachable!(),
         }
     }
@@ -90,7 +90,7 @@ impl Hold {
         ensures { self ≡ hold.Polls result }
     {
         match self {
-            Hold::Polls(polling) => polling,
+            CallerState::Polls(polling) => polling,
             _ => unreachable!(),
         }
     }
@@ -102,7 +102,7 @@ impl Hold {
         ensures { self ≡ hold.Busy result }
     {
         match self {
-            Hold::Busy(busy) => busy,
+            CallerState::Busy(busy) => busy,
             _ => unreachable!(),
         }
     }
@@ -115,9 +115,9 @@ impl Hold {
         ensures place { self.new ≡ hold.Rests caller }
         ensures answer { result ≡ answer }
     {
-        let taken = mem::replace(self, Hold::Rests(caller));
+        let taken = mem::replace(self, CallerState::Rests(caller));
         match &taken {
-            Hold::Gone => answer,
+            CallerState::Gone => answer,
             _ => unreachable!(),
         }
     }
@@ -128,9 +128,9 @@ impl Hold {
         ensures place { self.new ≡ hold.Granted granted }
         ensures answer { result ≡ answer }
     {
-        let taken = mem::replace(self, Hold::Granted(granted));
+        let taken = mem::replace(self, CallerState::Granted(granted));
         match &taken {
-            Hold::Gone => answer,
+            CallerState::Gone => answer,
             _ => unreachable!(),
         }
     }
@@ -141,9 +141,9 @@ impl Hold {
         ensures place { self.new ≡ hold.Polls polling }
         ensures answer { result ≡ answer }
     {
-        let taken = mem::replace(self, Hold::Polls(polling));
+        let taken = mem::replace(self, CallerState::Polls(polling));
         match &taken {
-            Hold::Gone => answer,
+            CallerState::Gone => answer,
             _ => unreachable!(),
         }
     }
@@ -154,9 +154,9 @@ impl Hold {
         ensures place { self.new ≡ hold.Busy busy }
         ensures answer { result ≡ answer }
     {
-        let taken = mem::replace(self, Hold::Busy(busy));
+        let taken = mem::replace(self, CallerState::Busy(busy));
         match &taken {
-            Hold::Gone => answer,
+            CallerState::Gone => answer,
             _ => unreachable!(),
         }
     }
@@ -186,10 +186,10 @@ impl Hold {
         ensures sits { SitsAt napi.now self.new }
         ensures answers { SeatAnswers seat_call.Schedule self.old result self.new }
     {
-        if !matches!(self, Hold::Rests(_)) {
+        if !matches!(self, CallerState::Rests(_)) {
             return status::NOT_ALLOWED;
         }
-        let caller = mem::replace(self, Hold::Gone).into_caller();
+        let caller = mem::replace(self, CallerState::Gone).into_caller();
         match caller.try_schedule(napi) {
             TryPrep::Granted(granted) => self.grant(granted, status::GRANTED),
             TryPrep::Missed(caller) => self.rest(caller, status::MISSED),
@@ -204,10 +204,10 @@ impl Hold {
         ensures sits { SitsAt napi.now self.new }
         ensures answers { SeatAnswers (seat_call.Hand kind) self.old result self.new }
     {
-        if !matches!(self, Hold::Granted(_)) {
+        if !matches!(self, CallerState::Granted(_)) {
             return status::NOT_ALLOWED;
         }
-        let granted = mem::replace(self, Hold::Gone).into_granted();
+        let granted = mem::replace(self, CallerState::Gone).into_granted();
         self.rest(granted.hand(napi, kind), status::OK)
     }
 
@@ -217,10 +217,10 @@ impl Hold {
         ensures sits { SitsAt napi.now self.new }
         ensures answers { SeatAnswers (seat_call.Take kind) self.old result self.new }
     {
-        if !matches!(self, Hold::Rests(_)) {
+        if !matches!(self, CallerState::Rests(_)) {
             return status::NOT_ALLOWED;
         }
-        let caller = mem::replace(self, Hold::Gone).into_caller();
+        let caller = mem::replace(self, CallerState::Gone).into_caller();
         match caller.take(napi, kind) {
             Ok(polling) => self.poll(polling, status::TAKEN),
             Err(caller) => self.rest(caller, status::NOT_THERE),
@@ -233,10 +233,10 @@ impl Hold {
         ensures sits { SitsAt napi.now self.new }
         ensures answers { SeatAnswers seat_call.Requeue self.old result self.new }
     {
-        if !matches!(self, Hold::Polls(_)) {
+        if !matches!(self, CallerState::Polls(_)) {
             return status::NOT_ALLOWED;
         }
-        let polling = mem::replace(self, Hold::Gone).into_polling();
+        let polling = mem::replace(self, CallerState::Gone).into_polling();
         self.rest(polling.requeue(napi), status::OK)
     }
 
@@ -247,7 +247,7 @@ impl Hold {
         ensures answers { SeatAnswers seat_call.Complete self.old result self.new }
     {
         match self {
-            Hold::Busy(busy) => {
+            CallerState::Busy(busy) => {
                 busy.complete_held(napi);
                 status::HELD
             }
@@ -263,10 +263,10 @@ impl Hold {
         ensures sits { SitsAt napi.now self.new }
         ensures answers { SeatAnswers seat_call.Complete self.old result self.new }
     {
-        if !matches!(self, Hold::Polls(_)) {
+        if !matches!(self, CallerState::Polls(_)) {
             return status::NOT_ALLOWED;
         }
-        let polling = mem::replace(self, Hold::Gone).into_polling();
+        let polling = mem::replace(self, CallerState::Gone).into_polling();
         match polling.try_complete(napi) {
             TryDone::Released(caller) => self.rest(caller, status::RELEASED),
             TryDone::Again(granted) => self.grant(granted, status::AGAIN),
@@ -280,10 +280,10 @@ impl Hold {
         ensures sits { SitsAt napi.now self.new }
         ensures answers { SeatAnswers seat_call.BusyTake self.old result self.new }
     {
-        if !matches!(self, Hold::Rests(_)) {
+        if !matches!(self, CallerState::Rests(_)) {
             return status::NOT_ALLOWED;
         }
-        let caller = mem::replace(self, Hold::Gone).into_caller();
+        let caller = mem::replace(self, CallerState::Gone).into_caller();
         match caller.try_busy(napi) {
             TryBusy::Taken(busy) => self.busy(busy, status::TAKEN),
             TryBusy::Refused(caller) => self.rest(caller, status::BUSY),
@@ -297,10 +297,10 @@ impl Hold {
         ensures sits { SitsAt napi.now self.new }
         ensures answers { SeatAnswers seat_call.BusyStop self.old result self.new }
     {
-        if !matches!(self, Hold::Busy(_)) {
+        if !matches!(self, CallerState::Busy(_)) {
             return status::NOT_ALLOWED;
         }
-        let busy = mem::replace(self, Hold::Gone).into_busy();
+        let busy = mem::replace(self, CallerState::Gone).into_busy();
         match busy.try_stop(napi) {
             TryStop::Stopped(polling) => self.poll(polling, status::OK),
             TryStop::Changed(busy) => self.busy(busy, status::CHANGED),
@@ -313,7 +313,7 @@ impl Hold {
         ensures answers { SeatAnswers (seat_call.SetThreaded threaded) self.old result self.new }
     {
         match self {
-            Hold::Rests(caller) => {
+            CallerState::Rests(caller) => {
                 caller.set_threaded(napi, threaded);
                 status::OK
             }
@@ -328,11 +328,11 @@ impl Hold {
         ensures looks { SeatLooks self.old result self.new }
     {
         match self {
-            Hold::Rests(caller) => Some(caller.look(napi)),
-            Hold::Granted(granted) => Some(granted.look(napi)),
-            Hold::Polls(polling) => Some(polling.look(napi)),
-            Hold::Busy(busy) => Some(busy.look(napi)),
-            Hold::Gone => None,
+            CallerState::Rests(caller) => Some(caller.look(napi)),
+            CallerState::Granted(granted) => Some(granted.look(napi)),
+            CallerState::Polls(polling) => Some(polling.look(napi)),
+            CallerState::Busy(busy) => Some(busy.look(napi)),
+            CallerState::Gone => None,
         }
     }
 
@@ -341,8 +341,8 @@ impl Hold {
         ensures { result ≡ hold_counts self.now }
     {
         match self {
-            Hold::Polls(polling) => Some(polling.counts()),
-            Hold::Busy(busy) => Some(busy.counts()),
+            CallerState::Polls(polling) => Some(polling.counts()),
+            CallerState::Busy(busy) => Some(busy.counts()),
             _ => None,
         }
     }

@@ -20,29 +20,29 @@ pub struct FqRingShown {
 
 /// The producer's end of a ring.
 #[derive(Drop)]
-pub struct Input {
+pub struct RingInput {
     end: RxIn,
     shown: FqRingShown,
     ghost places: { shown.places ≡ capacity_of end },
     ghost put: { shown.put ≡ capped (length (put_list end)) },
 }
 
-impl Input {
+impl RingInput {
     /// Returns the input of a new ring of this capacity.
-    pub fn new(end: RxIn, places: usize) -> Input
+    pub fn new(end: RxIn, places: usize) -> RingInput
         requires places { capacity_of end ≡ places }
         requires empty { put_list end ≡ [] }
         ensures { result.end ≡ end }
     {
         let shown = FqRingShown { put: 0, places };
-        Input { end, shown }
+        RingInput { end, shown }
     }
 
     /// Returns only the end.
     pub fn into_end(self) -> RxIn
         ensures { result ≡ self.end }
     {
-        let Input { end, shown: _ } = self;
+        let RingInput { end, shown: _ } = self;
         end
     }
 

@@ -1,8 +1,8 @@
 //! A poll list for C, with the run over it.
 ghost use Rattle.std.specs.Prelude.{◌≡◌, false};
-ghost use Rattle.poll_runs.specs.Plain.{HasRoom};
+ghost use Rattle.poll_runs.specs.Plain.{HasListRoom};
 ghost use Rattle.poll_runs.specs.Steps.{HoldsNothing};
-ghost use Rattle.c_handles.specs.Lists.{held_in, run_in};
+ghost use Rattle.c_handles.specs.Lists.{held_by_run, run_in};
 
 use poll_runs::{PlainList, PollingRun};
 
@@ -20,10 +20,10 @@ pub struct FqRunReport {
 
 /// A poll list of one thread, and the run over it, if there is one, which is stored here.
 #[derive(Drop)]
-pub struct Lister {
+pub struct ListObject {
     pub(crate) list: PlainList,
     pub(crate) place: PollingRun,
     pub(crate) runs: bool,
-    ghost few: { HasRoom list (held_in (run_in runs place)) },
+    ghost few: { HasListRoom list (held_by_run (run_in runs place)) },
     ghost idle: { runs ≡ false → HoldsNothing place },
 }

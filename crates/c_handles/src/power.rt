@@ -20,7 +20,7 @@ pub enum ControlCall {
 }
 
 /// What the controller did last.
-pub enum Power {
+pub enum ControlState {
     /// Disabled.
     Off(Control<Off>),
     /// Enabled.
@@ -31,20 +31,20 @@ pub enum Power {
     Gone,
 }
 
-impl Drop for Power {
+impl Drop for ControlState {
     fn drop(self) {
         match self {
-            Power::Off(control) => control.abandon(),
-            Power::On(control) => control.abandon(),
-            Power::Marked(control) => control.abandon(),
-            Power::Gone => {}
+            ControlState::Off(control) => control.abandon(),
+            ControlState::On(control) => control.abandon(),
+            ControlState::Marked(control) => control.abandon(),
+            ControlState::Gone => {}
         }
     }
 }
 
-impl Power {
+impl ControlState {
     /// Runs `call` and returns its status; returns NOT_ALLOWED if it isn't allowed in this state.
-    pub(crate) fn step(self, napi: &Napi, call: ControlCall) -> (Power, u32)
+    pub(crate) fn step(self, napi: &Napi, call: ControlCall) -> (ControlState, u32)
         requires { ControlsAt napi.now self }
         ensures sits { ControlsAt napi.now result.0 }
         ensures answers { ControlAnswers call self result.1 result.0 }
@@ -56,41 +56,41 @@ impl Power {
         }
     }
 
-    fn enable(self, napi: &Napi, threaded: bool) -> (Power, u32)
+    fn enable(self, napi: &Napi, threaded: bool) -> (ControlState, u32)
         requires { ControlsAt napi.now self }
         ensures sits { ControlsAt napi.now result.0 }
         ensures answers { ControlAnswers (control_call.Enable threaded) self result.1 result.0 }
     {
         match self {
-            Power::Off(control) => match control.try_enable(napi, threaded) {
-                Ok(control) => (Power::On(control), status::OK),
-                Err(control) => (Power::Off(control), status::CHANGED),
+            ControlState::Off(control) => match control.try_enable(napi, threaded) {
+                Ok(control) => (ControlState::On(control), status::OK),
+                Err(control) => (ControlState::Off(control), status::CHANGED),
             },
             power => (power, status::NOT_ALLOWED),
         }
     }
 
-    fn mark(self, napi: &Napi) -> (Power, u32)
+    fn mark(self, napi: &Napi) -> (ControlState, u32)
         requires { ControlsAt napi.now self }
         ensures sits { ControlsAt napi.now result.0 }
         ensures answers { ControlAnswers control_call.Mark self result.1 result.0 }
     {
         match self {
-            Power::On(control) => (Power::Marked(control.mark(napi)), status::OK),
+            ControlState::On(control) => (ControlState::Marked(control.mark(napi)), status::OK),
             power => (power, status::NOT_ALLOWED),
         }
     }
 
-    fn try_take(self, napi: &Napi) -> (Power, u32)
+    fn try_take(self, napi: &Napi) -> (ControlState, u32)
         requires { ControlsAt napi.now self }
         ensures sits { ControlsAt napi.now result.0 }
         ensures answers { ControlAnswers control_call.TryTake self result.1 result.0 }
     {
         match self {
-            Power::Marked(control) => match control.try_take(napi) {
-                TryTake::Taken(control) => (Power::Off(control), status::TAKEN),
-                TryTake::Busy(control) => (Power::Marked(control), status::BUSY),
-                TryTake::Changed(control) => (Power::Marked(control), status::CHANGED),
+            ControlState::Marked(control) => match control.try_take(napi) {
+                TryTake::Taken(control) => (ControlState::Off(control), status::TAKEN),
+                TryTake::Busy(control) => (ControlState::Marked(control), status::BUSY),
+                TryTake::Changed(control) => (ControlState::Marked(control), status::CHANGED),
             },
             power => (power, status::NOT_ALLOWED),
         }
@@ -101,7 +101,7 @@ impl Power {
         ensures { result ≡ power_counts self.now }
     {
         match self {
-            Power::Off(control) => Some(control.counts()),
+            ControlState::Off(control) => Some(control.counts()),
             _ => None,
         }
     }

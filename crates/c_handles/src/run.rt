@@ -4,10 +4,10 @@ ghost use Rattle.poll_runs.specs.Polls.{Poll, work_of};
 ghost use Rattle.poll_runs.specs.Driven.{and_poll};
 ghost use Rattle.poll_runs.specs.declared.bench.Next.{Next};
 ghost use Rattle.c_handles.specs.Status.{OK, DONE, NOT_ALLOWED};
-ghost use Rattle.c_handles.specs.Lists.{held_in};
-ghost use Rattle.c_handles.specs.Runs.{next_in, asked_in, run_of, is_listed, is_doubled, Runs, IsThrough, IsBetweenPolls, HasSettings, SameSettingsIn, IsRunOf, push_status, begin_status, polled_status};
+ghost use Rattle.c_handles.specs.Lists.{held_by_run};
+ghost use Rattle.c_handles.specs.Runs.{next_in, asked_id, list_run, list_has, is_doubled, Runs, IsThrough, IsBetweenPolls, HasSettings, SameSettingsIn, IsRunOf, push_status, begin_status, polled_status};
 
-use crate::lister::{FqRunReport, Lister};
+use crate::lister::{FqRunReport, ListObject};
 use crate::status;
 use napi_model::Kind;
 use poll_runs::{Next, Once, PlainList, PollList, PollingRun};
@@ -26,13 +26,13 @@ fn next_of(number: u32) -> Option<Next>
     }
 }
 
-impl Lister {
+impl ListObject {
     /// Returns an empty list.
-    pub fn new() -> Lister
+    pub fn new() -> ListObject
         ensures list { result.list ≡ [] }
-        ensures run { run_of result ≡ None }
+        ensures run { list_run result ≡ None }
     {
-        Lister {
+        ListObject {
             list: PlainList::new(),
             place: PollingRun::idle(),
             runs: false,
@@ -41,21 +41,21 @@ impl Lister {
 
     /// Returns whether a run is in progress.
     pub fn is_running(&self) -> bool
-        ensures { result ≡ is_some (run_of self.now) }
+        ensures { result ≡ is_some (list_run self.now) }
     {
         self.runs
     }
 
     /// How many numbers list and run hold together.
     pub fn len(&self) -> usize
-        ensures { result ≡ length self.now.list + held_in (run_of self.now) }
+        ensures { result ≡ length self.now.list + held_by_run (list_run self.now) }
     {
         let held = if self.runs { self.place.held() } else { 0 };
         self.list.ids().len() + held
     }
 
     fn is_listed(&self, id: u32) -> bool
-        ensures { result ≡ is_listed self.now id }
+        ensures { result ≡ list_has self.now id }
     {
         self.list.ids().contains(&id) || self.runs && self.place.is_waiting(id)
     }
@@ -64,7 +64,7 @@ impl Lister {
     pub fn push(&mut self, id: u32) -> u32
         ensures status { result ≡ push_status self.old id }
         ensures pushed { result ≡ OK → self.new.list ≡ self.old.list ++ id ∷ [] }
-        ensures run { run_of self.new ≡ run_of self.old }
+        ensures run { list_run self.new ≡ list_run self.old }
         ensures kept { result ≢ OK → self.new ≡ self.old }
     {
         if self.is_listed(id) {
@@ -82,7 +82,7 @@ impl Lister {
         ensures status { result ≡ begin_status self.old budget weight window }
         ensures going { result ≡ OK → Runs self.old.list [] self.new }
         ensures rests { result ≡ OK → IsBetweenPolls self.new }
-        ensures settings { result ≡ OK → HasSettings budget weight window (run_of self.new) }
+        ensures settings { result ≡ OK → HasSettings budget weight window (list_run self.new) }
         ensures kept { result ≢ OK → self.new ≡ self.old }
     {
         if self.runs {
@@ -111,9 +111,9 @@ impl Lister {
             → Runs start polls self.new }
         ensures over { (start : _) (polls : List Poll) → result ≡ DONE → Runs start polls self.old
             → IsThrough start polls self.new }
-        ensures asks { result ≡ OK → asked_in (run_of self.new) ≡ Some id.new }
+        ensures asks { result ≡ OK → asked_id (list_run self.new) ≡ Some id.new }
         ensures none { result ≢ OK → id.new ≡ id.old }
-        ensures settings { SameSettingsIn (run_of self.old) (run_of self.new) }
+        ensures settings { SameSettingsIn (list_run self.old) (list_run self.new) }
         ensures refused { result ≡ NOT_ALLOWED ↔ ¬ IsBetweenPolls self.old }
         ensures kept { result ≡ NOT_ALLOWED → self.new ≡ self.old }
     {
@@ -143,11 +143,11 @@ impl Lister {
     pub fn polled(&mut self, work: u32, next: u32) -> u32
         ensures status { result ≡ polled_status self.old work next }
         ensures going { (start : _) (polls : List Poll) (id : _) (n : Next) → result ≡ OK
-            → asked_in (run_of self.old) ≡ Some id → next_in next ≡ Some n
+            → asked_id (list_run self.old) ≡ Some id → next_in next ≡ Some n
             → Runs start polls self.old
             → Runs start (and_poll polls id (record { work = work; next = n })) self.new }
         ensures rests { result ≡ OK → IsBetweenPolls self.new }
-        ensures settings { SameSettingsIn (run_of self.old) (run_of self.new) }
+        ensures settings { SameSettingsIn (list_run self.old) (list_run self.new) }
         ensures kept { result ≢ OK → self.new ≡ self.old }
     {
         if !self.runs {
@@ -172,15 +172,15 @@ impl Lister {
     /// Ends the run (`PollingRun::finish`).
     pub fn end(&mut self, report: &mut FqRunReport) -> u32
         ensures run { (start : _) (polls : List Poll) (budget weight window : _) → result ≡ OK
-            → HasSettings budget weight window (run_of self.old)
+            → HasSettings budget weight window (list_run self.old)
             → Runs start polls self.old → IsThrough start polls self.old
             → IsRunOf budget window start polls self.new.list report.new }
         ensures early { (start : _) (polls : List Poll) → result ≡ OK → Runs start polls self.old
             → (report.new.polls ≡ length polls) × (report.new.work ≡ work_of polls) }
         ensures bounds { (budget weight window : _) → result ≡ OK
-            → HasSettings budget weight window (run_of self.old)
+            → HasSettings budget weight window (list_run self.old)
             → (report.new.polls ≤ window) × (report.new.work < budget + weight) }
-        ensures over { result ≡ OK → run_of self.new ≡ None }
+        ensures over { result ≡ OK → list_run self.new ≡ None }
         ensures refused { result ≢ OK ↔ ¬ IsBetweenPolls self.old }
         ensures kept { result ≢ OK → (self.new ≡ self.old) × (report.new ≡ report.old) }
     {

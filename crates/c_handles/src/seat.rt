@@ -1,14 +1,14 @@
 //! A caller and the controller of a shared instance, each with the instance, as objects of handles.
 ghost use Rattle.std.specs.Prelude.{◌≡◌, ◌≤◌, length};
 ghost use Rattle.std.specs.Arc.{arc_value};
-ghost use Rattle.c_handles.specs.Answers.{counting};
+ghost use Rattle.c_handles.specs.Answers.{count_answer};
 ghost use Rattle.c_handles.specs.Status.{OK};
 ghost use Rattle.c_handles.specs.SeatCalls.{SeatAnswers, SeatLooks, ControlAnswers, SeatPolls, hold_counts, power_counts};
 ghost use Rattle.c_handles.specs.Seats.{SitsAt, ControlsAt, sits_prop, controls_prop};
 
 use crate::answers::FqAnswers;
-use crate::hold::{Hold, SeatCall};
-use crate::power::{ControlCall, Power};
+use crate::hold::{CallerState, SeatCall};
+use crate::power::{ControlCall, ControlState};
 use crate::status;
 use napi_calls::Napi;
 use napi_model::Seen;
@@ -42,23 +42,23 @@ impl Shared {
 
 /// A caller with its instance.
 #[derive(Drop)]
-pub struct Seat {
+pub struct CallerObject {
     /// Its instance.
     pub napi: Arc<Shared, Global>,
     /// Its state.
-    pub hold: Hold,
+    pub hold: CallerState,
     /// The counts of the results of its calls.
     pub answers: FqAnswers,
     /// It belongs to that instance.
     pub ghost seat: { SitsAt (arc_value napi).napi hold } by { sits_prop (arc_value napi).napi hold },
 }
 
-impl Seat {
+impl CallerObject {
     /// Makes a call, and returns its status.
     #[inline(always)]
     pub fn step(&mut self, call: SeatCall) -> u32
         ensures made { SeatAnswers call self.old.hold result self.new.hold }
-        ensures counted { self.new.answers ≡ counting result self.old.answers }
+        ensures counted { self.new.answers ≡ count_answer result self.old.answers }
     {
         let status = self.hold.step(&self.napi.napi, call);
         self.answers.count(status);
@@ -89,11 +89,11 @@ impl Seat {
         ensures answers { self.new.answers ≡ self.old.answers }
     {
         match &mut self.hold {
-            Hold::Polls(polling) => {
+            CallerState::Polls(polling) => {
                 polling.poll(weight, batch);
                 status::OK
             }
-            Hold::Busy(busy) => {
+            CallerState::Busy(busy) => {
                 busy.poll(weight, batch);
                 status::OK
             }
@@ -108,7 +108,7 @@ pub struct Controller {
     /// Its instance.
     pub napi: Arc<Shared, Global>,
     /// What it did last.
-    pub power: Power,
+    pub power: ControlState,
     /// It belongs to that instance.
     pub ghost seat: { ControlsAt (arc_value napi).napi power } by { controls_prop (arc_value napi).napi power },
 }
@@ -118,7 +118,7 @@ impl Controller {
     pub fn step(&mut self, call: ControlCall) -> u32
         ensures { ControlAnswers call self.old.power result self.new.power }
     {
-        let (power, status) = mem::replace(&mut self.power, Power::Gone).step(
+        let (power, status) = mem::replace(&mut self.power, ControlState::Gone).step(
             &self.napi.napi,
             call,
         );

@@ -3,7 +3,7 @@ use Rattle.std.proofs.Common.{◌≡◌, ℕ, ◌+◌, Bool, false, cond, List, 
 use Rattle.napi_model.specs.declared.event.{Call.Call, Event.Event, Operation.{Operation, TheVariants.{Look, Schedule, Take, Complete}}}
 use Rattle.napi_model.specs.declared.{event.{Prep.Prep, Done.Done}, state.{Seen.Seen, Kind.Kind}}
 use Rattle.{napi_model.specs.History.own, napi_word.specs.declared.table.Pass.Pass}
-use Rattle.napi_calls.specs.{declared.types.Napi.Napi, Made.{Made, Lost, looks, events}, Seats.{number_of, own_list}}
+use Rattle.napi_calls.specs.{declared.types.Napi.Napi, Made.{Made, Lost, looks, events}, Seats.{pass_number, own_list}}
 use Rattle.{napi_calls.proofs.Making.seat_same, calls_tests.specs.CallCounts.{count, Calls, HasCalled, is_schedule, is_take}}
 
 count_joined : (f : Operation → Bool) (xs ys : List Event) → count f (xs ++ ys) ≡ count f xs + count f ys
@@ -31,15 +31,16 @@ then a b =
     let y = b.own in record { seat = seat_same a.seat b.seat; own = omega (arith, x, y) }
 
 -- a call's operations
-pub made : (f : Operation → Bool) (n : ℕ) {p q : Pass} {os : List Operation} → Made p os q → count f (events (number_of p) os) ≡ n
+pub made : (f : Operation → Bool) (n : ℕ) {p q : Pass} {os : List Operation} → Made p os q → count f (events (pass_number p) os) ≡ n
     → Calls f n p q
 made f n {p} {q} {os} m is = record {
   seat = m.seat;
-  own = ap (count f) m.grown ∙ count_joined f (own_list p) (events (number_of p) os) ∙ ap (λ (k : ℕ). count f (own_list p) + k) is;
+  own = ap (count f) m.grown ∙ count_joined f (own_list p) (events (pass_number p) os) ∙ ap (λ (k : ℕ). count f (own_list p) + k) is;
 }
 
 -- what a seat has made since it was new is what its number has in the history
-pub held : {n : Napi} {c k : ℕ} {f : Operation → Bool} {q : Pass} (h : List Event) → HasCalled n c f k q → own (number_of q) h ≡ own_list q
+pub held : {n : Napi} {c k : ℕ} {f : Operation → Bool} {q : Pass} (h : List Event) → HasCalled n c f k q
+    → own (pass_number q) h ≡ own_list q
     → count f (own c h) ≡ k
 held {n} {c} {k} {f} {q} h has exact =
     let new = has.1 in
@@ -53,15 +54,15 @@ held {n} {c} {k} {f} {q} h has exact =
 
 pub scheduled : {p q : Pass} (r : Prep) (ts : List (Lost Call.Schedule)) (x : Seen)
     → Made p (flat_map looks ts ++ Look x ∷ Schedule r ∷ []) q → Calls is_schedule 1 p q
-scheduled {p} {q} r ts x m = made is_schedule 1 m (lost_none is_schedule (λ y. refl) (number_of p) ts (Look x ∷ Schedule r ∷ []))
+scheduled {p} {q} r ts x m = made is_schedule 1 m (lost_none is_schedule (λ y. refl) (pass_number p) ts (Look x ∷ Schedule r ∷ []))
 
 pub refused : {p q : Pass} (r : Prep) (ts : List (Lost Call.Schedule)) → Made p (flat_map looks ts ++ Schedule r ∷ []) q
     → Calls is_schedule 1 p q
-refused {p} {q} r ts m = made is_schedule 1 m (lost_none is_schedule (λ y. refl) (number_of p) ts (Schedule r ∷ []))
+refused {p} {q} r ts m = made is_schedule 1 m (lost_none is_schedule (λ y. refl) (pass_number p) ts (Schedule r ∷ []))
 
 pub completed : {p q : Pass} (d : Done) (ts : List (Lost Call.Complete)) (x : Seen)
     → Made p (flat_map looks ts ++ Look x ∷ Complete d ∷ []) q → Calls is_take 0 p q
-completed {p} {q} d ts x m = made is_take 0 m (lost_none is_take (λ y. refl) (number_of p) ts (Look x ∷ Complete d ∷ []))
+completed {p} {q} d ts x m = made is_take 0 m (lost_none is_take (λ y. refl) (pass_number p) ts (Look x ∷ Complete d ∷ []))
 
 pub takes : {p q : Pass} {k : Kind} {b : Bool} → Made p (Take k b ∷ []) q → Calls is_take 1 p q
 takes m = made is_take 1 m refl

@@ -3,7 +3,7 @@ use Rattle.std.proofs.Common.{◌≡◌, List, [], ◌∷◌, ◌++◌, ℕ, tru
 use Rattle.napi_model.specs.declared.{event.{Call.Call, Operation.{Operation, TheVariants.{Look, TakeDisable, Unmark}}}, state.Seen.Seen}
 use Rattle.{napi_model.specs.Word.word_of, napi_word.specs.declared.table.Pass.Pass}
 use Rattle.napi_calls.{specs.Made.{Made, WasLost}, proofs.Making.more}
-use Rattle.calls_tests.specs.OwnLists.{Told, says, looks, changed, does, IsTold, Did}
+use Rattle.calls_tests.specs.OwnLists.{Told, says, looks, changed, does, IsTold, OwnGrewBy}
 
 told_more : (ts : List Told) (os : List Operation) (us : List Told) (ps : List Operation) → IsTold ts os → IsTold us ps
     → IsTold (ts ++ us) (os ++ ps)
@@ -21,10 +21,11 @@ none_told changed us t = t
 none_told (does o) us t = t
 
 -- one call after another
-pub then : {p q r : Pass} {ts : List Told} {u : Told} {us : List Told} → Did p ts q → Did q (u ∷ us) r → Did p (ts ++ u ∷ us) r
+pub then : {p q r : Pass} {ts : List Told} {u : Told} {us : List Told} → OwnGrewBy p ts q → OwnGrewBy q (u ∷ us) r
+    → OwnGrewBy p (ts ++ u ∷ us) r
 then {p} {q} {r} {ts} {u} {us} d e = by e.operations e.told e.made
   where
-    by : (ps : List Operation) → IsTold (u ∷ us) ps → Made q ps r → Did p (ts ++ u ∷ us) r
+    by : (ps : List Operation) → IsTold (u ∷ us) ps → Made q ps r → OwnGrewBy p (ts ++ u ∷ us) r
     by [] t m = absurd (none_told u us t)
     by (o ∷ ps) t m = record {
       operations = d.operations ++ o ∷ ps;
@@ -33,21 +34,21 @@ then {p} {q} {r} {ts} {u} {us} d e = by e.operations e.told e.made
     }
 
 -- one operation, a look, one after its look, and two looks of a failed attempt
-pub one : {p q : Pass} (o : Operation) → Made p (o ∷ []) q → Did p (does o ∷ []) q
+pub one : {p q : Pass} (o : Operation) → Made p (o ∷ []) q → OwnGrewBy p (does o ∷ []) q
 one o m = record { operations = o ∷ []; told = (refl, tt); made = m }
 
-pub said : {p q : Pass} {w : ℕ} → ((x : Seen) × (word_of x ≡ w) × Made p (Look x ∷ []) q) → Did p (says w ∷ []) q
+pub said : {p q : Pass} {w : ℕ} → ((x : Seen) × (word_of x ≡ w) × Made p (Look x ∷ []) q) → OwnGrewBy p (says w ∷ []) q
 said m = record { operations = Look m.0 ∷ []; told = (m.1, tt); made = m.2 }
 
-pub met : {p q : Pass} → ((x : Seen) × Made p (Look x ∷ []) q) → Did p (looks ∷ []) q
+pub met : {p q : Pass} → ((x : Seen) × Made p (Look x ∷ []) q) → OwnGrewBy p (looks ∷ []) q
 met m = record { operations = Look m.0 ∷ []; told = tt; made = m.1 }
 
-pub tried : {p q : Pass} (o : Operation) → ((x : Seen) × Made p (Look x ∷ o ∷ []) q) → Did p (looks ∷ does o ∷ []) q
+pub tried : {p q : Pass} (o : Operation) → ((x : Seen) × Made p (Look x ∷ o ∷ []) q) → OwnGrewBy p (looks ∷ does o ∷ []) q
 tried o m = record { operations = Look m.0 ∷ o ∷ []; told = (refl, tt); made = m.1 }
 
-pub lost : {p q : Pass} (c : Call) → WasLost c p q → Did p (changed ∷ []) q
+pub lost : {p q : Pass} (c : Call) → WasLost c p q → OwnGrewBy p (changed ∷ []) q
 lost c m = record { operations = Look m.0.first ∷ Look m.0.second ∷ []; told = (m.0.differ, tt); made = m.1 }
 
 pub disabled : {p q : Pass} → ((x : Seen) × Made p (Look x ∷ TakeDisable true ∷ Unmark ∷ []) q)
-    → Did p (looks ∷ does (TakeDisable true) ∷ does Unmark ∷ []) q
+    → OwnGrewBy p (looks ∷ does (TakeDisable true) ∷ does Unmark ∷ []) q
 disabled m = record { operations = Look m.0 ∷ TakeDisable true ∷ Unmark ∷ []; told = (refl, (refl, tt)); made = m.1 }

@@ -25,13 +25,13 @@ IsTold (does o ∷ ts) (p ∷ os) = (p ≡ o) × IsTold ts os
 IsTold _ _ = ⊥
 
 -- from p to q the own list grew by these
-pub record Did (p : Pass) (ts : List Told) (q : Pass) : Type 0 where
+pub record OwnGrewBy (p : Pass) (ts : List Told) (q : Pass) : Type 0 where
   pub operations : List Operation
   pub told : IsTold ts operations
   pub made : Made p operations q
 
 -- a caller that schedules while another is within a call, and the result
-abbrev pub Asked : Option Caller → Option TryPrep → Type 0
-Asked (Some c) (Some a) = Prepares c.pass a
-Asked (Some c) None = ⊥
-Asked None _ = Unit {0}
+abbrev pub SchedulesMeanwhile : Option Caller → Option TryPrep → Type 0
+SchedulesMeanwhile (Some c) (Some a) = Prepares c.pass a
+SchedulesMeanwhile (Some c) None = ⊥
+SchedulesMeanwhile None _ = Unit {0}

@@ -10,7 +10,7 @@ ghost use Rattle.napi_model.specs.declared.event.Operation.TheVariants.{Look, Sc
 ghost use Rattle.napi_model.specs.Word.{word_of};
 ghost use Rattle.napi_calls.specs.declared.types.Caller.{Caller};
 ghost use Rattle.napi_calls.specs.Instance.{IsSeatOf, IsNewSeat, callers_of, first_of_instance};
-ghost use Rattle.napi_calls.specs.Seats.{IsInputOf};
+ghost use Rattle.napi_calls.specs.Seats.{PutsIntoRingOf};
 ghost use Rattle.napi_calls.specs.Made.{Made};
 ghost use Rattle.napi_calls.specs.Calls.{EnablesAt};
 ghost use Rattle.napi_calls.specs.Closed.{IsClosed};
@@ -79,7 +79,7 @@ pub fn make_bed(rt: &impl Abort, alloc: Global) -> Bed
     ensures first { IsNewSeat result.napi 0 result.first.pass }
     ensures second { IsNewSeat result.napi 1 result.second.pass }
     ensures control { IsNewSeat result.napi 2 result.control.pass }
-    ensures input { IsInputOf result.input result.first.pass }
+    ensures input { PutsIntoRingOf result.input result.first.pass }
     ensures nothing { received_list (first_of_instance result.napi) ≡ [] }
 {
     let made = ring(alloc, 4);

@@ -6,12 +6,12 @@ ghost use Rattle.napi_model.specs.declared.event.Prep.TheVariants as prep;
 ghost use Rattle.napi_model.specs.declared.event.Done.TheVariants as done;
 ghost use Rattle.napi_model.specs.declared.event.Operation.TheVariants.{Schedule, Take, Complete, BusyTake, BusyStop, MarkDisable, TakeDisable, Unmark, SetThreaded};
 ghost use Rattle.napi_calls.specs.Instance.{IsSeatOf};
-ghost use Rattle.calls_tests.specs.OwnLists.{Did, says, looks, changed, does};
+ghost use Rattle.calls_tests.specs.OwnLists.{OwnGrewBy, says, looks, changed, does};
 
 use crate::bed::{
     Bed, again, closed, enabled, handed, looked, make_bed, missed, not_there, released, taken,
 };
-use crate::contention::{Schedules, SetsThreaded};
+use crate::contention::{SchedulesBetween, SetsThreadedBetween};
 use napi_calls::{
     Busy, Caller, Control, Napi, Off, On, Polling, TryBusy, TryPrep, TryStop, TryTake,
 };
@@ -24,7 +24,7 @@ use std::test::Fail;
 pub(crate) fn busied(rt: &impl Abort, napi: &Napi, caller: Caller) -> Busy
     requires { IsSeatOf napi.now caller.pass }
     ensures seat { IsSeatOf napi.now result.pass }
-    ensures did { Did caller.pass (looks ∷ does BusyTake ∷ []) result.pass }
+    ensures did { OwnGrewBy caller.pass (looks ∷ does BusyTake ∷ []) result.pass }
 {
     let answer = caller.try_busy(napi);
     let TryBusy::Taken(busy) = answer else {
@@ -36,7 +36,7 @@ pub(crate) fn busied(rt: &impl Abort, napi: &Napi, caller: Caller) -> Busy
 fn refused(rt: &impl Abort, napi: &Napi, caller: Caller) -> Caller
     requires { IsSeatOf napi.now caller.pass }
     ensures seat { IsSeatOf napi.now result.pass }
-    ensures did { Did caller.pass (looks ∷ []) result.pass }
+    ensures did { OwnGrewBy caller.pass (looks ∷ []) result.pass }
 {
     let answer = caller.try_busy(napi);
     let TryBusy::Refused(caller) = answer else {
@@ -48,7 +48,7 @@ fn refused(rt: &impl Abort, napi: &Napi, caller: Caller) -> Caller
 pub(crate) fn stopped(rt: &impl Abort, napi: &Napi, busy: Busy) -> Polling
     requires { IsSeatOf napi.now busy.pass }
     ensures seat { IsSeatOf napi.now result.pass }
-    ensures did { Did busy.pass (looks ∷ does BusyStop ∷ []) result.pass }
+    ensures did { OwnGrewBy busy.pass (looks ∷ does BusyStop ∷ []) result.pass }
 {
     let answer = busy.try_stop(napi);
     let TryStop::Stopped(polling) = answer else {
@@ -61,10 +61,10 @@ pub(crate) fn stopped(rt: &impl Abort, napi: &Napi, busy: Busy) -> Polling
 fn miss_while_busy(rt: &impl Abort, napi: &Napi, first: Caller, second: Caller) -> (Caller, Caller)
     requires first { IsSeatOf napi.now first.pass }
     requires second { IsSeatOf napi.now second.pass }
-    ensures first { Did first.pass
+    ensures first { OwnGrewBy first.pass
         (looks ∷ does BusyTake ∷ does (Complete done.Held) ∷ looks ∷ does BusyStop
         ∷ looks ∷ does (Complete done.Released) ∷ []) result.0.pass }
-    ensures second { Did second.pass
+    ensures second { OwnGrewBy second.pass
         (says 65 ∷ looks ∷ does (Schedule prep.Missed) ∷ says 67 ∷ does (Take kind.List false)
         ∷ looks ∷ says 67 ∷ says 1 ∷ says 0 ∷ []) result.1.pass }
     ensures seats { IsSeatOf napi.now result.0.pass × IsSeatOf napi.now result.1.pass }
@@ -101,13 +101,13 @@ fn set_within_a_stop(
     requires first { IsSeatOf napi.now first.pass }
     requires second { IsSeatOf napi.now second.pass }
     requires control { IsSeatOf napi.now control.pass }
-    ensures first { Did first.pass
+    ensures first { OwnGrewBy first.pass
         (looks ∷ does BusyTake ∷ changed ∷ looks ∷ does BusyStop
         ∷ looks ∷ does (Complete done.Released) ∷ []) result.0.pass }
-    ensures second { Did second.pass
+    ensures second { OwnGrewBy second.pass
         (says 65 ∷ says 69 ∷ does (SetThreaded true) ∷ says 325 ∷ says 261 ∷ says 260 ∷ looks
         ∷ says 9 ∷ []) result.1.pass }
-    ensures control { Did control.pass
+    ensures control { OwnGrewBy control.pass
         (does MarkDisable ∷ does (TakeDisable false) ∷ looks ∷ does (TakeDisable true)
         ∷ does Unmark ∷ []) result.2.pass }
     ensures seats { IsSeatOf napi.now result.0.pass × IsSeatOf napi.now result.1.pass
@@ -121,7 +121,7 @@ fn set_within_a_stop(
     let TryTake::Busy(control) = answer else {
         panic!(rt; "not busy")
     };
-    let mut other = SetsThreaded {
+    let mut other = SetsThreadedBetween {
         napi,
         caller: second,
     };
@@ -129,7 +129,7 @@ fn set_within_a_stop(
     let TryStop::Changed(busy) = answer else {
         panic!(rt; "not changed")
     };
-    let SetsThreaded {
+    let SetsThreadedBetween {
         napi: _,
         caller: mut second,
     } = other;
@@ -173,16 +173,16 @@ fn schedule_within_a_stop(
 ) -> (Caller, Caller)
     requires first { IsSeatOf napi.now first.pass }
     requires second { IsSeatOf napi.now second.pass }
-    ensures first { Did first.pass
+    ensures first { OwnGrewBy first.pass
         (looks ∷ does BusyTake ∷ changed ∷ looks ∷ does BusyStop
         ∷ looks ∷ does (Complete done.Released) ∷ []) result.0.pass }
-    ensures second { Did second.pass
+    ensures second { OwnGrewBy second.pass
         (says 65 ∷ looks ∷ does (Schedule prep.Missed) ∷ says 67 ∷ says 1 ∷ []) result.1.pass }
     ensures seats { IsSeatOf napi.now result.0.pass × IsSeatOf napi.now result.1.pass }
 {
     let busy = busied(rt, napi, first);
     looked(rt, napi, &mut second, 65);
-    let mut other = Schedules {
+    let mut other = SchedulesBetween {
         napi,
         caller: Some(second),
         answer: None,
@@ -227,7 +227,7 @@ fn busy_loses_to_a_schedule(rt: HostRuntime) -> Result<(), Fail> {
         control,
     } = make_bed(&rt, rt.alloc());
     let control = enabled(&rt, &napi, control, false);
-    let mut other = Schedules {
+    let mut other = SchedulesBetween {
         napi: &napi,
         caller: Some(second),
         answer: None,

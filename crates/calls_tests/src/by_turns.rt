@@ -6,13 +6,13 @@ ghost use Rattle.napi_model.specs.declared.event.Prep.TheVariants as prep;
 ghost use Rattle.napi_model.specs.declared.event.Done.TheVariants as done;
 ghost use Rattle.napi_model.specs.declared.event.Operation.TheVariants.{Schedule, Hand, Take, Complete};
 ghost use Rattle.napi_calls.specs.Instance.{IsSeatOf};
-ghost use Rattle.calls_tests.specs.OwnLists.{Did, looks, does};
+ghost use Rattle.calls_tests.specs.OwnLists.{OwnGrewBy, looks, does};
 
 use crate::bed::{
     Bed, again, closed, disabled, enabled, granted, handed, make_bed, missed, not_there, released,
     taken,
 };
-use napi_calls::{Caller, Kept, Napi, meet};
+use napi_calls::{Caller, DropBomb, Napi, meet};
 use napi_model::Kind;
 use rx_ring::Batch;
 use std::process::Abort;
@@ -44,7 +44,7 @@ fn end_turn<R: Wait>(rt: &R, turns: &Turns, made: u32) {
 // Number 0 has the turns 0, 2 and 4: it is granted the instance, misses it, and takes and releases what number 1 queues.
 fn first_turns<R: Wait + Abort>(rt: &R, napi: &Napi, first: Caller, turns: &Turns) -> Caller
     requires { IsSeatOf napi.now first.pass }
-    ensures { Did first.pass
+    ensures { OwnGrewBy first.pass
         (looks ∷ does (Schedule prep.Granted) ∷ does (Hand kind.List)
         ∷ does (Take kind.List false) ∷ looks ∷ does (Schedule prep.Missed)
         ∷ does (Take kind.List true) ∷ looks ∷ does (Complete done.Released)
@@ -67,7 +67,7 @@ fn first_turns<R: Wait + Abort>(rt: &R, napi: &Napi, first: Caller, turns: &Turn
 // Number 1 has the turns 1 and 3: it takes the instance, and is granted it again and queues it.
 fn second_turns<R: Wait + Abort>(rt: &R, napi: &Napi, second: Caller, turns: &Turns) -> Caller
     requires { IsSeatOf napi.now second.pass }
-    ensures { Did second.pass
+    ensures { OwnGrewBy second.pass
         (does (Take kind.List true) ∷ looks ∷ does (Complete done.Again)
         ∷ does (Hand kind.List) ∷ []) result.pass }
 {
@@ -90,12 +90,12 @@ fn play<R: Threads + Wait + Abort + Copy + Drop + Send>(
 ) -> (Caller, Caller)
     requires first { IsSeatOf napi.now first.pass }
     requires second { IsSeatOf napi.now second.pass }
-    ensures first { Did first.pass
+    ensures first { OwnGrewBy first.pass
         (looks ∷ does (Schedule prep.Granted) ∷ does (Hand kind.List)
         ∷ does (Take kind.List false) ∷ looks ∷ does (Schedule prep.Missed)
         ∷ does (Take kind.List true) ∷ looks ∷ does (Complete done.Released)
         ∷ []) result.0.pass }
-    ensures second { Did second.pass
+    ensures second { OwnGrewBy second.pass
         (does (Take kind.List true) ∷ looks ∷ does (Complete done.Again)
         ∷ does (Hand kind.List) ∷ []) result.1.pass }
 {
@@ -104,13 +104,13 @@ fn play<R: Threads + Wait + Abort + Copy + Drop + Send>(
         changed: Condvar::new(),
     };
     let turns = &turns;
-    let first = Kept::new(rt, first);
-    let second = Kept::new(rt, second);
+    let first = DropBomb::new(rt, first);
+    let second = DropBomb::new(rt, second);
     thread::join(
         &rt,
         move || -> Caller
             requires { IsSeatOf napi.now first.value.pass }
-            ensures { Did first.value.pass
+            ensures { OwnGrewBy first.value.pass
                 (looks ∷ does (Schedule prep.Granted) ∷ does (Hand kind.List)
                 ∷ does (Take kind.List false) ∷ looks ∷ does (Schedule prep.Missed)
                 ∷ does (Take kind.List true) ∷ looks ∷ does (Complete done.Released)
@@ -118,7 +118,7 @@ fn play<R: Threads + Wait + Abort + Copy + Drop + Send>(
         { first_turns(&rt, napi, first.open(), turns) },
         move || -> Caller
             requires { IsSeatOf napi.now second.value.pass }
-            ensures { Did second.value.pass
+            ensures { OwnGrewBy second.value.pass
                 (does (Take kind.List true) ∷ looks ∷ does (Complete done.Again)
                 ∷ does (Hand kind.List) ∷ []) result.pass }
         { second_turns(&rt, napi, second.open(), turns) },

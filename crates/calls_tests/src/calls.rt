@@ -1,7 +1,7 @@
 //! Reads by the owners of an instance, and the meetings of its ring's ends that no other test makes.
 
 ghost use Rattle.napi_calls.specs.Instance.{IsSeatOf};
-ghost use Rattle.napi_calls.specs.Seats.{IsInputOf};
+ghost use Rattle.napi_calls.specs.Seats.{PutsIntoRingOf};
 
 use crate::bed::{closed, disabled, enabled, granted, handed, released, taken};
 use crate::busy::{busied, stopped};
@@ -13,13 +13,13 @@ use std::test::Fail;
 
 // The contract of `beside` requires an end of the instance's ring.
 fn beside_of(control: &mut Control<Off>, input: &mut RxIn)
-    requires { IsInputOf input.old control.old.pass }
+    requires { PutsIntoRingOf input.old control.old.pass }
 {
     control.beside(input);
 }
 
 fn beside_busy(busy: &mut Busy, input: &mut RxIn)
-    requires { IsInputOf input.old busy.old.pass }
+    requires { PutsIntoRingOf input.old busy.old.pass }
 {
     busy.beside(input);
 }

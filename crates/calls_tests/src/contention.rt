@@ -9,7 +9,7 @@ ghost use Rattle.napi_model.specs.declared.event.Operation.TheVariants.{Schedule
 ghost use Rattle.napi_calls.specs.Instance.{IsSeatOf};
 ghost use Rattle.napi_calls.specs.Made.{Made};
 ghost use Rattle.napi_calls.specs.Calls.{seat_of};
-ghost use Rattle.calls_tests.specs.OwnLists.{Asked, Did, says, looks, changed, does};
+ghost use Rattle.calls_tests.specs.OwnLists.{SchedulesMeanwhile, OwnGrewBy, says, looks, changed, does};
 
 use crate::bed::{
     Bed, again, closed, disabled, enabled, granted, handed, looked, make_bed, missed, released,
@@ -21,7 +21,7 @@ use std::process::Abort;
 use std::test::Fail;
 
 /// Another caller, which schedules once during a call.
-pub struct Schedules<'a> {
+pub struct SchedulesBetween<'a> {
     /// The instance.
     pub napi: &'a Napi,
     /// The caller, until it has scheduled.
@@ -32,8 +32,8 @@ pub struct Schedules<'a> {
     ghost after: { ForSome answer (λ a. IsSeatOf napi.now (seat_of a)) },
 }
 
-impl Between for Schedules<'_> {
-    ghost ran = { λ s t. (t.napi.now ≡ s.napi.now) × Asked s.caller t.answer };
+impl Between for SchedulesBetween<'_> {
+    ghost ran = { λ s t. (t.napi.now ≡ s.napi.now) × SchedulesMeanwhile s.caller t.answer };
 
     fn run(&mut self) {
         if let Some(caller) = self.caller.take() {
@@ -44,13 +44,13 @@ impl Between for Schedules<'_> {
     }
 }
 
-impl Schedules<'_> {
+impl SchedulesBetween<'_> {
     /// Returns the result of the schedule.
     pub fn answered(self, rt: &impl Abort) -> TryPrep
         ensures seat { IsSeatOf self.entry.napi.now (seat_of result) }
         ensures answer { self.entry.answer ≡ Some result }
     {
-        let Schedules {
+        let SchedulesBetween {
             napi: _,
             caller,
             answer,
@@ -66,7 +66,7 @@ impl Schedules<'_> {
 }
 
 /// Another caller, which sets the instance threaded during a call.
-pub struct SetsThreaded<'a> {
+pub struct SetsThreadedBetween<'a> {
     /// The instance.
     pub napi: &'a Napi,
     /// The caller.
@@ -74,7 +74,7 @@ pub struct SetsThreaded<'a> {
     ghost seat: { IsSeatOf napi.now caller.pass },
 }
 
-impl Between for SetsThreaded<'_> {
+impl Between for SetsThreadedBetween<'_> {
     ghost ran = { λ s t. (t.napi.now ≡ s.napi.now)
         × Made s.caller.pass (SetThreaded true ∷ []) t.caller.pass };
 
@@ -92,15 +92,15 @@ fn schedule_at_once(
 ) -> (Caller, Caller)
     requires first { IsSeatOf napi.now first.pass }
     requires second { IsSeatOf napi.now second.pass }
-    ensures first { Did first.pass
+    ensures first { OwnGrewBy first.pass
         (says 0 ∷ changed ∷ says 1 ∷ looks ∷ does (Schedule prep.Missed) ∷ says 4294967299 ∷ [])
         result.0.pass }
-    ensures second { Did second.pass
+    ensures second { OwnGrewBy second.pass
         (looks ∷ does (Schedule prep.Granted) ∷ does (Hand kind.List) ∷ []) result.1.pass }
     ensures seats { IsSeatOf napi.now result.0.pass × IsSeatOf napi.now result.1.pass }
 {
     looked(rt, napi, &mut first, 0);
-    let mut other = Schedules {
+    let mut other = SchedulesBetween {
         napi,
         caller: Some(second),
         answer: None,
@@ -151,10 +151,10 @@ fn schedule_within_a_completion(
 ) -> (Caller, Caller)
     requires first { IsSeatOf napi.now first.pass }
     requires second { IsSeatOf napi.now second.pass }
-    ensures first { Did first.pass
+    ensures first { OwnGrewBy first.pass
         (looks ∷ does (Schedule prep.Granted) ∷ does (Hand kind.List) ∷ says 1
         ∷ looks ∷ does (Schedule prep.Missed) ∷ says 3 ∷ says 1 ∷ []) result.0.pass }
-    ensures second { Did second.pass
+    ensures second { OwnGrewBy second.pass
         (does (Take kind.List true) ∷ changed ∷ looks ∷ does (Complete done.Again)
         ∷ does (Hand kind.List) ∷ []) result.1.pass }
     ensures seats { IsSeatOf napi.now result.0.pass × IsSeatOf napi.now result.1.pass }
@@ -163,7 +163,7 @@ fn schedule_within_a_completion(
     let mut first = handed(napi, owner, Kind::List);
     let poller = taken(rt, napi, second, Kind::List);
     looked(rt, napi, &mut first, 1);
-    let mut other = Schedules {
+    let mut other = SchedulesBetween {
         napi,
         caller: Some(first),
         answer: None,
@@ -212,9 +212,9 @@ fn set_within_a_disable(
     requires first { IsSeatOf napi.now first.pass }
     requires second { IsSeatOf napi.now second.pass }
     requires control { IsSeatOf napi.now control.pass }
-    ensures first { Did first.pass (does (SetThreaded true) ∷ []) result.0.pass }
-    ensures second { Did second.pass (says 4 ∷ says 260 ∷ says 9 ∷ []) result.1.pass }
-    ensures control { Did control.pass
+    ensures first { OwnGrewBy first.pass (does (SetThreaded true) ∷ []) result.0.pass }
+    ensures second { OwnGrewBy second.pass (says 4 ∷ says 260 ∷ says 9 ∷ []) result.1.pass }
+    ensures control { OwnGrewBy control.pass
         (does MarkDisable ∷ changed ∷ looks ∷ does (TakeDisable true) ∷ does Unmark ∷ [])
         result.2.pass }
     ensures seats { IsSeatOf napi.now result.0.pass × IsSeatOf napi.now result.1.pass
@@ -222,7 +222,7 @@ fn set_within_a_disable(
 {
     let control = control.mark(napi);
     looked(rt, napi, &mut second, 4);
-    let mut other = SetsThreaded {
+    let mut other = SetsThreadedBetween {
         napi,
         caller: first,
     };
@@ -230,7 +230,7 @@ fn set_within_a_disable(
     let TryTake::Changed(control) = answer else {
         panic!(rt; "not changed")
     };
-    let SetsThreaded {
+    let SetsThreadedBetween {
         napi: _,
         caller: first,
     } = other;
@@ -269,14 +269,15 @@ fn schedule_within_an_enable(
     requires first { IsSeatOf napi.now first.pass }
     requires second { IsSeatOf napi.now second.pass }
     requires control { IsSeatOf napi.now control.pass }
-    ensures first { Did first.pass (looks ∷ does (Schedule prep.Missed) ∷ []) result.0.pass }
-    ensures second { Did second.pass (says 9 ∷ says 11 ∷ says 258 ∷ []) result.1.pass }
-    ensures control { Did control.pass (changed ∷ looks ∷ does (Enable true) ∷ []) result.2.pass }
+    ensures first { OwnGrewBy first.pass (looks ∷ does (Schedule prep.Missed) ∷ []) result.0.pass }
+    ensures second { OwnGrewBy second.pass (says 9 ∷ says 11 ∷ says 258 ∷ []) result.1.pass }
+    ensures control { OwnGrewBy control.pass (changed ∷ looks ∷ does (Enable true) ∷ [])
+        result.2.pass }
     ensures seats { IsSeatOf napi.now result.0.pass × IsSeatOf napi.now result.1.pass
         × IsSeatOf napi.now result.2.pass }
 {
     looked(rt, napi, &mut second, 9);
-    let mut other = Schedules {
+    let mut other = SchedulesBetween {
         napi,
         caller: Some(first),
         answer: None,

@@ -5,12 +5,12 @@ ghost use Rattle.rx_ring.specs.declared.packet.Packet.{Packet};
 ghost use Rattle.rx_ring.specs.Ends.{put_list, received_list, SameIn};
 ghost use Rattle.rx_ring.specs.ReceiveRing.{capped};
 ghost use Rattle.napi_calls.specs.Instance.{IsSeatOf, IsNewSeat, first_of_instance};
-ghost use Rattle.napi_calls.specs.Seats.{SameSeat, IsInputOf};
+ghost use Rattle.napi_calls.specs.Seats.{SameSeat, PutsIntoRingOf};
 ghost use Rattle.napi_calls.specs.Packets.{Quiet};
 ghost use Rattle.napi_calls.specs.Dealt.{Delivers, IsDealt};
 
 use crate::bed::{Bed, closed, make_bed};
-use napi_calls::{Caller, Completed, Kept, Napi, Sched};
+use napi_calls::{Caller, Completed, DropBomb, Napi, Sched};
 use napi_model::Kind;
 use rx_ring::{Batch, Packet, RxIn, Totals, finish};
 use std::alloc::Global;
@@ -82,8 +82,8 @@ fn both<R: Threads + Wait + Copy + Drop + Send>(
     ensures second { SameSeat second.pass result.1.0.pass
         × Delivers second.pass result.1.1.items result.1.0.pass }
 {
-    let first = Kept::new(rt, first);
-    let second = Kept::new(rt, second);
+    let first = DropBomb::new(rt, first);
+    let second = DropBomb::new(rt, second);
     join(
         &rt,
         move || -> (Caller, Batch)
@@ -116,7 +116,7 @@ fn deal<R: Threads + Wait + Abort + Copy + Drop + Send>(
     requires first { IsNewSeat bed.napi 0 bed.first.pass }
     requires second { IsNewSeat bed.napi 1 bed.second.pass }
     requires control { IsNewSeat bed.napi 2 bed.control.pass }
-    requires input { IsInputOf bed.input bed.first.pass }
+    requires input { PutsIntoRingOf bed.input bed.first.pass }
     requires nothing { received_list (first_of_instance bed.napi) ≡ [] }
     ensures { (left : List Packet) × IsDealt (put_list bed.input) result.0.items result.1.items left
         × (result.2.left ≡ capped (length left)) }
@@ -152,7 +152,7 @@ fn filled(rt: &impl Abort, alloc: Global) -> Bed
     ensures first { IsNewSeat result.napi 0 result.first.pass }
     ensures second { IsNewSeat result.napi 1 result.second.pass }
     ensures control { IsNewSeat result.napi 2 result.control.pass }
-    ensures input { IsInputOf result.input result.first.pass }
+    ensures input { PutsIntoRingOf result.input result.first.pass }
     ensures nothing { received_list (first_of_instance result.napi) ≡ [] }
 {
     let Bed {

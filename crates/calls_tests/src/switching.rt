@@ -3,7 +3,7 @@
 ghost use Rattle.napi_calls.specs.Instance.{IsSeatOf};
 
 use crate::bed::{Bed, enabled, make_bed};
-use napi_calls::{Caller, Completed, Control, Kept, Napi, On, Polling, Sched};
+use napi_calls::{Caller, Completed, Control, DropBomb, Napi, On, Polling, Sched};
 use napi_model::Kind;
 use std::sync::Wait;
 use std::sync::atomic::{AtomicBool, Ordering};
@@ -112,9 +112,9 @@ fn lost_tries_are_made_again(rt: HostRuntime) -> Result<(), Fail> {
     } = make_bed(&rt, rt.alloc());
     let control = enabled(&rt, &napi, control, false);
     let over = AtomicBool::new(false);
-    let first = Kept::new(rt, first);
-    let second = Kept::new(rt, second);
-    let control = Kept::new(rt, control);
+    let first = DropBomb::new(rt, first);
+    let second = DropBomb::new(rt, second);
+    let control = DropBomb::new(rt, control);
     let (shared, end) = (&napi, &over);
     let (setter, (poller, control)) = thread::join(
         &rt,

@@ -6,7 +6,7 @@ ghost use Rattle.napi_calls.specs.Instance.{IsNewSeat, IsSeatOf, callers_of};
 ghost use Rattle.calls_tests.specs.CallCounts.{Calls, HasCalled, HoldCalls, is_schedule, is_take};
 
 use crate::bed::enabled;
-use napi_calls::{Caller, Completed, Control, Kept, Napi, Off, On, Polling, Sched};
+use napi_calls::{Caller, Completed, Control, DropBomb, Napi, Off, On, Polling, Sched};
 use napi_model::Kind;
 use rx_ring::{Batch, Packet, RxCtx, RxIn, ring};
 use std::alloc::Global;
@@ -96,7 +96,7 @@ fn interrupt(
 }
 
 // What a poller did: its caller, how many packets arrived in order, and how often it tried to take the instance.
-struct Polled {
+struct PolledPackets {
     caller: Caller,
     in_turn: u64,
     takes: u64,
@@ -134,7 +134,7 @@ fn turn(
 
 // Polls until all others are done and the instance isn't on the list.
 #[tactic(auto, using(crate::proofs::Counting::then))]
-fn poll_all(rt: &impl Wait, napi: &Napi, caller: Caller, done: &AtomicU64) -> Polled
+fn poll_all(rt: &impl Wait, napi: &Napi, caller: Caller, done: &AtomicU64) -> PolledPackets
     requires { IsSeatOf napi.now caller.pass }
     ensures { Calls is_take result.takes caller.pass result.caller.pass }
 {
@@ -146,7 +146,7 @@ fn poll_all(rt: &impl Wait, napi: &Napi, caller: Caller, done: &AtomicU64) -> Po
         let (rest, is_there) = turn(rt, napi, caller, &mut batch, &mut in_turn);
         caller = rest;
         if last && !is_there {
-            return Polled {
+            return PolledPackets {
                 caller,
                 in_turn,
                 takes: takes + 1,
@@ -156,7 +156,7 @@ fn poll_all(rt: &impl Wait, napi: &Napi, caller: Caller, done: &AtomicU64) -> Po
             thread::yield_now();
         }
     }
-    Polled {
+    PolledPackets {
         caller,
         in_turn,
         takes: TURNS,
@@ -206,7 +206,7 @@ fn play<R: Threads + Wait + Copy + Drop + Send>(
     callers: (Caller, Caller, Caller),
     control: Control<On>,
     input: RxIn,
-) -> (Caller, Caller, Polled, Control<On>)
+) -> (Caller, Caller, PolledPackets, Control<On>)
     requires first { IsSeatOf napi.now callers.0.pass }
     requires second { IsSeatOf napi.now callers.1.pass }
     requires poller { IsSeatOf napi.now callers.2.pass }
@@ -219,10 +219,10 @@ fn play<R: Threads + Wait + Copy + Drop + Send>(
     let (first, second, poller) = callers;
     let halves = AtomicU64::new(0);
     let done = AtomicU64::new(0);
-    let first = Kept::new(rt, first);
-    let second = Kept::new(rt, second);
-    let poller = Kept::new(rt, poller);
-    let control = Kept::new(rt, control);
+    let first = DropBomb::new(rt, first);
+    let second = DropBomb::new(rt, second);
+    let poller = DropBomb::new(rt, poller);
+    let control = DropBomb::new(rt, control);
     let (half, end) = (&halves, &done);
     let ((first, second), (poller, control)) = thread::join(
         &rt,
@@ -243,14 +243,14 @@ fn play<R: Threads + Wait + Copy + Drop + Send>(
                 { interrupt(&rt, napi, second.open(), None, half, end) },
             )
         },
-        move || -> (Polled, Control<On>)
+        move || -> (PolledPackets, Control<On>)
             requires { IsSeatOf napi.now poller.value.pass × IsSeatOf napi.now control.value.pass }
             ensures { Calls is_take result.0.takes poller.value.pass result.0.caller.pass
                 × SameTable control.value.pass result.1.pass }
         {
             thread::join(
                 &rt,
-                move || -> Polled
+                move || -> PolledPackets
                     requires { IsSeatOf napi.now poller.value.pass }
                     ensures { Calls is_take result.takes poller.value.pass result.caller.pass }
                 { poll_all(&rt, napi, poller.open(), end) },
@@ -305,7 +305,7 @@ fn two_interrupts_and_a_poller(rt: HostRuntime) -> Result<(), Fail> {
     } = seat_three(&rt, rt.alloc(), ctx);
     let control = enabled(&rt, &napi, control, false);
     let (first, second, polled, control) = play(rt, &napi, (first, second, poller), control, input);
-    let Polled {
+    let PolledPackets {
         caller: poller,
         in_turn,
         takes,

@@ -6,7 +6,7 @@ ghost use Rattle.napi_model.specs.declared.event.Prep.TheVariants as prep;
 ghost use Rattle.napi_model.specs.declared.event.Done.TheVariants as done;
 ghost use Rattle.napi_model.specs.declared.event.Operation.TheVariants.{Schedule, Hand, Take, Complete, SetThreaded};
 ghost use Rattle.napi_calls.specs.Instance.{IsSeatOf};
-ghost use Rattle.calls_tests.specs.OwnLists.{Did, says, looks, does};
+ghost use Rattle.calls_tests.specs.OwnLists.{OwnGrewBy, says, looks, does};
 
 use crate::bed::{
     Bed, again, closed, disabled, enabled, granted, handed, looked, make_bed, missed, not_there,
@@ -29,13 +29,13 @@ fn take_turns(
     requires first { IsSeatOf napi.now first.pass }
     requires second { IsSeatOf napi.now second.pass }
     requires control { IsSeatOf napi.now control.pass }
-    ensures first { Did first.pass
+    ensures first { OwnGrewBy first.pass
         (says 9 ∷ says 0 ∷ looks ∷ looks ∷ does (Schedule prep.Granted) ∷ does (Hand kind.List)
         ∷ says 4294967297 ∷ says 1 ∷ does (Take kind.List false)
         ∷ looks ∷ does (Schedule prep.Missed) ∷ says 3 ∷ says 1
         ∷ does (Take kind.List true) ∷ looks ∷ does (Complete done.Released)
         ∷ says 0 ∷ says 9 ∷ []) result.0.pass }
-    ensures second { Did second.pass
+    ensures second { OwnGrewBy second.pass
         (looks ∷ does (Take kind.List true) ∷ looks ∷ does (Complete done.Again)
         ∷ does (Hand kind.List) ∷ says 4294967297 ∷ []) result.1.pass }
     ensures seats { IsSeatOf napi.now result.0.pass × IsSeatOf napi.now result.1.pass
@@ -168,12 +168,12 @@ fn hand_to_the_thread(
 ) -> (Caller, Caller)
     requires first { IsSeatOf napi.now first.pass }
     requires second { IsSeatOf napi.now second.pass }
-    ensures first { Did first.pass
+    ensures first { OwnGrewBy first.pass
         (looks ∷ does (Schedule prep.Granted) ∷ does (Hand kind.List)
         ∷ says 1 ∷ does (SetThreaded true) ∷ says 257
         ∷ looks ∷ does (Schedule prep.Missed) ∷ says 259 ∷ says 257
         ∷ says 8589935361 ∷ says 769 ∷ []) result.0.pass }
-    ensures second { Did second.pass
+    ensures second { OwnGrewBy second.pass
         (does (Take kind.List true) ∷ looks ∷ does (Complete done.Again)
         ∷ does (Hand kind.Thread) ∷ does (Take kind.List false) ∷ does (Take kind.Thread true)
         ∷ looks ∷ does (Complete done.Released) ∷ []) result.1.pass }

@@ -8,11 +8,14 @@ use Rattle.napi_model.specs.declared.state.{Kind.Kind, Place.Place, State.State}
 use Rattle.poll_runs.specs.{Plan.{ends, ◌>>=◌}, Polls.{is_arrival, is_repoll}, Thread.{is_for_thread, last_next}}
 use Rattle.poll_runs.specs.declared.bench.{BusyReport.BusyReport, Next.{Next, TheVariants.{Again, Repoll}}}
 use Rattle.{poll_runs.proofs.PollingFacts.last-snoc, device_bench.proofs.InstanceFacts.carried-then}
-use Rattle.device_bench.specs.{Waiting.{count, is_left_to_list, is_listed, leaves, waits}, Device.{acted, after_disable, after_enable}}
-use Rattle.device_bench.specs.Device.{after_packet, after_reply, after_request, after_threaded, carried_out, disabled_from, enabled_from}
-use Rattle.device_bench.specs.Device.{is_pending, made, polled, polled_busily, polled_by_thread, polled_once, settled, state_of, with_napi}
+use Rattle.device_bench.specs.{Waiting.{one_when, is_left_to_list, is_listed, leaves, waits_on_list}}
+use Rattle.device_bench.specs.{Device.{acted, after_disable, after_enable}}
+use Rattle.device_bench.specs.Device.{device_after_packet, after_reply, after_request, after_threaded, carried_out, disabled_from}
+use Rattle.device_bench.specs.Device.{enabled_from}
+use Rattle.device_bench.specs.Device.{is_pending, operated, device_polled, polled_busily, polled_by_thread, polled_once, settled}
+use Rattle.device_bench.specs.Device.{device_state, with_napi}
 use Rattle.device_bench.specs.{DeviceView.DeviceView, Kept.{is_held, is_sound}, declared.counts.DeviceState.DeviceState}
-use Rattle.device_bench.specs.{declared.device.TheConstants.INTERRUPT, Receive.{has_place, is_control, put_if, tried_by}}
+use Rattle.device_bench.specs.{declared.device.TheConstants.INTERRUPT, Receive.{ring_has_place, is_control, put_if, tried_by}}
 use Rattle.device_transmit.specs.Counter.{raised}
 use Rattle.napi_model.specs.declared.event.Operation.TheVariants as operation
 use Rattle.poll_runs.specs.Polling as rule
@@ -40,17 +43,17 @@ pub record Stays (d e : DeviceView) (Listed : Type 0) : Type 0 where
 
 -- this many entries are added to the list
 abbrev pub Keeps : DeviceView → DeviceView → ℕ → Type 0
-Keeps d e added = Stays d e (waits (Some d) + added ≡ waits (Some e))
+Keeps d e added = Stays d e (waits_on_list (Some d) + added ≡ waits_on_list (Some e))
 
 -- ---- a packet
 
 abbrev pub entries : Option Kind → ℕ
-entries handed = count (is_listed handed)
+entries handed = one_when (is_listed handed)
 
 -- a scheduled instance that its owner queues
 hands : (threaded : Bool) (caller : ℕ) (d g : DeviceView) → g.side.napi.flags.sched ≡ true → is_pending g ≡ is_pending d
     → is_handed Kind.List d.side.napi.place ≡ false
-    → Keeps d (made caller (operation.Hand (if threaded then Kind.Thread else Kind.List)) g)
+    → Keeps d (operated caller (operation.Hand (if threaded then Kind.Thread else Kind.List)) g)
     (entries (Some (if threaded then Kind.Thread else Kind.List)))
 hands true caller d g sched pending off = record { sound = sched; pending = pending; listed = rw off refl }
 hands false caller d g sched pending off = record { sound = sched; pending = pending; listed = rw off refl }
@@ -65,14 +68,15 @@ request-keeps d sound = by d.side.napi.flags.disable d.side.napi.flags.sched ref
     by true sched e = record { sound = sound; pending = refl; listed = omega arith }
     by false true e = record { sound = sound; pending = refl; listed = omega arith }
     by false false e =
-        hands d.side.napi.flags.threaded INTERRUPT d (record (made INTERRUPT (operation.Schedule Granted) d) {
+        hands d.side.napi.flags.threaded INTERRUPT d (record (operated INTERRUPT (operation.Schedule Granted) d) {
           told = record d.told { granted = raised d.told.granted 1 };
         }) refl refl
         (unheld d.side.napi.place d.side.napi.flags.sched sound e)
 
-pub packet-keeps : (bytes : ℕ) (d : DeviceView) → is_sound d ≡ true → Keeps d (after_packet bytes d).1 (entries (after_packet bytes d).0)
-unfolding after_packet
-packet-keeps bytes d sound = by (has_place d.side)
+pub packet-keeps : (bytes : ℕ) (d : DeviceView) → is_sound d ≡ true
+    → Keeps d (device_after_packet bytes d).1 (entries (device_after_packet bytes d).0)
+unfolding device_after_packet
+packet-keeps bytes d sound = by (ring_has_place d.side)
   where
     put : DeviceView
     put = record d { side = put_if true bytes d.side; told = record d.told { arrived = raised d.told.arrived 1 } }
@@ -95,7 +99,7 @@ pub record IsInHand (d : DeviceView) : Type 0 where
 pub record Leaves (d e : DeviceView) (next : Next) : Type 0 where
   pub sound : is_sound e ≡ true
   pub pending : is_pending e ≡ is_pending d
-  pub listed : waits (Some e) ≡ count (is_arrival next)
+  pub listed : waits_on_list (Some e) ≡ one_when (is_arrival next)
   pub sched : is_for_thread next ≡ true → e.side.napi.flags.sched ≡ true
 
 sound-of : (p : Place) (sched : Bool) → sched ≡ true → (not (is_held p) || sched) ≡ true
@@ -158,20 +162,20 @@ ended-leaves true d hand = by d.side.napi.flags.disable
     by true = completed-leaves d hand
     by false = kept-in-hand d hand
 
-poll-leaves : (weight : ℕ) (d : DeviceView) → IsInHand d → let done = carried_out (rule.polled true weight) d in
+poll-leaves : (weight : ℕ) (d : DeviceView) → IsInHand d → let done = carried_out (rule.poll_plan true weight) d in
     Leaves d done.1 done.0.once.next
-unfolding carried_out polled
+unfolding carried_out device_polled
 poll-leaves weight d hand =
     let packets = take weight d.side.packets in
     let full = length packets == weight in
-    let left = ended-leaves full (polled weight d) (record { sched = hand.sched; off = hand.off }) in
+    let left = ended-leaves full (device_polled weight d) (record { sched = hand.sched; off = hand.off }) in
     rw (carried-then {B = rule.Given ℕ} (rule.ended true full)
-    (λ next. ends (record { once = record { work = length packets; next = next }; packets = packets })) (polled weight d))
+    (λ next. ends (record { once = record { work = length packets; next = next }; packets = packets })) (device_polled weight d))
     (record { sound = left.sound; pending = left.pending; listed = left.listed; sched = left.sched })
 
 -- the device after its poller stops, when its last poll ended like this
 abbrev pub LeavesPolled : DeviceView → DeviceView → Next → Type 0
-LeavesPolled d e next = Stays d e (waits (Some e) ≡ count (is_left_to_list next))
+LeavesPolled d e next = Stays d e (waits_on_list (Some e) ≡ one_when (is_left_to_list next))
 
 lets : (d e : DeviceView) (next : Next) → Leaves d e next → LeavesPolled d (carried_out (rule.let_go next) e).1 next
 unfolding carried_out
@@ -181,9 +185,9 @@ lets d e next left = record { sound = left.sound; pending = left.pending; listed
 
 -- what a poll from the list preserves
 abbrev pub KeepsPolled : DeviceView → DeviceView → Next → Type 0
-KeepsPolled d e next = Stays d e (waits (Some d) ≤ waits (Some e) + leaves next)
+KeepsPolled d e next = Stays d e (waits_on_list (Some d) ≤ waits_on_list (Some e) + leaves next)
 
-one-of : (left : Bool) → count left + (if left then 0 else 1) ≡ 1
+one-of : (left : Bool) → one_when left + (if left then 0 else 1) ≡ 1
 one-of true = refl
 one-of false = refl
 
@@ -202,11 +206,11 @@ once-keeps weight d sound = by (is_handed Kind.List d.side.napi.place) refl
         let t = acted (operation.Take Kind.List true) d in
         let hand : IsInHand t =
         record { sched = scheduled Kind.List d.side.napi.place d.side.napi.flags.sched sound e; off = refl } in
-        let poll = carried_out (rule.polled true weight) t in
+        let poll = carried_out (rule.poll_plan true weight) t in
         let next = poll.0.once.next in
         let gone = lets t poll.1 next (poll-leaves weight t hand) in
         rw (
-          carried-then (rule.polled true weight) (λ (g : rule.Given ℕ). rule.let_go g.once.next >>= λ _. ends g) t,
+          carried-then (rule.poll_plan true weight) (λ (g : rule.Given ℕ). rule.let_go g.once.next >>= λ _. ends g) t,
           carried-then (rule.let_go next) (λ _. ends poll.0) poll.1,
         )
         (record {
@@ -224,7 +228,7 @@ zero-off false e = refl
 -- the thread owns the instance, or has stopped after a last poll that ended like this
 pub record StandsAt (d e : DeviceView) (held : Bool) (next : Next) : Type 0 where
   pub pending : is_pending e ≡ is_pending d
-  pub here : MatchBool held (IsInHand e) ((is_sound e ≡ true) × (waits (Some e) ≡ count (is_left_to_list next)))
+  pub here : MatchBool held (IsInHand e) ((is_sound e ≡ true) × (waits_on_list (Some e) ≡ one_when (is_left_to_list next)))
 
 follows-at : (last : Bool) (d e : DeviceView) (next : Next) → Leaves d e next → let done = carried_out (rule.followed last next) e in
     StandsAt d done.1 done.0 next × (done.0 ≡ true → last ≡ false)
@@ -249,7 +253,7 @@ unfolding rule.polls_on carried_out
 polls-at left weight false before d e room at = at
 polls-at zero weight true before d e room at = absurd (omega (arith, room refl))
 polls-at (suc left) weight true before d e room at =
-    let poll = carried_out (rule.polled true weight) e in
+    let poll = carried_out (rule.poll_plan true weight) e in
     let once = poll.0.once in
     let all : rule.ThreadPolls ℕ = record { polls = before.polls ++ once ∷ []; packets = poll.0.packets } in
     let follow = carried_out (rule.followed (left == 0) once.next) poll.1 in
@@ -257,7 +261,7 @@ polls-at (suc left) weight true before d e room at =
     let here : StandsAt d follow.1 follow.0 (last_next all.polls) =
     rw (last-snoc before.polls once) (record { pending = stands.0.pending ∙ at.pending; here = stands.0.here }) in
     rw (
-      carried-then (rule.polled true weight) (λ (g : rule.Given ℕ). rule.followed (left == 0) g.once.next >>=
+      carried-then (rule.poll_plan true weight) (λ (g : rule.Given ℕ). rule.followed (left == 0) g.once.next >>=
           λ held. rule.polls_on true weight left held (record { polls = before.polls ++ g.once ∷ []; packets = g.packets })) e,
       carried-then (rule.followed (left == 0) once.next) (λ held. rule.polls_on true weight left held all) poll.1,
     )
@@ -268,7 +272,7 @@ polls-at (suc left) weight true before d e room at =
     some (suc n) e = omega arith
 
 pub thread-keeps : (most weight : ℕ) (d : DeviceView) → 1 ≤ most → is_sound d ≡ true
-    → let after = polled_by_thread most weight d in Keeps d after.1 (count (is_left_to_list (last_next after.0)))
+    → let after = polled_by_thread most weight d in Keeps d after.1 (one_when (is_left_to_list (last_next after.0)))
 unfolding polled_by_thread carried_out rule.polls_on
 thread-keeps most weight d room sound = by (is_handed Kind.Thread d.side.napi.place) refl
   where
@@ -277,7 +281,7 @@ thread-keeps most weight d room sound = by (is_handed Kind.Thread d.side.napi.pl
 
     by : (b : Bool) → is_handed Kind.Thread d.side.napi.place ≡ b
         → let done = carried_out (rule.polls_on true weight most b none) (acted (operation.Take Kind.Thread b) d) in
-        Keeps d done.1 (count (is_left_to_list (last_next done.0.polls)))
+        Keeps d done.1 (one_when (is_left_to_list (last_next done.0.polls)))
     by true e =
         let t = acted (operation.Take Kind.Thread true) d in
         let hand : IsInHand t =
@@ -301,7 +305,7 @@ module _ (weight : ℕ) where
   left-leaves true d hand = let left = completed-leaves d hand in record {
     sound = left.sound;
     pending = left.pending;
-    listed = left.listed ∙ ap count (or-false (is_arrival (carried_out (rule.completed true) d).0) _ (completed-next d));
+    listed = left.listed ∙ ap one_when (or-false (is_arrival (carried_out (rule.completed true) d).0) _ (completed-next d));
   }
     where
       or-false : (a b : Bool) → b ≡ false → a ≡ (a || b)
@@ -310,18 +314,18 @@ module _ (weight : ℕ) where
 
   -- polls and held completions don't change the instance
   round-napi : (r : BusyReport) (d : DeviceView) → (carried_out (rule.round sum true weight r) d).1.side.napi ≡ d.side.napi
-  unfolding carried_out polled
+  unfolding carried_out device_polled
   round-napi r d = by (nat_lt (length (take weight d.side.packets)) weight) (rule.and_poll sum r (take weight d.side.packets))
     where
-      by : (below : Bool) (q : BusyReport) → (carried_out (rule.round_ends below q) (polled weight d)).1.side.napi ≡ d.side.napi
+      by : (below : Bool) (q : BusyReport) → (carried_out (rule.round_ends below q) (device_polled weight d)).1.side.napi ≡ d.side.napi
       by true q = refl
       by false q = refl
 
   rounds-leave : (left : ℕ) (r : BusyReport) (d : DeviceView) → IsInHand d
       → let done = carried_out (rule.rounds_on sum true weight left r) d in LeavesPolled d done.1 done.0.report.next
-  unfolding rule.rounds_on carried_out polled
+  unfolding rule.rounds_on carried_out device_polled
   rounds-leave zero r d hand =
-      let stop = polled weight (acted operation.BusyStop d) in
+      let stop = device_polled weight (acted operation.BusyStop d) in
       let packets = take weight d.side.packets in
       let below = nat_lt (length packets) weight in
       let left = left-leaves below stop (record { sched = hand.sched; off = hand.off }) in
@@ -342,14 +346,14 @@ module _ (weight : ℕ) where
       })
 
   pub busy-keeps : (rounds : ℕ) (d : DeviceView) → is_sound d ≡ true → let after = polled_busily rounds weight d in
-      Keeps d after.1 (count (is_left_to_list after.0.next))
+      Keeps d after.1 (one_when (is_left_to_list after.0.next))
   unfolding polled_busily carried_out
   busy-keeps rounds d sound = by d.side.napi.flags.disable d.side.napi.flags.sched d.side.napi.flags.in_busy_poll refl
     where
       by : (disable sched busy : Bool) → d.side.napi.flags.sched ≡ sched
           → let o = if not (disable || (sched || busy)) then operation.BusyTake else operation.Look (seen_of d.side.napi) in
           let done = carried_out (rule.busily_from sum true weight rounds (rule.is_taken o)) (acted o d) in
-          Keeps d done.1 (count (is_left_to_list done.0.report.next))
+          Keeps d done.1 (one_when (is_left_to_list done.0.report.next))
       by true sched busy e = record { sound = sound; pending = refl; listed = omega arith }
       by false true busy e = record { sound = sound; pending = refl; listed = omega arith }
       by false false true e = record { sound = sound; pending = refl; listed = omega arith }
@@ -366,11 +370,11 @@ module _ (weight : ℕ) where
 -- where the instance waits, and whether it is sound
 pub record KeepsPlace (d e : DeviceView) : Type 0 where
   pub sound : is_sound e ≡ true
-  pub listed : waits (Some e) ≡ waits (Some d)
+  pub listed : waits_on_list (Some e) ≡ waits_on_list (Some d)
 
 pub disable-keeps : (d : DeviceView) → is_sound d ≡ true → KeepsPlace d (after_disable d)
 unfolding after_disable
-disable-keeps d sound = by (state_of d)
+disable-keeps d sound = by (device_state d)
   where
     by : (s : DeviceState) → KeepsPlace d (disabled_from s d)
     by DeviceState.On = record { sound = sound; listed = refl }

@@ -2,11 +2,12 @@
 use Rattle.std.proofs.Common.{◌≡◌, ◌≢◌, ◌∙◌, ◌<◌, ◌≤◌, ◌+◌, ℕ, zero, suc, Bool, true, false, Option, Some, None, [], ◌∷◌, ◌++◌, length}
 use Rattle.std.proofs.{Common.{length-append, length-set, get_or-set_other, slice_set, ap, refl, arith}, lemmas.Bool.eqb-true}
 use Rattle.std.{proofs.lemmas.Bool.eqb-false, specs.Prelude.◌==◌}
-use Rattle.{device_places.specs.Places.{Places, at}, device_bench.specs.Bench.Devices}
+use Rattle.{device_places.specs.Places.{DeviceTable, at}, device_bench.specs.Bench.BenchDevices}
 use Rattle.device_bench.specs.{DeviceView.DeviceView, Ending.IsEndedAt, Receive.ReceiveView}
 
 -- those from here on were ended, and those before them remain
-pub record EndedFrom {Totals : Type 0} (ended : ReceiveView → Totals → Type 0) (all left : Devices) (ends : Places Totals) : Type 0 where
+pub record EndedFrom {Totals : Type 0} (ended : ReceiveView → Totals → Type 0) (all left : BenchDevices) (ends : DeviceTable Totals) : Type
+    0 where
   pub places : length ends ≡ 17
   pub most : length left ≤ 17
   pub same : (number : ℕ) → number < length left → at number all ≡ at number left
@@ -14,27 +15,28 @@ pub record EndedFrom {Totals : Type 0} (ended : ReceiveView → Totals → Type 
   pub done : (number : ℕ) → length left ≤ number → IsEndedAt ended (at number all) (at number ends)
 
 -- the element at the end of a list
-at-last : {A : Type 0} → (xs : Places A) (x : Option A) → at (length xs) (xs ++ x ∷ []) ≡ x
+at-last : {A : Type 0} → (xs : DeviceTable A) (x : Option A) → at (length xs) (xs ++ x ∷ []) ≡ x
 at-last [] x = refl
 at-last (y ∷ xs) x = at-last xs x
 
-at-before : {A : Type 0} → (xs ys : Places A) (number : ℕ) → number < length xs → at number (xs ++ ys) ≡ at number xs
+at-before : {A : Type 0} → (xs ys : DeviceTable A) (number : ℕ) → number < length xs → at number (xs ++ ys) ≡ at number xs
 at-before [] ys number below = absurd (omega (arith, below))
 at-before (x ∷ xs) ys zero below = refl
 at-before (x ∷ xs) ys (suc number) below = at-before xs ys number (omega (arith, below))
 
-module _ {Totals : Type 0} (ended : ReceiveView → Totals → Type 0) (all : Devices) where
-  module _ (left left' : Devices) (place : Option DeviceView) (ends ends' : Places Totals) (more : left ≡ left' ++ place ∷ [])
+module _ {Totals : Type 0} (ended : ReceiveView → Totals → Type 0) (all : BenchDevices) where
+  module _ (left left' : BenchDevices) (place : Option DeviceView) (ends ends' : DeviceTable Totals) (more : left ≡ left' ++ place ∷ [])
       (was : EndedFrom ended all left ends) where
     longer : length left ≡ length left' + 1
     longer = ap length more ∙ length-append left' (place ∷ [])
 
     place-is : at (length left') all ≡ place
-    place-is = was.same (length left') (omega (arith, longer)) ∙ ap (λ (l : Devices). at (length left') l) more ∙ at-last left' place
+    place-is = was.same (length left') (omega (arith, longer)) ∙ ap (λ (l : BenchDevices). at (length left') l) more ∙ at-last left' place
 
     same-still : (number : ℕ) → number < length left' → at number all ≡ at number left'
     same-still number below =
-        was.same number (omega (arith, longer, below)) ∙ ap (λ (l : Devices). at number l) more ∙ at-before left' (place ∷ []) number below
+        was.same number (omega (arith, longer, below)) ∙ ap (λ (l : BenchDevices). at number l) more
+        ∙ at-before left' (place ∷ []) number below
 
     pub ended-next : (answer : Option Totals) → IsEndedAt ended place answer → length ends' ≡ 17 → at (length left') ends' ≡ answer
         → ((number : ℕ) → number ≢ length left' → at number ends' ≡ at number ends) → EndedFrom ended all left' ends'
@@ -56,18 +58,19 @@ module _ {Totals : Type 0} (ended : ReceiveView → Totals → Type 0) (all : De
     pub ended-absent : place ≡ None → ends' ≡ ends → EndedFrom ended all left' ends'
     ended-absent absent same =
         ended-next None (rw absent tt) (ap length same ∙ was.places)
-        (ap (λ (l : Places Totals). at (length left') l) same ∙ was.none (length left') (omega (arith, longer)))
-        (λ number apart. ap (λ (l : Places Totals). at number l) same)
+        (ap (λ (l : DeviceTable Totals). at (length left') l) same ∙ was.none (length left') (omega (arith, longer)))
+        (λ number apart. ap (λ (l : DeviceTable Totals). at number l) same)
 
     pub ended-present : (d : DeviceView) (totals : Totals) → place ≡ Some d → ended d.side totals
         → ends' ≡ slice_set ends (length left') (Some totals) → EndedFrom ended all left' ends'
     ended-present d totals present is set =
         let below : length left' < length ends = omega (arith, longer, was.most, was.places) in
         ended-next (Some totals) (rw present is) (ap length set ∙ length-set ends (length left') (Some totals) ∙ was.places)
-        (ap (λ (l : Places Totals). at (length left') l) set ∙ at-same ends (length left') (Some totals) below)
-        (λ number apart. ap (λ (l : Places Totals). at number l) set ∙ get_or-set_other ends (length left') number (Some totals) None apart)
+        (ap (λ (l : DeviceTable Totals). at (length left') l) set ∙ at-same ends (length left') (Some totals) below)
+        (λ number apart. ap (λ (l : DeviceTable Totals). at number l) set
+        ∙ get_or-set_other ends (length left') number (Some totals) None apart)
       where
-        at-same : (xs : Places Totals) (n : ℕ) (y : Option Totals) → n < length xs → at n (slice_set xs n y) ≡ y
+        at-same : (xs : DeviceTable Totals) (n : ℕ) (y : Option Totals) → n < length xs → at n (slice_set xs n y) ≡ y
         at-same [] n y below = absurd (omega (arith, below))
         at-same (x ∷ xs) zero y below = refl
         at-same (x ∷ xs) (suc n) y below = at-same xs n y (omega (arith, below))

@@ -5,13 +5,13 @@ use Rattle.std.proofs.lemmas.{Bool.{leb-false, leb-true}, List.{length-take, tak
 use Rattle.napi_model.specs.declared.state.{Flags.Flags, Kind.Kind, State.State}
 use Rattle.napi_model.specs.declared.event.{Call.Call, Done.{Done, TheVariants.{Released, Again, Held}}, Operation.Operation}
 use Rattle.napi_model.specs.declared.event.Operation.TheVariants.{Look, Take, Hand, Complete, BusyTake}
-use Rattle.napi_model.specs.Step.{Polls, after, complete_reply, event, seen_of}
-use Rattle.poll_runs.specs.Plan.{Answers, Deed, Does, Follows, Plan, gave, made, ◌>>=◌, ends, asks, acts, polls}
+use Rattle.napi_model.specs.Step.{CallerPolls, after, complete_reply, event, seen_of}
+use Rattle.poll_runs.specs.Plan.{Answers, Action, Does, Follows, Plan, gave, made, ◌>>=◌, ends, asks, acts, polls}
 use Rattle.poll_runs.specs.Polling.{busy_takes, completed, flags_in, gives, is_taken, makes, next_of}
-use Rattle.device_bench.specs.Device.{acted, carried_out, polled, told_after, with_napi}
-use Rattle.device_bench.specs.{DeviceView.DeviceView, Instance.{AtOnce, Did, IsAnswer, IsPolled}}
-use Rattle.device_bench.specs.Receive.{answered, busy_taken, bytes_of, done_by, given_of}
-use Rattle.device_bench.specs.Receive.{handed_again, is_idle, kind_for, poller_in, taker_of}
+use Rattle.device_bench.specs.Device.{acted, carried_out, device_polled, told_after, with_napi}
+use Rattle.device_bench.specs.{DeviceView.DeviceView, Instance.{AtOnce, DeviceDid, IsAnswer, IsDevicePolled}}
+use Rattle.device_bench.specs.Receive.{answered, busy_taken, polled_bytes, done_by, given_of}
+use Rattle.device_bench.specs.Receive.{handed_again, is_idle, state_kind, poller_in, taker_of}
 use Rattle.napi_model.specs.declared.event.Call.TheVariants as call
 
 -- ---- the reply to a call is determined by the state
@@ -36,26 +36,26 @@ is_answered c o s a i = i ∙ ap (λ (x : Call). answered x s) a
 -- ---- plans
 
 -- what was done by a plan is the result of executing it
-pub carried : {A : Type 0} (plan : Plan ℕ A) (deeds : List (Deed ℕ)) (a : A) (d e : DeviceView) → Follows AtOnce plan deeds a
-    → Did d deeds e → (a ≡ (carried_out plan d).0) × (e ≡ (carried_out plan d).1)
+pub carried : {A : Type 0} (plan : Plan ℕ A) (deeds : List (Action ℕ)) (a : A) (d e : DeviceView) → Follows AtOnce plan deeds a
+    → DeviceDid d deeds e → (a ≡ (carried_out plan d).0) × (e ≡ (carried_out plan d).1)
 unfolding carried_out
-carried (ends x) deeds a d e f g = (f.1, subst (λ (l : List (Deed ℕ)). Did d l e) f.0 g)
+carried (ends x) deeds a d e f g = (f.1, subst (λ (l : List (Action ℕ)). DeviceDid d l e) f.0 g)
 carried (asks c go) deeds a d e f g =
     let here = f.6 ∙ ap (λ (os : List Operation). map made os ++ f.2) f.4 in
-    let did = subst (λ (l : List (Deed ℕ)). Did d l e) here g in
+    let did = subst (λ (l : List (Action ℕ)). DeviceDid d l e) here g in
     subst (λ (o : Operation). (a ≡ (carried_out (go o) (acted o d)).0) × (e ≡ (carried_out (go o) (acted o d)).1))
     (is_answered c f.0 d.side.napi f.3 did.0) (carried (go f.0) f.2 a (acted f.0 d) e f.5 did.1)
 carried (acts o plan) deeds a d e f g =
     let here = f.4 ∙ ap (λ (os : List Operation). map made os ++ f.1) f.2 in
-    let did = subst (λ (l : List (Deed ℕ)). Did d l e) here g in
+    let did = subst (λ (l : List (Action ℕ)). DeviceDid d l e) here g in
     carried plan f.1 a (acted o d) e f.3 did.1
 carried (polls weight go) deeds a d e f g =
-    let did = subst (λ (l : List (Deed ℕ)). Did d l e) f.4 g in
+    let did = subst (λ (l : List (Action ℕ)). DeviceDid d l e) f.4 g in
     subst (λ (packets : List ℕ).
-    (a ≡ (carried_out (go packets) (polled weight d)).0) × (e ≡ (carried_out (go packets) (polled weight d)).1))
-    did.0 (carried (go f.0) f.1 a (polled weight d) e f.3 did.1)
+    (a ≡ (carried_out (go packets) (device_polled weight d)).0) × (e ≡ (carried_out (go packets) (device_polled weight d)).1))
+    did.0 (carried (go f.0) f.1 a (device_polled weight d) e f.3 did.1)
 
-pub does-carried : {A : Type 0} (plan : Plan ℕ A) (d : DeviceView) (a : A) (e : DeviceView) → Does AtOnce Did plan d a e
+pub does-carried : {A : Type 0} (plan : Plan ℕ A) (d : DeviceView) (a : A) (e : DeviceView) → Does AtOnce DeviceDid plan d a e
     → (a ≡ (carried_out plan d).0) × (e ≡ (carried_out plan d).1)
 does-carried plan d a e done = carried plan done.0 a d e done.2 done.1
 
@@ -66,19 +66,19 @@ unfolding carried_out
 carried-then (ends a) next d = refl
 carried-then (asks c go) next d = carried-then (go (answered c d.side.napi)) next (acted (answered c d.side.napi) d)
 carried-then (acts o plan) next d = carried-then plan next (acted o d)
-carried-then (polls weight go) next d = carried-then (go (take weight d.side.packets)) next (polled weight d)
+carried-then (polls weight go) next d = carried-then (go (take weight d.side.packets)) next (device_polled weight d)
 
 -- ---- single calls
 
 pub does-call : {A : Type 0} (c : Call) (o : Operation) (go : Operation → A) (d e : DeviceView) → Answers c o → IsAnswer o d.side.napi
-    → e ≡ acted o d → Does AtOnce Did (asks c (λ x. ends (go x))) d (go o) e
+    → e ≡ acted o d → Does AtOnce DeviceDid (asks c (λ x. ends (go x))) d (go o) e
 does-call c o go d e a i is = (made o ∷ [], (i, is), (o, o ∷ [], [], a, refl, (refl, refl), refl))
 
-pub does-act : (o : Operation) (d e : DeviceView) → IsAnswer o d.side.napi → e ≡ acted o d → Does AtOnce Did (makes o) d tt e
+pub does-act : (o : Operation) (d e : DeviceView) → IsAnswer o d.side.napi → e ≡ acted o d → Does AtOnce DeviceDid (makes o) d tt e
 does-act o d e i is = (made o ∷ [], (i, is), (o ∷ [], [], refl, (refl, refl), refl))
 
 pub took-hands : (taken : Bool) (k : Kind) (s : State) → (taken ≡ true → s.flags.in_busy_poll ≡ false)
-    → let t = after s (event (taker_of k) (Take k taken)) in MatchBool taken (Polls (poller_in t.place) false t) (Unit {0})
+    → let t = after s (event (taker_of k) (Take k taken)) in MatchBool taken (CallerPolls (poller_in t.place) false t) (Unit {0})
 took-hands true k s idle = (refl, idle refl)
 took-hands false k s idle = tt
 
@@ -86,7 +86,7 @@ idle : (d s b : Bool) → not (d || (s || b)) ≡ false → ¬ ((d ≡ false) ×
 idle d s b e = λ may. cc (rw (may.0, may.1, may.2) at e)
 
 pub does-busy-take : (taken : Bool) (d e : DeviceView) → taken ≡ is_idle d.side.napi → e ≡ with_napi (busy_taken taken d.side.napi) d
-    → Does AtOnce Did busy_takes d taken e
+    → Does AtOnce DeviceDid busy_takes d taken e
 does-busy-take true d e reply is = does-call call.BusyTake BusyTake is_taken d e refl (sym reply) is
 does-busy-take false d e reply is =
     does-call call.BusyTake (Look (seen_of d.side.napi)) is_taken d e
@@ -103,9 +103,9 @@ take-min weight xs = by (nat_le weight (length xs)) refl
         let all : min weight (length xs) ≡ length xs = omega (arith, more) in
         rw all (take_all (length xs) xs (omega arith) ∙ sym (take_all weight xs (omega (arith, more))))
 
-pub does-poll : (weight : ℕ) (d e : DeviceView) (work load : ℕ) → e ≡ polled weight d → work ≡ given_of weight d.side
-    → load ≡ bytes_of weight d.side
-    → (packets : List ℕ) × Does AtOnce Did (gives weight) d packets e × (load ≡ sum packets) × (work ≡ length packets)
+pub does-poll : (weight : ℕ) (d e : DeviceView) (work load : ℕ) → e ≡ device_polled weight d → work ≡ given_of weight d.side
+    → load ≡ polled_bytes weight d.side
+    → (packets : List ℕ) × Does AtOnce DeviceDid (gives weight) d packets e × (load ≡ sum packets) × (work ≡ length packets)
 does-poll weight d e work load is works loads =
     let all = d.side.packets in
     let many = length-take weight all in (
@@ -116,23 +116,23 @@ does-poll weight d e work load is works loads =
     )
 
 -- a completion that isn't held, by the owner of the instance
-pub does-complete : (d e : DeviceView) (again : Option Kind) → IsPolled d
+pub does-complete : (d e : DeviceView) (again : Option Kind) → IsDevicePolled d
     → again ≡ handed_again (complete_reply d.side.napi) d.side.napi
     → e ≡ record (with_napi (done_by (poller_in d.side.napi.place) (complete_reply d.side.napi) d.side.napi) d) {
       told = told_after (Complete (if is_some again then Again else Released)) d.told;
     }
-    → Does AtOnce Did (completed true) d (next_of again) e
+    → Does AtOnce DeviceDid (completed true) d (next_of again) e
 does-complete d e again hand to is = by d.side.napi.flags.missed refl
   where
     s : State
     s = d.side.napi
 
-    by : (missed : Bool) → s.flags.missed ≡ missed → Does AtOnce Did (completed true) d (next_of again) e
+    by : (missed : Bool) → s.flags.missed ≡ missed → Does AtOnce DeviceDid (completed true) d (next_of again) e
     by true m =
         let reply : complete_reply s ≡ Again = rw (hand.1, m) refl in
-        let some : again ≡ Some (kind_for s) = rw reply at to in
+        let some : again ≡ Some (state_kind s) = rw reply at to in
         let x = seen_of (after s (event 0 (Complete Again))) in
-        let k = kind_for s in
+        let k = state_kind s in
         rw some (
           made (Complete Again) ∷ made (Look x) ∷ made (Hand k) ∷ [],
           (ap (λ (r : Done). Complete r) (sym reply), (refl, (refl, rw (reply, some) at is))),

@@ -1,18 +1,18 @@
 -- Each device has a transmit side: what preserves that.
 use Rattle.std.proofs.Common.{◌≡◌, ◌∙◌, ℕ, zero, suc, ◌<◌, Option, Some, None, [], ◌∷◌, length, slice_set, ap, refl, sym, arith}
 use Rattle.{std.specs.Prelude.is_some, device_transmit.specs.{Transmits.Transmits, Transmit.TransmitView}}
-use Rattle.device_places.specs.Places.{Places, at, changed, changed_from}
-use Rattle.device_bench.specs.Bench.{Devices, HaveSides, all_settled, attached}
+use Rattle.device_places.specs.Places.{DeviceTable, at, changed, changed_from}
+use Rattle.device_bench.specs.Bench.{BenchDevices, HaveSides, all_settled, attached}
 
 module _ {A : Type 0} where
   -- an entry is set, and stays occupied or empty
-  pub some-set : (xs : Places A) (n m : ℕ) (o : Option A) → is_some o ≡ is_some (at n xs)
+  pub some-set : (xs : DeviceTable A) (n m : ℕ) (o : Option A) → is_some o ≡ is_some (at n xs)
       → is_some (at m (slice_set xs n o)) ≡ is_some (at m xs)
   some-set (x ∷ xs) zero zero o e = e
   some-set (x ∷ xs) (suc n) (suc m) o e = some-set xs n m o e
   some-set xs n m o e = refl
 
-  some-changed : (f : A → A) (xs : Places A) (n m : ℕ) → is_some (at m (changed f n xs)) ≡ is_some (at m xs)
+  some-changed : (f : A → A) (xs : DeviceTable A) (n m : ℕ) → is_some (at m (changed f n xs)) ≡ is_some (at m xs)
   some-changed f xs n m = by (at n xs) refl
     where
       by : (o : Option A) → at n xs ≡ o → is_some (at m (changed_from f n o xs)) ≡ is_some (at m xs)
@@ -20,18 +20,18 @@ module _ {A : Type 0} where
       by (Some a) e = some-set xs n m (Some (f a)) (sym (ap is_some e))
 
   -- an entry is written back
-  pub set-back : (xs : Places A) (n : ℕ) (o : Option A) → n < length xs → at n xs ≡ o → slice_set xs n o ≡ xs
+  pub set-back : (xs : DeviceTable A) (n : ℕ) (o : Option A) → n < length xs → at n xs ≡ o → slice_set xs n o ≡ xs
   set-back [] n o below e = absurd (omega (arith, below))
   set-back (x ∷ xs) zero o below e = ap (λ (y : Option A). y ∷ xs) (sym e)
-  set-back (x ∷ xs) (suc n) o below e = ap (λ (l : Places A). x ∷ l) (set-back xs n o (omega (arith, below)) e)
+  set-back (x ∷ xs) (suc n) o below e = ap (λ (l : DeviceTable A). x ∷ l) (set-back xs n o (omega (arith, below)) e)
 
   -- a device is changed in its entry, or the entry is written back
-  pub sides-set : (xs : Places A) (all : Transmits) (n : ℕ) (o : Option A) → is_some o ≡ is_some (at n xs) → HaveSides xs all
+  pub sides-set : (xs : DeviceTable A) (all : Transmits) (n : ℕ) (o : Option A) → is_some o ≡ is_some (at n xs) → HaveSides xs all
       → HaveSides (slice_set xs n o) all
   sides-set xs all n o e same m = same m ∙ sym (some-set xs n m o e)
 
   -- so their number is the same
-  pub sides-attached : (xs : Places A) (all : Transmits) → length all ≡ length xs → HaveSides xs all → attached xs ≡ attached all
+  pub sides-attached : (xs : DeviceTable A) (all : Transmits) → length all ≡ length xs → HaveSides xs all → attached xs ≡ attached all
   sides-attached [] [] long same = refl
   sides-attached (None ∷ xs) (None ∷ all) long same = sides-attached xs all (omega (arith, long)) (λ n. same (suc n))
   sides-attached (Some d ∷ xs) (Some t ∷ all) long same = ap suc (sides-attached xs all (omega (arith, long)) (λ n. same (suc n)))
@@ -40,14 +40,14 @@ module _ {A : Type 0} where
   sides-attached xs all long same = absurd (omega (arith, long))
 
 -- a side is changed
-pub sides-sent : {A : Type 0} → (f : TransmitView → TransmitView) (xs : Places A) (all : Transmits) (n : ℕ) → HaveSides xs all
+pub sides-sent : {A : Type 0} → (f : TransmitView → TransmitView) (xs : DeviceTable A) (all : Transmits) (n : ℕ) → HaveSides xs all
     → HaveSides xs (changed f n all)
 sides-sent f xs all n same m = some-changed f all n m ∙ same m
 
-some-settled : (xs : Devices) (m : ℕ) → is_some (at m (all_settled xs)) ≡ is_some (at m xs)
+some-settled : (xs : BenchDevices) (m : ℕ) → is_some (at m (all_settled xs)) ≡ is_some (at m xs)
 some-settled (None ∷ xs) zero = refl
 some-settled (x ∷ xs) (suc m) = some-settled xs m
 some-settled xs m = refl
 
-pub sides-settled : (xs : Devices) (all : Transmits) → HaveSides xs all → HaveSides (all_settled xs) all
+pub sides-settled : (xs : BenchDevices) (all : Transmits) → HaveSides xs all → HaveSides (all_settled xs) all
 sides-settled xs all same m = same m ∙ sym (some-settled xs m)

@@ -2,23 +2,25 @@
 use Rattle.std.specs.Prelude.{◌≡◌, ℕ, ◌+◌, ◌≤◌, List, [], Option, Some, None, is_some, filter, length, map}
 use Rattle.{napi_model.specs.declared.state.Kind.Kind, poll_runs.specs.{Polling.no_report, Thread.last_next}}
 use Rattle.poll_runs.specs.declared.bench.{BusyReport.BusyReport, Next.TheVariants.Absent, Once.Once}
-use Rattle.device_bench.specs.{Counts.counts_of, Device.{after_packet, polled_busily, polled_by_thread, polled_once, settled}}
-use Rattle.device_bench.specs.{DeviceView.DeviceView, Waiting.{count, is_left_to_list, leaves}, declared.counts.DeviceCounts.DeviceCounts}
-use Rattle.{device_places.specs.Places.{Places, at, changed}, device_transmit.specs.{declared.transmit.TxCounts.TxCounts, Transmits.Keeps}}
+use Rattle.device_bench.specs.{Counts.device_counts, Device.{device_after_packet, polled_busily, polled_by_thread, polled_once, settled}}
+use Rattle.device_bench.specs.{DeviceView.DeviceView, Waiting.{one_when, is_left_to_list, leaves}}
+use Rattle.device_bench.specs.{declared.counts.DeviceCounts.DeviceCounts}
+use Rattle.{device_places.specs.Places.{DeviceTable, at, changed}}
+use Rattle.{device_transmit.specs.{declared.transmit.TxCounts.TxCounts, Transmits.KeepsTransmits}}
 use Rattle.device_transmit.specs.Transmits.{Transmits}
 
-abbrev pub Devices : Type 0
-Devices = Places DeviceView
+abbrev pub BenchDevices : Type 0
+BenchDevices = DeviceTable DeviceView
 
 -- ---- packets
 
-abbrev pub arrived : ℕ → ℕ → Devices → Devices
-arrived number bytes devices = changed (λ d. (after_packet bytes d).1) number devices
+abbrev pub after_arrival : ℕ → ℕ → BenchDevices → BenchDevices
+after_arrival number bytes devices = changed (λ d. (device_after_packet bytes d).1) number devices
 
 -- the queue in which a packet puts its device
 abbrev pub handed_by : ℕ → Option DeviceView → Option Kind
 handed_by bytes None = None
-handed_by bytes (Some d) = (after_packet bytes d).0
+handed_by bytes (Some d) = (device_after_packet bytes d).0
 
 -- ---- polls
 
@@ -28,38 +30,39 @@ once_of weight None = record { work = 0; next = Absent }
 once_of weight (Some d) = (polled_once weight d).0
 
 -- a poll from the list as a function on the devices: its outcome, and the devices afterwards
-abbrev pub polled_at : Devices → ℕ → ℕ → Once × Devices
+abbrev pub polled_at : BenchDevices → ℕ → ℕ → Once × BenchDevices
 polled_at devices number weight = (once_of weight (at number devices), changed (λ d. (polled_once weight d).1) number devices)
 
 -- a poll from the list, by what a bench shows: its outcome and the devices afterwards are those of the function
-pub record IsPoll {B : Type 0} (devices : B → Devices) (shows : B → Transmits → Type 0) (waiting : B → ℕ)
+pub record IsListPoll {B : Type 0} (devices : B → BenchDevices) (shows : B → Transmits → Type 0) (waiting : B → ℕ)
     (before : B) (number weight : ℕ) (once : Once) (after : B) : Type 0 where
   pub exact : (once ≡ (polled_at (devices before) number weight).0) × (devices after ≡ (polled_at (devices before) number weight).1)
-  pub transmits : Keeps shows before after
+  pub transmits : KeepsTransmits shows before after
   pub waits : waiting before ≤ waiting after + leaves once.next
 
 -- the relation of a bench for polls from the list is this one
-abbrev pub ArePolls : {B : Type 0} → (B → Devices) → (B → Transmits → Type 0) → (B → ℕ) → (B → ℕ → ℕ → Once → B → Type 0) → Type 0
+abbrev pub ArePolls : {B : Type 0} → (B → BenchDevices) → (B → Transmits → Type 0) → (B → ℕ) → (B → ℕ → ℕ → Once → B → Type 0) → Type 0
 ArePolls {B} devices shows waiting polls =
     (before after : B) (number weight : ℕ) (once : Once) → polls before number weight once after
-    → IsPoll devices shows waiting before number weight once after
+    → IsListPoll devices shows waiting before number weight once after
 
 abbrev pub thread_polls_of : ℕ → ℕ → Option DeviceView → List Once
 thread_polls_of weight most None = []
 thread_polls_of weight most (Some d) = (polled_by_thread most weight d).0
 
 -- the same for the polling of a device by its thread
-abbrev pub thread_polled_at : Devices → ℕ → ℕ → ℕ → Devices
+abbrev pub thread_polled_at : BenchDevices → ℕ → ℕ → ℕ → BenchDevices
 thread_polled_at devices number weight most = changed (λ d. (polled_by_thread most weight d).1) number devices
 
-pub record IsThreadPolls {B : Type 0} (devices : B → Devices) (shows : B → Transmits → Type 0) (waiting : B → ℕ)
+pub record IsThreadPolls {B : Type 0} (devices : B → BenchDevices) (shows : B → Transmits → Type 0) (waiting : B → ℕ)
     (before : B) (number weight most : ℕ) (polls : List Once) (after : B) : Type 0 where
   pub exact : (polls ≡ thread_polls_of weight most (at number (devices before)))
       × (devices after ≡ thread_polled_at (devices before) number weight most)
-  pub transmits : Keeps shows before after
-  pub waits : waiting before + count (is_left_to_list (last_next polls)) ≤ waiting after
+  pub transmits : KeepsTransmits shows before after
+  pub waits : waiting before + one_when (is_left_to_list (last_next polls)) ≤ waiting after
 
-abbrev pub AreThreadPolls : {B : Type 0} → (B → Devices) → (B → Transmits → Type 0) → (B → ℕ) → (B → ℕ → ℕ → ℕ → List Once → B → Type 0)
+abbrev pub AreThreadPolls : {B : Type 0} → (B → BenchDevices) → (B → Transmits → Type 0) → (B → ℕ)
+    → (B → ℕ → ℕ → ℕ → List Once → B → Type 0)
     → Type 0
 AreThreadPolls {B} devices shows waiting polls =
     (before after : B) (number weight most : ℕ) (all : List Once) → polls before number weight most all after
@@ -70,17 +73,17 @@ abbrev pub busy_report_of : ℕ → ℕ → Option DeviceView → BusyReport
 busy_report_of weight rounds None = no_report
 busy_report_of weight rounds (Some d) = (polled_busily rounds weight d).0
 
-abbrev pub busily_polled_at : Devices → ℕ → ℕ → ℕ → Devices
+abbrev pub busily_polled_at : BenchDevices → ℕ → ℕ → ℕ → BenchDevices
 busily_polled_at devices number weight rounds = changed (λ d. (polled_busily rounds weight d).1) number devices
 
-pub record IsBusyPoll {B : Type 0} (devices : B → Devices) (shows : B → Transmits → Type 0) (waiting : B → ℕ)
+pub record IsBusyPoll {B : Type 0} (devices : B → BenchDevices) (shows : B → Transmits → Type 0) (waiting : B → ℕ)
     (before : B) (number weight rounds : ℕ) (report : BusyReport) (after : B) : Type 0 where
   pub exact : (report ≡ busy_report_of weight rounds (at number (devices before)))
       × (devices after ≡ busily_polled_at (devices before) number weight rounds)
-  pub transmits : Keeps shows before after
-  pub waits : waiting before + count (is_left_to_list report.next) ≤ waiting after
+  pub transmits : KeepsTransmits shows before after
+  pub waits : waiting before + one_when (is_left_to_list report.next) ≤ waiting after
 
-abbrev pub AreBusyPolls : {B : Type 0} → (B → Devices) → (B → Transmits → Type 0) → (B → ℕ) → (B → ℕ → ℕ → ℕ → BusyReport → B → Type 0)
+abbrev pub AreBusyPolls : {B : Type 0} → (B → BenchDevices) → (B → Transmits → Type 0) → (B → ℕ) → (B → ℕ → ℕ → ℕ → BusyReport → B → Type 0)
     → Type 0
 AreBusyPolls {B} devices shows waiting polls =
     (before after : B) (number weight rounds : ℕ) (report : BusyReport) → polls before number weight rounds report after
@@ -93,20 +96,20 @@ settled_at None = None
 settled_at (Some d) = Some (settled d)
 
 -- each pending disable is tried once, by increasing device number
-abbrev pub all_settled : Devices → Devices
+abbrev pub all_settled : BenchDevices → BenchDevices
 all_settled devices = map settled_at devices
 
 -- ---- the report
 
 -- how many entries are occupied
-abbrev pub attached : {A : Type 0} → Places A → ℕ
+abbrev pub attached : {A : Type 0} → DeviceTable A → ℕ
 attached places = length (filter is_some places)
 
 -- each device has a transmit side, and no other number has one
-abbrev pub HaveSides : {A : Type 0} → Places A → Transmits → Type 0
+abbrev pub HaveSides : {A : Type 0} → DeviceTable A → Transmits → Type 0
 HaveSides devices all = (number : ℕ) → is_some (at number all) ≡ is_some (at number devices)
 
 -- the counts of a device, if there is one
 abbrev pub counts_at : Option DeviceView → TxCounts → Option DeviceCounts
 counts_at None tx = None
-counts_at (Some d) tx = Some (counts_of d tx)
+counts_at (Some d) tx = Some (device_counts d tx)

@@ -1,12 +1,12 @@
 -- What the report shows of a device.
-use Rattle.{std.specs.Prelude.length, napi_model.specs.{Step.seen_of, Word.word_of}, device_bench.specs.Device.state_of}
+use Rattle.{std.specs.Prelude.length, napi_model.specs.{Step.seen_of, Word.word_of}, device_bench.specs.Device.device_state}
 use Rattle.device_bench.specs.{DeviceView.DeviceView, declared.counts.DeviceCounts.DeviceCounts}
 use Rattle.device_transmit.specs.declared.transmit.TxCounts.{TxCounts}
 
 -- what the device counted, the content of its ring, its state word, and its transmit side
-abbrev pub counts_of : DeviceView → TxCounts → DeviceCounts
-counts_of d tx = record d.told {
-  state = state_of d;
+abbrev pub device_counts : DeviceView → TxCounts → DeviceCounts
+device_counts d tx = record d.told {
+  state = device_state d;
   left = length d.side.packets;
   word = word_of (seen_of d.side.napi);
   tx = tx;

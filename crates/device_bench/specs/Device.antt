@@ -5,7 +5,8 @@ use Rattle.napi_model.specs.declared.event.{Done.TheVariants.{Released, Again, H
 use Rattle.napi_model.specs.declared.event.Prep.{Prep, TheVariants.{Granted, Missed, Disabled}}
 use Rattle.{poll_runs.specs.{Plan.{Plan, ends, asks, acts, polls}, declared.bench.{BusyReport.BusyReport, Once.Once}}}
 use Rattle.{device_transmit.specs.Counter.raised, device_bench.specs.DeviceView.DeviceView}
-use Rattle.device_bench.specs.Receive.{answered, bytes_of, caller_of, given_of, handed_on, has_place, is_control, opened_side, put_if}
+use Rattle.device_bench.specs.Receive.{answered, polled_bytes, caller_of, given_of, queued_kind, ring_has_place, is_control, opened_side}
+use Rattle.device_bench.specs.Receive.{put_if}
 use Rattle.device_bench.specs.{Receive.{requested, tried_by}, declared.counts.{DeviceCounts.DeviceCounts, DeviceState.DeviceState}}
 use Rattle.device_bench.specs.declared.{counts.TheConstants.DeviceCounts.OPENED, device.TheConstants.CONTROLLER}
 use Rattle.napi_model.specs.declared.event.Operation.TheVariants as operation
@@ -17,11 +18,11 @@ abbrev pub with_napi : State → DeviceView → DeviceView
 with_napi napi d = record d { side = record d.side { napi = napi } }
 
 -- the device after a caller's operation on its instance
-abbrev pub made : ℕ → Operation → DeviceView → DeviceView
-made caller operation d = with_napi (after d.side.napi (event caller operation)) d
+abbrev pub operated : ℕ → Operation → DeviceView → DeviceView
+operated caller operation d = with_napi (after d.side.napi (event caller operation)) d
 
-abbrev pub opened : ℕ → DeviceView
-opened capacity = record { side = opened_side capacity; threaded = false; told = OPENED }
+abbrev pub new_device : ℕ → DeviceView
+new_device capacity = record { side = opened_side capacity; threaded = false; told = OPENED }
 
 -- ---- a packet
 
@@ -33,26 +34,26 @@ asked_told Disabled t = record t { disabled = raised t.disabled 1 }
 
 -- the interrupt requests a poll, and has this reply
 abbrev pub after_reply : Prep → DeviceView → Option Kind × DeviceView
-after_reply reply d = (handed_on reply d.side.napi, record (with_napi (requested reply d.side.napi) d) { told = asked_told reply d.told })
+after_reply reply d = (queued_kind reply d.side.napi, record (with_napi (requested reply d.side.napi) d) { told = asked_told reply d.told })
 
 unfoldable pub after_request : DeviceView → Option Kind × DeviceView
 after_request d = after_reply (schedule_reply d.side.napi) d
 
 -- A packet is put into the ring, and the interrupt requests a poll; if there is no room, the packet is dropped. The result is
 -- the queue in which this put the instance, and the device afterwards.
-unfoldable pub after_packet : ℕ → DeviceView → Option Kind × DeviceView
-after_packet bytes d =
+unfoldable pub device_after_packet : ℕ → DeviceView → Option Kind × DeviceView
+device_after_packet bytes d =
     let counted = record d { told = record d.told { arrived = raised d.told.arrived 1 } } in
-    if has_place d.side then after_request (record counted { side = put_if true bytes d.side })
+    if ring_has_place d.side then after_request (record counted { side = put_if true bytes d.side })
     else (None, record counted { told = record counted.told { dropped = raised d.told.dropped 1 } })
 
 -- a poll takes the ring's next packets, and is counted
-unfoldable pub polled : ℕ → DeviceView → DeviceView
-polled weight d = record d {
+unfoldable pub device_polled : ℕ → DeviceView → DeviceView
+device_polled weight d = record d {
   side = record d.side { packets = drop (given_of weight d.side) d.side.packets };
   told = record d.told {
     polled = raised d.told.polled (given_of weight d.side);
-    bytes = raised d.told.bytes (bytes_of weight d.side);
+    bytes = raised d.told.bytes (polled_bytes weight d.side);
     polls = raised d.told.polls 1;
   };
 }
@@ -68,41 +69,41 @@ told_after o t = t
 
 -- an operation of polling is made and counted
 abbrev pub acted : Operation → DeviceView → DeviceView
-acted o d = record (made (caller_of o d.side.napi.place) o d) { told = told_after o d.told }
+acted o d = record (operated (caller_of o d.side.napi.place) o d) { told = told_after o d.told }
 
 -- a plan executed on its own, in which each call gets its reply at once: its result, and the device afterwards
 unfoldable pub carried_out : {A : Type 0} → Plan ℕ A → DeviceView → A × DeviceView
 carried_out (ends a) d = (a, d)
 carried_out (asks c go) d = carried_out (go (answered c d.side.napi)) (acted (answered c d.side.napi) d)
 carried_out (acts o plan) d = carried_out plan (acted o d)
-carried_out (polls weight go) d = carried_out (go (take weight d.side.packets)) (polled weight d)
+carried_out (polls weight go) d = carried_out (go (take weight d.side.packets)) (device_polled weight d)
 
 -- a poll from the list (`napi_poll`)
 unfoldable pub polled_once : ℕ → DeviceView → Once × DeviceView
-polled_once weight d = let done = carried_out (rule.polled_once true weight) d in (done.0.once, done.1)
+polled_once weight d = let done = carried_out (rule.poll_once_plan true weight) d in (done.0.once, done.1)
 
 -- polling by its thread (`napi_threaded_poll`)
 unfoldable pub polled_by_thread : ℕ → ℕ → DeviceView → List Once × DeviceView
-polled_by_thread most weight d = let done = carried_out (rule.polled_by_thread true weight most) d in (done.0.polls, done.1)
+polled_by_thread most weight d = let done = carried_out (rule.thread_poll_plan true weight most) d in (done.0.polls, done.1)
 
 -- busy polling (`napi_busy_loop`)
 unfoldable pub polled_busily : ℕ → ℕ → DeviceView → BusyReport × DeviceView
-polled_busily rounds weight d = let done = carried_out (rule.polled_busily sum true weight rounds) d in (done.0.report, done.1)
+polled_busily rounds weight d = let done = carried_out (rule.busy_poll_plan sum true weight rounds) d in (done.0.report, done.1)
 
 -- ---- disabling and enabling (`napi_disable`, `napi_enable`, `dev_set_threaded`)
 
 -- enabled, being disabled, or disabled
-abbrev pub state_of : DeviceView → DeviceState
-state_of d = if d.side.napi.flags.disable then state.Pending else (if is_control d.side.napi.place then state.Off else state.On)
+abbrev pub device_state : DeviceView → DeviceState
+device_state d = if d.side.napi.flags.disable then state.Pending else (if is_control d.side.napi.place then state.Off else state.On)
 
 -- a disable is marked on a device that is enabled
 abbrev pub disabled_from : DeviceState → DeviceView → DeviceView
-disabled_from state.On d = made CONTROLLER operation.MarkDisable d
+disabled_from state.On d = operated CONTROLLER operation.MarkDisable d
 disabled_from state.Off d = d
 disabled_from state.Pending d = d
 
 unfoldable pub after_disable : DeviceView → DeviceView
-after_disable d = disabled_from (state_of d) d
+after_disable d = disabled_from (device_state d) d
 
 -- a pending disable is tried once
 unfoldable pub settled : DeviceView → DeviceView
@@ -110,16 +111,16 @@ settled d = if d.side.napi.flags.disable then with_napi (tried_by (take_disable_
 
 -- a device that is disabled is enabled, with its threaded setting
 abbrev pub enabled_from : DeviceState → DeviceView → DeviceView
-enabled_from state.Off d = made CONTROLLER (operation.Enable d.threaded) d
+enabled_from state.Off d = operated CONTROLLER (operation.Enable d.threaded) d
 enabled_from state.On d = d
 enabled_from state.Pending d = d
 
 unfoldable pub after_enable : DeviceView → DeviceView
-after_enable d = enabled_from (state_of d) d
+after_enable d = enabled_from (device_state d) d
 
 abbrev pub is_pending : DeviceView → Bool
 is_pending d = d.side.napi.flags.disable
 
 -- the threaded setting and the flag THREADED are set
 unfoldable pub after_threaded : Bool → DeviceView → DeviceView
-after_threaded threaded d = record (made CONTROLLER (operation.SetThreaded threaded) d) { threaded = threaded }
+after_threaded threaded d = record (operated CONTROLLER (operation.SetThreaded threaded) d) { threaded = threaded }

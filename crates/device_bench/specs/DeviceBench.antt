@@ -1,10 +1,11 @@
 -- What a bench of devices shows.
-use Rattle.{std.specs.Prelude.ℕ, device_bench.specs.{Bench.{Devices, HaveSides}, Waiting.waiting, declared.bench.DeviceBench.DeviceBench}}
+use Rattle.{std.specs.Prelude.ℕ}
+use Rattle.{device_bench.specs.{Bench.{BenchDevices, HaveSides}, Waiting.waiting, declared.bench.DeviceBench.DeviceBench}}
 use Rattle.{device_bench.specs.declared.receive_side.ReceiveSide.Ghosts, device_transmit.specs.{Transmits.Transmits, Sides.ShowsSides}}
 
 module _ {S O : Type 0} {g : Ghosts S} where
   -- the devices that were attached
-  abbrev pub devices_of : DeviceBench S O g → Devices
+  abbrev pub devices_of : DeviceBench S O g → BenchDevices
   devices_of bench = bench.devices.items
 
   -- its transmit sides represent these, one for each of its devices

@@ -1,5 +1,5 @@
 -- The end of a bench whose receive sides are linear.
-use Rattle.{std.specs.Prelude.{ℕ, Option, Some, None}, device_places.specs.Places.{Places, at}, device_bench.specs.Bench.Devices}
+use Rattle.{std.specs.Prelude.{ℕ, Option, Some, None}, device_places.specs.Places.{DeviceTable, at}, device_bench.specs.Bench.BenchDevices}
 use Rattle.device_bench.specs.{DeviceView.DeviceView, Receive.ReceiveView}
 
 -- a device was ended, if there is one; otherwise there are no counts
@@ -10,5 +10,5 @@ IsEndedAt ended (Some d) None = ⊥
 IsEndedAt ended None (Some totals) = ⊥
 
 -- each device was ended, and these are the counts of its ring
-abbrev pub AllEnded : {Totals : Type 0} → (ReceiveView → Totals → Type 0) → Devices → Places Totals → Type 0
+abbrev pub AllEnded : {Totals : Type 0} → (ReceiveView → Totals → Type 0) → BenchDevices → DeviceTable Totals → Type 0
 AllEnded ended devices ends = (number : ℕ) → IsEndedAt ended (at number devices) (at number ends)

@@ -1,16 +1,16 @@
 -- A device, as its poller sees it.
 use Rattle.std.specs.Prelude.{◌≡◌, ℕ, true, false, List, [], ◌∷◌, take}
-use Rattle.napi_model.specs.{Step.{Polls, answer_of, call_of}, declared.{event.{Call.Call, Operation.Operation}, state.State.State}}
-use Rattle.{napi_model.specs.declared.event.Operation.TheVariants.BusyTake, poll_runs.specs.Plan.{Deed, gave, made}}
-use Rattle.device_bench.specs.{Device.{acted, polled}, DeviceView.DeviceView, Receive.{is_idle, poller_in}}
+use Rattle.napi_model.specs.{Step.{CallerPolls, reply_of, call_of}, declared.{event.{Call.Call, Operation.Operation}, state.State.State}}
+use Rattle.{napi_model.specs.declared.event.Operation.TheVariants.BusyTake, poll_runs.specs.Plan.{Action, gave, made}}
+use Rattle.device_bench.specs.{Device.{acted, device_polled}, DeviceView.DeviceView, Receive.{is_idle, poller_in}}
 use Rattle.device_bench.specs.declared.device.TheConstants.{POLLER}
 
-abbrev pub IsPolled : DeviceView → Type 0
-IsPolled d = Polls (poller_in d.side.napi.place) false d.side.napi
+abbrev pub IsDevicePolled : DeviceView → Type 0
+IsDevicePolled d = CallerPolls (poller_in d.side.napi.place) false d.side.napi
 
 -- the poller busy polls it
 abbrev pub IsPolledBusily : DeviceView → Type 0
-IsPolledBusily d = Polls POLLER true d.side.napi
+IsPolledBusily d = CallerPolls POLLER true d.side.napi
 
 -- a call gets its reply at once
 abbrev pub AtOnce : Call → Operation → List Operation → Type 0
@@ -19,10 +19,10 @@ AtOnce c o os = os ≡ o ∷ []
 -- in this state a call results in this operation
 abbrev pub IsAnswer : Operation → State → Type 0
 IsAnswer BusyTake s = is_idle s ≡ true
-IsAnswer o s = o ≡ answer_of (call_of o) s
+IsAnswer o s = o ≡ reply_of (call_of o) s
 
 -- these operations and polls, in sequence, lead from one device to the other
-abbrev pub Did : DeviceView → List (Deed ℕ) → DeviceView → Type 0
-Did d [] e = e ≡ d
-Did d (made o ∷ deeds) e = IsAnswer o d.side.napi × Did (acted o d) deeds e
-Did d (gave weight packets ∷ deeds) e = (packets ≡ take weight d.side.packets) × Did (polled weight d) deeds e
+abbrev pub DeviceDid : DeviceView → List (Action ℕ) → DeviceView → Type 0
+DeviceDid d [] e = e ≡ d
+DeviceDid d (made o ∷ deeds) e = IsAnswer o d.side.napi × DeviceDid (acted o d) deeds e
+DeviceDid d (gave weight packets ∷ deeds) e = (packets ≡ take weight d.side.packets) × DeviceDid (device_polled weight d) deeds e

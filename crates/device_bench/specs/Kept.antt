@@ -1,7 +1,7 @@
 -- The invariant of the devices of a bench.
 use Rattle.std.specs.Prelude.{◌≡◌, ◌≤◌, ℕ, Bool, true, false, not, ◌||◌, Option, Some, None, length}
 use Rattle.{napi_model.specs.declared.state.Place.{Place, TheVariants.Nobody}, device_bench.specs.Device.is_pending}
-use Rattle.{device_bench.specs.{DeviceView.DeviceView, Waiting.waiting}, device_places.specs.Places.{Places, at}}
+use Rattle.{device_bench.specs.{DeviceView.DeviceView, Waiting.waiting}, device_places.specs.Places.{DeviceTable, at}}
 
 -- an instance that a caller owns, or that is queued, is scheduled
 abbrev pub is_held : Place → Bool
@@ -19,7 +19,7 @@ abbrev pub is_pending_at : Option DeviceView → Bool
 is_pending_at None = false
 is_pending_at (Some d) = is_pending d
 
-pub record IsKept (unsettled : Bool) (devices : Places DeviceView) : Type 0 where
+pub record IsKept (unsettled : Bool) (devices : DeviceTable DeviceView) : Type 0 where
   pub places : length devices ≡ 17
   pub sound : (number : ℕ) → is_sound_at (at number devices) ≡ true
   -- if nothing is to be settled, no disable is pending

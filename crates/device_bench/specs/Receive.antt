@@ -2,7 +2,7 @@
 -- on them.
 use Rattle.std.specs.Prelude.{ℕ, Bool, true, false, not, ◌||◌, List, [], ◌∷◌, ◌++◌, length, take, sum, min, nat_lt, Option, Some, None}
 use Rattle.std.specs.Prelude.{if◌then◌else◌}
-use Rattle.napi_model.specs.{Step.{after, answer_of, event, opening, seen_of}, declared.event.{Call.Call, Done.Done, Operation.Operation}}
+use Rattle.napi_model.specs.{Step.{after, reply_of, event, opening, seen_of}, declared.event.{Call.Call, Done.Done, Operation.Operation}}
 use Rattle.napi_model.specs.declared.event.{Done.TheVariants.{Released, Again, Held}, Prep.{Prep, TheVariants.{Granted, Missed, Disabled}}}
 use Rattle.napi_model.specs.declared.state.{Kind.Kind, Place.{Place, TheVariants.{Control, Granted as Owned, Polling}}, State.State}
 use Rattle.device_bench.specs.declared.device.TheConstants.{CONTROLLER, INTERRUPT, POLLER, THREAD}
@@ -28,8 +28,8 @@ opened_side capacity = record {
 
 -- ---- the ring
 
-abbrev pub has_place : ReceiveView → Bool
-has_place r = nat_lt (length r.packets) r.capacity
+abbrev pub ring_has_place : ReceiveView → Bool
+ring_has_place r = nat_lt (length r.packets) r.capacity
 
 -- a packet of this size is put into the ring if there is room
 abbrev pub put_if : Bool → ℕ → ReceiveView → ReceiveView
@@ -40,28 +40,28 @@ put_if false bytes r = r
 abbrev pub given_of : ℕ → ReceiveView → ℕ
 given_of weight r = min weight (length r.packets)
 
-abbrev pub bytes_of : ℕ → ReceiveView → ℕ
-bytes_of weight r = sum (take (given_of weight r) r.packets)
+abbrev pub polled_bytes : ℕ → ReceiveView → ℕ
+polled_bytes weight r = sum (take (given_of weight r) r.packets)
 
 -- ---- the instance
 
 -- the owner of an instance queues it for its thread if THREADED is set, otherwise on the poll list (`____napi_schedule`)
-abbrev pub kind_for : State → Kind
-kind_for s = rule.kind_for s.flags
+abbrev pub state_kind : State → Kind
+state_kind s = rule.kind_for s.flags
 
-abbrev pub handed : ℕ → State → State
-handed caller s = after s (event caller (operation.Hand (kind_for s)))
+abbrev pub after_hand : ℕ → State → State
+after_hand caller s = after s (event caller (operation.Hand (state_kind s)))
 
 -- the interrupt requests a poll (`napi_schedule_prep`), and queues the instance if it is granted; and in which queue
 abbrev pub requested : Prep → State → State
-requested Granted s = handed INTERRUPT (after s (event INTERRUPT (operation.Schedule Granted)))
+requested Granted s = after_hand INTERRUPT (after s (event INTERRUPT (operation.Schedule Granted)))
 requested Missed s = after s (event INTERRUPT (operation.Schedule Missed))
 requested Disabled s = after s (event INTERRUPT (operation.Schedule Disabled))
 
-abbrev pub handed_on : Prep → State → Option Kind
-handed_on Granted s = Some (kind_for s)
-handed_on Missed s = None
-handed_on Disabled s = None
+abbrev pub queued_kind : Prep → State → Option Kind
+queued_kind Granted s = Some (state_kind s)
+queued_kind Missed s = None
+queued_kind Disabled s = None
 
 -- the caller that takes an instance from this queue
 abbrev pub taker_of : Kind → ℕ
@@ -85,18 +85,18 @@ abbrev pub poller_in : Place → ℕ
 poller_in (Polling c) = c
 poller_in _ = 0
 
-abbrev pub is_polling : Place → Bool
-is_polling (Polling c) = true
-is_polling _ = false
+abbrev pub is_polling_place : Place → Bool
+is_polling_place (Polling c) = true
+is_polling_place _ = false
 
 -- a completion (`napi_complete_done`); if a request was missed, the poller queues the instance again
 abbrev pub done_by : ℕ → Done → State → State
-done_by poller Again s = handed poller (after s (event poller (operation.Complete Again)))
+done_by poller Again s = after_hand poller (after s (event poller (operation.Complete Again)))
 done_by poller Released s = after s (event poller (operation.Complete Released))
 done_by poller Held s = after s (event poller (operation.Complete Held))
 
 abbrev pub handed_again : Done → State → Option Kind
-handed_again Again s = Some (kind_for s)
+handed_again Again s = Some (state_kind s)
 handed_again Released s = None
 handed_again Held s = None
 
@@ -116,7 +116,7 @@ is_idle s = not (s.flags.disable || (s.flags.sched || s.flags.in_busy_poll))
 -- the operation in which a call of polling results; a take for busy polling results in a look if the instance isn't idle
 abbrev pub answered : Call → State → Operation
 answered call.BusyTake s = if is_idle s then operation.BusyTake else operation.Look (seen_of s)
-answered c s = answer_of c s
+answered c s = reply_of c s
 
 -- an idle instance is taken to busy poll it (`napi_busy_loop`)
 abbrev pub busy_taken : Bool → State → State

@@ -2,19 +2,19 @@
 use Rattle.std.specs.Prelude.{ℕ, Bool, true, false, Option, Some, None, ◌||◌, if◌then◌else◌, sum_by}
 use Rattle.napi_model.specs.Step.{is_handed}
 use Rattle.{napi_model.specs.declared.state.Kind.Kind, poll_runs.specs.{Polls.{is_arrival, is_repoll}, declared.bench.Next.Next}}
-use Rattle.{device_bench.specs.DeviceView.DeviceView, device_places.specs.Places.Places}
+use Rattle.{device_bench.specs.DeviceView.DeviceView, device_places.specs.Places.DeviceTable}
 use Rattle.napi_model.specs.declared.state.Kind.TheVariants as kind
 
-abbrev pub count : Bool → ℕ
-count b = if b then 1 else 0
+abbrev pub one_when : Bool → ℕ
+one_when b = if b then 1 else 0
 
 -- a device waits on the list from when it is queued until it is taken
-abbrev pub waits : Option DeviceView → ℕ
-waits None = 0
-waits (Some d) = count (is_handed kind.List d.side.napi.place)
+abbrev pub waits_on_list : Option DeviceView → ℕ
+waits_on_list None = 0
+waits_on_list (Some d) = one_when (is_handed kind.List d.side.napi.place)
 
-unfoldable pub waiting : Places DeviceView → ℕ
-waiting devices = sum_by waits devices
+unfoldable pub waiting : DeviceTable DeviceView → ℕ
+waiting devices = sum_by waits_on_list devices
 
 -- whether it is queued on the list
 abbrev pub is_listed : Option Kind → Bool

@@ -5,11 +5,11 @@ ghost use Rattle.device_places.specs.Places.{empty};
 ghost use Rattle.device_bench.specs.Kept.{IsKept};
 
 use crate::counts::DeviceCounts;
-use crate::device::Device;
+use crate::device::BenchDevice;
 use crate::receive_side::{Opener, ReceiveSide, SpentSide};
 use crate::replay_bench::ReplayBench;
 use crate::serial_receive::{SerialOpener, SerialReceive};
-use device_places::PLACES;
+use device_places::TABLE_LEN;
 use device_transmit::{Transmit, TransmitSides};
 use napi_model::Kind;
 use poll_runs::{Bench, BusyReport, Next, Once, ThreadReport};
@@ -20,7 +20,7 @@ use std::mem;
 #[derive(Drop)]
 pub struct DeviceBench<S: ReceiveSide, O> {
     opener: O,
-    devices: Vec<Option<Device<S>>>,
+    devices: Vec<Option<BenchDevice<S>>>,
     transmits: TransmitSides,
     // Whether a disable may be pending.
     unsettled: bool,
@@ -45,8 +45,8 @@ fn fill<T>(place: &mut Option<T>, value: T)
 fn no_devices<T>(alloc: Global) -> Result<Vec<Option<T>>, AllocError>
     ensures { IfOk result (λ places. places.items ≡ empty) }
 {
-    let mut places = Vec::with_capacity(alloc, PLACES as usize)?;
-    for _ in 0..PLACES {
+    let mut places = Vec::with_capacity(alloc, TABLE_LEN as usize)?;
+    for _ in 0..TABLE_LEN {
         places.push_reserved(None);
     }
     Ok(places)
@@ -69,7 +69,7 @@ impl DeviceBench<SerialReceive, SerialOpener> {
 impl<S: ReceiveSide, O: Opener<S>> DeviceBench<S, O> {
     ghost use Rattle.std.specs.Prelude.{◌≡◌, ℕ, IfOk, OnErr, OnOk};
     ghost use Rattle.device_bench.specs.Bench.{attached};
-    ghost use Rattle.device_bench.specs.Device.{opened, settled};
+    ghost use Rattle.device_bench.specs.Device.{new_device, settled};
     ghost use Rattle.device_bench.specs.Kept.{is_pending_at};
     ghost use Rattle.device_places.specs.Places.{added, at, changed, empty};
     ghost use Rattle.device_places.specs.Range.{IsWithin};
@@ -103,7 +103,7 @@ impl<S: ReceiveSide, O: Opener<S>> DeviceBench<S, O> {
         requires device { IsWithin 1 16 device }
         requires capacity { IsWithin 1 65536 capacity }
         ensures devices { OnOk result
-            (devices_of self.new ≡ added device (opened capacity) (devices_of self.old)) }
+            (devices_of self.new ≡ added device (new_device capacity) (devices_of self.old)) }
         ensures transmits { self.new.transmits ≡ self.old.transmits }
         ensures waiting { waiting_of self.new ≡ waiting_of self.old }
         ensures refused { OnErr result (self.new ≡ self.old) }
@@ -111,7 +111,7 @@ impl<S: ReceiveSide, O: Opener<S>> DeviceBench<S, O> {
         if self.devices[device as usize].is_some() {
             return Ok(());
         }
-        let opened = Device::new(self.opener.open(alloc, capacity)?);
+        let opened = BenchDevice::new(self.opener.open(alloc, capacity)?);
         fill(&mut self.devices[device as usize], opened);
         Ok(())
     }
@@ -123,7 +123,7 @@ impl<S: ReceiveSide, O: Opener<S>> DeviceBench<S, O> {
         ensures unsettled { self.new.unsettled ≡ self.old.unsettled }
         ensures pending { result ≡ is_pending_at (at device (devices_of self.new)) }
     {
-        if device < PLACES {
+        if device < TABLE_LEN {
             if let Some(device) = &mut self.devices[device as usize] {
                 return device.settle();
             }
@@ -151,7 +151,7 @@ impl<S: SpentSide, O: Opener<S> + Drop> DeviceBench<S, O> {
 
     /// Ends the receive side of each device, which may wait. It doesn't allocate, and may be called in any state, even after an
     /// error. Returns the counts of each ring, by device number.
-    pub fn end(self) -> [Option<S::Totals>; PLACES as usize]
+    pub fn end(self) -> [Option<S::Totals>; TABLE_LEN as usize]
         ensures { AllEnded S.ended (devices_of self) result }
     {
         let DeviceBench {
@@ -160,7 +160,7 @@ impl<S: SpentSide, O: Opener<S> + Drop> DeviceBench<S, O> {
             transmits: _,
             unsettled: _,
         } = self;
-        let mut ends = [None; PLACES as usize];
+        let mut ends = [None; TABLE_LEN as usize];
         while let Some(place) = devices.pop() {
             if let Some(device) = place {
                 ends[devices.len()] = Some(device.end());
@@ -172,17 +172,17 @@ impl<S: SpentSide, O: Opener<S> + Drop> DeviceBench<S, O> {
 }
 
 impl<S: ReceiveSide, O: Opener<S>> Bench for DeviceBench<S, O> {
-    ghost use Rattle.device_bench.specs.Bench.{IsBusyPoll, IsPoll, IsThreadPolls};
+    ghost use Rattle.device_bench.specs.Bench.{IsBusyPoll, IsListPoll, IsThreadPolls};
     ghost use Rattle.device_bench.specs.DeviceBench.{ShowsTransmits, devices_of, waiting_of};
 
-    ghost polls = { IsPoll devices_of ShowsTransmits waiting_of };
+    ghost polls = { IsListPoll devices_of ShowsTransmits waiting_of };
 
     ghost thread_polls = { IsThreadPolls devices_of ShowsTransmits waiting_of };
 
     ghost busy_polls = { IsBusyPoll devices_of ShowsTransmits waiting_of };
 
     fn poll_once(&mut self, id: u32, weight: u32) -> Once {
-        if id < PLACES {
+        if id < TABLE_LEN {
             if let Some(device) = &mut self.devices[id as usize] {
                 return device.poll_once(weight);
             }
@@ -194,7 +194,7 @@ impl<S: ReceiveSide, O: Opener<S>> Bench for DeviceBench<S, O> {
     }
 
     fn poll_thread(&mut self, id: u32, weight: u32, most: u32) -> ThreadReport {
-        if id < PLACES {
+        if id < TABLE_LEN {
             if let Some(device) = &mut self.devices[id as usize] {
                 return device.poll_thread(weight, most);
             }
@@ -203,7 +203,7 @@ impl<S: ReceiveSide, O: Opener<S>> Bench for DeviceBench<S, O> {
     }
 
     fn busy_poll(&mut self, id: u32, weight: u32, rounds: u32) -> BusyReport {
-        if id < PLACES {
+        if id < TABLE_LEN {
             if let Some(device) = &mut self.devices[id as usize] {
                 return device.busy_poll(weight, rounds);
             }
@@ -222,7 +222,7 @@ impl<S: ReceiveSide, O: Opener<S>> ReplayBench for DeviceBench<S, O> {
     ghost waiting = { waiting_of };
 
     fn arrive(&mut self, device: u32, bytes: u32) -> Option<Kind> {
-        if device < PLACES {
+        if device < TABLE_LEN {
             if let Some(device) = &mut self.devices[device as usize] {
                 return device.arrive(bytes);
             }
@@ -252,7 +252,7 @@ impl<S: ReceiveSide, O: Opener<S>> ReplayBench for DeviceBench<S, O> {
     }
 
     fn disable(&mut self, device: u32) {
-        if device < PLACES {
+        if device < TABLE_LEN {
             if let Some(device) = &mut self.devices[device as usize] {
                 self.unsettled = true;
                 device.disable();
@@ -261,7 +261,7 @@ impl<S: ReceiveSide, O: Opener<S>> ReplayBench for DeviceBench<S, O> {
     }
 
     fn enable(&mut self, device: u32) -> bool {
-        if device < PLACES {
+        if device < TABLE_LEN {
             if let Some(device) = &mut self.devices[device as usize] {
                 let pending = device.is_pending();
                 device.enable();
@@ -272,7 +272,7 @@ impl<S: ReceiveSide, O: Opener<S>> ReplayBench for DeviceBench<S, O> {
     }
 
     fn set_threaded(&mut self, device: u32, threaded: bool) {
-        if device < PLACES {
+        if device < TABLE_LEN {
             if let Some(device) = &mut self.devices[device as usize] {
                 device.set_threaded(threaded);
             }
@@ -284,7 +284,7 @@ impl<S: ReceiveSide, O: Opener<S>> ReplayBench for DeviceBench<S, O> {
             return;
         }
         let mut unsettled = false;
-        for device in 0..PLACES {
+        for device in 0..TABLE_LEN {
             if self.settle_one(device) {
                 unsettled = true;
             }

@@ -2,9 +2,9 @@
 
 ghost use Rattle.std.specs.Prelude.{◌≡◌, ◌≤◌, ◌<◌, ◌^◌, true, if◌then◌else◌};
 ghost use Rattle.napi_model.specs.declared.event.{Done.TheVariants.{Again, Released}, Operation.TheVariants.{Complete}};
-ghost use Rattle.device_bench.specs.Device.{after_disable, after_enable, after_packet, after_request, after_threaded, is_pending, opened, polled, polled_busily, polled_by_thread, polled_once, settled, state_of, told_after};
-ghost use Rattle.device_bench.specs.Counts.{counts_of};
-ghost use Rattle.device_bench.specs.Receive.{bytes_of, given_of, is_polling, opened_side};
+ghost use Rattle.device_bench.specs.Device.{after_disable, after_enable, device_after_packet, after_request, after_threaded, is_pending, new_device, device_polled, polled_busily, polled_by_thread, polled_once, settled, device_state, told_after};
+ghost use Rattle.device_bench.specs.Counts.{device_counts};
+ghost use Rattle.device_bench.specs.Receive.{polled_bytes, given_of, is_polling_place, opened_side};
 ghost use Rattle.device_places.specs.Range.{IsWithin};
 ghost use Rattle.poll_runs.specs.Thread.{IsThreadPolling};
 
@@ -32,14 +32,14 @@ pub(crate) const CONTROLLER: u32 = 3;
 
 /// A device's receive side, its threaded setting, and its counts.
 #[derive(Drop)]
-pub(crate) struct Device<S: ReceiveSide> {
+pub(crate) struct BenchDevice<S: ReceiveSide> {
     pub(crate) side: S,
     threaded: bool,
     // The counts; the other fields are computed when they are read.
     told: DeviceCounts,
 }
 
-impl<S: ReceiveSide> Model for Device<S> {
+impl<S: ReceiveSide> Model for BenchDevice<S> {
     ghost use Rattle.device_bench.specs.DeviceView.{DeviceView};
 
     ghost Value = { DeviceView };
@@ -47,14 +47,15 @@ impl<S: ReceiveSide> Model for Device<S> {
     ghost view = { λ d. record { side = S.side d.side; threaded = d.threaded; told = d.told } };
 }
 
-impl<S: ReceiveSide> Device<S> {
+impl<S: ReceiveSide> BenchDevice<S> {
     ghost use Rattle.std.specs.Prelude.{ℕ};
 
     /// Returns a device with a receive side that was just opened.
-    pub(crate) fn new(side: S) -> Device<S>
-        ensures { (capacity : ℕ) → S.side side ≡ opened_side capacity → result ≡ opened capacity }
+    pub(crate) fn new(side: S) -> BenchDevice<S>
+        ensures { (capacity : ℕ) → S.side side ≡ opened_side capacity
+            → result ≡ new_device capacity }
     {
-        Device {
+        BenchDevice {
             side,
             threaded: false,
             told: DeviceCounts::OPENED,
@@ -63,7 +64,7 @@ impl<S: ReceiveSide> Device<S> {
 
     /// Returns what the report shows of the device, with its transmit side.
     pub(crate) fn counts(&self, tx: TxCounts) -> DeviceCounts
-        ensures { result ≡ counts_of self.now tx }
+        ensures { result ≡ device_counts self.now tx }
     {
         DeviceCounts {
             state: self.state(),
@@ -91,10 +92,10 @@ impl<S: ReceiveSide> Device<S> {
 
     /// Handles the arrival of a packet of this size: a full ring drops it; otherwise the interrupt requests a poll. Returns the
     /// queue in which that put the instance.
-    #[tactic(auto, unfolding(crate::specs::Device::after_packet))]
+    #[tactic(auto, unfolding(crate::specs::Device::device_after_packet))]
     pub(crate) fn arrive(&mut self, bytes: u32) -> Option<Kind>
-        ensures device { self.new ≡ (after_packet bytes self.old).1 }
-        ensures kind { result ≡ (after_packet bytes self.old).0 }
+        ensures device { self.new ≡ (device_after_packet bytes self.old).1 }
+        ensures kind { result ≡ (device_after_packet bytes self.old).0 }
     {
         self.told.arrived = self.told.arrived.saturating_add(1);
         if !self.side.put(bytes) {
@@ -105,10 +106,10 @@ impl<S: ReceiveSide> Device<S> {
     }
 }
 
-impl<S: ReceiveSide> Device<S> {
+impl<S: ReceiveSide> BenchDevice<S> {
     /// Returns whether the device is enabled, disabled, or being disabled.
     pub(crate) fn state(&self) -> DeviceState
-        ensures { result ≡ state_of self.now }
+        ensures { result ≡ device_state self.now }
     {
         if self.is_pending() {
             DeviceState::Pending
@@ -165,15 +166,15 @@ impl<S: ReceiveSide> Device<S> {
     }
 }
 
-impl<S: ReceiveSide> Device<S> {
+impl<S: ReceiveSide> BenchDevice<S> {
     // Takes the next packets, at most the weight, and returns how many.
-    #[tactic(auto, unfolding(crate::specs::Device::polled))]
+    #[tactic(auto, unfolding(crate::specs::Device::device_polled))]
     fn receive(&mut self, weight: u32, load: &mut PolledBytes) -> u32
         requires weight { IsWithin 1 64 weight }
-        requires polled { is_polling self.old.side.napi.place ≡ true }
-        ensures device { self.new ≡ polled weight self.old }
+        requires polled { is_polling_place self.old.side.napi.place ≡ true }
+        ensures device { self.new ≡ device_polled weight self.old }
         ensures work { result ≡ given_of weight self.old.side }
-        ensures bytes { load.new ≡ bytes_of weight self.old.side }
+        ensures bytes { load.new ≡ polled_bytes weight self.old.side }
     {
         let (count, bytes) = self.side.receive(weight);
         load.bytes = bytes;
@@ -216,12 +217,12 @@ impl<S: ReceiveSide> Device<S> {
     }
 }
 
-impl<S: SpentSide> Device<S> {
+impl<S: SpentSide> BenchDevice<S> {
     /// Ends the device's receive side.
     pub(crate) fn end(self) -> S::Totals
         ensures { S.ended self.side result }
     {
-        let Device {
+        let BenchDevice {
             side,
             threaded: _,
             told: _,
@@ -230,9 +231,9 @@ impl<S: SpentSide> Device<S> {
     }
 }
 
-impl<S: ReceiveSide> Instance for Device<S> {
+impl<S: ReceiveSide> Instance for BenchDevice<S> {
     ghost use Rattle.std.specs.Prelude.{◌≡◌, refl, sum, true};
-    ghost use Rattle.device_bench.specs.Instance.{AtOnce, Did, IsPolled};
+    ghost use Rattle.device_bench.specs.Instance.{AtOnce, DeviceDid, IsDevicePolled};
     ghost use Rattle.device_bench.specs.InstanceLaws.{did_joins};
 
     type Packet = u32;
@@ -241,13 +242,13 @@ impl<S: ReceiveSide> Instance for Device<S> {
 
     ghost rests = { λ d. Unit };
 
-    ghost in_hand = { IsPolled };
+    ghost in_hand = { IsDevicePolled };
 
     ghost thread = { λ d. true };
 
     ghost tries = { AtOnce };
 
-    ghost did = { Did };
+    ghost did = { DeviceDid };
 
     ghost has = { λ load packets. load ≡ sum packets };
 
@@ -255,7 +256,7 @@ impl<S: ReceiveSide> Instance for Device<S> {
         self.side.take(kind)
     }
 
-    #[tactic(auto, unfolding(crate::specs::Device::polled))]
+    #[tactic(auto, unfolding(crate::specs::Device::device_polled))]
     fn poll(&mut self, weight: u32, load: &mut PolledBytes) -> u32 {
         self.receive(weight, load)
     }
@@ -281,7 +282,7 @@ impl<S: ReceiveSide> Instance for Device<S> {
     ghost same = { λ before after deeds did. refl };
 }
 
-impl<S: ReceiveSide> BusyInstance for Device<S> {
+impl<S: ReceiveSide> BusyInstance for BenchDevice<S> {
     ghost use Rattle.std.specs.Prelude.{sum};
     ghost use Rattle.device_bench.specs.Instance.{IsPolledBusily};
 
@@ -293,7 +294,7 @@ impl<S: ReceiveSide> BusyInstance for Device<S> {
         self.side.busy_take()
     }
 
-    #[tactic(auto, unfolding(crate::specs::Device::polled))]
+    #[tactic(auto, unfolding(crate::specs::Device::device_polled))]
     fn busy_poll(&mut self, weight: u32, load: &mut PolledBytes) -> u32 {
         self.receive(weight, load)
     }

@@ -1,11 +1,11 @@
 //! The receive ring of a device, and its instance with all its callers.
 
 ghost use Rattle.std.specs.Prelude.{◌≡◌, ◌≤◌, ◌<◌, ◌^◌, false, true, length, drop, IfOk};
-ghost use Rattle.napi_model.specs.Step.{Polls, after, complete_reply, event, schedule_reply, seen_of, take_disable_reply, take_reply};
+ghost use Rattle.napi_model.specs.Step.{CallerPolls, after, complete_reply, event, schedule_reply, seen_of, take_disable_reply, take_reply};
 ghost use Rattle.napi_model.specs.declared.event.Operation.TheVariants as operation;
 ghost use Rattle.napi_model.specs.declared.state.Kind.TheVariants as kind;
 ghost use Rattle.device_bench.specs.declared.device.TheConstants.{CONTROLLER, POLLER};
-ghost use Rattle.device_bench.specs.Receive.{ReceiveView, busy_taken, bytes_of, done_by, given_of, handed_again, handed_on, has_place, is_control, is_idle, is_polling, opened_side, poller_in, put_if, requested, taker_of, tried_by};
+ghost use Rattle.device_bench.specs.Receive.{ReceiveView, busy_taken, polled_bytes, done_by, given_of, handed_again, queued_kind, ring_has_place, is_control, is_idle, is_polling_place, opened_side, poller_in, put_if, requested, taker_of, tried_by};
 ghost use Rattle.device_places.specs.Range.{IsWithin};
 
 use napi_model::{Kind, Prep, Seen};
@@ -22,7 +22,7 @@ pub trait ReceiveSide {
 
     /// Puts a packet of this size into the ring. Returns false, and changes nothing, if the ring is full.
     fn put(&mut self, bytes: u32) -> bool
-        ensures fits { result ≡ has_place (side self.old) }
+        ensures fits { result ≡ ring_has_place (side self.old) }
         ensures side { side self.new ≡ put_if result bytes (side self.old) };
 
     /// How many packets the ring holds.
@@ -41,7 +41,7 @@ pub trait ReceiveSide {
     /// queue.
     fn request(&mut self) -> (Prep, Option<Kind>)
         ensures reply { result.0 ≡ schedule_reply (side self.old).napi }
-        ensures kind { result.1 ≡ handed_on result.0 (side self.old).napi }
+        ensures kind { result.1 ≡ queued_kind result.0 (side self.old).napi }
         ensures side { side self.new ≡ record (side self.old) {
           napi = requested result.0 (side self.old).napi;
         } };
@@ -59,9 +59,9 @@ pub trait ReceiveSide {
     /// Takes the ring's next packets, at most the weight (a driver's `poll`). Returns how many, and their bytes.
     fn receive(&mut self, weight: u32) -> (u32, u64)
         requires weight { IsWithin 1 64 weight }
-        requires polled { is_polling (side self.old).napi.place ≡ true }
+        requires polled { is_polling_place (side self.old).napi.place ≡ true }
         ensures count { result.0 ≡ given_of weight (side self.old) }
-        ensures bytes { result.1 ≡ bytes_of weight (side self.old) }
+        ensures bytes { result.1 ≡ polled_bytes weight (side self.old) }
         ensures side { side self.new ≡ record (side self.old) {
           packets = drop (given_of weight (side self.old)) (side self.old).packets;
         } }
@@ -69,7 +69,7 @@ pub trait ReceiveSide {
 
     /// Queues an instance that is being polled on the list again (the repoll of `napi_poll`).
     fn requeue(&mut self)
-        requires { Polls (poller_in (side self.old).napi.place) false (side self.old).napi }
+        requires { CallerPolls (poller_in (side self.old).napi.place) false (side self.old).napi }
         ensures side { side self.new ≡ record (side self.old) {
           napi = after (side self.old).napi
               (event (poller_in (side self.old).napi.place) (operation.Hand kind.List));
@@ -78,7 +78,7 @@ pub trait ReceiveSide {
     /// Completes an instance that is being polled (`napi_complete_done`). If a request was missed, it queues the instance
     /// again, and returns in which queue.
     fn complete(&mut self) -> Option<Kind>
-        requires { Polls (poller_in (side self.old).napi.place) false (side self.old).napi }
+        requires { CallerPolls (poller_in (side self.old).napi.place) false (side self.old).napi }
         ensures kind { result ≡ handed_again
             (complete_reply (side self.old).napi) (side self.old).napi }
         ensures side { side self.new ≡ record (side self.old) {
@@ -95,12 +95,12 @@ pub trait ReceiveSide {
 
     /// Completes a poll under busy polling: the poller still owns the instance.
     fn hold(&mut self)
-        requires { Polls POLLER true (side self.old).napi }
+        requires { CallerPolls POLLER true (side self.old).napi }
         ensures { side self.new ≡ side self.old };
 
     /// Stops busy polling, so that the poller polls once more (`busy_poll_stop`).
     fn stop(&mut self)
-        requires { Polls POLLER true (side self.old).napi }
+        requires { CallerPolls POLLER true (side self.old).napi }
         ensures side { side self.new ≡ record (side self.old) {
           napi = after (side self.old).napi (event POLLER operation.BusyStop);
         } };

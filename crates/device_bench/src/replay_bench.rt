@@ -1,14 +1,14 @@
 //! The interface between a replay and its devices.
 
 ghost use Rattle.std.specs.Prelude.{◌≡◌, ◌≤◌, ◌+◌, ℕ, Some, is_some, not, true, OnErr, OnOk};
-ghost use Rattle.device_bench.specs.Bench.{AreBusyPolls, ArePolls, AreThreadPolls, Devices, all_settled, arrived, attached, counts_at, handed_by};
-ghost use Rattle.device_transmit.specs.Transmits.{Changes, Keeps, Transmits, is_used, tx_counts_of};
-ghost use Rattle.device_bench.specs.Device.{after_disable, after_enable, after_threaded, opened};
+ghost use Rattle.device_bench.specs.Bench.{AreBusyPolls, ArePolls, AreThreadPolls, BenchDevices, all_settled, after_arrival, attached, counts_at, handed_by};
+ghost use Rattle.device_transmit.specs.Transmits.{Changes, KeepsTransmits, Transmits, is_used, tx_counts_of};
+ghost use Rattle.device_bench.specs.Device.{after_disable, after_enable, after_threaded, new_device};
 ghost use Rattle.device_bench.specs.Kept.{is_pending_at};
 ghost use Rattle.device_places.specs.Places.{added, at, changed};
 ghost use Rattle.device_places.specs.Range.{IsWithin};
 ghost use Rattle.device_transmit.specs.Transmit.{after_finish, after_tx, opened_transmit};
-ghost use Rattle.device_bench.specs.Waiting.{count, is_listed};
+ghost use Rattle.device_bench.specs.Waiting.{one_when, is_listed};
 
 use crate::counts::DeviceCounts;
 use napi_model::Kind;
@@ -22,7 +22,7 @@ use std::alloc::{AllocError, Global};
 /// rules define.
 pub trait ReplayBench: Bench {
     /// The devices, by number.
-    ghost devices: { Self → Devices };
+    ghost devices: { Self → BenchDevices };
 
     /// `shows bench all`: the bench's transmit sides are these.
     ghost shows: { Self → Transmits → Type 0 };
@@ -33,10 +33,10 @@ pub trait ReplayBench: Bench {
     /// Handles the arrival of a packet of this size at a device. Returns the queue in which that put the instance; if it is the
     /// list, the caller still has to push the number (`napi_schedule`).
     fn arrive(&mut self, device: u32, bytes: u32) -> Option<Kind>
-        ensures devices { devices self.new ≡ arrived device bytes (devices self.old) }
-        ensures transmits { Keeps shows self.old self.new }
+        ensures devices { devices self.new ≡ after_arrival device bytes (devices self.old) }
+        ensures transmits { KeepsTransmits shows self.old self.new }
         ensures kind { result ≡ handed_by bytes (at device (devices self.old)) }
-        ensures waiting { waiting self.old + count (is_listed result) ≤ waiting self.new };
+        ensures waiting { waiting self.old + one_when (is_listed result) ≤ waiting self.new };
 
     /// Makes a device with a receive and a transmit ring of this capacity, both empty, a queue limit that starts at this time,
     /// and an instance that is enabled, not threaded. A device that exists is unchanged. If an allocation fails, the bench is
@@ -51,7 +51,7 @@ pub trait ReplayBench: Bench {
         requires device { IsWithin 1 16 device }
         requires capacity { IsWithin 1 65536 capacity }
         ensures devices { OnOk result
-            (devices self.new ≡ added device (opened capacity) (devices self.old)) }
+            (devices self.new ≡ added device (new_device capacity) (devices self.old)) }
         ensures transmits { OnOk result
             (Changes shows (added device (opened_transmit capacity moment)) self.old self.new) }
         ensures waiting { waiting self.old ≤ waiting self.new }
@@ -74,7 +74,7 @@ pub trait ReplayBench: Bench {
     fn disable(&mut self, device: u32)
         ensures devices { devices self.new
             ≡ changed after_disable device (devices self.old) }
-        ensures transmits { Keeps shows self.old self.new }
+        ensures transmits { KeepsTransmits shows self.old self.new }
         ensures waiting { waiting self.new ≡ waiting self.old };
 
     /// Enables a device that is disabled, with its threaded setting (`napi_enable`). Returns false if its disable is still
@@ -82,7 +82,7 @@ pub trait ReplayBench: Bench {
     fn enable(&mut self, device: u32) -> bool
         ensures devices { devices self.new
             ≡ changed after_enable device (devices self.old) }
-        ensures transmits { Keeps shows self.old self.new }
+        ensures transmits { KeepsTransmits shows self.old self.new }
         ensures answer { result ≡ not (is_pending_at (at device (devices self.old))) }
         ensures waiting { waiting self.new ≡ waiting self.old };
 
@@ -90,13 +90,13 @@ pub trait ReplayBench: Bench {
     fn set_threaded(&mut self, device: u32, threaded: bool)
         ensures devices { devices self.new
             ≡ changed (after_threaded threaded) device (devices self.old) }
-        ensures transmits { Keeps shows self.old self.new }
+        ensures transmits { KeepsTransmits shows self.old self.new }
         ensures waiting { waiting self.new ≡ waiting self.old };
 
     /// Tries each pending disable once, by increasing device number (the loop of `napi_disable`).
     fn settle(&mut self)
         ensures devices { devices self.new ≡ all_settled (devices self.old) }
-        ensures transmits { Keeps shows self.old self.new }
+        ensures transmits { KeepsTransmits shows self.old self.new }
         ensures waiting { waiting self.new ≡ waiting self.old };
 
     /// The number of devices.

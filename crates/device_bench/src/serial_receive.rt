@@ -1,7 +1,7 @@
 //! The receive side of a device whose instance isn't shared.
 
 ghost use Rattle.std.specs.Prelude.{◌≡◌, ◌≤◌, ◌<◌, ◌^◌, true, length, sum, IfOk};
-ghost use Rattle.device_bench.specs.Receive.{handed, is_polling, kind_for, opened_side};
+ghost use Rattle.device_bench.specs.Receive.{after_hand, is_polling_place, state_kind, opened_side};
 ghost use Rattle.napi_model.specs.declared.state.Place.TheVariants.{Granted, Polling};
 
 use crate::device::{CONTROLLER, INTERRUPT, POLLER, THREAD};
@@ -26,7 +26,7 @@ impl Model for SerialReceive {
     ghost use Rattle.device_bench.specs.Owner.{IsOurs};
     ghost use Rattle.device_bench.specs.Receive.{ReceiveView};
     ghost use Rattle.device_bench.specs.declared.device.TheConstants.{CONTROLLER};
-    ghost use Rattle.napi_model.specs.Serial.{controller_of, state_of};
+    ghost use Rattle.napi_model.specs.Serial.{serial_controller, state_of};
 
     ghost Value = { ReceiveView };
 
@@ -36,15 +36,15 @@ impl Model for SerialReceive {
       capacity = s.ring.capacity;
     } };
 
-    ghost invariant = { λ s. (controller_of s.napi ≡ CONTROLLER) × IsOurs (state_of s.napi) };
+    ghost invariant = { λ s. (serial_controller s.napi ≡ CONTROLLER) × IsOurs (state_of s.napi) };
 }
 
 impl SerialReceive {
     // Queues the instance for its thread if THREADED is set, otherwise on the list, and returns which.
     fn hand_over(&mut self, caller: u32) -> Kind
         requires { self.old.napi.place ≡ Granted caller }
-        ensures kind { result ≡ kind_for self.old.napi }
-        ensures side { self.new ≡ record self.old { napi = handed caller self.old.napi } }
+        ensures kind { result ≡ state_kind self.old.napi }
+        ensures side { self.new ≡ record self.old { napi = after_hand caller self.old.napi } }
     {
         let kind = if self.napi.flags().threaded {
             Kind::Thread
@@ -57,7 +57,7 @@ impl SerialReceive {
 
     // Returns the caller that polls it.
     fn poller(&self) -> u32
-        requires { is_polling self.now.napi.place ≡ true }
+        requires { is_polling_place self.now.napi.place ≡ true }
         ensures { self.now.napi.place ≡ Polling result }
     {
         match self.napi.place() {

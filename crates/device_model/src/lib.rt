@@ -8,7 +8,7 @@
 
 pub use device_bench::{DeviceCounts, DeviceState, ReplayBench, SerialBench};
 pub use device_rows::{
-    Event, Row, Trace, TraceFault, first_fault_stands, first_records_decide, read_trace,
+    Row, RowEvent, Trace, TraceFault, first_fault_stands, first_records_decide, read_trace,
 };
 pub use device_script::{ScriptDevice, opening_of};
 pub use device_shared::SharedBench;

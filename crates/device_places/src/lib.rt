@@ -3,4 +3,4 @@
 #![tactic(auto)]
 
 /// The size of a table of devices: numbers 0 to 16, of which 0 stays empty.
-pub const PLACES: u32 = 17;
+pub const TABLE_LEN: u32 = 17;

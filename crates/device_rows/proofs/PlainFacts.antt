@@ -12,7 +12,7 @@ use Rattle.csv.specs.declared.parser.State.TheVariants as state
 use Rattle.device_rows.specs.Plain.{IsPlain, StartsWithNumber, StartsWithRecord, StartsWithRow, StartsWithTitle, StartsWithTitles}
 use Rattle.device_rows.specs.Plain.{StartsWithWord}
 use Rattle.device_rows.specs.Record.{event_of, four_of, is_numeral, numeral, version_of}
-use Rattle.device_rows.specs.declared.{event.Event.Event}
+use Rattle.device_rows.specs.declared.{event.RowEvent.RowEvent}
 use Rattle.device_rows.proofs.{NumeralFacts.digits-push, ShortFacts.short-row}
 
 -- a digit is no special character of csv's
@@ -147,7 +147,7 @@ number-ends text place stop number below some few digits value ends =
       value = value;
     }
 
-pub row-starts : (version : ℕ) (text behind-m behind-d w behind-w rest : List ℕ) (moment device value : ℕ) (event : Event)
+pub row-starts : (version : ℕ) (text behind-m behind-d w behind-w rest : List ℕ) (moment device value : ℕ) (event : RowEvent)
     → StartsWithNumber text 44 moment behind-m → StartsWithNumber behind-m 44 device behind-d → StartsWithWord behind-d w behind-w
     → event_of version w ≡ Some event → StartsWithNumber behind-w 10 value rest → moment < 2 ^ 64
     → StartsWithRow version text (record { moment = moment; device = device; event = event; value = value }) rest

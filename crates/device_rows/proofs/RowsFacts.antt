@@ -4,7 +4,7 @@ use Rattle.device_rows.specs.Adding.{rows_with}
 use Rattle.std.proofs.Common.{◌≡◌, ◌∙◌, ℕ, suc, ◌+◌, ◌-◌, ◌≤◌, true, false, List, [], ◌∷◌, ◌++◌, length, refl, sym, ap, arith, Some, None}
 use Rattle.{std.{proofs.Common.Option, specs.Prelude.{Result, Ok, Err, nat_lt}}, csv.specs.Machine.{Read, next_record}}
 use Rattle.csv.specs.{Reading.{default_config, reader_state, records_from, records_next}, declared.reader.Reader.Reader}
-use Rattle.{csv.specs.declared.parser.State.State, device_rows.specs.{Source.{StandsAt, TakesNext}, Record.{row_of, version_of}}}
+use Rattle.{csv.specs.declared.parser.State.State, device_rows.specs.{Source.{StandsAt, ReadsNext}, Record.{row_of, version_of}}}
 use Rattle.device_rows.specs.{Switch.{refusal, switch_of}, Trace.{rows_after, trace_of, version_in, with_row}}
 use Rattle.device_rows.specs.declared.{fault.TraceFault.TraceFault, row.Row.Row}
 
@@ -20,25 +20,25 @@ records-zero n s xs e = rw e refl
 -- no record is left
 pub records-none : {R : Type 0} (remaining : R → Option (List ℕ)) (reader after : Reader R) (fields : List (List ℕ)) (n m : ℕ)
     (left : List ℕ) → n ≡ suc m
-    → TakesNext remaining (next_record default_config (reader_state reader) [] [] left) false fields after
+    → ReadsNext remaining (next_record default_config (reader_state reader) [] [] left) false fields after
     → records_from default_config n (reader_state reader) left ≡ []
 records-none {R} remaining reader after fields n m left e h =
     records-next n m (reader_state reader) left e ∙ by (next_record default_config (reader_state reader) [] [] left) h
   where
-    by : (o : Option Read) → TakesNext remaining o false fields after → records_next (records_from default_config m) o ≡ []
+    by : (o : Option Read) → ReadsNext remaining o false fields after → records_next (records_from default_config m) o ≡ []
     by None h = refl
     by (Some p) h = cc h.0
 
 -- one record, and then those that remain in the reader
 pub records-more : {R : Type 0} (remaining : R → Option (List ℕ)) (reader after : Reader R) (fields : List (List ℕ)) (n m : ℕ)
     (left : List ℕ) → n ≡ suc m
-    → TakesNext remaining (next_record default_config (reader_state reader) [] [] left) true fields after
+    → ReadsNext remaining (next_record default_config (reader_state reader) [] [] left) true fields after
     → (rest : List ℕ) × StandsAt remaining after rest
     × (records_from default_config n (reader_state reader) left ≡ fields ∷ records_from default_config m (reader_state after) rest)
 records-more {R} remaining reader after fields n m left e h =
     rw (records-next n m (reader_state reader) left e) (by (next_record default_config (reader_state reader) [] [] left) h)
   where
-    by : (o : Option Read) → TakesNext remaining o true fields after → (rest : List ℕ) × StandsAt remaining after rest
+    by : (o : Option Read) → ReadsNext remaining o true fields after → (rest : List ℕ) × StandsAt remaining after rest
         × (records_next (records_from default_config m) o ≡ fields ∷ records_from default_config m (reader_state after) rest)
     by None h = cc h
     by (Some p) h = (p.2, h.3, rw (h.1, h.2) refl)
@@ -51,7 +51,7 @@ module _ (version : ℕ) where
   -- the rows of all records are those of the next one and of the records after it
   pub goes-on : {R : Type 0} (remaining : R → Option (List ℕ)) (reader after : Reader R) (fields : List (List ℕ)) (rows : List Row)
       (all : Result (List Row) TraceFault) (left : List ℕ) → length rows ≤ 100000
-      → TakesNext remaining (next_record default_config (reader_state reader) [] [] left) true fields after
+      → ReadsNext remaining (next_record default_config (reader_state reader) [] [] left) true fields after
       → all ≡ rows_with version rows (reader_state reader) left → (rest : List ℕ) × StandsAt remaining after rest
       × (all ≡ rows_after version rows (fields ∷ records_from default_config (100001 - (length rows + 1)) (reader_state after) rest))
   goes-on {R} remaining reader after fields rows all left small next so_far =
@@ -62,7 +62,7 @@ module _ (version : ℕ) where
   -- the rows of all records are those so far, if no record is left or none was asked for
   pub ends : {R : Type 0} (remaining : R → Option (List ℕ)) (reader after : Reader R) (fields : List (List ℕ)) (rows : List Row)
       (all : Result (List Row) TraceFault) (left : List ℕ) → length rows ≤ 100000
-      → TakesNext remaining (next_record default_config (reader_state reader) [] [] left) false fields after
+      → ReadsNext remaining (next_record default_config (reader_state reader) [] [] left) false fields after
       → all ≡ rows_with version rows (reader_state reader) left → all ≡ Ok rows
   ends {R} remaining reader after fields rows all left small next so_far =
       so_far ∙ ap (rows_after version rows)

@@ -1,9 +1,9 @@
 -- The row of fields whose numbers and event were parsed.
 use Rattle.std.{proofs.{Common.{◌≡◌, ℕ, ◌<◌, ◌^◌, List, true, Some, refl, sym}, lemmas.Bool.lt-ltb}, specs.Prelude.{Ok, nat_lt}}
 use Rattle.device_rows.specs.{Record.{event_of, is_numeral, numeral, of_fields, ranged}, Row.{device_fits, value_fits}}
-use Rattle.device_rows.specs.declared.event.Event.{Event}
+use Rattle.device_rows.specs.declared.event.RowEvent.{RowEvent}
 
-pub short-row : (version moment device value : ℕ) (event : Event) (m d e v : List ℕ)
+pub short-row : (version moment device value : ℕ) (event : RowEvent) (m d e v : List ℕ)
     → is_numeral m ≡ true → moment ≡ numeral m → is_numeral d ≡ true → device ≡ numeral d → is_numeral v ≡ true → value ≡ numeral v
     → event_of version e ≡ Some event → moment < 2 ^ 64 → device_fits event device ≡ true → value_fits event value ≡ true
     → (number : ℕ) → of_fields version number m d e v ≡ Ok (record { moment = moment; device = device; event = event; value = value })

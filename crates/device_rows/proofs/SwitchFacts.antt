@@ -3,9 +3,10 @@ use Rattle.std.proofs.Common.{◌≡◌, ◌≢◌, ◌∙◌, ℕ, ◌+◌, ◌
 use Rattle.std.{proofs.{Common.{slice_index_or, slice_set}, lemmas.Bool.{eqb-true, eqb-false}}, specs.Prelude.{◌==◌, unwrap_or}}
 use Rattle.std.proofs.lemmas.{List.{map-append, get_or-set_other, Elements.filter-append}, Grind.get_or-set_at, Bool.Decides.nat_tests}
 use Rattle.device_rows.specs.{Row.device_fits, Switch.{Tracks, events_of, set_by, switch_after, switch_of}}
-use Rattle.device_rows.specs.declared.{event.Event.{Event, TheVariants.Softirq}, row.Row.Row, switch.Switch.{Switch, TheVariants.Unopened}}
+use Rattle.device_rows.specs.declared.{event.RowEvent.{RowEvent, TheVariants.Softirq}, row.Row.Row}
+use Rattle.device_rows.specs.declared.{switch.Switch.{Switch, TheVariants.Unopened}}
 
-pub switch_after-append : (s : Switch) (xs ys : List Event) → switch_after s (xs ++ ys) ≡ switch_after (switch_after s xs) ys
+pub switch_after-append : (s : Switch) (xs ys : List RowEvent) → switch_after s (xs ++ ys) ≡ switch_after (switch_after s xs) ys
 switch_after-append s [] ys = refl
 switch_after-append s (x ∷ xs) ys = switch_after-append _ xs ys
 
@@ -50,6 +51,6 @@ tracks-set table rows row s e low high size t place below = by (row.device == pl
         rw (switch_of-other (place + 1) rows row h) (get_or-set_other table (row.device - 1) place s Unopened (omega arith) ∙ t place below)
 
 -- the device of a row that isn't a softirq
-pub device_range : (e : Event) (n : ℕ) → e ≢ Softirq → device_fits e n ≡ true → (1 ≤ n) × (n ≤ 16)
+pub device_range : (e : RowEvent) (n : ℕ) → e ≢ Softirq → device_fits e n ≡ true → (1 ≤ n) × (n ≤ 16)
 device_range Softirq n other h = absurd (other refl)
 device_range e n other h = grind (arith, nat_tests)

@@ -10,15 +10,15 @@ pub failed_by : (kind : ErrorKind) (error : Error) → kind ≡ Io error → Has
 unfolding HasFailed
 failed_by kind error is = tt
 
-pub IsRefused : Type 0
-IsRefused = Unit {0}
+pub IsTraceOutOfMemory : Type 0
+IsTraceOutOfMemory = Unit {0}
 
-pub refused_by : AllocError → IsRefused
-unfolding IsRefused
-refused_by error = tt
+pub trace_out_of_memory : AllocError → IsTraceOutOfMemory
+unfolding IsTraceOutOfMemory
+trace_out_of_memory error = tt
 
-pub refused_by_csv : (kind : ErrorKind) → kind ≡ OutOfMemory → IsRefused
-unfolding IsRefused
+pub refused_by_csv : (kind : ErrorKind) → kind ≡ OutOfMemory → IsTraceOutOfMemory
+unfolding IsTraceOutOfMemory
 refused_by_csv kind is = tt
 
 pub failed_by_read : Error → HasFailed

@@ -4,15 +4,15 @@ use Rattle.device_rows.specs.declared.fault.TraceFault.TheVariants.{BadEvent, Ou
 use Rattle.device_rows.specs.declared.fault.TraceFault.TheVariants.{ReadFailed, OutOfMemory}
 
 -- the number of an error
-abbrev pub number_of : TraceFault → ℕ
-number_of BadHeader = 1
-number_of (BadFields row) = 2
-number_of (BadNumber row) = 3
-number_of (BadEvent row) = 4
-number_of (OutOfRange row) = 5
-number_of (UnknownDevice row) = 6
-number_of (OpenTwice row) = 7
-number_of (WrongState row) = 8
-number_of TooManyRows = 9
-number_of ReadFailed = 10
-number_of OutOfMemory = 11
+abbrev pub trace_fault_number : TraceFault → ℕ
+trace_fault_number BadHeader = 1
+trace_fault_number (BadFields row) = 2
+trace_fault_number (BadNumber row) = 3
+trace_fault_number (BadEvent row) = 4
+trace_fault_number (OutOfRange row) = 5
+trace_fault_number (UnknownDevice row) = 6
+trace_fault_number (OpenTwice row) = 7
+trace_fault_number (WrongState row) = 8
+trace_fault_number TooManyRows = 9
+trace_fault_number ReadFailed = 10
+trace_fault_number OutOfMemory = 11

@@ -1,8 +1,9 @@
 -- What the fields of one record mean by themselves: a row, or one of the errors 2 to 5. See docs/FORMATS.md, "The trace".
 use Rattle.std.specs.Prelude.{ℕ, ◌^◌, ◌==◌, ◌&&◌, Bool, false, List, length, Option, Some, None, option_and_then, if◌then◌else◌, nat_le}
 use Rattle.std.specs.{Prelude.{nat_lt, codes, Result, Ok, Err}, Str.{all_ascii_digits, bytes_eq, Parse.digits_value}}
-use Rattle.{csv.specs.Records.field_at, device_rows.specs.{Row.{device_fits, value_fits}, declared.event.Event.{Event, TheVariants.Opened}}}
-use Rattle.device_rows.specs.declared.event.Event.TheVariants.{Rx, Tx, Finish, Softirq, Kthread, Disable, Enable, Threaded, Busy}
+use Rattle.{csv.specs.Records.field_at}
+use Rattle.{device_rows.specs.{Row.{device_fits, value_fits}, declared.event.RowEvent.{RowEvent, TheVariants.Opened}}}
+use Rattle.device_rows.specs.declared.event.RowEvent.TheVariants.{Rx, Tx, Finish, Softirq, Kthread, Disable, Enable, Threaded, Busy}
 use Rattle.device_rows.specs.declared.{fault.TraceFault.{TraceFault, TheVariants.{BadFields, BadNumber, BadEvent, OutOfRange}}, row.Row.Row}
 
 -- a sequence of steps that ends at the first None
@@ -33,7 +34,7 @@ abbrev pub numeral : List ℕ → ℕ
 numeral field = digits_value 10 field
 
 -- the event of a name, in a trace of this version: busy polling exists only in version 2
-unfoldable pub event_of : ℕ → List ℕ → Option Event
+unfoldable pub event_of : ℕ → List ℕ → Option RowEvent
 event_of version word =
     if bytes_eq word (codes "open") then Some Opened
     else if bytes_eq word (codes "rx") then Some Rx
@@ -48,14 +49,14 @@ event_of version word =
     else None
 
 -- row n with these numbers, if they are in their ranges
-unfoldable pub ranged : ℕ → ℕ → ℕ → Event → ℕ → Result Row TraceFault
+unfoldable pub ranged : ℕ → ℕ → ℕ → RowEvent → ℕ → Result Row TraceFault
 ranged n moment device event value =
     if nat_lt moment (2 ^ 64) && (device_fits event device && value_fits event value)
     then Ok (record { moment = moment; device = device; event = event; value = value })
     else Err (OutOfRange n)
 
 -- if the name is that of an event
-abbrev pub of_event : ℕ → ℕ → ℕ → Option Event → ℕ → Result Row TraceFault
+abbrev pub of_event : ℕ → ℕ → ℕ → Option RowEvent → ℕ → Result Row TraceFault
 of_event n moment device None value = Err (BadEvent n)
 of_event n moment device (Some event) value = ranged n moment device event value
 

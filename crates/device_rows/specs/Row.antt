@@ -1,7 +1,7 @@
 -- The ranges of the numbers in a row, by its event. See docs/FORMATS.md, "The trace".
 use Rattle.std.specs.Prelude.{ℕ, ◌==◌, ◌&&◌, Bool, nat_le}
-use Rattle.device_rows.specs.declared.event.Event.{Event, TheVariants.{Opened, Rx, Tx}}
-use Rattle.device_rows.specs.declared.event.Event.TheVariants.{Finish, Softirq, Kthread, Disable, Enable, Threaded, Busy}
+use Rattle.device_rows.specs.declared.event.RowEvent.{RowEvent, TheVariants.{Opened, Rx, Tx}}
+use Rattle.device_rows.specs.declared.event.RowEvent.TheVariants.{Finish, Softirq, Kthread, Disable, Enable, Threaded, Busy}
 
 abbrev pub is_within : ℕ → ℕ → ℕ → Bool
 is_within low high n = nat_le low n && nat_le n high
@@ -11,7 +11,7 @@ abbrev pub is_device : ℕ → Bool
 is_device n = is_within 1 16 n
 
 -- the device that a row of this event may name: one of sixteen, or none for a softirq
-abbrev pub device_fits : Event → ℕ → Bool
+abbrev pub device_fits : RowEvent → ℕ → Bool
 device_fits Opened n = is_device n
 device_fits Rx n = is_device n
 device_fits Tx n = is_device n
@@ -25,7 +25,7 @@ device_fits Busy n = is_device n
 
 -- the value that it may have: ring capacity, bytes, bytes, packets, whether threaded, the rounds of busy polling, and otherwise
 -- 0
-abbrev pub value_fits : Event → ℕ → Bool
+abbrev pub value_fits : RowEvent → ℕ → Bool
 value_fits Opened n = is_within 1 65536 n
 value_fits Rx n = is_within 1 65535 n
 value_fits Tx n = is_within 1 65535 n

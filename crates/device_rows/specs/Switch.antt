@@ -1,12 +1,12 @@
 -- Which rows the earlier rows of a device allow: errors 6 to 8. See docs/FORMATS.md, "The trace".
 use Rattle.std.specs.Prelude.{◌≡◌, ℕ, ◌+◌, ◌<◌, ◌==◌, true, List, [], ◌∷◌, map, filter, Option, Some, None, unwrap_or, slice_index_or}
-use Rattle.{std.specs.Prelude.{Result, Ok, Err}, device_rows.specs.{Row.{device_fits, value_fits}, declared.event.Event.Event}}
-use Rattle.device_rows.specs.declared.event.Event.TheVariants.{Opened, Rx, Tx, Finish, Softirq, Kthread, Disable, Enable, Threaded, Busy}
+use Rattle.{std.specs.Prelude.{Result, Ok, Err}, device_rows.specs.{Row.{device_fits, value_fits}, declared.event.RowEvent.RowEvent}}
+use Rattle.device_rows.specs.declared.event.RowEvent.TheVariants.{Opened, Rx, Tx, Finish, Softirq, Kthread, Disable, Enable, Threaded, Busy}
 use Rattle.device_rows.specs.declared.{fault.TraceFault.{TraceFault, TheVariants.{UnknownDevice, OpenTwice, WrongState}}, row.Row.Row}
 use Rattle.device_rows.specs.declared.switch.Switch.{Switch, TheVariants.{Unopened, On, Off}}
 
 -- the state in which a row of this event leaves its device, if it sets it
-abbrev pub set_by : Event → Option Switch
+abbrev pub set_by : RowEvent → Option Switch
 set_by Opened = Some On
 set_by Rx = None
 set_by Tx = None
@@ -19,10 +19,10 @@ set_by Threaded = None
 set_by Busy = None
 
 -- the events of a device, in order
-abbrev pub events_of : ℕ → List Row → List Event
+abbrev pub events_of : ℕ → List Row → List RowEvent
 events_of device rows = map (λ row. row.event) (filter (λ row. row.device == device) rows)
 
-abbrev pub switch_after : Switch → List Event → Switch
+abbrev pub switch_after : Switch → List RowEvent → Switch
 switch_after switch [] = switch
 switch_after switch (event ∷ events) = switch_after (unwrap_or (set_by event) switch) events
 
@@ -38,7 +38,7 @@ wants_open n Off = None
 
 -- the error of row n, if there is one, by the state in which earlier rows leave its device. Disable and enable alternate:
 -- `napi_disable` of a disabled instance waits forever, and `napi_enable` of an enabled one is a BUG (`net/core/dev.c`)
-abbrev pub refusal : ℕ → Event → Switch → Option TraceFault
+abbrev pub refusal : ℕ → RowEvent → Switch → Option TraceFault
 refusal n Opened Unopened = None
 refusal n Opened On = Some (OpenTwice n)
 refusal n Opened Off = Some (OpenTwice n)

@@ -5,7 +5,7 @@ ghost use Rattle.device_rows.specs.Record.{event_of};
 
 /// The event of a row. The name in the trace comes first.
 #[derive(Clone, Copy, Debug, PartialEq, Eq)]
-pub enum Event {
+pub enum RowEvent {
     /// `open`: a device with a receive and a transmit ring of capacity `value` each; its instance is made and enabled, not
     /// threaded.
     Opened,
@@ -32,38 +32,38 @@ pub enum Event {
 /// Returns the event with this name in a trace of this version, if there is one.
 #[inline(always)]
 #[tactic(auto, unfolding(crate::specs::Record::event_of))]
-pub(crate) fn event_of(version: u32, word: &[u8]) -> Option<Event>
+pub(crate) fn event_of(version: u32, word: &[u8]) -> Option<RowEvent>
     ensures { result ≡ event_of version word.now }
 {
     if word == b"open".as_slice() {
-        return Some(Event::Opened);
+        return Some(RowEvent::Opened);
     }
     if word == b"rx".as_slice() {
-        return Some(Event::Rx);
+        return Some(RowEvent::Rx);
     }
     if word == b"tx".as_slice() {
-        return Some(Event::Tx);
+        return Some(RowEvent::Tx);
     }
     if word == b"done".as_slice() {
-        return Some(Event::Finish);
+        return Some(RowEvent::Finish);
     }
     if word == b"softirq".as_slice() {
-        return Some(Event::Softirq);
+        return Some(RowEvent::Softirq);
     }
     if word == b"kthread".as_slice() {
-        return Some(Event::Kthread);
+        return Some(RowEvent::Kthread);
     }
     if word == b"disable".as_slice() {
-        return Some(Event::Disable);
+        return Some(RowEvent::Disable);
     }
     if word == b"enable".as_slice() {
-        return Some(Event::Enable);
+        return Some(RowEvent::Enable);
     }
     if word == b"threaded".as_slice() {
-        return Some(Event::Threaded);
+        return Some(RowEvent::Threaded);
     }
     if version == 2 && word == b"busy".as_slice() {
-        return Some(Event::Busy);
+        return Some(RowEvent::Busy);
     }
     None
 }

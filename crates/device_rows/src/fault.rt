@@ -1,7 +1,7 @@
 //! Why a text isn't a trace.
 
 ghost use Rattle.std.specs.Prelude.{◌≡◌};
-ghost use Rattle.device_rows.specs.Fault.{number_of};
+ghost use Rattle.device_rows.specs.Fault.{trace_fault_number};
 
 use crate::source::ReadError;
 use std::alloc::AllocError;
@@ -48,10 +48,10 @@ pub enum TraceFault {
 
 impl From<AllocError> for TraceFault {
     ghost use Rattle.std.specs.Prelude.{◌≡◌};
-    ghost use Rattle.device_rows.specs.Failures.{IsRefused};
+    ghost use Rattle.device_rows.specs.Failures.{IsTraceOutOfMemory};
     ghost use Rattle.device_rows.specs.declared.fault.TraceFault.TheVariants.{OutOfMemory};
 
-    ghost from_gives = { λ _ fault. (fault ≡ OutOfMemory) × IsRefused };
+    ghost from_gives = { λ _ fault. (fault ≡ OutOfMemory) × IsTraceOutOfMemory };
 
     fn from(_: AllocError) -> TraceFault {
         TraceFault::OutOfMemory
@@ -74,7 +74,7 @@ impl From<ReadError> for TraceFault {
 impl TraceFault {
     /// The number of this error, 1 to 11.
     pub fn number(self) -> u8
-        ensures { result ≡ number_of self }
+        ensures { result ≡ trace_fault_number self }
     {
         match self {
             TraceFault::BadHeader => 1,

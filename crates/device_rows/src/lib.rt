@@ -18,13 +18,13 @@ mod switch;
 mod trace;
 
 pub use block::{Block, RecordsLeft};
-pub use event::Event;
+pub use event::RowEvent;
 pub use fault::TraceFault;
 pub use fused::Fused;
 pub use laws::{first_fault_stands, first_records_decide};
 pub use plain::number;
 pub use record::number_below_21;
 pub use row::Row;
-pub use source::{Next, ReadError, next_record, reader_of};
+pub use source::{NextRecord, ReadError, next_record, reader_of};
 pub use switch::Switch;
 pub use trace::{MOST_ROWS, Trace, read_trace};

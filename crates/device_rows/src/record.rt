@@ -7,7 +7,7 @@ ghost use Rattle.device_places.specs.Range.{IsWithin};
 ghost use Rattle.device_rows.specs.Record.{first_four, four_of, is_numeral, is_title, numeral, of_fields, ranged, row_of, version_of};
 ghost use Rattle.device_rows.specs.Row.{device_fits, value_fits};
 
-use crate::event::{Event, event_of};
+use crate::event::{RowEvent, event_of};
 use crate::fault::TraceFault;
 use crate::row::Row;
 use csv::ByteRecord;
@@ -44,17 +44,17 @@ pub fn number_below_21(field: &[u8]) -> Option<u128>
 }
 
 /// Returns whether a row of this event may name this device and have this value.
-pub(crate) fn fits(event: Event, device: u128, value: u128) -> bool
+pub(crate) fn fits(event: RowEvent, device: u128, value: u128) -> bool
     ensures { result ≡ (device_fits event device && value_fits event value) }
 {
     let is_device = 1 <= device && device <= 16;
     match event {
-        Event::Opened => is_device && 1 <= value && value <= 65536,
-        Event::Rx | Event::Tx | Event::Busy => is_device && 1 <= value && value <= 65535,
-        Event::Finish => is_device && value <= 65536,
-        Event::Threaded => is_device && value <= 1,
-        Event::Kthread | Event::Disable | Event::Enable => is_device && value == 0,
-        Event::Softirq => device == 0 && value == 0,
+        RowEvent::Opened => is_device && 1 <= value && value <= 65536,
+        RowEvent::Rx | RowEvent::Tx | RowEvent::Busy => is_device && 1 <= value && value <= 65535,
+        RowEvent::Finish => is_device && value <= 65536,
+        RowEvent::Threaded => is_device && value <= 1,
+        RowEvent::Kthread | RowEvent::Disable | RowEvent::Enable => is_device && value == 0,
+        RowEvent::Softirq => device == 0 && value == 0,
     }
 }
 
@@ -64,7 +64,7 @@ fn ranged(
     number: u32,
     moment: u128,
     device: u128,
-    event: Event,
+    event: RowEvent,
     value: u128,
 ) -> Result<Row, TraceFault>
     ensures row { result ≡ ranged number moment device event value }

@@ -5,9 +5,9 @@ ghost use Rattle.csv.specs.Machine.{next_record};
 ghost use Rattle.csv.specs.Reading.{default_config, reader_state, strip_bom};
 ghost use Rattle.csv.specs.Records.{fields_of};
 ghost use Rattle.csv.specs.declared.parser.State.TheVariants as state;
-ghost use Rattle.device_rows.specs.Failures.{HasFailed, IsRefused};
-ghost use Rattle.device_rows.specs.Source.{IsOpen, StandsAt, TakesNext};
-ghost use Rattle.device_rows.specs.declared.source.Next.TheVariants as next;
+ghost use Rattle.device_rows.specs.Failures.{HasFailed, IsTraceOutOfMemory};
+ghost use Rattle.device_rows.specs.Source.{IsOpen, StandsAt, ReadsNext};
+ghost use Rattle.device_rows.specs.declared.source.NextRecord.TheVariants as next;
 
 use csv::{ByteRecord, ErrorKind, Reader, ReaderBuilder};
 use std::alloc::{AllocError, Global};
@@ -50,7 +50,7 @@ impl From<AllocError> for ReadError {
 
 /// The result of a read.
 #[derive(Clone, Copy)]
-pub enum Next {
+pub enum NextRecord {
     /// A record.
     Record,
     /// The end of the text.
@@ -62,26 +62,26 @@ pub enum Next {
 }
 
 /// Reads the next record, which may have any length and any bytes. The result is a plain enum, which fits into a register.
-pub fn next_record<R: Read>(reader: &mut Reader<R>, fields: &mut ByteRecord) -> Next
+pub fn next_record<R: Read>(reader: &mut Reader<R>, fields: &mut ByteRecord) -> NextRecord
     requires { IsOpen reader.old }
     ensures opened { result ≡ next.Record → IsOpen reader.new }
     ensures record { result ≡ next.Record → (bytes : List ℕ) → StandsAt R.remaining reader.old bytes
-        → TakesNext R.remaining
+        → ReadsNext R.remaining
         (next_record default_config (reader_state reader.old) [] [] bytes) true
         (fields_of fields.new) reader.new }
     ensures end { result ≡ next.End → (bytes : List ℕ) → StandsAt R.remaining reader.old bytes
-        → TakesNext R.remaining
+        → ReadsNext R.remaining
         (next_record default_config (reader_state reader.old) [] [] bytes) false
         (fields_of fields.new) reader.new }
     ensures failed { result ≡ next.ReadFailed → HasFailed }
-    ensures memory { result ≡ next.OutOfMemory → IsRefused }
+    ensures memory { result ≡ next.OutOfMemory → IsTraceOutOfMemory }
 {
     match reader.read_byte_record(fields) {
-        Ok(true) => Next::Record,
-        Ok(false) => Next::End,
+        Ok(true) => NextRecord::Record,
+        Ok(false) => NextRecord::End,
         Err(error) => match error.kind() {
-            ErrorKind::OutOfMemory => Next::OutOfMemory,
-            ErrorKind::Io(_) => Next::ReadFailed,
+            ErrorKind::OutOfMemory => NextRecord::OutOfMemory,
+            ErrorKind::Io(_) => NextRecord::ReadFailed,
             _ => unreachable!(),
         },
     }

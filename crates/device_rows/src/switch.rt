@@ -7,7 +7,7 @@ ghost use Rattle.device_rows.specs.Trace.{IsAccepted};
 ghost use Rattle.device_rows.specs.declared.row.Row.{Row};
 ghost use Rattle.device_rows.specs.declared.switch.Switch.TheVariants.{Unopened};
 
-use crate::event::Event;
+use crate::event::RowEvent;
 use crate::fault::TraceFault;
 use crate::record::fits;
 use crate::row::Row;
@@ -27,25 +27,25 @@ pub enum Switch {
 }
 
 // Returns the state in which a row of this event leaves its device, if it sets it.
-fn set_by(event: Event) -> Option<Switch>
+fn set_by(event: RowEvent) -> Option<Switch>
     ensures { result ≡ set_by event }
 {
     match event {
-        Event::Opened | Event::Enable => Some(Switch::On),
-        Event::Disable => Some(Switch::Off),
+        RowEvent::Opened | RowEvent::Enable => Some(Switch::On),
+        RowEvent::Disable => Some(Switch::Off),
         _ => None,
     }
 }
 
 // Returns the error of a row of this event, if there is one, by the state in which earlier rows leave its device.
-fn refusal(row: u32, event: Event, switch: Switch) -> Option<TraceFault>
+fn refusal(row: u32, event: RowEvent, switch: Switch) -> Option<TraceFault>
     ensures { result ≡ refusal row event switch }
 {
     match (event, switch) {
-        (Event::Softirq, _) | (Event::Opened, Switch::Unopened) => None,
-        (Event::Opened, _) => Some(TraceFault::OpenTwice { row }),
+        (RowEvent::Softirq, _) | (RowEvent::Opened, Switch::Unopened) => None,
+        (RowEvent::Opened, _) => Some(TraceFault::OpenTwice { row }),
         (_, Switch::Unopened) => Some(TraceFault::UnknownDevice { row }),
-        (Event::Disable, Switch::Off) | (Event::Enable, Switch::On) => {
+        (RowEvent::Disable, Switch::Off) | (RowEvent::Enable, Switch::On) => {
             Some(TraceFault::WrongState { row })
         }
         _ => None,
@@ -82,20 +82,20 @@ impl Switches {
     /// Returns whether a row of this event changes no state, is accepted, and may name this device and have this value: one
     /// match on the event decides all of it.
     #[inline(always)]
-    pub(crate) fn pass(&self, event: Event, device: u32, value: u32) -> bool
+    pub(crate) fn pass(&self, event: RowEvent, device: u32, value: u32) -> bool
         ensures { result ≡ true → (moment : ℕ)
             → Passes self.now.of
             (record { moment = moment; device = device; event = event; value = value }) }
     {
         match event {
-            Event::Rx | Event::Tx | Event::Busy => {
+            RowEvent::Rx | RowEvent::Tx | RowEvent::Busy => {
                 self.has(device) && 1 <= value && value <= 65535
             }
-            Event::Finish => self.has(device) && value <= 65536,
-            Event::Softirq => device == 0 && value == 0,
-            Event::Kthread => self.has(device) && value == 0,
-            Event::Threaded => self.has(device) && value <= 1,
-            Event::Opened | Event::Disable | Event::Enable => false,
+            RowEvent::Finish => self.has(device) && value <= 65536,
+            RowEvent::Softirq => device == 0 && value == 0,
+            RowEvent::Kthread => self.has(device) && value == 0,
+            RowEvent::Threaded => self.has(device) && value <= 1,
+            RowEvent::Opened | RowEvent::Disable | RowEvent::Enable => false,
         }
     }
 
@@ -111,7 +111,7 @@ impl Switches {
             → Tracks self.new.of (earlier ++ row ∷ [])) }
         ensures refused { OnErr result (self.new.of ≡ self.old.of) }
     {
-        if row.event == Event::Softirq {
+        if row.event == RowEvent::Softirq {
             return Ok(());
         }
         let place = (row.device - 1) as usize;

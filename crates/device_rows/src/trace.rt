@@ -8,10 +8,10 @@ ghost use Rattle.csv.specs.declared.parser.State.TheVariants as state;
 ghost use Rattle.device_places.specs.Range.{IsWithin};
 ghost use Rattle.device_rows.specs.Adding.{AddsNext, IsSoFar, rows_with};
 ghost use Rattle.device_rows.specs.Block.{Holds};
-ghost use Rattle.device_rows.specs.Failures.{HasFailed, IsRefused};
-ghost use Rattle.device_rows.specs.Source.{IsOpen, IsReadFailure, StandsAt, TakesNext};
+ghost use Rattle.device_rows.specs.Failures.{HasFailed, IsTraceOutOfMemory};
+ghost use Rattle.device_rows.specs.Source.{IsOpen, IsReadFailure, StandsAt, ReadsNext};
 ghost use Rattle.device_rows.specs.Trace.{AcceptedAfter, TraceView, records_of, rows_after, trace_of, version_in, with_row};
-ghost use Rattle.device_rows.specs.declared.source.Next.TheVariants as next;
+ghost use Rattle.device_rows.specs.declared.source.NextRecord.TheVariants as next;
 ghost use Rattle.device_rows.specs.declared.row.Row.{Row};
 
 use crate::block::Block;
@@ -19,7 +19,7 @@ use crate::fault::TraceFault;
 use crate::plain::{plain_row, plain_titles};
 use crate::record::{row_of, version_of};
 use crate::row::Row;
-use crate::source::{Next, next_record};
+use crate::source::{NextRecord, next_record};
 use crate::switch::Switches;
 use csv::{ByteRecord, Reader};
 use std::alloc::Global;
@@ -186,10 +186,10 @@ fn read_rows<R: Read>(
     let mut fields = ByteRecord::with_capacity(alloc, RECORD_BYTES, 4)?;
     for before in rows.len() as u32..MOST_ROWS + 1 {
         match next_record(reader, &mut fields) {
-            Next::Record => {}
-            Next::End => break,
-            Next::ReadFailed => return Err(TraceFault::ReadFailed),
-            Next::OutOfMemory => return Err(TraceFault::OutOfMemory),
+            NextRecord::Record => {}
+            NextRecord::End => break,
+            NextRecord::ReadFailed => return Err(TraceFault::ReadFailed),
+            NextRecord::OutOfMemory => return Err(TraceFault::OutOfMemory),
         }
         if before == MOST_ROWS {
             return Err(TraceFault::TooManyRows);
@@ -236,10 +236,10 @@ fn record_trace<R: Read>(alloc: Global, reader: &mut Reader<R>) -> Result<Trace,
 {
     let mut fields = ByteRecord::with_capacity(alloc, RECORD_BYTES, 4)?;
     match next_record(reader, &mut fields) {
-        Next::Record => {}
-        Next::End => return Err(TraceFault::BadHeader),
-        Next::ReadFailed => return Err(TraceFault::ReadFailed),
-        Next::OutOfMemory => return Err(TraceFault::OutOfMemory),
+        NextRecord::Record => {}
+        NextRecord::End => return Err(TraceFault::BadHeader),
+        NextRecord::ReadFailed => return Err(TraceFault::ReadFailed),
+        NextRecord::OutOfMemory => return Err(TraceFault::OutOfMemory),
     }
     let Some(version) = version_of(&fields) else {
         return Err(TraceFault::BadHeader);

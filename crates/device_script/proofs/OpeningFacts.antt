@@ -1,9 +1,9 @@
 -- What follows for the open row of a device if a trace is accepted.
 use Rattle.std.{proofs.{Common.{arith, ◌≡◌, ℕ, ◌≤◌, Bool, true, Some, List, [], ◌∷◌, ◌++◌}, lemmas.Grind.common_steps}, specs.Prelude.◌&&◌}
-use Rattle.{std.specs.List.find, device_rows.specs.{Row.value_fits, Trace.AcceptedAfter, declared.{event.Event.Event, row.Row.Row}}}
+use Rattle.{std.specs.List.find, device_rows.specs.{Row.value_fits, Trace.AcceptedAfter, declared.{event.RowEvent.RowEvent, row.Row.Row}}}
 use Rattle.device_script.specs.Script.{is_open, opens}
 
-open-large : (e : Event) (v : ℕ) → is_open e ≡ true → value_fits e v ≡ true → (1 ≤ v) × (v ≤ 65536)
+open-large : (e : RowEvent) (v : ℕ) → is_open e ≡ true → value_fits e v ≡ true → (1 ≤ v) × (v ≤ 65536)
 open-large e v o h = grind (arith, common_steps)
 
 and-front : (a b : Bool) → (a && b) ≡ true → a ≡ true

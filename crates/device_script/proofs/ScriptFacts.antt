@@ -1,12 +1,13 @@
 -- How one more act advances a script, and what all its acts deliver.
 use Rattle.std.proofs.{Common.{[], ◌∷◌, ◌++◌, length, length-append, take, get_or, ap, refl, sym, arith}, lemmas.Bool.eq-eqb}
 use Rattle.std.{proofs.lemmas.{Grind.common_steps, List.{take_more, Sums.sum_by-append, Elements.filter-append}}, specs.Prelude.sum_by}
-use Rattle.device_rows.{proofs.Accepted.get-at, specs.declared.{row.Row.Row, event.Event.{Event, TheVariants.Opened}}}
+use Rattle.device_rows.{proofs.Accepted.get-at, specs.declared.{row.Row.Row, event.RowEvent.{RowEvent, TheVariants.Opened}}}
 use Rattle.{poll_interrupts.specs.{Acts.{after_acts, arrivals, brings}, declared.acts.Act.Act}, device_script.proofs.Rows.filter-long}
 use Rattle.{rx_ring.specs.{declared.packet.Packet.Packet, ReceiveRing.bytes_of}, device_transmit.specs.declared.transmit.Transmit.Transmit}
 use Rattle.std.proofs.Common.{◌≡◌, ◌∙◌, ℕ, zero, suc, ◌+◌, ◌<◌, ◌≤◌, List}
 use Rattle.device_transmit.specs.Transmit.{ShowsTransmit, TransmitView}
-use Rattle.device_script.specs.{ScriptShown.{IsKept, Script, after, answer}, Script.{act_at, act_of, rx_of, transmit_after, transmit_by}}
+use Rattle.device_script.specs.{ScriptShown.{IsScriptKept, Script, script_after, answer}}
+use Rattle.device_script.specs.{Script.{act_at, act_of, rx_of, transmit_after, transmit_by}}
 
 -- the row for an index out of range
 abbrev pub none : Row
@@ -23,12 +24,12 @@ rx_of-more rows k d below = ap (λ (l : List Row). rx_of l) (take_more rows k d 
 
 -- one more row was processed
 pub kept-more : (opening : Row) (rows : List Row) (k packets counted : ℕ) (row : Row) (old new : Transmit)
-    → IsKept opening rows k packets old → k < length rows → get_or rows k row ≡ row
+    → IsScriptKept opening rows k packets old → k < length rows → get_or rows k row ≡ row
     → ((view : TransmitView) → ShowsTransmit old view → ShowsTransmit new (transmit_by row.event row view))
-    → counted ≡ packets + length (rx_of (row ∷ [])) → IsKept opening rows (k + 1) counted new
+    → counted ≡ packets + length (rx_of (row ∷ [])) → IsScriptKept opening rows (k + 1) counted new
 kept-more opening rows k packets counted row old new kept below here shows more = grind (arith, common_steps, transmit_after-push)
 
-pub few-packets : (opening : Row) (rows : List Row) (k packets : ℕ) (side : Transmit) → IsKept opening rows k packets side
+pub few-packets : (opening : Row) (rows : List Row) (k packets : ℕ) (side : Transmit) → IsScriptKept opening rows k packets side
     → packets ≤ 100000
 few-packets opening rows k packets side kept = grind (arith, common_steps, filter-long)
 
@@ -44,15 +45,16 @@ answer-in-turn s k packets row act turn below here counted is = grind (arith, co
 
 -- ---- all acts
 
-pub acts-made : (s : Script) (n : ℕ) → s.made ≡ 0 → after_acts after s n ≡ record s { made = n }
+pub acts-made : (s : Script) (n : ℕ) → s.made ≡ 0 → after_acts script_after s n ≡ record s { made = n }
 acts-made s zero e = ap (λ (m : ℕ). record s { made = m }) e
 acts-made s (suc n) e = grind (arith, common_steps, acts-made s n e)
 
 -- what a row's act delivers
-brought-count : (e : Event) (n : ℕ) (row : Row) → row.event ≡ e → length (brings (act_of n row.event row.value)) ≡ length (rx_of (row ∷ []))
+brought-count : (e : RowEvent) (n : ℕ) (row : Row) → row.event ≡ e
+    → length (brings (act_of n row.event row.value)) ≡ length (rx_of (row ∷ []))
 brought-count e n row h = grind (arith, common_steps)
 
-brought-bytes : (e : Event) (n : ℕ) (row : Row) → row.event ≡ e
+brought-bytes : (e : RowEvent) (n : ℕ) (row : Row) → row.event ≡ e
     → bytes_of (brings (act_of n row.event row.value)) ≡ sum_by (λ (r : Row). r.value) (rx_of (row ∷ []))
 brought-bytes e n row h = grind (arith, common_steps)
 
@@ -61,17 +63,17 @@ bytes_of-append xs ys = grind (arith, common_steps)
 
 -- the packets of the first n acts of a script are those of its rx rows
 abbrev pub AreArrivals : Script → ℕ → Type 0
-AreArrivals s n = (length (arrivals answer after s n) ≡ length (rx_of (take n s.rows)))
-    × (bytes_of (arrivals answer after s n) ≡ sum_by (λ (row : Row). row.value) (rx_of (take n s.rows)))
+AreArrivals s n = (length (arrivals answer script_after s n) ≡ length (rx_of (take n s.rows)))
+    × (bytes_of (arrivals answer script_after s n) ≡ sum_by (λ (row : Row). row.value) (rx_of (take n s.rows)))
 
 one-more : (s : Script) (n : ℕ) (d : Row) → s.made ≡ 0 → n < length s.rows → AreArrivals s n → AreArrivals s (suc n)
 one-more s n d e below before =
     let row : Row = get_or s.rows n d in
-    let act : answer (after_acts after s n) n ≡ act_of (length (rx_of (take n s.rows)) + 1) row.event row.value =
+    let act : answer (after_acts script_after s n) n ≡ act_of (length (rx_of (take n s.rows)) + 1) row.event row.value =
     rw (acts-made s n e, eq-eqb n n refl) (act-at s.rows n d below) in
     let next : suc n ≡ n + 1 = omega arith in
     let rows : rx_of (take (suc n) s.rows) ≡ rx_of (take n s.rows) ++ rx_of (row ∷ []) = rw next (rx_of-more s.rows n d below) in
-    let now = arrivals answer after s n in
+    let now = arrivals answer script_after s n in
     let new = brings (act_of (length (rx_of (take n s.rows)) + 1) row.event row.value) in (
       rw (act, rows)
           (length-append now new ∙ rw (before.0, brought-count row.event (length (rx_of (take n s.rows)) + 1) row refl)

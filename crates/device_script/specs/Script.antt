@@ -1,15 +1,16 @@
 -- What the rows of a trace say about one device: filters over the rows, which don't depend on polls.
-use Rattle.{poll_interrupts.specs.declared.acts.Act.Act, device_rows.specs.declared.{row.Row.Row, event.Event.Event}, std.specs.List.find}
+use Rattle.{poll_interrupts.specs.declared.acts.Act.Act, device_rows.specs.declared.{row.Row.Row, event.RowEvent.RowEvent}}
+use Rattle.{std.specs.List.find}
 use Rattle.std.specs.Prelude.{is_some, ℕ, ◌+◌, ◌==◌, ◌&&◌, Bool, true, false, not, List, [], ◌∷◌, Option, Some, None, filter, length}
 use Rattle.{std.specs.Prelude.{slice_get, take}, device_transmit.specs.Transmit.{TransmitView, after_finish, after_tx, opened_transmit}}
-use Rattle.device_rows.specs.declared.event.Event.TheVariants as event
+use Rattle.device_rows.specs.declared.event.RowEvent.TheVariants as event
 use Rattle.poll_interrupts.specs.declared.acts.Act.TheVariants as act
 
-abbrev pub is_open : Event → Bool
+abbrev pub is_open : RowEvent → Bool
 is_open event.Opened = true
 is_open _ = false
 
-abbrev pub is_rx : Event → Bool
+abbrev pub is_rx : RowEvent → Bool
 is_rx event.Rx = true
 is_rx _ = false
 
@@ -40,7 +41,7 @@ abbrev pub rx_of : List Row → List Row
 rx_of rows = filter (λ row. is_rx row.event) rows
 
 -- one of them makes the device threaded
-abbrev pub is_threaded : Event → Bool
+abbrev pub is_threaded : RowEvent → Bool
 is_threaded event.Threaded = true
 is_threaded _ = false
 
@@ -53,7 +54,7 @@ has_thread rows = is_some (find makes_threaded rows)
 -- ---- its acts
 
 -- what the device's interrupt does for a row; n is the number of its packet, if it has one
-abbrev pub act_of : ℕ → Event → ℕ → Act
+abbrev pub act_of : ℕ → RowEvent → ℕ → Act
 act_of n event.Rx value = act.Arrive (record { number = n; bytes = value })
 act_of n event.Disable value = act.Disable
 act_of n event.Enable value = act.Enable
@@ -70,7 +71,7 @@ act_at rows k = act_by (length (rx_of (take k rows)) + 1) (slice_get rows k)
 
 -- ---- its transmit side, a fold of its tx and done rows
 
-abbrev pub transmit_by : Event → Row → TransmitView → TransmitView
+abbrev pub transmit_by : RowEvent → Row → TransmitView → TransmitView
 transmit_by event.Tx row t = after_tx row.value t
 transmit_by event.Finish row t = after_finish row.value row.moment t
 transmit_by _ row t = t

@@ -20,15 +20,15 @@ acts script = length script.rows
 abbrev pub answer : Script → ℕ → Act
 answer script k = if k == script.made then act_at script.rows k else act.Nothing
 
-abbrev pub after : Script → ℕ → Script
-after script k = if k == script.made then record script { made = script.made + 1 } else script
+abbrev pub script_after : Script → ℕ → Script
+script_after script k = if k == script.made then record script { made = script.made + 1 } else script
 
 -- its transmit side after the acts so far
 abbrev pub side_of : Script → TransmitView
 side_of script = side_after script.opening (take script.made script.rows)
 
 -- the transmit side is that of the rows so far, whose packets were counted
-pub record IsKept (opening : Row) (rows : List Row) (made counted : ℕ) (side : Transmit) : Type 0 where
+pub record IsScriptKept (opening : Row) (rows : List Row) (made counted : ℕ) (side : Transmit) : Type 0 where
   pub few : length rows ≤ 100000
   pub within : made ≤ length rows
   pub packets : counted ≡ length (rx_of (take made rows))

@@ -5,15 +5,15 @@ ghost use Rattle.device_rows.specs.declared.row.Row.{Row};
 ghost use Rattle.device_script.specs.Dealing.{AreScripts, lists};
 ghost use Rattle.device_script.specs.Script.{is_act_of, is_open, openings_of, opens};
 
-use device_places::PLACES;
-use device_rows::{Event, Row};
+use device_places::TABLE_LEN;
+use device_rows::{Row, RowEvent};
 use std::alloc::{AllocError, Global};
 use std::mem;
 
 fn is_open(row: &Row) -> bool
     ensures { result ≡ is_open row.now.event }
 {
-    matches!(row.event, Event::Opened)
+    matches!(row.event, RowEvent::Opened)
 }
 
 /// Returns whether the row opens the device.
@@ -49,7 +49,7 @@ fn no_scripts(alloc: Global) -> Result<Vec<Vec<Row>>, AllocError>
     ensures count { IfOk result (λ scripts. vec_len scripts ≡ 16) }
 {
     let mut scripts = Vec::new(alloc);
-    for _ in 1..PLACES {
+    for _ in 1..TABLE_LEN {
         scripts.push(Vec::new(alloc))?;
     }
     Ok(scripts)
@@ -63,7 +63,7 @@ fn deal(row: &Row, scripts: &mut Vec<Vec<Row>>) -> Result<(), AllocError>
         → AreScripts (lists scripts.new) (rows ++ row.now ∷ [])) }
     ensures count { vec_len scripts.new ≡ 16 }
 {
-    if is_open(row) || row.device == 0 || row.device >= PLACES {
+    if is_open(row) || row.device == 0 || row.device >= TABLE_LEN {
         return Ok(());
     }
     scripts[row.device as usize - 1].push(*row)?;

@@ -7,7 +7,7 @@ ghost use Rattle.device_script.specs.Script.{act_of, has_thread, is_rx, makes_th
 ghost use Rattle.device_script.specs.ScriptShown.{side_of};
 
 use crate::dealing::{is_act_of, opens};
-use device_rows::{Event, Row, Trace};
+use device_rows::{Row, RowEvent, Trace};
 use device_transmit::{Transmit, TxCounts};
 use poll_interrupts::{Act, Device};
 use rx_ring::Packet;
@@ -27,13 +27,13 @@ pub struct ScriptDevice {
 
 impl Model for ScriptDevice {
     ghost use Rattle.std.specs.Prelude.{vec_items};
-    ghost use Rattle.device_script.specs.ScriptShown.{IsKept, Script};
+    ghost use Rattle.device_script.specs.ScriptShown.{IsScriptKept, Script};
 
     ghost Value = { Script };
 
     ghost view = { λ d. record { opening = d.opening; rows = d.rows.items; made = d.made } };
 
-    ghost invariant = { λ d. IsKept d.opening d.rows.items d.made d.packets d.transmit };
+    ghost invariant = { λ d. IsScriptKept d.opening d.rows.items d.made d.packets d.transmit };
 }
 
 /// Returns the open row of a device, if it has one.
@@ -64,7 +64,7 @@ fn script_of(alloc: Global, rows: &[Row], device: u32) -> Result<Vec<Row>, Alloc
 fn is_rx(row: &Row) -> bool
     ensures { result ≡ is_rx row.now.event }
 {
-    matches!(row.event, Event::Rx)
+    matches!(row.event, RowEvent::Rx)
 }
 
 // Returns how many of the rows deliver a packet.
@@ -84,7 +84,7 @@ fn count_rx(rows: &[Row]) -> u32
 fn makes_threaded(row: &Row) -> bool
     ensures { result ≡ makes_threaded row.now }
 {
-    matches!(row.event, Event::Threaded) && row.value == 1
+    matches!(row.event, RowEvent::Threaded) && row.value == 1
 }
 
 // Returns whether one of the rows makes its device threaded.
@@ -109,19 +109,19 @@ fn play(row: Row, packets: &mut u64, transmit: &mut Transmit) -> Act
         → ShowsTransmit transmit.new (transmit_by row.event row view) }
 {
     match row.event {
-        Event::Rx => {
+        RowEvent::Rx => {
             *packets += 1;
             return Act::Arrive(Packet {
                 number: *packets,
                 bytes: row.value,
             });
         }
-        Event::Tx => transmit.send(row.value),
-        Event::Finish => transmit.finish(row.value, row.moment),
-        Event::Disable => return Act::Disable,
-        Event::Enable => return Act::Enable,
-        Event::Threaded => return Act::SetThreaded(row.value == 1),
-        Event::Opened | Event::Softirq | Event::Kthread | Event::Busy => {}
+        RowEvent::Tx => transmit.send(row.value),
+        RowEvent::Finish => transmit.finish(row.value, row.moment),
+        RowEvent::Disable => return Act::Disable,
+        RowEvent::Enable => return Act::Enable,
+        RowEvent::Threaded => return Act::SetThreaded(row.value == 1),
+        RowEvent::Opened | RowEvent::Softirq | RowEvent::Kthread | RowEvent::Busy => {}
     }
     Act::Nothing
 }
@@ -196,13 +196,13 @@ impl ScriptDevice {
 }
 
 impl Device for ScriptDevice {
-    ghost use Rattle.device_script.specs.ScriptShown.{acts, after, answer};
+    ghost use Rattle.device_script.specs.ScriptShown.{acts, script_after, answer};
 
     ghost acts = { acts };
 
     ghost answer = { answer };
 
-    ghost after = { after };
+    ghost after = { script_after };
 
     fn acts(&self) -> u32 {
         self.rows.len() as u32

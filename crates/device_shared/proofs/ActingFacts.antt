@@ -7,12 +7,13 @@ use Rattle.{rx_ring.specs.declared.{packet.Packet.Packet, ends.RxCtx.RxCtx}, nap
 use Rattle.{device_bench.specs.Receive.taker_of, napi_model.specs.declared.{state.{Place.Place, Kind.Kind}, event.Operation.Operation}}
 use Rattle.device_shared.specs.declared.seats.{Seats.Seats, Turn.Turn, Pollers.{Pollers, TheVariants.{Rest, ListPolls, ThreadPolls}}}
 use Rattle.device_shared.specs.declared.seats.Pollers.TheVariants.{PollsBusily}
-use Rattle.device_shared.specs.Seats.{IsSeatAt, AreSeats, poller_pass, thread_pass, ctx_at}
-use Rattle.device_shared.specs.{Seats.{polls_at, poller_of, thread_of, control_of, ctx_of}, Acting.{CtxMoves, Acts, TurnTakes, nobody}}
+use Rattle.device_shared.specs.Seats.{IsSharedSeat, AreSeats, poller_pass, thread_pass, ctx_at}
+use Rattle.device_shared.specs.{Seats.{polls_at, poller_of, thread_of, control_of, turn_ctx}}
+use Rattle.device_shared.specs.{Acting.{CtxMoves, CallerActs, TurnTakes, nobody}}
 use Rattle.napi_model.specs.declared.state.Kind.TheVariants as kind
 use Rattle.device_shared.specs.declared.seats.Turn.TheVariants as turn
 
-pub seat_made : {n : Napi} {p q : Pass} {os : List Operation} → IsSeatAt n p → Made p os q → IsSeatAt n q
+pub seat_made : {n : Napi} {p q : Pass} {os : List Operation} → IsSharedSeat n p → Made p os q → IsSharedSeat n q
 seat_made s m = record { instance = m.seat.table ∙ s.instance; controller = m.seat.controller ∙ s.controller }
 
 -- the context doesn't move
@@ -64,7 +65,7 @@ abbrev pub with_turn : Caller → Turn → Seats
 with_turn i t = record { interrupt = i; turn = t }
 
 pub interrupt_acts : {n : Napi} {os : List Operation} (s : Seats) (i : Caller) → AreSeats n s → Made s.interrupt.pass os i.pass
-    → Quiet s.interrupt.pass i.pass → Acts 0 os n s (with_turn i s.turn)
+    → Quiet s.interrupt.pass i.pass → CallerActs 0 os n s (with_turn i s.turn)
 interrupt_acts s i seats m k = record {
   low = omega arith;
   packets = [];
@@ -72,30 +73,31 @@ interrupt_acts s i seats m k = record {
   one = refl;
   two = refl;
   three = refl;
-  moves = stays s.interrupt.pass i.pass (ctx_of s.turn);
+  moves = stays s.interrupt.pass i.pass (turn_ctx s.turn);
   seats = record { zeroth = seat_made seats.zeroth m; one = seats.one; two = seats.two; three = seats.three };
 }
 
 module _ {n : Napi} {os : List Operation} {packets : List Packet} (i : Caller) (t before after : Turn) (was : t ≡ before)
     (s : AreSeats n (with_turn i t)) where
-  pub first_turn : Moved os packets (poller_of before) (poller_of after) (ctx_of before) (ctx_of after) → thread_of after ≡ thread_of before
+  pub first_turn : Moved os packets (poller_of before) (poller_of after) (turn_ctx before) (turn_ctx after)
+      → thread_of after ≡ thread_of before
       → control_of after ≡ control_of before
-      → Acts 1 os n (with_turn i t) (with_turn i after)
+      → CallerActs 1 os n (with_turn i t) (with_turn i after)
   first_turn m two three = grind (arith, common_steps, seat_made)
 
-  pub second_turn : Moved os packets (thread_of before) (thread_of after) (ctx_of before) (ctx_of after)
+  pub second_turn : Moved os packets (thread_of before) (thread_of after) (turn_ctx before) (turn_ctx after)
       → poller_of after ≡ poller_of before → control_of after ≡ control_of before
-      → Acts 2 os n (with_turn i t) (with_turn i after)
+      → CallerActs 2 os n (with_turn i t) (with_turn i after)
   second_turn m one three = grind (arith, common_steps, seat_made)
 
-  pub control_turn : Moved os packets (control_of before) (control_of after) (ctx_of before) (ctx_of after)
+  pub control_turn : Moved os packets (control_of before) (control_of after) (turn_ctx before) (turn_ctx after)
       → poller_of after ≡ poller_of before → thread_of after ≡ thread_of before
-      → Acts 3 os n (with_turn i t) (with_turn i after)
+      → CallerActs 3 os n (with_turn i t) (with_turn i after)
   control_turn m one two = grind (arith, common_steps, seat_made)
 
 -- no call is made
 pub none_turn : {n : Napi} (k : Kind) (i : Caller) (t : Turn) → AreSeats n (with_turn i t)
-    → Acts (taker_of k) [] n (with_turn i t) (with_turn i t)
+    → CallerActs (taker_of k) [] n (with_turn i t) (with_turn i t)
 none_turn kind.List i (turn.Off p t c) s =
     first_turn i (turn.Off p t c) (turn.Off p t c) (turn.Off p t c) refl s (idle (Some c.state.ctx) p.stands) refl refl
 none_turn kind.Thread i (turn.Off p t c) s =
@@ -107,6 +109,6 @@ none_turn kind.Thread i (turn.On pollers e) s =
 
 -- an attempt of the controller, while no caller has the context
 pub tried : {os : List Operation} (p : Pass) (t : Turn) (taken : Bool) → Made p os (control_of t) → TurnTakes p t taken
-    → Moved os [] p (control_of t) None (ctx_of t)
+    → Moved os [] p (control_of t) None (turn_ctx t)
 tried p t true m k = record { made = m; gave = delivers_none p (control_of t) k.1; moves = k.0 }
 tried {os} p t false m k = subst (λ (o : Option RxCtx). Moved os [] p (control_of t) None o) (sym k.0) (quiet p (control_of t) None m k.1)

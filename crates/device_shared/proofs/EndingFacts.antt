@@ -8,8 +8,9 @@ use Rattle.rx_ring.specs.{declared.{packet.Packet.Packet, ends.{RxCtx.RxCtx, RxI
 use Rattle.{rx_ring.specs.{Ends.{received_list, ring_name, ring_of}, ReceiveRing.totals_of}, device_bench.specs.Receive.ReceiveView}
 use Rattle.napi_calls.{proofs.{Steps.prefix_trans, Dealing.named_ring}, specs.{Seats.shown, declared.types.{Napi.Napi, Caller.Caller}}}
 use Rattle.{napi_calls.specs.Closed.IsClosed, napi_word.{specs.declared.table.Pass.Pass, proofs.Deliveries.some_is}}
-use Rattle.device_shared.{proofs.{Gathering.{at_three, ring_from}, RingFacts.side_at}, specs.Seats.{control_of, polls_at, received_by}}
-use Rattle.device_shared.specs.{SharedReceive.{IsWhole, left_in}, Ending.{IsEnded, IsLater, TakesHold}, declared.seats.Enabled.Enabled}
+use Rattle.device_shared.{proofs.{Gathering.{at_three, ring_from}, RingFacts.side_at}, specs.Seats.{control_of, polls_at, seats_received}}
+use Rattle.device_shared.specs.{SharedReceive.{AreAllCallers, left_in}, Ending.{IsSideClosed, IsLater, TakesHold}}
+use Rattle.device_shared.specs.{declared.seats.Enabled.Enabled}
 use Rattle.napi_calls.specs.Seats as seats
 use Rattle.device_shared.specs.declared.seats.Turn.TheVariants as turn
 
@@ -31,10 +32,10 @@ held_still pollers e none = grind (arith, common_steps)
 
 -- ---- a receive side was ended
 
-module _ (n : Napi) (s : Seats) (input : RxIn) (held_many capacity : ℕ) (seen : Seen) (w : IsWhole n s input held_many capacity seen)
+module _ (n : Napi) (s : Seats) (input : RxIn) (held_many capacity : ℕ) (seen : Seen) (w : AreAllCallers n s input held_many capacity seen)
     (control : Pass) (later : IsLater (control_of s.turn) control) where
   -- the controller's context belongs to this ring
-  pub ring_closed : (ctx own : RxCtx) → ctx ≡ own → seats.ring_of control ≡ Some (ring_name own) → IsOneRing input ctx
+  pub ring_closed : (ctx own : RxCtx) → ctx ≡ own → seats.instance_ring control ≡ Some (ring_name own) → IsOneRing input ctx
   ring_closed ctx own same has =
       let named : ring_name w.first ≡ ring_name own =
       some_is (sym (ring_from (control_of s.turn) w.first w.gathered.show.first_three) ∙ sym later.ring ∙ has) in
@@ -50,11 +51,11 @@ module _ (n : Napi) (s : Seats) (input : RxIn) (held_many capacity : ℕ) (seen 
     none_left : totals.left ≡ 0
     none_left = grind (arith, common_steps, ring_is)
 
-    pub side_ended : (now : ReceiveView) → side_at (Some s) input capacity ≡ now → IsEnded now totals
+    pub side_ended : (now : ReceiveView) → side_at (Some s) input capacity ≡ now → IsSideClosed now totals
     side_ended now view =
         let from = control_of s.turn in
         let to = prefix_trans (shown from) (shown control) cl.history later.begins (cl.is.begins 3 control refl) in
-        subst (λ (v : ReceiveView). IsEnded v totals) view (record {
+        subst (λ (v : ReceiveView). IsSideClosed v totals) view (record {
           napi = n;
           callers = a ∷ b ∷ c ∷ [];
           control = control;
@@ -66,9 +67,9 @@ module _ (n : Napi) (s : Seats) (input : RxIn) (held_many capacity : ℕ) (seen 
           state = sym (at_three from w.gathered.show.seats.three.controller);
           input = input;
           one = one;
-          front = take (length (received_by s)) (put_list input);
+          front = take (length (seats_received s)) (put_list input);
           held = left_in input s;
-          put = sym (take-append-drop (length (received_by s)) (put_list input));
+          put = sym (take-append-drop (length (seats_received s)) (put_list input));
           held_is = refl;
           last = last;
           same = same;

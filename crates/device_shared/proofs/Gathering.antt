@@ -9,24 +9,25 @@ use Rattle.{napi_model.{specs.Laws.IsSound, proofs.Owners.{opens_sound, sound_af
 use Rattle.napi_word.specs.{declared.view.Delivery.Delivery, Passes.{OwnsSlot, view_of}, View.{View, first_in, received_in, packets_of}}
 use Rattle.napi_word.{specs.Surveys.{IsSurveyed, Surveys}, proofs.{CatchingUp.state_looked, Deliveries.some_is}}
 use Rattle.napi_calls.specs.{Alone.{AllShow, GrewBy, MakesAlone}, Knows.received_held, Made.events, Packets.{delivered, received_before}}
-use Rattle.napi_calls.{specs.{Seats.{controller_of, ring_of, shown, state_of}, declared.types.Napi.Napi}, proofs.Alone.one_alone}
-use Rattle.device_shared.specs.{declared.seats.Seats.Seats, Acting.{Acts, CtxMoves, seat_at}, Meeting.{Meets, passes_of}, Seats.IsSeatAt}
-use Rattle.device_shared.specs.Seats.{ShowAll, control_of, ctx_of, poller_of, received_by, state_in, thread_of}
+use Rattle.napi_calls.{specs.{Seats.{controller_of, instance_ring, shown, state_shown}, declared.types.Napi.Napi}, proofs.Alone.one_alone}
+use Rattle.device_shared.specs.{declared.seats.Seats.Seats, Acting.{CallerActs, CtxMoves, seat_at}, Meeting.{SeatsMeet, passes_of}}
+use Rattle.device_shared.specs.{Seats.IsSharedSeat}
+use Rattle.device_shared.specs.Seats.{ShowAll, control_of, turn_ctx, poller_of, seats_received, seats_state, thread_of}
 
 -- what the context has received by the deliveries shown
 pub received_from : (v : View) (first : RxCtx) → first_in v ≡ Some first
-    → received_in v ≡ received_list first ++ packets_of (Rattle.napi_word.specs.View.delivered v)
+    → received_in v ≡ received_list first ++ packets_of (Rattle.napi_word.specs.View.view_delivered v)
 received_from v first e = grind (arith, common_steps, some_is)
 
-pub ring_from : (p : Pass) (first : RxCtx) → first_in (view_of p) ≡ Some first → ring_of p ≡ Some (ring_name first)
+pub ring_from : (p : Pass) (first : RxCtx) → first_in (view_of p) ≡ Some first → instance_ring p ≡ Some (ring_name first)
 ring_from p first e = grind (arith, common_steps, some_is)
 
-pub at_three : (p : Pass) → controller_of p ≡ 3 → state_of p ≡ state_after (opening 3) (shown p)
+pub at_three : (p : Pass) → controller_of p ≡ 3 → state_shown p ≡ state_after (opening 3) (shown p)
 at_three p three = ap (λ (k : ℕ). state_after (opening k) (shown p)) three
 
 module _ (c : ℕ) (os : List Operation) (n : Napi) (h : List Event) (ds : List Delivery) (s0 s1 s2 : Seats) (x : Seen)
-    (all : AllShow h ds s0.interrupt.pass (poller_of s0.turn) (thread_of s0.turn) (control_of s0.turn)) (a : Acts c os n s0 s1)
-    (m : Meets s1 s2 x) where
+    (all : AllShow h ds s0.interrupt.pass (poller_of s0.turn) (thread_of s0.turn) (control_of s0.turn)) (a : CallerActs c os n s0 s1)
+    (m : SeatsMeet s1 s2 x) where
   abbrev s : Surveys 3 m.meet.looker x (passes_of s1) (passes_of s2)
   s = m.meet.surveys
 
@@ -56,7 +57,7 @@ module _ (c : ℕ) (os : List Operation) (n : Napi) (h : List Event) (ds : List 
   named (suc (suc (suc zero))) low = s.firsts 3 (control_of s1.turn) refl
   named (suc (suc (suc (suc k)))) low = absurd (omega (arith, low))
 
-  seat_is : (k : ℕ) → k ≤ 3 → IsSeatAt n (seat_at k s1) → IsSeatAt n (seat_at k s2)
+  seat_is : (k : ℕ) → k ≤ 3 → IsSharedSeat n (seat_at k s1) → IsSharedSeat n (seat_at k s2)
   seat_is k low seat = let u = met k low in record { instance = u.table ∙ seat.instance; controller = u.view.controller ∙ seat.controller }
 
   first_is : (k : ℕ) → k ≤ 3 → first_in (view_of (seat_at k s2)) ≡ Some s.first
@@ -90,16 +91,16 @@ module _ (c : ℕ) (os : List Operation) (n : Napi) (h : List Event) (ds : List 
         (sym delivered_now) grew.all);
   }
 
-  state_now : state_in s2 ≡ state_after (opening 3) whole
+  state_now : seats_state s2 ≡ state_after (opening 3) whole
   state_now = at_three r3 shows.all.three.controller ∙ ap (state_after (opening 3)) shown_now
 
   pub legal_now : LegalHistory 3 (state_after (opening 3) h) (events c os)
   legal_now = grew.legal
 
-  pub leads_to : state_in s2 ≡ state_after (state_after (opening 3) h) (events c os)
+  pub leads_to : seats_state s2 ≡ state_after (state_after (opening 3) h) (events c os)
   leads_to = state_now ∙ grew.leads
 
-  pub seen_now : x ≡ seen_of (state_in s2)
+  pub seen_now : x ≡ seen_of (seats_state s2)
   seen_now = m.meet.told ∙ ap seen_of (sym (state_looked (opening 3) s.found m.meet.looker x)) ∙ ap seen_of (sym state_now)
 
   received_now : received_in (view_of r3) ≡ received_list s.first ++ packets_of s.deliveries
@@ -113,8 +114,8 @@ module _ (c : ℕ) (os : List Operation) (n : Napi) (h : List Event) (ds : List 
       ∙ ap (λ (l : List Delivery). received_list s.first ++ packets_of l) ((met c a.low).view.held owns) ∙ sym received_now
 
 module _ (c : ℕ) (os : List Operation) (n : Napi) (first : RxCtx) (s0 s1 s2 : Seats) (x : Seen)
-    (g : ShowAll n first s0.interrupt.pass (poller_of s0.turn) (thread_of s0.turn) (control_of s0.turn)) (a : Acts c os n s0 s1)
-    (m : Meets s1 s2 x) where
+    (g : ShowAll n first s0.interrupt.pass (poller_of s0.turn) (thread_of s0.turn) (control_of s0.turn)) (a : CallerActs c os n s0 s1)
+    (m : SeatsMeet s1 s2 x) where
   abbrev p3 : Pass
   p3 = control_of s0.turn
 
@@ -136,21 +137,21 @@ module _ (c : ℕ) (os : List Operation) (n : Napi) (first : RxCtx) (s0 s1 s2 : 
   shows_still = subst (λ (f : RxCtx). ShowAll n f s2.interrupt.pass (poller_of s2.turn) (thread_of s2.turn) (control_of s2.turn)) same_first
       (shows c os n (shown p3) (delivered p3) s0 s1 s2 x g.all a m)
 
-  state_then : state_in s0 ≡ state_after (opening 3) (shown p3)
+  state_then : seats_state s0 ≡ state_after (opening 3) (shown p3)
   state_then = at_three p3 g.all.three.controller
 
-  pub sound_then : IsSound (state_in s0)
+  pub sound_then : IsSound (seats_state s0)
   sound_then = subst IsSound (sym state_then) (sound_after 3 (opening 3) (shown p3) (opens_sound 3) g.legal)
 
-  pub legal_then : LegalHistory 3 (state_in s0) (events c os)
+  pub legal_then : LegalHistory 3 (seats_state s0) (events c os)
   legal_then =
       subst (λ (s : State). LegalHistory 3 s (events c os)) (sym state_then)
       (legal_now c os n (shown p3) (delivered p3) s0 s1 s2 x g.all a m)
 
-  pub leads_then : state_in s2 ≡ state_after (state_in s0) (events c os)
+  pub leads_then : seats_state s2 ≡ state_after (seats_state s0) (events c os)
   leads_then = search (rules, leads_to, state_then)
 
-  pub seen_then : x ≡ seen_of (state_in s2)
+  pub seen_then : x ≡ seen_of (seats_state s2)
   seen_then = seen_now c os n (shown p3) (delivered p3) s0 s1 s2 x g.all a m
 
   received_grew : received_in (view_of (control_of s2.turn)) ≡ received_in (view_of p3) ++ a.packets
@@ -179,9 +180,9 @@ module _ (c : ℕ) (os : List Operation) (n : Napi) (first : RxCtx) (s0 s1 s2 : 
       seen_all (suc (suc zero)) low = g.all.two.delivers
       seen_all (suc (suc (suc k))) low = refl
 
-  pub received_then : received_by s2 ≡ received_by s0
+  pub received_then : seats_received s2 ≡ seats_received s0
   received_then = ap (λ (o : Option RxCtx). received_held o (received_in (view_of (control_of s2.turn)))) m.ctx
-      ∙ by (ctx_of s0.turn) (ctx_of s1.turn) a.moves
+      ∙ by (turn_ctx s0.turn) (turn_ctx s1.turn) a.moves
     where
       none_more : a.packets ≡ [] → received_in (view_of (control_of s2.turn)) ≡ received_in (view_of p3)
       none_more e = received_grew ∙ ap (λ (l : List Packet). received_in (view_of p3) ++ l) e ∙ append-nil (received_in (view_of p3))

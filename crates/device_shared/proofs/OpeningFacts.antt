@@ -5,11 +5,14 @@ use Rattle.rx_ring.specs.{declared.packet.Packet.Packet, Ends.{IsOneRing, capaci
 use Rattle.napi_model.specs.{declared.{event.Operation.{Operation, TheVariants.Enable}, state.Seen.Seen}, Step.{after, event, opening}}
 use Rattle.{napi_model.specs.History.{own, state_after}, napi_word.specs.{declared.table.Pass.Pass, View.{own_deliveries, received_in}}}
 use Rattle.{napi_word.{specs.Passes.view_of, proofs.Deliveries.some_is}, napi_calls.specs.declared.types.{Caller.Caller, Napi.Napi}}
-use Rattle.napi_calls.specs.{Alone.{AllShow, Shows}, Instance.{IsNewSeat, callers_of, ring_of_instance}, Knows.received_held, Made.events}
+use Rattle.napi_calls.specs.{Alone.{AllShow, ShowsAlone}, Instance.{IsNewSeat, callers_of, ring_of_instance}, Knows.received_held}
+use Rattle.napi_calls.specs.{Made.events}
 use Rattle.{napi_calls.proofs.{Dealing.named_ring, Making.nothing}, device_bench.specs.Receive.opened_side}
-use Rattle.device_shared.specs.{declared.seats.Seats.Seats, Acting.{Acts, EnablesBy}, Meeting.Meets, Seats.{AreSeats, IsRole, IsSeatAt}}
-use Rattle.device_shared.specs.Seats.{Role, ShowAll, control_of, ctx_of, poller_of, received_by, role_of, state_in, thread_of}
-use Rattle.device_shared.{specs.SharedReceive.{IsWhole, bytes_each, left_in}, proofs.{ActingFacts.stays, Gathering.{leads_then, leads_to}}}
+use Rattle.device_shared.specs.{declared.seats.Seats.Seats, Acting.{CallerActs, EnablesBy}, Meeting.SeatsMeet}
+use Rattle.device_shared.specs.{Seats.{AreSeats, IsRole, IsSharedSeat}}
+use Rattle.device_shared.specs.Seats.{Role, ShowAll, control_of, turn_ctx, poller_of, seats_received, role_of, seats_state, thread_of}
+use Rattle.device_shared.{specs.SharedReceive.{AreAllCallers, bytes_each, left_in}}
+use Rattle.device_shared.{proofs.{ActingFacts.stays, Gathering.{leads_then, leads_to}}}
 use Rattle.device_shared.proofs.{Gathering.{legal_then, received_then, ring_from, seen_then, shows, shows_still}, Reading.enables}
 use Rattle.device_shared.proofs.{RingFacts.seen_side, WholeFacts.viewed}
 use mathlib.Core.List.{IsPrefix}
@@ -42,10 +45,10 @@ unfolding own_deliveries
 delivers_none_yet n = refl
 
 -- a new seat shows nothing yet
-new_shows : (n : Napi) (c : ℕ) (p : Pass) → callers_of n ≡ 3 → IsNewSeat n c p → Shows [] [] c p
+new_shows : (n : Napi) (c : ℕ) (p : Pass) → callers_of n ≡ 3 → IsNewSeat n c p → ShowsAlone [] [] c p
 new_shows n c p three new = grind (arith, common_steps, own_none)
 
-new_seat : (n : Napi) (c : ℕ) (p : Pass) → callers_of n ≡ 3 → IsNewSeat n c p → IsSeatAt n p
+new_seat : (n : Napi) (c : ℕ) (p : Pass) → callers_of n ≡ 3 → IsNewSeat n c p → IsSharedSeat n p
 new_seat n c p three new = record { instance = new.instance; controller = new.controller ∙ three }
 
 -- new seats, and the controller's context
@@ -56,13 +59,13 @@ pub record AreNew (n : Napi) (t0 : Seats) (given : RxCtx) : Type 0 where
   pub new2 : IsNewSeat n 2 (thread_of t0.turn)
   pub new3 : IsNewSeat n 3 (control_of t0.turn)
   pub off : role_of t0.turn ≡ None
-  pub has : ctx_of t0.turn ≡ Some given
+  pub has : turn_ctx t0.turn ≡ Some given
 
 pub are_new : (n : Napi) (t0 : Seats) (given : RxCtx) (items l1 l2 l3 : List Caller) (a b c : Caller) (p : Pass)
     → items ≡ l1 ++ c ∷ [] → l1 ≡ l2 ++ b ∷ [] → l2 ≡ l3 ++ a ∷ [] → length items ≡ 3 → callers_of n ≡ 3
     → ((k : ℕ) (d : Caller) → slice_get items k ≡ Some d → IsNewSeat n k d.pass)
     → IsNewSeat n 3 p → control_of t0.turn ≡ p → t0.interrupt.pass ≡ a.pass → poller_of t0.turn ≡ b.pass → thread_of t0.turn ≡ c.pass
-    → role_of t0.turn ≡ None → ctx_of t0.turn ≡ Some given → AreNew n t0 given
+    → role_of t0.turn ≡ None → turn_ctx t0.turn ≡ Some given → AreNew n t0 given
 are_new n t0 given items l1 l2 l3 a b c p e1 e2 e3 many three each control is3 is0 is1 is2 off has =
     let new = new_callers n items a b c (popped items l1 l2 l3 a b c e1 e2 e3 many) each in record {
       three = three;
@@ -81,7 +84,7 @@ module _ (n : Napi) (t0 : Seats) (given : RxCtx) (k : AreNew n t0 given) where
   new_show : AllShow [] [] t0.interrupt.pass (poller_of t0.turn) (thread_of t0.turn) (control_of t0.turn)
   new_show = grind (arith, common_steps, delivers_none_yet, new_shows, own_none)
 
-  still : Acts 0 [] n t0 t0
+  still : CallerActs 0 [] n t0 t0
   still = record {
     low = omega arith;
     packets = [];
@@ -89,51 +92,52 @@ module _ (n : Napi) (t0 : Seats) (given : RxCtx) (k : AreNew n t0 given) where
     one = refl;
     two = refl;
     three = refl;
-    moves = stays t0.interrupt.pass t0.interrupt.pass (ctx_of t0.turn);
+    moves = stays t0.interrupt.pass t0.interrupt.pass (turn_ctx t0.turn);
     seats = new_seats;
   }
 
-  module _ (t1 : Seats) (x : Seen) (m : Meets t0 t1 x) where
+  module _ (t1 : Seats) (x : Seen) (m : SeatsMeet t0 t1 x) where
     abbrev first : RxCtx
     first = m.meet.surveys.first
 
     pub met_show : ShowAll n first t1.interrupt.pass (poller_of t1.turn) (thread_of t1.turn) (control_of t1.turn)
     met_show = shows 0 [] n [] [] t0 t0 t1 x new_show still m
 
-    state_met : state_in t1 ≡ opening 3
+    state_met : seats_state t1 ≡ opening 3
     unfolding state_after
     state_met = leads_to 0 [] n [] [] t0 t0 t1 x new_show still m
 
-    idle_met : IsRole None (state_in t1)
+    idle_met : IsRole None (seats_state t1)
     idle_met = subst (IsRole None) (sym state_met) (refl, refl, refl)
 
     -- the context belongs to the ring that was passed in
     ring_met : ring_of_instance n ≡ ring_name first
     ring_met = some_is (sym k.new3.ring ∙ ring_from (control_of t0.turn) first (m.meet.surveys.firsts 3 (control_of t0.turn) refl))
 
-    received_met : received_by t1 ≡ received_list given
+    received_met : seats_received t1 ≡ received_list given
     received_met = ap (λ (o : Option RxCtx). received_held o (received_in (view_of (control_of t1.turn)))) (m.ctx ∙ k.has)
 
-    module _ (input : RxIn) (capacity : ℕ) (os : List Operation) (u t2 : Seats) (y : Seen) (a : Acts 3 os n t1 u) (m2 : Meets u t2 y)
+    module _ (input : RxIn) (capacity : ℕ) (os : List Operation) (u t2 : Seats) (y : Seen) (a : CallerActs 3 os n t1 u)
+        (m2 : SeatsMeet u t2 y)
         (e : EnablesBy false os) (role : role_of u.turn ≡ Some (false, None)) where
-      done : (state_after (state_in t1) (events 3 os) ≡ after (state_in t1) (event 3 (Enable false)))
-          × IsRole (Some (false, None)) (state_after (state_in t1) (events 3 os))
-      done = enables (state_in t1) false os idle_met e (legal_then 3 os n first t1 u t2 y met_show a m2)
+      done : (state_after (seats_state t1) (events 3 os) ≡ after (seats_state t1) (event 3 (Enable false)))
+          × IsRole (Some (false, None)) (state_after (seats_state t1) (events 3 os))
+      done = enables (seats_state t1) false os idle_met e (legal_then 3 os n first t1 u t2 y met_show a m2)
 
-      leads : state_in t2 ≡ state_after (state_in t1) (events 3 os)
+      leads : seats_state t2 ≡ state_after (seats_state t1) (events 3 os)
       leads = leads_then 3 os n first t1 u t2 y met_show a m2
 
-      received : received_list given ≡ [] → received_by t2 ≡ []
+      received : received_list given ≡ [] → seats_received t2 ≡ []
       received none = received_then 3 os n first t1 u t2 y met_show a m2 ∙ received_met ∙ none
 
       pub opened_whole : (ctx : RxCtx) → ring_of_instance n ≡ ring_name ctx → IsOneRing input ctx → capacity_of input ≡ capacity
           → put_list input ≡ [] → received_list given ≡ []
-          → capacity ≤ free_of input → IsWhole n t2 input 0 capacity y
+          → capacity ≤ free_of input → AreAllCallers n t2 input 0 capacity y
       opened_whole ctx name one places empty none free = record {
         first = first;
         gathered = record {
           show = shows_still 3 os n first t1 u t2 y met_show a m2;
-          role = subst (λ (r : Role). IsRole r (state_in t2)) (sym (m2.role ∙ role))
+          role = subst (λ (r : Role). IsRole r (seats_state t2)) (sym (m2.role ∙ role))
               (subst (IsRole (Some (false, None))) (sym leads) done.1);
         };
         one = named_ring input ctx first one (sym name ∙ ring_met);
@@ -145,7 +149,7 @@ module _ (n : Napi) (t0 : Seats) (given : RxCtx) (k : AreNew n t0 given) where
       }
 
       pub opened_view : put_list input ≡ [] → received_list given ≡ []
-          → seen_side (state_in t2) (bytes_each (left_in input t2)) capacity ≡ opened_side capacity
+          → seen_side (seats_state t2) (bytes_each (left_in input t2)) capacity ≡ opened_side capacity
       opened_view empty none = grind (arith, common_steps, done, leads, state_met, viewed)
 
 -- from an empty ring nothing was received

@@ -4,11 +4,11 @@ use Rattle.std.proofs.lemmas.Grind.{common_steps}
 use Rattle.std.{proofs.Common.{◌≡◌, ◌∙◌, ℕ, zero, suc, List, [], ◌∷◌, Some, refl, ap, subst, sym}, specs.Prelude.slice_get}
 use Rattle.napi_model.specs.{declared.state.Seen.Seen, Step.{opening, seen_of}, History.state_after}
 use Rattle.napi_word.{specs.{declared.table.Pass.Pass, Surveys.Surveys}, proofs.CatchingUp.state_looked}
-use Rattle.{napi_calls.specs.Seats.{controller_of, state_of}, device_shared.specs.Meeting.Meet}
+use Rattle.{napi_calls.specs.Seats.{controller_of, state_shown}, device_shared.specs.Meeting.Meet}
 
 -- what was seen is the state after the whole history
 pub told_by : {k looker : ℕ} {ps qs : List Pass} {x : Seen} (s : Surveys k looker x ps qs) (i : ℕ) (p q : Pass) → k ≡ 3
-    → slice_get ps i ≡ Some p → slice_get qs i ≡ Some q → x ≡ seen_of (state_of q)
+    → slice_get ps i ≡ Some p → slice_get qs i ≡ Some q → x ≡ seen_of (state_shown q)
     → x ≡ seen_of (state_after (opening 3) s.found)
 told_by {k} {looker} {ps} {qs} {x} s i p q three was is seen =
     let u = s.each i p q was is in
@@ -48,14 +48,14 @@ third_last : (a b c d : Pass) (i : ℕ) → slice_get (a ∷ b ∷ c ∷ d ∷ [
 third_last a b c d i = grind (arith, common_steps)
 
 module _ {a b c d a' b' c' d' : Pass} {k looker : ℕ} {x : Seen} (three : k ≡ 3) where
-  pub meet_straight : Surveys k looker x (a ∷ b ∷ c ∷ d ∷ []) (a' ∷ b' ∷ c' ∷ d' ∷ []) → x ≡ seen_of (state_of d')
+  pub meet_straight : Surveys k looker x (a ∷ b ∷ c ∷ d ∷ []) (a' ∷ b' ∷ c' ∷ d' ∷ []) → x ≡ seen_of (state_shown d')
       → Meet (a ∷ b ∷ c ∷ d ∷ []) (a' ∷ b' ∷ c' ∷ d' ∷ []) x
   meet_straight s seen = by (subst (λ (n : ℕ). Surveys n looker x (a ∷ b ∷ c ∷ d ∷ []) (a' ∷ b' ∷ c' ∷ d' ∷ [])) three s)
     where
       by : Surveys 3 looker x (a ∷ b ∷ c ∷ d ∷ []) (a' ∷ b' ∷ c' ∷ d' ∷ []) → Meet (a ∷ b ∷ c ∷ d ∷ []) (a' ∷ b' ∷ c' ∷ d' ∷ []) x
       by t = record { looker = looker; surveys = t; told = told_by t 3 d d' refl refl refl seen }
 
-  pub meet_second_last : Surveys k looker x (a ∷ c ∷ d ∷ b ∷ []) (a' ∷ c' ∷ d' ∷ b' ∷ []) → x ≡ seen_of (state_of b')
+  pub meet_second_last : Surveys k looker x (a ∷ c ∷ d ∷ b ∷ []) (a' ∷ c' ∷ d' ∷ b' ∷ []) → x ≡ seen_of (state_shown b')
       → Meet (a ∷ b ∷ c ∷ d ∷ []) (a' ∷ b' ∷ c' ∷ d' ∷ []) x
   meet_second_last s seen = by (subst (λ (n : ℕ). Surveys n looker x (a ∷ c ∷ d ∷ b ∷ []) (a' ∷ c' ∷ d' ∷ b' ∷ [])) three s)
     where
@@ -66,7 +66,7 @@ module _ {a b c d a' b' c' d' : Pass} {k looker : ℕ} {x : Seen} (three : k ≡
         told = told_by t 3 b b' refl refl refl seen;
       }
 
-  pub meet_third_last : Surveys k looker x (a ∷ b ∷ d ∷ c ∷ []) (a' ∷ b' ∷ d' ∷ c' ∷ []) → x ≡ seen_of (state_of c')
+  pub meet_third_last : Surveys k looker x (a ∷ b ∷ d ∷ c ∷ []) (a' ∷ b' ∷ d' ∷ c' ∷ []) → x ≡ seen_of (state_shown c')
       → Meet (a ∷ b ∷ c ∷ d ∷ []) (a' ∷ b' ∷ c' ∷ d' ∷ []) x
   meet_third_last s seen = by (subst (λ (n : ℕ). Surveys n looker x (a ∷ b ∷ d ∷ c ∷ []) (a' ∷ b' ∷ d' ∷ c' ∷ [])) three s)
     where

@@ -2,13 +2,13 @@
 use Rattle.std.proofs.Common.{arith, ◌≡◌, ◌≢◌, ◌∙◌, ℕ, Bool, true, false, List, [], ◌∷◌, ◌++◌, flat_map, map, ap, refl, subst, sym}
 use Rattle.std.{proofs.lemmas.{List.map-append, Grind.common_steps}, specs.Prelude.{◌||◌, not}}
 use Rattle.{rx_ring.specs.declared.packet.Packet.Packet, napi_calls.{specs.Made.{Lost, events, looks}, proofs.Alone.none_lost}}
-use Rattle.napi_model.specs.Step.{IsLegalBy, MayBusyTake, after, answer_of, call_of, event, is_handed, place_of}
+use Rattle.napi_model.specs.Step.{IsLegalBy, MayBusyTake, after, reply_of, call_of, event, is_handed, place_of}
 use Rattle.napi_model.specs.{History.{LegalHistory, state_after}, declared.event.Call.Call}
 use Rattle.napi_model.specs.declared.state.{Kind.Kind, Place.Place, Seen.Seen, State.State}
 use Rattle.napi_model.specs.declared.event.Operation.{Operation, TheVariants.{Look, Complete, BusyTake, BusyStop}}
 use Rattle.napi_model.proofs.Histories.{legal_back, legal_front, state_after-append}
-use Rattle.poll_runs.specs.Plan.{Answers, Deed, Follows, Plan, acts, asks, ends, gave, polls, made, operations}
-use Rattle.{poll_shared.{specs.Tries.{Makes, Tries}, proofs.TriesFacts.operations-made}, device_bench.specs.Receive.answered}
+use Rattle.poll_runs.specs.Plan.{Answers, Action, Follows, Plan, acts, asks, ends, gave, polls, made, operations}
+use Rattle.{poll_shared.{specs.Tries.{PlanMakes, Tries}, proofs.TriesFacts.operations-made}, device_bench.specs.Receive.answered}
 use Rattle.napi_model.specs.declared.event.Done.TheVariants as done
 use Rattle.napi_model.specs.declared.event.Call.TheVariants as call
 
@@ -55,7 +55,7 @@ handed_there k = grind (arith, common_steps)
 pub unhanded : (k : Kind) (p : Place) → p ≢ place_of k → is_handed k p ≡ false
 unhanded k p e = grind (arith, common_steps)
 
-legal_answer : (c : ℕ) (o : Operation) (s : State) → IsLegalBy c o s → o ≡ answer_of (call_of o) s
+legal_answer : (c : ℕ) (o : Operation) (s : State) → IsLegalBy c o s → o ≡ reply_of (call_of o) s
 legal_answer c o s l = grind (arith, common_steps, handed_there, unhanded)
 
 pub refused : (d s b : Bool) → ¬ ((d ≡ false) × (s ≡ false) × (b ≡ false)) → not (d || (s || b)) ≡ false
@@ -81,7 +81,7 @@ alone c (acts o plan) s = alone c plan (after s (event c o))
 alone c (polls weight go) s = alone c (go []) s
 
 -- after the first operations there are only operations
-left_behind : (os first : List Operation) (rest : List (Deed Packet)) → map made os ≡ map made first ++ rest
+left_behind : (os first : List Operation) (rest : List (Action Packet)) → map made os ≡ map made first ++ rest
     → (behind : List Operation) × (map made behind ≡ rest) × (os ≡ first ++ behind)
 left_behind os [] rest e = (os, e, refl)
 left_behind [] (o ∷ first) rest e = absurd (cc)
@@ -92,7 +92,7 @@ left_behind (p ∷ os) (o ∷ first) rest e =
     (l.0, l.1, (λ i. same i ∷ l.2 i))
 
 -- the call, which is decided, and what follows it
-call_decided : (c : ℕ) (s : State) (call : Call) (o : Operation) (os first : List Operation) (rest : List (Deed Packet))
+call_decided : (c : ℕ) (s : State) (call : Call) (o : Operation) (os first : List Operation) (rest : List (Action Packet))
     → Tries call o first → map made os ≡ map made first ++ rest → LegalHistory 3 s (events c os)
     → IsLegalBy c o s × (behind : List Operation) × (map made behind ≡ rest) × LegalHistory 3 (after s (event c o)) (events c behind)
     × (state_after s (events c os) ≡ state_after (after s (event c o)) (events c behind))
@@ -109,26 +109,26 @@ call_decided c s call o os first rest t e l =
           ∙ ap (λ (x : State). state_after x (events c b.0)) d.1,
     )
 
-no_poll : (os : List Operation) (weight : ℕ) (packets : List Packet) (rest : List (Deed Packet))
+no_poll : (os : List Operation) (weight : ℕ) (packets : List Packet) (rest : List (Action Packet))
     → map made os ≡ gave weight packets ∷ rest → ⊥
 no_poll [] weight packets rest e = cc
 no_poll (o ∷ os) weight packets rest e = cc
 
 -- executed while no other caller makes calls, a part has this result
-pub comes_to : {A : Type 0} (c : ℕ) (plan : Plan Packet A) (s : State) (os : List Operation) (a : A) → Makes plan os a
+pub comes_to : {A : Type 0} (c : ℕ) (plan : Plan Packet A) (s : State) (os : List Operation) (a : A) → PlanMakes plan os a
     → LegalHistory 3 s (events c os) → (a ≡ (alone c plan s).0) × (state_after s (events c os) ≡ (alone c plan s).1)
 unfolding state_after
 comes_to c (ends x) s os a m l = (m.1, leads c s os [] (sym (operations-made os) ∙ ap operations m.0))
 comes_to c (asks call go) s os a m l =
     let d = call_decided c s call m.0 os m.1 m.2 m.4 m.6 l in
-    let behind = subst (λ (deeds : List (Deed Packet)). Follows Tries (go m.0) deeds a) (sym d.2) m.5 in
+    let behind = subst (λ (deeds : List (Action Packet)). Follows Tries (go m.0) deeds a) (sym d.2) m.5 in
     let rest = comes_to c (go m.0) (after s (event c m.0)) d.1 a behind d.3 in
     subst (λ (o : Operation). (a ≡ (alone c (go o) (after s (event c o))).0)
     × (state_after s (events c os) ≡ (alone c (go o) (after s (event c o))).1))
     (answer_is c s call m.0 m.3 d.0) (rest.0, d.4 ∙ rest.1)
 comes_to c (acts o plan) s os a m l =
     let d = call_decided c s (call_of o) o os m.0 m.1 m.2 m.4 l in
-    let behind = subst (λ (deeds : List (Deed Packet)). Follows Tries plan deeds a) (sym d.2) m.3 in
+    let behind = subst (λ (deeds : List (Action Packet)). Follows Tries plan deeds a) (sym d.2) m.3 in
     let rest = comes_to c plan (after s (event c o)) d.1 a behind d.3 in
     (rest.0, d.4 ∙ rest.1)
 comes_to c (polls weight go) s os a m l = absurd (no_poll os weight m.0 m.1 m.4)

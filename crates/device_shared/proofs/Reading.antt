@@ -3,14 +3,16 @@ use Rattle.std.proofs.Common.{arith, ◌≡◌, ◌≢◌, ◌∙◌, ℕ, Bool,
 use Rattle.std.{proofs.{Common.{flat_map, append_assoc, true≢false}, lemmas.Grind.common_steps}, specs.Prelude.{◌||◌, not, if◌then◌else◌}}
 use Rattle.napi_model.specs.declared.{state.{Kind.Kind, State.State, Place.Place}, event.{Done.Done, Prep.Prep}}
 use Rattle.napi_model.specs.declared.event.Operation.{Operation, TheVariants.{Look, Schedule, Hand, Take, Complete, BusyTake, BusyStop}}
-use Rattle.napi_model.specs.{declared.event.Operation.TheVariants.{MarkDisable, Enable, SetThreaded}, Step.{Polls, after}}
+use Rattle.napi_model.specs.{declared.event.Operation.TheVariants.{MarkDisable, Enable, SetThreaded}, Step.{CallerPolls, after}}
 use Rattle.napi_model.specs.Step.{complete_reply, event, is_handed, schedule_reply, seen_of, take_disable_reply, take_reply}
 use Rattle.{napi_model.specs.{History.{LegalHistory, state_after}, Laws.IsSound}, napi_calls.specs.Made.{events, looks}}
-use Rattle.{poll_runs.specs.Polling.next_of, poll_shared.specs.Tries.{Makes, Tries}}
-use Rattle.device_bench.specs.Receive.{busy_taken, done_by, handed_again, handed_on, is_control}
-use Rattle.{device_bench.specs.Receive.{is_polling, kind_for, poller_in, requested, taker_of, tried_by}, device_shared.specs.Seats.IsRole}
-use Rattle.device_shared.specs.{Seats.{Role, rests}, Acting.{AsksBy, EnablesBy, IsMarked, IsUnmarked, MayComplete, PolledBy, TakesBusilyBy}}
-use Rattle.device_shared.specs.Acting.{TakesBy, TriesBy, at_rest, left_by, marked, nobody, poller_by, polled_by}
+use Rattle.{poll_runs.specs.Polling.next_of, poll_shared.specs.Tries.{PlanMakes, Tries}}
+use Rattle.device_bench.specs.Receive.{busy_taken, done_by, handed_again, queued_kind, is_control}
+use Rattle.{device_bench.specs.Receive.{is_polling_place, state_kind, poller_in, requested, taker_of, tried_by}}
+use Rattle.{device_shared.specs.Seats.IsRole}
+use Rattle.device_shared.specs.{Seats.{Role, is_unowned}}
+use Rattle.device_shared.specs.{Acting.{AsksBy, EnablesBy, IsMarkedRole, IsUnmarked, MayComplete, PolledBy, TakesBusilyBy}}
+use Rattle.device_shared.specs.Acting.{TakesBy, TriesBy, at_rest, role_left, marked, nobody, role_poller, role_polled}
 use Rattle.device_shared.proofs.Parts.{alone, comes_to, decided, decides, handed_there, leads, legal_as, refused, unhanded}
 use Rattle.poll_runs.specs.Polling.{busy_takes, completed_by, is_again, is_taken}
 use Rattle.device_bench.specs.Receive.{is_idle}
@@ -19,14 +21,14 @@ use Rattle.napi_model.specs.declared.event.Call.TheVariants as call
 
 -- ---- places
 
-at_rest_uncontrolled : (p : Place) → rests p ≡ true → is_control p ≡ false
+at_rest_uncontrolled : (p : Place) → is_unowned p ≡ true → is_control p ≡ false
 at_rest_uncontrolled p e = grind (arith, common_steps)
 
-at_rest_unpolled : (p : Place) → rests p ≡ true → is_polling p ≡ false
+at_rest_unpolled : (p : Place) → is_unowned p ≡ true → is_polling_place p ≡ false
 at_rest_unpolled p e = grind (arith, common_steps)
 
 -- while a caller owns it, it isn't on the list, nor in the thread's queue
-away : (k : Kind) (p : Place) → rests p ≡ false → is_handed k p ≡ false
+away : (k : Kind) (p : Place) → is_unowned p ≡ false → is_handed k p ≡ false
 away k p e = grind (arith, common_steps)
 
 -- after it is queued, no caller owns it
@@ -40,40 +42,40 @@ pub control_is : (r : Role) (s : State) → IsRole r s → is_control s.place �
 control_is r s role = grind (arith, common_steps, at_rest_uncontrolled)
 
 -- a caller that polls it by the state polls it by the role
-polls_as : (r : Role) (s : State) (c : ℕ) (busy : Bool) → IsRole r s → Polls c busy s → PolledBy c busy r
+polls_as : (r : Role) (s : State) (c : ℕ) (busy : Bool) → IsRole r s → CallerPolls c busy s → PolledBy c busy r
 polls_as None s c busy role p = let was = role.0 in let now = p.0 in absurd (cc)
-polls_as (Some (m, None)) s c busy role p = absurd (true≢false (sym (ap is_polling p.0) ∙ at_rest_unpolled s.place role.1.0))
+polls_as (Some (m, None)) s c busy role p = absurd (true≢false (sym (ap is_polling_place p.0) ∙ at_rest_unpolled s.place role.1.0))
 polls_as (Some (m, Some (d, b))) s c busy role p = grind (arith, common_steps, at_rest_unpolled)
 
-pub may_complete : (r : Role) (s : State) → IsRole r s → Polls (poller_in s.place) false s
-    → MayComplete r × (poller_by r ≡ poller_in s.place)
+pub may_complete : (r : Role) (s : State) → IsRole r s → CallerPolls (poller_in s.place) false s
+    → MayComplete r × (role_poller r ≡ poller_in s.place)
 may_complete r s role p =
     let by = polls_as r s (poller_in s.place) false role p in
-    ((poller_in s.place, by), ap poller_by by.1)
+    ((poller_in s.place, by), ap role_poller by.1)
 
-pub polls_busily : (r : Role) (s : State) → IsRole r s → Polls 1 true s → PolledBy 1 true r
+pub polls_busily : (r : Role) (s : State) → IsRole r s → CallerPolls 1 true s → PolledBy 1 true r
 polls_busily r s role p = polls_as r s 1 true role p
 
 pub unmarked_of : (r : Role) (s : State) → IsRole r s → s.flags.disable ≡ false → is_control s.place ≡ false → IsUnmarked r
 unmarked_of None s role f away = absurd (true≢false (sym (ap is_control role.0) ∙ away))
 unmarked_of (Some (m, who)) s role f away = (who, ap (λ (b : Bool). Some (b, who)) (sym role.0 ∙ f))
 
-pub marked_of : (r : Role) (s : State) → IsRole r s → s.flags.disable ≡ true → IsMarked r
+pub marked_of : (r : Role) (s : State) → IsRole r s → s.flags.disable ≡ true → IsMarkedRole r
 marked_of None s role f = absurd (true≢false (sym f ∙ role.1))
 marked_of (Some (m, who)) s role f = (who, ap (λ (b : Bool). Some (b, who)) (sym role.0 ∙ f))
 
 pub off_of : (r : Role) (s : State) → IsRole r s → is_control s.place ≡ true → r ≡ None
 off_of r s role off = grind (arith, common_steps, control_is)
 
-pub polling_of : (r : Role) (s : State) → IsRole r s → is_polling s.place ≡ true → (c : ℕ) × (busy : Bool) × PolledBy c busy r
-polling_of None s role is = absurd (true≢false (sym is ∙ ap is_polling role.0))
+pub polling_of : (r : Role) (s : State) → IsRole r s → is_polling_place s.place ≡ true → (c : ℕ) × (busy : Bool) × PolledBy c busy r
+polling_of None s role is = absurd (true≢false (sym is ∙ ap is_polling_place role.0))
 polling_of (Some (m, None)) s role is = absurd (true≢false (sym is ∙ at_rest_unpolled s.place role.1.0))
 polling_of (Some (m, Some (c, busy))) s role is = (c, busy, (m, refl))
 
 -- ---- the interrupt requests a poll
 
 pub asked : (s : State) (prep : Prep) (k : Option Kind) (os : List Operation) → AsksBy prep k os → LegalHistory 3 s (events 0 os)
-    → (prep ≡ schedule_reply s) × (k ≡ handed_on prep s) × (state_after s (events 0 os) ≡ requested prep s)
+    → (prep ≡ schedule_reply s) × (k ≡ queued_kind prep s) × (state_after s (events 0 os) ≡ requested prep s)
 unfolding LegalHistory state_after
 asked s Prep.Granted None os a l = absurd a
 asked s Prep.Granted (Some k) os a l =
@@ -102,7 +104,7 @@ asked_role r s prep role sound is = grind (arith, common_steps, hand_rests)
 pub took : (r : Role) (s : State) (k : Kind) (taken : Bool) (os : List Operation) → IsRole r s → TakesBy (at_rest r) k taken os
     → LegalHistory 3 s (events (taker_of k) os)
     → (taken ≡ take_reply k s) × (state_after s (events (taker_of k) os) ≡ after s (event (taker_of k) (Take k taken)))
-    × IsRole (if taken then polled_by (taker_of k) false r else r) (state_after s (events (taker_of k) os))
+    × IsRole (if taken then role_polled (taker_of k) false r else r) (state_after s (events (taker_of k) os))
     × (taken ≡ true → s.flags.in_busy_poll ≡ false)
 unfolding LegalHistory state_after
 took r s k taken os role t l = grind (arith, common_steps, away, handed_there, leads, legal_as, unhanded)
@@ -111,7 +113,7 @@ took r s k taken os role t l = grind (arith, common_steps, away, handed_there, l
 
 pub requeued : (r : Role) (s : State) (c : ℕ) → IsRole r s → MayComplete r
     → (state_after s (events c (Hand Kind.List ∷ [])) ≡ after s (event c (Hand Kind.List)))
-    × IsRole (left_by r) (state_after s (events c (Hand Kind.List ∷ [])))
+    × IsRole (role_left r) (state_after s (events c (Hand Kind.List ∷ [])))
 unfolding state_after
 requeued r s c role may = grind (arith, common_steps)
 
@@ -133,17 +135,17 @@ completes : (reply : Done) (c : ℕ) (m : Bool) (s t : State) (again : Option Ki
 completes Done.Held c m s t again free d b h = absurd (free refl)
 completes Done.Released c m s t again free d b h = (next_same again None h.0, h.1, rw h.1 (d, (refl, b)))
 completes Done.Again c m s t again free d b h = let owned = after s (event c (Complete Done.Again)) in
-    (next_same again (Some (kind_for s)) h.0, h.1, rw h.1 (hand_rests (kind_for s) c owned m d b))
+    (next_same again (Some (state_kind s)) h.0, h.1, rw h.1 (hand_rests (state_kind s) c owned m d b))
 
 pub completed : (r : Role) (s : State) (c : ℕ) (again : Option Kind) (os : List Operation) → IsRole r s → MayComplete r
-    → Makes (rule.completed true) os (next_of again) → LegalHistory 3 s (events c os)
+    → PlanMakes (rule.completed true) os (next_of again) → LegalHistory 3 s (events c os)
     → (again ≡ handed_again (complete_reply s) s) × (state_after s (events c os) ≡ done_by c (complete_reply s) s)
-    × IsRole (left_by r) (state_after s (events c os))
+    × IsRole (role_left r) (state_after s (events c os))
 completed r s c again os role may m l =
     let was = subst (λ (q : Role). IsRole q s) may.1.1 role in
     let done = completes (complete_reply s) c may.1.0 s (state_after s (events c os)) again (not_held s was.1.1) was.0 was.1.1
     (comes_to c (rule.completed true) s os (next_of again) m l) in
-    (done.0, done.1, subst (λ (q : Role). IsRole (left_by q) (state_after s (events c os))) (sym may.1.1) done.2)
+    (done.0, done.1, subst (λ (q : Role). IsRole (role_left q) (state_after s (events c os))) (sym may.1.1) done.2)
 
 -- ---- busy polls
 
@@ -157,7 +159,7 @@ tries_busily false taken m s t role h = rw (h.0, h.1) (refl, refl, role)
 pub took_busily : (r : Role) (s : State) (taken : Bool) (os : List Operation) → IsRole r s → IsSound s → TakesBusilyBy (at_rest r) taken os
     → LegalHistory 3 s (events 1 os)
     → (taken ≡ not (s.flags.disable || (s.flags.sched || s.flags.in_busy_poll))) × (state_after s (events 1 os) ≡ busy_taken taken s)
-    × IsRole (if taken then polled_by 1 true r else r) (state_after s (events 1 os))
+    × IsRole (if taken then role_polled 1 true r else r) (state_after s (events 1 os))
 unfolding LegalHistory state_after
 took_busily None s true os role sound t l = absurd (true≢false t.0)
 took_busily None s false os role sound t l = grind (arith, common_steps, leads)
@@ -177,14 +179,14 @@ held s = refl
 
 pub stopped : (r : Role) (s : State) (os : List Operation) → IsRole r s → PolledBy 1 true r → Tries call.BusyStop BusyStop os
     → LegalHistory 3 s (events 1 os)
-    → (state_after s (events 1 os) ≡ after s (event 1 BusyStop)) × IsRole (polled_by 1 false r) (state_after s (events 1 os))
+    → (state_after s (events 1 os) ≡ after s (event 1 BusyStop)) × IsRole (role_polled 1 false r) (state_after s (events 1 os))
 unfolding LegalHistory state_after
 stopped r s os role by t l =
     let led = (decides 1 s call.BusyStop BusyStop os t l).1 in
     let was = subst (λ (q : Role). IsRole q s) by.1 role in (
       led,
-      subst (IsRole (polled_by 1 false r)) (sym led)
-          (subst (λ (q : Role). IsRole (polled_by 1 false q) (after s (event 1 BusyStop))) (sym by.1) (was.0, (was.1.0, refl))),
+      subst (IsRole (role_polled 1 false r)) (sym led)
+          (subst (λ (q : Role). IsRole (role_polled 1 false q) (after s (event 1 BusyStop))) (sym by.1) (was.0, (was.1.0, refl))),
     )
 
 -- ---- the controller
@@ -195,7 +197,8 @@ pub marks : (r : Role) (s : State) → IsRole r s → IsUnmarked r
 unfolding state_after
 marks r s role un = grind (arith, common_steps)
 
-pub tried : (r : Role) (s : State) (taken : Bool) (os : List Operation) → IsRole r s → IsSound s → IsMarked r → TriesBy (at_rest r) taken os
+pub tried : (r : Role) (s : State) (taken : Bool) (os : List Operation) → IsRole r s → IsSound s → IsMarkedRole r
+    → TriesBy (at_rest r) taken os
     → LegalHistory 3 s (events 3 os)
     → (taken ≡ take_disable_reply s) × (state_after s (events 3 os) ≡ tried_by taken s)
     × IsRole (if taken then None else r) (state_after s (events 3 os))

@@ -2,14 +2,14 @@
 use Rattle.std.proofs.{Common.{arith, ◌≡◌, ◌∙◌, ℕ, List, sym, subst}, lemmas.Grind.common_steps}
 use Rattle.rx_ring.specs.declared.ends.RxCtx.{RxCtx}
 use Rattle.rx_ring.specs.{declared.{ends.RxIn.RxIn, packet.Packet.Packet}, Ends.{GivesNext, Meets, SameIn}}
-use Rattle.{napi_calls.specs.Seats.IsInputOf, napi_word.specs.declared.table.Pass.Pass, device_shared.specs.Receiving.ReceivesNext}
+use Rattle.{napi_calls.specs.Seats.PutsIntoRingOf, napi_word.specs.declared.table.Pass.Pass, device_shared.specs.Receiving.ReceivesNext}
 
 pub same_more : (a b c : RxIn) → SameIn a b → SameIn b c → SameIn a c
 same_more a b c s t = ((t.0.0 ∙ s.0.0, t.0.1 ∙ s.0.1, t.0.2 ∙ s.0.2, t.0.3 ∙ s.0.3), t.1 ∙ s.1)
 
-pub input_still : (before after : RxIn) (p q : Pass) → SameIn before after → q ≡ p → IsInputOf before p → IsInputOf after q
+pub input_still : (before after : RxIn) (p q : Pass) → SameIn before after → q ≡ p → PutsIntoRingOf before p → PutsIntoRingOf after q
 input_still before after p q same pass fed =
-    subst (IsInputOf after) (sym pass)
+    subst (PutsIntoRingOf after) (sym pass)
     (fed.0, fed.1, (fed.2.0 ∙ sym same.0.0, fed.2.1 ∙ sym same.0.1, fed.2.2 ∙ sym same.0.2, fed.2.3 ∙ sym same.0.3))
 
 pub polls_between : (weight : ℕ) (a b c : RxIn) (w x y z : RxCtx) (given : List Packet) → Meets a w b x → GivesNext weight x y given

@@ -1,12 +1,15 @@
 -- The effect of puts and polls on the packets left in a ring, and on what is known of a whole receive side.
 use Rattle.std.proofs.lemmas.{List.{drop-append-le, drop-map, length-map, length-take, take-map, take_min}, Grind.common_steps}
 use Rattle.std.proofs.Common.{rules, ◌≡◌, ◌∙◌, ◌+◌, ◌-◌, ◌≤◌, ℕ, true, List, [], ◌∷◌, ◌++◌, length, drop, take, min, sum, Option, Some}
-use Rattle.{device_bench.specs.Receive.{ReceiveView, bytes_of, given_of, put_if}, napi_model.specs.declared.state.{Seen.Seen, State.State}}
-use Rattle.{napi_model.specs.Step.seen_of, napi_calls.specs.{declared.types.Napi.Napi, Seats.{IsInputOf, state_of}, Knows.received_held}}
+use Rattle.{device_bench.specs.Receive.{ReceiveView, polled_bytes, given_of, put_if}}
+use Rattle.{napi_model.specs.declared.state.{Seen.Seen, State.State}}
+use Rattle.{napi_model.specs.Step.seen_of}
+use Rattle.{napi_calls.specs.{declared.types.Napi.Napi, Seats.{PutsIntoRingOf, state_shown}, Knows.received_held}}
 use Rattle.rx_ring.specs.{declared.{ends.{RxCtx.RxCtx, RxIn.RxIn}, packet.Packet.Packet}, Ends.{IsOneRing, SameIn, free_of, put_list}}
 use Rattle.{rx_ring.specs.Ends.received_list, device_shared.specs.{declared.seats.Seats.Seats, Seats.{IsRole, ShowAll, control_of}}}
 use Rattle.{std.proofs.Common.{None, sym, ap, subst, arith, length-append, length-drop}, napi_word.specs.{View.received_in, Passes.view_of}}
-use Rattle.device_shared.specs.{Seats.{poller_of, received_by, role_of, state_in, thread_of}, Receiving.SeatsReceive, SharedReceive.IsWhole}
+use Rattle.device_shared.specs.{Seats.{poller_of, seats_received, role_of, seats_state, thread_of}, Receiving.SeatsReceive}
+use Rattle.device_shared.specs.{SharedReceive.AreAllCallers}
 use Rattle.device_shared.{specs.SharedReceive.{IsWholeAt, bytes_each, left_in, napi_at, packets_at}, proofs.Gathering.ring_from}
 
 -- at both times it is an end of the same ring
@@ -23,7 +26,7 @@ side_at place input capacity = seen_side (napi_at place) (packets_at input place
 -- all seats are taken out of their field
 pub whole_in : (n : Napi) (place : Option Seats) (s : Seats) (input : RxIn) (held capacity : ℕ) (seen : Seen) → place ≡ Some s
     → IsWholeAt n place input held capacity seen
-    → IsWhole n s input held capacity seen
+    → AreAllCallers n s input held capacity seen
 whole_in n place s input held capacity seen was w = subst (λ (o : Option Seats). IsWholeAt n o input held capacity seen) was w
 
 pub side_in : (place : Option Seats) (s : Seats) (input : RxIn) (capacity : ℕ) (now : ReceiveView) → place ≡ Some s
@@ -44,7 +47,7 @@ put_whole n None input input' p held capacity seen w same is used = w
 put_whole n (Some s) input input' p held capacity seen w same is used =
     let more : length (put_list input') ≡ length (put_list input) + 1 = ap length is ∙ length-append (put_list input) (p ∷ []) in
     let left : left_in input' s ≡ left_in input s ++ p ∷ [] =
-    put_left (length (received_by s)) (put_list input) (put_list input') p w.order is in
+    put_left (length (seats_received s)) (put_list input) (put_list input') p w.order is in
     let long : length (left_in input' s) ≡ length (left_in input s) + 1 = ap length left ∙ length-append (left_in input s) (p ∷ []) in
     record {
       first = w.first;
@@ -70,8 +73,8 @@ put_side n place input input' p held capacity seen now w is view = grind (arith,
 
 -- ---- the next packets are received
 
-pub input_of_two : (n : Napi) (s : Seats) (input : RxIn) (held capacity : ℕ) (seen : Seen) → IsWhole n s input held capacity seen
-    → IsInputOf input (poller_of s.turn) × IsInputOf input (thread_of s.turn)
+pub input_of_two : (n : Napi) (s : Seats) (input : RxIn) (held capacity : ℕ) (seen : Seen) → AreAllCallers n s input held capacity seen
+    → PutsIntoRingOf input (poller_of s.turn) × PutsIntoRingOf input (thread_of s.turn)
 input_of_two n s input held capacity seen w = search (rules, ring_from)
 
 -- the packets of a poll, by their number and their bytes
@@ -83,14 +86,14 @@ given_bytes : (weight : ℕ) (packets : List Packet)
 given_bytes weight packets = sym (take-map (λ (p : Packet). p.bytes) weight packets) ∙ sym (take_min weight (bytes_each packets))
 
 module _ (n : Napi) (weight : ℕ) (s s' : Seats) (input input' : RxIn) (given : List Packet) (held capacity : ℕ) (seen : Seen)
-    (w : IsWhole n s input held capacity seen) (r : SeatsReceive weight input s input' s' given) where
-  had : received_by s ≡ received_list r.ctx
+    (w : AreAllCallers n s input held capacity seen) (r : SeatsReceive weight input s input' s' given) where
+  had : seats_received s ≡ received_list r.ctx
   had = ap (λ (o : Option RxCtx). received_held o (received_in (view_of (control_of s.turn)))) r.had
 
-  has : received_by s' ≡ received_list r.ctx'
+  has : seats_received s' ≡ received_list r.ctx'
   has = ap (λ (o : Option RxCtx). received_held o (received_in (view_of (control_of s'.turn)))) r.has
 
-  received_more : received_by s' ≡ received_by s ++ given
+  received_more : seats_received s' ≡ seats_received s ++ given
   received_more = has ∙ r.next.received ∙ ap (λ (l : List Packet). l ++ given) (sym had)
 
   given_is : given ≡ take weight (left_in input s)
@@ -99,21 +102,22 @@ module _ (n : Napi) (weight : ℕ) (s s' : Seats) (input input' : RxIn) (given :
   left_now : left_in input' s' ≡ drop (length given) (left_in input s)
   left_now = grind (arith, common_steps, received_more)
 
-  state_still : state_in s' ≡ state_in s
-  state_still = ap state_of r.three
+  state_still : seats_state s' ≡ seats_state s
+  state_still = ap state_shown r.three
 
   shows_still : ShowAll n w.first s'.interrupt.pass (poller_of s'.turn) (thread_of s'.turn) (control_of s'.turn)
   shows_still = grind (arith, common_steps)
 
-  whole_still : (count : ℕ) → count ≡ length given → role_of s'.turn ≡ role_of s.turn → IsWhole n s' input' (held - count) capacity seen
+  whole_still : (count : ℕ) → count ≡ length given → role_of s'.turn ≡ role_of s.turn
+      → AreAllCallers n s' input' (held - count) capacity seen
   whole_still count counted role =
       let many : length given ≡ min weight (length (left_in input s)) = ap length given_is ∙ length-take weight (left_in input s) in
-      let left : length (left_in input s) ≡ length (put_list input) - length (received_by s) =
-      length-drop (length (received_by s)) (put_list input) in
+      let left : length (left_in input s) ≡ length (put_list input) - length (seats_received s) =
+      length-drop (length (seats_received s)) (put_list input) in
       let now : length (left_in input' s') ≡ length (left_in input s) - length given =
       ap length left_now ∙ length-drop (length given) (left_in input s) in
-      let longer : length (received_by s') ≡ length (received_by s) + length given =
-      ap length received_more ∙ length-append (received_by s) given in
+      let longer : length (seats_received s') ≡ length (seats_received s) + length given =
+      ap length received_more ∙ length-append (seats_received s) given in
       let put : length (put_list input') ≡ length (put_list input) = ap length r.next.put in
       let still : held - count ≡ length (left_in input' s') = (λ i. w.held_is i - counted i) ∙ sym now in
       let known : length (drop (length (received_list r.ctx')) (put_list input)) ≡ length (left_in input' s') =
@@ -141,7 +145,7 @@ module _ (n : Napi) (weight : ℕ) (s s' : Seats) (input input' : RxIn) (given :
   number_given : length given ≡ given_of weight side
   number_given = ap length given_is ∙ given_number weight (left_in input s)
 
-  pub bytes_given : (now : ReceiveView) → side ≡ now → sum (bytes_each given) ≡ bytes_of weight now
+  pub bytes_given : (now : ReceiveView) → side ≡ now → sum (bytes_each given) ≡ polled_bytes weight now
   bytes_given now view = grind (arith, common_steps, given_bytes, given_is)
 
   packets_now : bytes_each (left_in input' s') ≡ drop (given_of weight side) side.packets

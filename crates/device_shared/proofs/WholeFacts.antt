@@ -5,8 +5,9 @@ use Rattle.std.proofs.Common.{◌≡◌, ◌∙◌, ◌≤◌, ℕ, List, Option
 use Rattle.rx_ring.specs.declared.ends.RxIn.{RxIn}
 use Rattle.{rx_ring.specs.{declared.packet.Packet.Packet, Ends.put_list}, napi_model.specs.declared.event.Operation.Operation}
 use Rattle.napi_model.specs.{declared.state.{Seen.Seen, State.State}, History.{LegalHistory, state_after}, Laws.IsSound}
-use Rattle.{napi_calls.specs.{Made.events, declared.types.Napi.Napi}, device_shared.specs.{declared.seats.Seats.Seats, Acting.Acts}}
-use Rattle.device_shared.specs.{Meeting.Meets, Seats.{IsRole, Role, received_by, role_of, state_in}, SharedReceive.{IsWhole, IsWholeAt}}
+use Rattle.{napi_calls.specs.{Made.events, declared.types.Napi.Napi}, device_shared.specs.{declared.seats.Seats.Seats, Acting.CallerActs}}
+use Rattle.device_shared.specs.{Meeting.SeatsMeet, Seats.{IsRole, Role, seats_received, role_of, seats_state}}
+use Rattle.device_shared.specs.{SharedReceive.{AreAllCallers, IsWholeAt}}
 use Rattle.device_shared.{specs.SharedReceive.{bytes_each, left_in, napi_at, packets_at}, proofs.Gathering.{leads_then, legal_then}}
 use Rattle.device_shared.proofs.{Gathering.{received_then, seen_then, shows_still, sound_then}, RingFacts.{seen_side, whole_in}}
 
@@ -16,22 +17,22 @@ pub record Called (c : ℕ) (os : List Operation) (n : Napi) (place place' : Opt
   pub s0 : Seats
   pub was : place ≡ Some s0
   pub at : IsWholeAt n place input held capacity seen
-  pub acts : Acts c os n s0 s1
-  pub met : (s2 : Seats) × (place' ≡ Some s2) × Meets s1 s2 seen'
+  pub acts : CallerActs c os n s0 s1
+  pub met : (s2 : Seats) × (place' ≡ Some s2) × SeatsMeet s1 s2 seen'
 
 abbrev pub called : {c : ℕ} {os : List Operation} {n : Napi} {place place' : Option Seats} {s1 : Seats} {input : RxIn} {held capacity : ℕ}
     {seen seen' : Seen} (s0 : Seats)
-    → place ≡ Some s0 → IsWholeAt n place input held capacity seen → Acts c os n s0 s1
-    → ((s2 : Seats) × (place' ≡ Some s2) × Meets s1 s2 seen') → Called c os n place place' s1 input held capacity seen seen'
+    → place ≡ Some s0 → IsWholeAt n place input held capacity seen → CallerActs c os n s0 s1
+    → ((s2 : Seats) × (place' ≡ Some s2) × SeatsMeet s1 s2 seen') → Called c os n place place' s1 input held capacity seen seen'
 called s0 was at acts met = record { s0 = s0; was = was; at = at; acts = acts; met = met }
 
 module _ {c : ℕ} {os : List Operation} {n : Napi} {place place' : Option Seats} {s1 : Seats} {input : RxIn} {held capacity : ℕ}
     {seen seen' : Seen}
     (k : Called c os n place place' s1 input held capacity seen seen') where
-  whole : IsWhole n k.s0 input held capacity seen
+  whole : AreAllCallers n k.s0 input held capacity seen
   whole = whole_in n place k.s0 input held capacity seen k.was k.at
 
-  state_is : napi_at place ≡ state_in k.s0
+  state_is : napi_at place ≡ seats_state k.s0
   state_is = ap napi_at k.was
 
   pub role_before : IsRole (role_of k.s0.turn) (napi_at place)
@@ -45,14 +46,14 @@ module _ {c : ℕ} {os : List Operation} {n : Napi} {place place' : Option Seats
       subst (λ (s : State). LegalHistory 3 s (events c os)) (sym state_is)
       (legal_then c os n whole.first k.s0 s1 k.met.0 seen' whole.gathered.show k.acts k.met.2)
 
-  leads : state_in k.met.0 ≡ state_after (napi_at place) (events c os)
+  leads : seats_state k.met.0 ≡ state_after (napi_at place) (events c os)
   leads = leads_then c os n whole.first k.s0 s1 k.met.0 seen' whole.gathered.show k.acts k.met.2
       ∙ ap (λ (s : State). state_after s (events c os)) (sym state_is)
 
   pub state : napi_at place' ≡ state_after (napi_at place) (events c os)
   state = ap napi_at k.met.1 ∙ leads
 
-  received_same : received_by k.met.0 ≡ received_by k.s0
+  received_same : seats_received k.met.0 ≡ seats_received k.s0
   received_same = received_then c os n whole.first k.s0 s1 k.met.0 seen' whole.gathered.show k.acts k.met.2
 
   left_same : left_in input k.met.0 ≡ left_in input k.s0
@@ -66,7 +67,7 @@ module _ {c : ℕ} {os : List Operation} {n : Napi} {place place' : Option Seats
     first = whole.first;
     gathered = record {
       show = shows_still c os n whole.first k.s0 s1 k.met.0 seen' whole.gathered.show k.acts k.met.2;
-      role = subst (λ (r : Role). IsRole r (state_in k.met.0)) (sym k.met.2.role) (subst (IsRole (role_of s1.turn)) (sym leads) role);
+      role = subst (λ (r : Role). IsRole r (seats_state k.met.0)) (sym k.met.2.role) (subst (IsRole (role_of s1.turn)) (sym leads) role);
     };
     one = whole.one;
     capacity_is = whole.capacity_is;

@@ -1,11 +1,11 @@
 -- What one of the callers of an instance did, while no other made calls.
-use Rattle.device_shared.specs.{declared.seats.{Seats.Seats, Turn.Turn}, Seats.{AreSeats, Role, control_of, ctx_of, poller_of, thread_of}}
+use Rattle.device_shared.specs.{declared.seats.{Seats.Seats, Turn.Turn}, Seats.{AreSeats, Role, control_of, turn_ctx, poller_of, thread_of}}
 use Rattle.std.specs.Prelude.{◌≡◌, ℕ, zero, suc, ◌≤◌, ◌⊎◌, Bool, true, false, List, [], ◌∷◌, ◌++◌, flat_map, Option, Some, None}
 use Rattle.napi_model.specs.declared.event.Operation.{Operation, TheVariants.{Look, Schedule, Take, TakeDisable, Unmark, Enable}}
 use Rattle.napi_model.specs.declared.{event.Prep.{Prep, TheVariants.{Granted, Missed, Disabled}}, state.{Seen.Seen, Kind.Kind}}
 use Rattle.napi_calls.specs.{Alone.MakesAlone, declared.types.Napi.Napi, Packets.{Quiet, polled, received_before}, Made.{Lost, looks}}
 use Rattle.{napi_word.specs.{declared.table.Pass.Pass, View.Continues, Passes.OwnsSlot}, poll_runs.specs.Polling.{busy_takes, handed}}
-use Rattle.{poll_shared.specs.Tries.Makes, rx_ring.specs.{declared.{packet.Packet.Packet, ends.RxCtx.RxCtx}, Ends.received_list}}
+use Rattle.{poll_shared.specs.Tries.PlanMakes, rx_ring.specs.{declared.{packet.Packet.Packet, ends.RxCtx.RxCtx}, Ends.received_list}}
 use Rattle.napi_model.specs.declared.event.Call.TheVariants as call
 
 abbrev pub seat_at : ℕ → Seats → Pass
@@ -23,21 +23,21 @@ CtxMoves packets p q None (Some x) = (packets ≡ []) × (received_list x ≡ re
 CtxMoves packets p q (Some x) None = (packets ≡ polled p x) × Continues (received_before p) (received_list x)
 
 -- the caller with this number made these operations, and the others did nothing
-pub record Acts (c : ℕ) (os : List Operation) (n : Napi) (before after : Seats) : Type 0 where
+pub record CallerActs (c : ℕ) (os : List Operation) (n : Napi) (before after : Seats) : Type 0 where
   pub low : c ≤ 3
   pub packets : List Packet
   pub zeroth : MakesAlone c os packets 0 before.interrupt.pass after.interrupt.pass
   pub one : MakesAlone c os packets 1 (poller_of before.turn) (poller_of after.turn)
   pub two : MakesAlone c os packets 2 (thread_of before.turn) (thread_of after.turn)
   pub three : MakesAlone c os packets 3 (control_of before.turn) (control_of after.turn)
-  pub moves : CtxMoves packets (seat_at c before) (seat_at c after) (ctx_of before.turn) (ctx_of after.turn)
+  pub moves : CtxMoves packets (seat_at c before) (seat_at c after) (turn_ctx before.turn) (turn_ctx after.turn)
   pub seats : AreSeats n after
 
 -- the interrupt requests a poll, and queues the instance if it is granted
 abbrev pub AsksBy : Prep → Option Kind → List Operation → Type 0
 AsksBy Granted None os = ⊥
 AsksBy Granted (Some k) os =
-    (ts : List (Lost call.Schedule)) × (x : Seen) × (rest : List Operation) × Makes (handed true) rest k
+    (ts : List (Lost call.Schedule)) × (x : Seen) × (rest : List Operation) × PlanMakes (handed true) rest k
     × (os ≡ (flat_map looks ts ++ Look x ∷ Schedule Granted ∷ []) ++ rest)
 AsksBy Missed kind os =
     (kind ≡ None) × (ts : List (Lost call.Schedule)) × (x : Seen) × (os ≡ flat_map looks ts ++ Look x ∷ Schedule Missed ∷ [])
@@ -58,7 +58,7 @@ TakesBy true k taken os = os ≡ Take k taken ∷ []
 TakesBy false k taken os = (taken ≡ false) × (os ≡ [])
 
 abbrev pub TakesBusilyBy : Bool → Bool → List Operation → Type 0
-TakesBusilyBy true taken os = Makes busy_takes os taken
+TakesBusilyBy true taken os = PlanMakes busy_takes os taken
 TakesBusilyBy false taken os = (taken ≡ false) × (os ≡ [])
 
 -- the controller tries to take an instance that it marked; an attempt that failed is two looks
@@ -69,8 +69,8 @@ TriesBy false taken os = (taken ≡ false) × (os ≡ [])
 
 -- if the controller took it, it has the context, which has received exactly what was delivered
 abbrev pub TurnTakes : Pass → Turn → Bool → Type 0
-TurnTakes p t true = CtxMoves [] p (control_of t) None (ctx_of t) × Quiet p (control_of t)
-TurnTakes p t false = (ctx_of t ≡ None) × Quiet p (control_of t)
+TurnTakes p t true = CtxMoves [] p (control_of t) None (turn_ctx t) × Quiet p (control_of t)
+TurnTakes p t false = (turn_ctx t ≡ None) × Quiet p (control_of t)
 
 abbrev pub EnablesBy : Bool → List Operation → Type 0
 EnablesBy threaded os = (ts : List (Lost (call.Enable threaded))) × (x : Seen) × (os ≡ flat_map looks ts ++ Look x ∷ Enable threaded ∷ [])
@@ -78,13 +78,13 @@ EnablesBy threaded os = (ts : List (Lost (call.Enable threaded))) × (x : Seen) 
 -- ---- the role afterwards
 
 -- this caller polls it, or none does
-abbrev pub polled_by : ℕ → Bool → Role → Role
-polled_by c busy None = None
-polled_by c busy (Some r) = Some (r.0, Some (c, busy))
+abbrev pub role_polled : ℕ → Bool → Role → Role
+role_polled c busy None = None
+role_polled c busy (Some r) = Some (r.0, Some (c, busy))
 
-abbrev pub left_by : Role → Role
-left_by None = None
-left_by (Some r) = Some (r.0, None)
+abbrev pub role_left : Role → Role
+role_left None = None
+role_left (Some r) = Some (r.0, None)
 
 abbrev pub marked : Role → Role
 marked None = None
@@ -95,9 +95,9 @@ abbrev pub who_polls : Option (ℕ × Bool) → ℕ
 who_polls None = 0
 who_polls (Some who) = who.0
 
-abbrev pub poller_by : Role → ℕ
-poller_by None = 0
-poller_by (Some r) = who_polls r.1
+abbrev pub role_poller : Role → ℕ
+role_poller None = 0
+role_poller (Some r) = who_polls r.1
 
 -- this caller polls it, busily or not
 abbrev pub PolledBy : ℕ → Bool → Role → Type 0
@@ -110,5 +110,5 @@ MayComplete r = (c : ℕ) × PolledBy c false r
 abbrev pub IsUnmarked : Role → Type 0
 IsUnmarked r = (who : Option (ℕ × Bool)) × (r ≡ Some (false, who))
 
-abbrev pub IsMarked : Role → Type 0
-IsMarked r = (who : Option (ℕ × Bool)) × (r ≡ Some (true, who))
+abbrev pub IsMarkedRole : Role → Type 0
+IsMarkedRole r = (who : Option (ℕ × Bool)) × (r ≡ Some (true, who))

@@ -6,7 +6,8 @@ use Rattle.napi_model.specs.{declared.event.Operation.{Operation, TheVariants.{M
 use Rattle.{napi_word.specs.declared.table.Pass.Pass, napi_calls.specs.{Closed.IsClosed, Made.Made, Seats.shown}}
 use Rattle.{napi_calls.specs.declared.types.{Caller.Caller, Napi.Napi}, device_bench.specs.Receive.ReceiveView}
 use Rattle.device_shared.specs.declared.seats.{Enabled.Enabled, Pollers.{Pollers, TheVariants.{Rest, ListPolls, ThreadPolls, PollsBusily}}}
-use Rattle.device_shared.specs.{declared.seats.Turn.Turn, Acting.TriesBy, Seats.{control_of, is_marked, poller_pass, polls_at, role_of}}
+use Rattle.device_shared.specs.{declared.seats.Turn.Turn, Acting.TriesBy}
+use Rattle.device_shared.specs.{Seats.{control_of, is_enable_marked, poller_pass, polls_at, role_of}}
 use Rattle.device_shared.specs.{Seats.thread_pass, SharedReceive.bytes_each}
 use mathlib.Core.List.{IsPrefix}
 use Rattle.napi_model.specs.declared.state.Kind.TheVariants as kind
@@ -31,24 +32,24 @@ LetsGo (Some who) pollers after = polls_at after ≡ (if who.1 then Some (who.0,
 
 -- if no caller owns it, the controller marks it, and then tries to take it
 abbrev pub TakesHold : Option (ℕ × Bool) → Enabled → Turn → Type 0
-TakesHold (Some who) e after = role_of after ≡ Some (is_marked e, Some who)
+TakesHold (Some who) e after = role_of after ≡ Some (is_enable_marked e, Some who)
 TakesHold None (enabled.On c) after = Made c.pass (MarkDisable ∷ []) (control_of after) × (role_of after ≡ Some (true, None))
 TakesHold None (enabled.Marked c) after =
     (os : List Operation) × (taken : Bool) × TriesBy true taken os × Made c.pass os (control_of after)
     × (role_of after ≡ (if taken then None else Some (true, None)))
 
-abbrev pub Leaves : Pollers → Enabled → Turn → Type 0
-Leaves pollers e after = (left : Pollers) × LetsGo (polls_at pollers) pollers left × TakesHold (polls_at left) e after
+abbrev pub LeavesTurn : Pollers → Enabled → Turn → Type 0
+LeavesTurn pollers e after = (left : Pollers) × LetsGo (polls_at pollers) pollers left × TakesHold (polls_at left) e after
 
 -- ---- the end
 
 -- the same seat at two times
 pub record IsLater (p q : Pass) : Type 0 where
   pub begins : IsPrefix (shown p) (shown q)
-  pub ring : seats.ring_of q ≡ seats.ring_of p
+  pub ring : seats.instance_ring q ≡ seats.instance_ring p
 
 -- the instance of a receive side in this state was closed, and all packets in its ring were polled
-pub record IsEnded (side : ReceiveView) (totals : Totals) : Type 0 where
+pub record IsSideClosed (side : ReceiveView) (totals : Totals) : Type 0 where
   pub napi : Napi
   pub callers : List Caller
   pub control : Pass

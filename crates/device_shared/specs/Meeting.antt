@@ -3,7 +3,7 @@ use Rattle.std.specs.Prelude.{◌≡◌, ℕ, List, [], ◌∷◌}
 use Rattle.napi_model.specs.{History.state_after, Step.{opening, seen_of}}
 use Rattle.{napi_model.specs.declared.state.Seen.Seen, napi_word.specs.{declared.table.Pass.Pass, Surveys.Surveys}}
 use Rattle.{napi_calls.specs.declared.types.Caller.Caller, device_shared.specs.declared.seats.{Pollers.Pollers, Seats.Seats}}
-use Rattle.device_shared.specs.Seats.{control_of, ctx_at, ctx_of, poller_of, poller_pass, polls_at, role_of, thread_of, thread_pass}
+use Rattle.device_shared.specs.Seats.{control_of, ctx_at, turn_ctx, poller_of, poller_pass, polls_at, role_of, thread_of, thread_pass}
 
 -- the seats by number
 abbrev pub posted : Caller → Pollers → Pass → List Pass
@@ -23,7 +23,7 @@ pub record StayPollers (before after : Pollers) : Type 0 where
   pub ctx : ctx_at after ≡ ctx_at before
   pub polls : polls_at after ≡ polls_at before
 
-pub record Meets (before after : Seats) (seen : Seen) : Type 0 where
+pub record SeatsMeet (before after : Seats) (seen : Seen) : Type 0 where
   pub meet : Meet (passes_of before) (passes_of after) seen
-  pub ctx : ctx_of after.turn ≡ ctx_of before.turn
+  pub ctx : turn_ctx after.turn ≡ turn_ctx before.turn
   pub role : role_of after.turn ≡ role_of before.turn

@@ -2,7 +2,7 @@
 use Rattle.std.specs.Prelude.{◌≡◌, ◌≤◌, ◌+◌, ℕ, List, ◌++◌, length, drop, take, Some}
 use Rattle.rx_ring.specs.declared.ends.RxCtx.{RxCtx}
 use Rattle.rx_ring.specs.{declared.{ends.RxIn.RxIn, packet.Packet.Packet}, Ends.{SameIn, capacity_of, free_of, put_list, received_list}}
-use Rattle.device_shared.specs.{declared.seats.Seats.Seats, Seats.{control_of, ctx_of, poller_of, thread_of}}
+use Rattle.device_shared.specs.{declared.seats.Seats.Seats, Seats.{control_of, turn_ctx, poller_of, thread_of}}
 
 -- a context receives the next of all packets put, as many as its weight allows, and then every slot is known to be free that
 -- holds no packet
@@ -20,7 +20,7 @@ pub record SeatsReceive (weight : ℕ) (input : RxIn) (before : Seats) (input' :
   pub two : thread_of after.turn ≡ thread_of before.turn
   pub three : control_of after.turn ≡ control_of before.turn
   pub ctx : RxCtx
-  pub had : ctx_of before.turn ≡ Some ctx
+  pub had : turn_ctx before.turn ≡ Some ctx
   pub ctx' : RxCtx
-  pub has : ctx_of after.turn ≡ Some ctx'
+  pub has : turn_ctx after.turn ≡ Some ctx'
   pub next : ReceivesNext weight input ctx input' ctx' given

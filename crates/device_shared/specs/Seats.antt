@@ -1,11 +1,12 @@
 -- All callers of one instance, owned by one thread: the interrupt is caller 0, the poller of the list 1, the device's thread 2,
 -- and the controller 3.
-use Rattle.napi_calls.specs.{Packets.delivered, Seats.{controller_of, shown, state_of}, declared.types.Napi.Napi, Instance.IsSeatOf}
+use Rattle.napi_calls.specs.{Packets.delivered, Seats.{controller_of, shown, state_shown}, declared.types.Napi.Napi, Instance.IsSeatOf}
 use Rattle.std.specs.Prelude.{◌≡◌, ℕ, Bool, true, false, List, Option, Some, None}
 use Rattle.napi_calls.specs.{Knows.received_held, Alone.AllShow}
 use Rattle.rx_ring.specs.declared.{packet.Packet.Packet, ends.RxCtx.RxCtx}
 use Rattle.device_shared.specs.declared.seats.{Turn.Turn, Pollers.Pollers}
-use Rattle.napi_model.specs.{declared.state.{State.State, Place.{Place, TheVariants.{Granted, Polling, Control}}}, Step.{Polls, opening}}
+use Rattle.napi_model.specs.{declared.state.{State.State, Place.{Place, TheVariants.{Granted, Polling, Control}}}}
+use Rattle.napi_model.specs.{Step.{CallerPolls, opening}}
 use Rattle.{napi_model.specs.History.LegalHistory, napi_word.specs.{Passes.view_of, View.{first_in, received_in}, declared.table.Pass.Pass}}
 use Rattle.device_shared.specs.declared.seats.{Pollers.TheVariants.{Rest, ListPolls, ThreadPolls, PollsBusily}, Seats.Seats}
 use Rattle.device_shared.specs.declared.seats.Enabled.{Enabled}
@@ -51,9 +52,9 @@ ctx_at (ListPolls w t) = Some w.ctx
 ctx_at (ThreadPolls p w) = Some w.ctx
 ctx_at (PollsBusily b t) = Some b.ctx
 
-abbrev pub ctx_of : Turn → Option RxCtx
-ctx_of (turn.Off p t c) = Some c.state.ctx
-ctx_of (turn.On pollers e) = ctx_at pollers
+abbrev pub turn_ctx : Turn → Option RxCtx
+turn_ctx (turn.Off p t c) = Some c.state.ctx
+turn_ctx (turn.On pollers e) = ctx_at pollers
 
 -- the caller that polls, and whether busily
 abbrev pub polls_at : Pollers → Option (ℕ × Bool)
@@ -62,9 +63,9 @@ polls_at (ListPolls w t) = Some (1, false)
 polls_at (ThreadPolls p w) = Some (2, false)
 polls_at (PollsBusily b t) = Some (1, true)
 
-abbrev pub is_marked : Enabled → Bool
-is_marked (enabled.On c) = false
-is_marked (enabled.Marked c) = true
+abbrev pub is_enable_marked : Enabled → Bool
+is_enable_marked (enabled.On c) = false
+is_enable_marked (enabled.Marked c) = true
 
 -- the controller owns the instance; or whether it marked it, which caller polls it, and whether busily
 abbrev pub Role : Type 0
@@ -72,22 +73,22 @@ Role = Option (Bool × Option (ℕ × Bool))
 
 abbrev pub role_of : Turn → Role
 role_of (turn.Off p t c) = None
-role_of (turn.On pollers e) = Some (is_marked e, polls_at pollers)
+role_of (turn.On pollers e) = Some (is_enable_marked e, polls_at pollers)
 
 abbrev pub is_off : Role → Bool
 is_off None = true
 is_off (Some r) = false
 
 -- no caller owns it; it may be queued
-abbrev pub rests : Place → Bool
-rests (Granted c) = false
-rests (Polling c) = false
-rests (Control c) = false
-rests _ = true
+abbrev pub is_unowned : Place → Bool
+is_unowned (Granted c) = false
+is_unowned (Polling c) = false
+is_unowned (Control c) = false
+is_unowned _ = true
 
 abbrev pub ArePlaced : Option (ℕ × Bool) → State → Type 0
-ArePlaced None s = (rests s.place ≡ true) × (s.flags.in_busy_poll ≡ false)
-ArePlaced (Some who) s = Polls who.0 who.1 s
+ArePlaced None s = (is_unowned s.place ≡ true) × (s.flags.in_busy_poll ≡ false)
+ArePlaced (Some who) s = CallerPolls who.0 who.1 s
 
 -- the instance's state matches this role
 abbrev pub IsRole : Role → State → Type 0
@@ -96,24 +97,24 @@ IsRole (Some r) s = (s.flags.disable ≡ r.0) × ArePlaced r.1 s
 
 -- ---- all four seats
 
-pub record IsSeatAt (n : Napi) (p : Pass) : Type 0 where
+pub record IsSharedSeat (n : Napi) (p : Pass) : Type 0 where
   pub instance : IsSeatOf n p
   pub controller : controller_of p ≡ 3
 
 pub record AreFour (n : Napi) (p0 p1 p2 p3 : Pass) : Type 0 where
-  pub zeroth : IsSeatAt n p0
-  pub one : IsSeatAt n p1
-  pub two : IsSeatAt n p2
-  pub three : IsSeatAt n p3
+  pub zeroth : IsSharedSeat n p0
+  pub one : IsSharedSeat n p1
+  pub two : IsSharedSeat n p2
+  pub three : IsSharedSeat n p3
 
-pub record ArePollers (n : Napi) (pollers : Pollers) : Type 0 where
-  pub one : IsSeatAt n (poller_pass pollers)
-  pub two : IsSeatAt n (thread_pass pollers)
+pub record ArePollerSeats (n : Napi) (pollers : Pollers) : Type 0 where
+  pub one : IsSharedSeat n (poller_pass pollers)
+  pub two : IsSharedSeat n (thread_pass pollers)
 
 pub record AreTurned (n : Napi) (t : Turn) : Type 0 where
-  pub one : IsSeatAt n (poller_of t)
-  pub two : IsSeatAt n (thread_of t)
-  pub three : IsSeatAt n (control_of t)
+  pub one : IsSharedSeat n (poller_of t)
+  pub two : IsSharedSeat n (thread_of t)
+  pub three : IsSharedSeat n (control_of t)
 
 abbrev pub AreSeats : Napi → Seats → Type 0
 AreSeats n s = AreFour n s.interrupt.pass (poller_of s.turn) (thread_of s.turn) (control_of s.turn)
@@ -129,12 +130,12 @@ pub record ShowAll (n : Napi) (first : RxCtx) (p0 p1 p2 p3 : Pass) : Type 0 wher
   pub all : AllShow (shown p3) (delivered p3) p0 p1 p2 p3
 
 -- the instance's state, and the packets that its ring's context has received
-abbrev pub state_in : Seats → State
-state_in s = state_of (control_of s.turn)
+abbrev pub seats_state : Seats → State
+seats_state s = state_shown (control_of s.turn)
 
-abbrev pub received_by : Seats → List Packet
-received_by s = received_held (ctx_of s.turn) (received_in (view_of (control_of s.turn)))
+abbrev pub seats_received : Seats → List Packet
+seats_received s = received_held (turn_ctx s.turn) (received_in (view_of (control_of s.turn)))
 
 pub record AreGathered (n : Napi) (first : RxCtx) (s : Seats) : Type 0 where
   pub show : ShowAll n first s.interrupt.pass (poller_of s.turn) (thread_of s.turn) (control_of s.turn)
-  pub role : IsRole (role_of s.turn) (state_in s)
+  pub role : IsRole (role_of s.turn) (seats_state s)

@@ -10,12 +10,12 @@ ghost use Rattle.napi_calls.specs.Instance.{IsSeatOf};
 ghost use Rattle.napi_calls.specs.Made.{Made};
 ghost use Rattle.napi_calls.specs.Packets.{Quiet};
 ghost use Rattle.poll_runs.specs.Polling.{completed, next_of};
-ghost use Rattle.poll_shared.specs.Tries.{Makes, Tries};
+ghost use Rattle.poll_shared.specs.Tries.{PlanMakes, Tries};
 ghost use Rattle.device_bench.specs.Receive.{taker_of};
-ghost use Rattle.device_shared.specs.Acting.{Acts, AsksBy, EnablesBy, IsMarked, IsUnmarked, MayComplete, PolledBy, TakesBusilyBy, TakesBy, TriesBy, TurnTakes, at_rest, left_by, marked, polled_by, poller_by};
+ghost use Rattle.device_shared.specs.Acting.{CallerActs, AsksBy, EnablesBy, IsMarkedRole, IsUnmarked, MayComplete, PolledBy, TakesBusilyBy, TakesBy, TriesBy, TurnTakes, at_rest, role_left, marked, role_polled, role_poller};
 ghost use Rattle.device_shared.specs.declared.seats.Pollers.TheVariants.{Rest};
 ghost use Rattle.device_shared.specs.declared.seats.Turn.TheVariants.{On};
-ghost use Rattle.device_shared.specs.Seats.{AreSeats, control_of, enabled_pass, is_marked, poller_of, role_of, thread_of};
+ghost use Rattle.device_shared.specs.Seats.{AreSeats, control_of, enabled_pass, is_enable_marked, poller_of, role_of, thread_of};
 
 use crate::seats::{Enabled, Pollers, Seats, Turn};
 use napi_calls::{Caller, Control, Marked, Napi, Sched, TryTake};
@@ -44,10 +44,10 @@ impl Enabled {
     // Marks a disable on an instance that is enabled.
     fn mark(self, napi: &Napi) -> Enabled
         requires seat { IsSeatOf napi.now (enabled_pass self) }
-        requires on { is_marked self ≡ false }
+        requires on { is_enable_marked self ≡ false }
         ensures made { Made (enabled_pass self) (operation.MarkDisable ∷ []) (enabled_pass result) }
         ensures packets { Quiet (enabled_pass self) (enabled_pass result) }
-        ensures marked { is_marked result ≡ true }
+        ensures marked { is_enable_marked result ≡ true }
     {
         match self {
             Enabled::On(control) => Enabled::Marked(control.mark(napi)),
@@ -101,7 +101,7 @@ impl Seats {
     pub(crate) fn request<R: Wait>(self, rt: &R, napi: &Napi) -> (Seats, Prep, Option<Kind>)
         requires { AreSeats napi.now self }
         ensures acts { (os : List Operation) × AsksBy result.1 result.2 os
-            × Acts 0 os napi.now self result.0 }
+            × CallerActs 0 os napi.now self result.0 }
         ensures role { role_of result.0.turn ≡ role_of self.turn }
     {
         let Seats { interrupt, turn } = self;
@@ -112,7 +112,7 @@ impl Seats {
     /// Sets, as the interrupt, whether the instance is scheduled on the device's thread.
     pub(crate) fn set_threaded(self, napi: &Napi, threaded: bool) -> Seats
         requires { AreSeats napi.now self }
-        ensures acts { Acts 0 (operation.SetThreaded threaded ∷ []) napi.now self result }
+        ensures acts { CallerActs 0 (operation.SetThreaded threaded ∷ []) napi.now self result }
         ensures role { role_of result.turn ≡ role_of self.turn }
     {
         let Seats {
@@ -129,9 +129,9 @@ impl Seats {
         requires { AreSeats napi.now self }
         ensures acts { (os : List Operation)
             × TakesBy (at_rest (role_of self.turn)) kind result.1 os
-            × Acts (taker_of kind) os napi.now self result.0 }
+            × CallerActs (taker_of kind) os napi.now self result.0 }
         ensures role { role_of result.0.turn ≡ (if result.1
-            then polled_by (taker_of kind) false (role_of self.turn) else role_of self.turn) }
+            then role_polled (taker_of kind) false (role_of self.turn) else role_of self.turn) }
     {
         let Seats { interrupt, turn } = self;
         let (poller, thread, enabled) = match turn.at_rest() {
@@ -156,9 +156,9 @@ impl Seats {
     pub(crate) fn requeue(self, napi: &Napi) -> Seats
         requires seats { AreSeats napi.now self }
         requires polls { MayComplete (role_of self.turn) }
-        ensures acts { Acts (poller_by (role_of self.turn))
+        ensures acts { CallerActs (role_poller (role_of self.turn))
             (operation.Hand kind.List ∷ []) napi.now self result }
-        ensures role { role_of result.turn ≡ left_by (role_of self.turn) }
+        ensures role { role_of result.turn ≡ role_left (role_of self.turn) }
     {
         let Seats { interrupt, turn } = self;
         let Turn::On(pollers, enabled) = turn else {
@@ -177,9 +177,9 @@ impl Seats {
     pub(crate) fn complete<R: Wait>(self, rt: &R, napi: &Napi) -> (Seats, Option<Kind>)
         requires seats { AreSeats napi.now self }
         requires polls { MayComplete (role_of self.turn) }
-        ensures acts { (os : List Operation) × Makes (completed true) os (next_of result.1)
-            × Acts (poller_by (role_of self.turn)) os napi.now self result.0 }
-        ensures role { role_of result.0.turn ≡ left_by (role_of self.turn) }
+        ensures acts { (os : List Operation) × PlanMakes (completed true) os (next_of result.1)
+            × CallerActs (role_poller (role_of self.turn)) os napi.now self result.0 }
+        ensures role { role_of result.0.turn ≡ role_left (role_of self.turn) }
     {
         let Seats { interrupt, turn } = self;
         let Turn::On(pollers, enabled) = turn else {
@@ -205,9 +205,9 @@ impl Seats {
         requires { AreSeats napi.now self }
         ensures acts { (os : List Operation)
             × TakesBusilyBy (at_rest (role_of self.turn)) result.1 os
-            × Acts 1 os napi.now self result.0 }
+            × CallerActs 1 os napi.now self result.0 }
         ensures role { role_of result.0.turn
-            ≡ (if result.1 then polled_by 1 true (role_of self.turn) else role_of self.turn) }
+            ≡ (if result.1 then role_polled 1 true (role_of self.turn) else role_of self.turn) }
     {
         let Seats { interrupt, turn } = self;
         let (poller, thread, enabled) = match turn.at_rest() {
@@ -226,7 +226,7 @@ impl Seats {
     pub(crate) fn hold(self, napi: &Napi) -> Seats
         requires seats { AreSeats napi.now self }
         requires polls { PolledBy 1 true (role_of self.turn) }
-        ensures acts { Acts 1 (operation.Complete Held ∷ []) napi.now self result }
+        ensures acts { CallerActs 1 (operation.Complete Held ∷ []) napi.now self result }
         ensures role { role_of result.turn ≡ role_of self.turn }
     {
         let Seats { interrupt, turn } = self;
@@ -246,8 +246,8 @@ impl Seats {
         requires seats { AreSeats napi.now self }
         requires polls { PolledBy 1 true (role_of self.turn) }
         ensures acts { (os : List Operation) × Tries call.BusyStop operation.BusyStop os
-            × Acts 1 os napi.now self result }
-        ensures role { role_of result.turn ≡ polled_by 1 false (role_of self.turn) }
+            × CallerActs 1 os napi.now self result }
+        ensures role { role_of result.turn ≡ role_polled 1 false (role_of self.turn) }
     {
         let Seats { interrupt, turn } = self;
         let Turn::On(pollers, enabled) = turn else {
@@ -264,7 +264,7 @@ impl Seats {
     pub(crate) fn mark(self, napi: &Napi) -> Seats
         requires seats { AreSeats napi.now self }
         requires on { IsUnmarked (role_of self.turn) }
-        ensures acts { Acts 3 (operation.MarkDisable ∷ []) napi.now self result }
+        ensures acts { CallerActs 3 (operation.MarkDisable ∷ []) napi.now self result }
         ensures role { role_of result.turn ≡ marked (role_of self.turn) }
     {
         let Seats { interrupt, turn } = self;
@@ -278,9 +278,9 @@ impl Seats {
     /// Tries once to take an instance that the controller marked. While a caller polls it, it makes no attempt.
     pub(crate) fn try_take(self, napi: &Napi) -> (Seats, bool)
         requires seats { AreSeats napi.now self }
-        requires marked { IsMarked (role_of self.turn) }
+        requires marked { IsMarkedRole (role_of self.turn) }
         ensures acts { (os : List Operation) × TriesBy (at_rest (role_of self.turn)) result.1 os
-            × Acts 3 os napi.now self result.0 }
+            × CallerActs 3 os napi.now self result.0 }
         ensures role { role_of result.0.turn ≡ (if result.1 then None else role_of self.turn) }
     {
         let Seats { interrupt, turn } = self;
@@ -304,7 +304,7 @@ impl Seats {
         requires seats { AreSeats napi.now self }
         requires off { role_of self.turn ≡ None }
         ensures acts { (os : List Operation) × EnablesBy threaded os
-            × Acts 3 os napi.now self result }
+            × CallerActs 3 os napi.now self result }
         ensures role { role_of result.turn ≡ Some (false, None) }
     {
         let Seats { interrupt, turn } = self;

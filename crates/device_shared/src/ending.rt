@@ -4,9 +4,9 @@ ghost use Rattle.std.specs.Prelude.{◌≡◌, [], ◌∷◌, length, vec_capaci
 ghost use Rattle.napi_calls.specs.Closed.{IsClosed};
 ghost use Rattle.napi_calls.specs.Instance.{IsSeatOf, callers_of};
 ghost use Rattle.rx_ring.specs.Ends.{IsOneRing, SameCtx, SameIn, put_list, received_list};
-ghost use Rattle.device_shared.specs.Ending.{IsLater, Leaves, LetsGo};
-ghost use Rattle.device_shared.specs.Seats.{ArePollers, AreTurned, IsSeatAt, control_of, enabled_pass, polls_at};
-ghost use Rattle.device_shared.specs.SharedReceive.{HasRoom};
+ghost use Rattle.device_shared.specs.Ending.{IsLater, LeavesTurn, LetsGo};
+ghost use Rattle.device_shared.specs.Seats.{ArePollerSeats, AreTurned, IsSharedSeat, control_of, enabled_pass, polls_at};
+ghost use Rattle.device_shared.specs.SharedReceive.{HasCallerRoom};
 
 use crate::acting::try_at_rest;
 use crate::seats::{Enabled, Pollers, Turn};
@@ -29,7 +29,7 @@ pub(crate) fn close(
     requires poller { IsSeatOf napi poller.pass }
     requires thread { IsSeatOf napi thread.pass }
     requires control { IsSeatOf napi control.pass }
-    requires room { HasRoom (callers_of napi) (length callers.items) (vec_capacity callers) }
+    requires room { HasCallerRoom (callers_of napi) (length callers.items) (vec_capacity callers) }
     ensures closed { IsClosed
         napi (interrupt ∷ poller ∷ thread ∷ []) control.pass result }
     ensures ctx { result ≡ control.state.ctx }
@@ -63,9 +63,9 @@ pub(crate) fn empty(input: &mut RxIn, ctx: &mut RxCtx)
 /// Makes all callers release the instance, and disables it.
 pub(crate) fn disable<R: Wait>(rt: &R, napi: &Napi, turn: Turn) -> (Caller, Caller, Control<Off>)
     requires { AreTurned napi.now turn }
-    ensures poller { IsSeatAt napi.now result.0.pass }
-    ensures thread { IsSeatAt napi.now result.1.pass }
-    ensures control { IsSeatAt napi.now result.2.pass }
+    ensures poller { IsSharedSeat napi.now result.0.pass }
+    ensures thread { IsSharedSeat napi.now result.1.pass }
+    ensures control { IsSharedSeat napi.now result.2.pass }
     ensures later { IsLater (control_of turn) result.2.pass }
 {
     let mut turn = turn;
@@ -81,8 +81,8 @@ pub(crate) fn disable<R: Wait>(rt: &R, napi: &Napi, turn: Turn) -> (Caller, Call
 impl Pollers {
     // Makes one step towards an instance that no caller polls.
     fn release<R: Wait>(self, rt: &R, napi: &Napi) -> Pollers
-        requires { ArePollers napi.now self }
-        ensures pollers { ArePollers napi.now result }
+        requires { ArePollerSeats napi.now self }
+        ensures pollers { ArePollerSeats napi.now result }
         ensures step { LetsGo (polls_at self) self result }
     {
         match self {
@@ -109,11 +109,11 @@ impl Pollers {
 impl Turn {
     /// Makes one step towards an instance that the controller owns.
     pub(crate) fn leave<R: Wait>(pollers: Pollers, enabled: Enabled, rt: &R, napi: &Napi) -> Turn
-        requires pollers { ArePollers napi.now pollers }
-        requires control { IsSeatAt napi.now (enabled_pass enabled) }
+        requires pollers { ArePollerSeats napi.now pollers }
+        requires control { IsSharedSeat napi.now (enabled_pass enabled) }
         ensures turned { AreTurned napi.now result }
         ensures later { IsLater (enabled_pass enabled) (control_of result) }
-        ensures step { Leaves pollers enabled result }
+        ensures step { LeavesTurn pollers enabled result }
     {
         match pollers.release(rt, napi) {
             Pollers::Rest(poller, thread) => match enabled {

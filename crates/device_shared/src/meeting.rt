@@ -1,7 +1,7 @@
 //! All callers of an instance meet, and so know its whole history.
 
 ghost use Rattle.std.specs.Prelude.{◌≡◌, None};
-ghost use Rattle.device_shared.specs.Meeting.{Meet, Meets, StayPollers, posted};
+ghost use Rattle.device_shared.specs.Meeting.{Meet, SeatsMeet, StayPollers, posted};
 ghost use Rattle.device_shared.specs.Seats.{AreFour, AreSeats, poller_pass, thread_pass};
 
 use crate::seats::{Enabled, Pollers, Seats, Turn};
@@ -63,7 +63,7 @@ impl Seats {
     #[inline(always)]
     pub(crate) fn meet(self, napi: &Napi) -> (Seats, Seen)
         requires { AreSeats napi.now self }
-        ensures { Meets self result.0 result.1 }
+        ensures { SeatsMeet self result.0 result.1 }
     {
         let Seats { interrupt, turn } = self;
         match turn {

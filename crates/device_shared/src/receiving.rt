@@ -1,7 +1,7 @@
 //! A poll by a thread that owns both ends of the ring.
 
 ghost use Rattle.std.specs.Prelude.{◌≡◌, ◌≤◌, ℕ, Bool};
-ghost use Rattle.napi_calls.specs.Seats.{IsInputOf};
+ghost use Rattle.napi_calls.specs.Seats.{PutsIntoRingOf};
 ghost use Rattle.device_shared.specs.Acting.{PolledBy};
 ghost use Rattle.device_shared.specs.Receiving.{ReceivesNext, SeatsReceive};
 ghost use Rattle.device_shared.specs.Seats.{poller_of, role_of, thread_of};
@@ -13,7 +13,7 @@ use rx_ring::{Batch, MAX_WEIGHT, RxIn};
 // Polls once. The ends of the ring meet before the poll, so that it finds every packet, and after it, so that every free slot
 // is known.
 fn poll(polling: &mut Polling, input: &mut RxIn, weight: usize, batch: &mut Batch)
-    requires input { IsInputOf input.old polling.old.pass }
+    requires input { PutsIntoRingOf input.old polling.old.pass }
     requires weight { (1 ≤ weight) × (weight ≤ MAX_WEIGHT) }
     ensures next { ReceivesNext
         weight input.old polling.old.ctx input.new polling.new.ctx batch.new.items }
@@ -26,7 +26,7 @@ fn poll(polling: &mut Polling, input: &mut RxIn, weight: usize, batch: &mut Batc
 
 // Like [`poll`], for a caller that busy polls.
 fn poll_busily(busy: &mut Busy, input: &mut RxIn, weight: usize, batch: &mut Batch)
-    requires input { IsInputOf input.old busy.old.pass }
+    requires input { PutsIntoRingOf input.old busy.old.pass }
     requires weight { (1 ≤ weight) × (weight ≤ MAX_WEIGHT) }
     ensures next { ReceivesNext
         weight input.old busy.old.ctx input.new busy.new.ctx batch.new.items }
@@ -40,8 +40,8 @@ fn poll_busily(busy: &mut Busy, input: &mut RxIn, weight: usize, batch: &mut Bat
 impl Seats {
     /// Polls the ring, as the caller that polls the instance. This isn't an event.
     pub(crate) fn receive(self, input: &mut RxIn, weight: usize, batch: &mut Batch) -> Seats
-        requires one { IsInputOf input.old (poller_of self.turn) }
-        requires two { IsInputOf input.old (thread_of self.turn) }
+        requires one { PutsIntoRingOf input.old (poller_of self.turn) }
+        requires two { PutsIntoRingOf input.old (thread_of self.turn) }
         requires weight { (1 ≤ weight) × (weight ≤ MAX_WEIGHT) }
         requires polls { (c : ℕ) × (b : Bool) × PolledBy c b (role_of self.turn) }
         ensures next { SeatsReceive weight input.old self input.new result batch.new.items }

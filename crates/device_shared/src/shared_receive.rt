@@ -1,7 +1,7 @@
 //! The receive side of a device over an instance that threads could share.
 
 ghost use Rattle.std.specs.Prelude.{◌≡◌, false, is_some, Some};
-ghost use Rattle.device_shared.specs.Meeting.{Meets};
+ghost use Rattle.device_shared.specs.Meeting.{SeatsMeet};
 ghost use Rattle.device_shared.specs.Seats.{AreSeats};
 ghost use Rattle.device_shared.specs.declared.seats.Seats.{Seats};
 
@@ -42,7 +42,7 @@ impl<R: Wait + Drop> Model for SharedReceive<R> {
     ghost use Rattle.std.specs.Prelude.{length, vec_capacity};
     ghost use Rattle.device_bench.specs.Receive.{ReceiveView};
     ghost use Rattle.napi_calls.specs.Instance.{callers_of};
-    ghost use Rattle.device_shared.specs.SharedReceive.{HasRoom, IsWholeAt, napi_at, packets_at};
+    ghost use Rattle.device_shared.specs.SharedReceive.{HasCallerRoom, IsWholeAt, napi_at, packets_at};
 
     ghost Value = { ReceiveView };
 
@@ -53,7 +53,7 @@ impl<R: Wait + Drop> Model for SharedReceive<R> {
     } };
 
     ghost invariant = { λ s. IsWholeAt s.napi s.seats s.input s.held s.capacity s.seen
-        × HasRoom (callers_of s.napi) (length s.callers.items) (vec_capacity s.callers) };
+        × HasCallerRoom (callers_of s.napi) (length s.callers.items) (vec_capacity s.callers) };
 }
 
 // Lets all meet, and puts them back into their field.
@@ -61,7 +61,7 @@ impl<R: Wait + Drop> Model for SharedReceive<R> {
 fn keep(napi: &Napi, place: &mut Option<Seats>, seen: &mut Seen, seats: Seats)
     requires empty { is_some place.old ≡ false }
     requires seats { AreSeats napi.now seats }
-    ensures { (met : Seats) × (place.new ≡ Some met) × Meets seats met seen.new }
+    ensures { (met : Seats) × (place.new ≡ Some met) × SeatsMeet seats met seen.new }
 {
     let (seats, told) = seats.meet(napi);
     put_back(place, seats);
@@ -184,11 +184,11 @@ impl<R: Wait + Drop> ReceiveSide for SharedReceive<R> {
 }
 
 impl<R: Wait + Drop> SpentSide for SharedReceive<R> {
-    ghost use Rattle.device_shared.specs.Ending.{IsEnded};
+    ghost use Rattle.device_shared.specs.Ending.{IsSideClosed};
 
     type Totals = Totals;
 
-    ghost ended = { IsEnded };
+    ghost ended = { IsSideClosed };
 
     fn end(self) -> Totals {
         let SharedReceive {

@@ -1,11 +1,11 @@
 //! How the records of a trace may be written, and the result for bytes that aren't records.
 
-use device_model::{Event, Row, Trace, TraceFault, read_trace};
+use device_model::{Row, RowEvent, Trace, TraceFault, read_trace};
 use std::alloc::Global;
 use std::test::Fail;
 use test_ends::HEADER;
 
-fn row(moment: u64, device: u32, event: Event, value: u32) -> Row {
+fn row(moment: u64, device: u32, event: RowEvent, value: u32) -> Row {
     Row {
         moment,
         device,
@@ -22,16 +22,16 @@ fn read_rows(alloc: Global, rows: &str) -> Result<Trace, TraceFault> {
 
 fn every_row() -> [Row; 10] {
     [
-        row(0, 1, Event::Opened, 4),
-        row(1, 1, Event::Rx, 100),
-        row(2, 1, Event::Tx, 60),
-        row(3, 1, Event::Finish, 1),
-        row(4, 1, Event::Threaded, 1),
-        row(5, 1, Event::Kthread, 0),
-        row(6, 0, Event::Softirq, 0),
-        row(7, 1, Event::Disable, 0),
-        row(8, 1, Event::Enable, 0),
-        row(9, 1, Event::Threaded, 0),
+        row(0, 1, RowEvent::Opened, 4),
+        row(1, 1, RowEvent::Rx, 100),
+        row(2, 1, RowEvent::Tx, 60),
+        row(3, 1, RowEvent::Finish, 1),
+        row(4, 1, RowEvent::Threaded, 1),
+        row(5, 1, RowEvent::Kthread, 0),
+        row(6, 0, RowEvent::Softirq, 0),
+        row(7, 1, RowEvent::Disable, 0),
+        row(8, 1, RowEvent::Enable, 0),
+        row(9, 1, RowEvent::Threaded, 0),
     ]
 }
 
@@ -55,9 +55,9 @@ fn every_event(rt: HostRuntime) -> Result<(), Fail> {
 
 fn three_rows() -> [Row; 3] {
     [
-        row(0, 1, Event::Opened, 4),
-        row(1, 1, Event::Rx, 100),
-        row(2, 0, Event::Softirq, 0),
+        row(0, 1, RowEvent::Opened, 4),
+        row(1, 1, RowEvent::Rx, 100),
+        row(2, 0, RowEvent::Softirq, 0),
     ]
 }
 
@@ -146,9 +146,9 @@ fn headers(rt: HostRuntime) -> Result<(), Fail> {
 
 fn busy_rows() -> [Row; 3] {
     [
-        row(0, 1, Event::Opened, 4),
-        row(1, 1, Event::Busy, 2),
-        row(1, 1, Event::Busy, 65535),
+        row(0, 1, RowEvent::Opened, 4),
+        row(1, 1, RowEvent::Busy, 2),
+        row(1, 1, RowEvent::Busy, 65535),
     ]
 }
 

@@ -1,8 +1,8 @@
 -- The transmit side of a device: its queue, and the counts of its tx and done rows. It doesn't depend on polls.
 use Rattle.std.specs.Prelude.{◌≡◌, ℕ, Bool, true, false, Option, Some, None}
-use Rattle.dql_core.specs.{Bounds.DQL_MAX_LIMIT, Limit.opening}
+use Rattle.dql_core.specs.{Bounds.DQL_MAX_LIMIT, Limit.new_limit}
 use Rattle.device_transmit.specs.{Counter.raised, declared.transmit.{Transmit.Transmit, TxCounts.TxCounts}}
-use Rattle.tx_ring.specs.{Queue.{TransmitQueue, after_done, after_send, done_fault, opening_queue, send_fault, state_of}, Ring.ShowsQueue}
+use Rattle.tx_ring.specs.{Queue.{TransmitQueue, after_done, after_send, done_fault, opening_queue, send_fault, tx_state}, Ring.ShowsQueue}
 use Rattle.tx_ring.specs.declared.event.TxFault.{TxFault}
 
 pub record TransmitView : Type 0 where
@@ -23,7 +23,7 @@ hold_time = 1000
 -- an empty queue of this capacity under a limit that starts at this time
 abbrev pub opened_transmit : ℕ → ℕ → TransmitView
 opened_transmit capacity moment = record {
-  queue = opening_queue capacity (opening 0 DQL_MAX_LIMIT hold_time moment);
+  queue = opening_queue capacity (new_limit 0 DQL_MAX_LIMIT hold_time moment);
   sent = 0;
   held = 0;
   done = 0;
@@ -49,7 +49,7 @@ after_finish count moment t = done_unless (done_fault t.queue count) count momen
 
 -- the counts that the report shows
 abbrev pub tx_counts : TransmitView → TxCounts
-tx_counts t = record { sent = t.sent; held = t.held; done = t.done; denied = t.denied; state = state_of t.queue }
+tx_counts t = record { sent = t.sent; held = t.held; done = t.done; denied = t.denied; state = tx_state t.queue }
 
 -- the stored side represents this one: the ring represents the queue, whose totals may exceed 32 bits
 pub record ShowsTransmit (kept : Transmit) (t : TransmitView) : Type 0 where

@@ -1,17 +1,17 @@
 -- The transmit sides of devices, by number, and the effect of calls on them.
-use Rattle.{std.specs.Prelude.{Bool, false, Option, Some, None}, device_places.specs.Places.Places}
+use Rattle.{std.specs.Prelude.{Bool, false, Option, Some, None}, device_places.specs.Places.DeviceTable}
 use Rattle.device_transmit.specs.{Transmit.{TransmitView, tx_counts}, declared.transmit.{TxCounts.TxCounts, TheConstants.TxCounts.NONE}}
 
 abbrev pub Transmits : Type 0
-Transmits = Places TransmitView
+Transmits = DeviceTable TransmitView
 
 -- a call changed the transmit sides of a bench by this function
 abbrev pub Changes : {B : Type 0} → (B → Transmits → Type 0) → (Transmits → Transmits) → B → B → Type 0
 Changes shows change old new = (all : Transmits) → shows old all → shows new (change all)
 
 -- a call left them unchanged
-abbrev pub Keeps : {B : Type 0} → (B → Transmits → Type 0) → B → B → Type 0
-Keeps shows old new = Changes shows (λ all. all) old new
+abbrev pub KeepsTransmits : {B : Type 0} → (B → Transmits → Type 0) → B → B → Type 0
+KeepsTransmits shows old new = Changes shows (λ all. all) old new
 
 -- the counts of a side, zeros if there is none
 abbrev pub tx_counts_of : Option TransmitView → TxCounts

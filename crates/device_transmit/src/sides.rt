@@ -3,7 +3,7 @@
 ghost use Rattle.std.specs.Prelude.{◌≡◌, length};
 
 use crate::transmit::{Transmit, TxCounts};
-use device_places::PLACES;
+use device_places::TABLE_LEN;
 use std::alloc::{AllocError, Global};
 
 /// At most sixteen transmit sides, by device number. A call with a number that has none changes nothing.
@@ -25,8 +25,8 @@ impl TransmitSides {
     pub fn new(alloc: Global) -> Result<TransmitSides, AllocError>
         ensures { IfOk result (λ sides. ShowsSides sides empty) }
     {
-        let mut of = Vec::with_capacity(alloc, PLACES as usize)?;
-        for _ in 0..PLACES {
+        let mut of = Vec::with_capacity(alloc, TABLE_LEN as usize)?;
+        for _ in 0..TABLE_LEN {
             of.push_reserved(None);
         }
         Ok(TransmitSides { of })
@@ -48,7 +48,7 @@ impl TransmitSides {
     pub fn send(&mut self, device: u32, bytes: u32)
         ensures { Changes ShowsSides (changed (after_tx bytes) device) self.old self.new }
     {
-        if device < PLACES {
+        if device < TABLE_LEN {
             if let Some(transmit) = &mut self.of[device as usize] {
                 transmit.send(bytes);
             }
@@ -60,7 +60,7 @@ impl TransmitSides {
         ensures { Changes ShowsSides
             (changed (after_finish count moment) device) self.old self.new }
     {
-        if device < PLACES {
+        if device < TABLE_LEN {
             if let Some(transmit) = &mut self.of[device as usize] {
                 transmit.finish(count, moment);
             }

@@ -1,6 +1,6 @@
 -- How a `Dql` represents a limit in whole numbers.
 use Rattle.std.specs.Prelude.{◌≡◌, ℕ, ◌+◌, ◌≤◌}
-use Rattle.dql_core.specs.{Counter.{IsWrapped, distance_of}, Limit.opening, Bounds.most_in_flight}
+use Rattle.dql_core.specs.{Counter.{IsWrapped, distance_of}, Limit.new_limit, Bounds.most_in_flight}
 use Rattle.dql_core.specs.declared.{queue.{Adjustment.Adjustment, Dql.Dql}, whole.Limit.Limit}
 
 -- d represents the limit s: its counters are those of s modulo 2 ^ 32, and its other numbers are equal
@@ -24,12 +24,12 @@ abbrev pub bytes_in_flight : Dql → ℕ
 bytes_in_flight d = distance_of d.queued d.completed
 
 -- a new limit with d's bounds and hold time, made when d's slack time began
-abbrev pub opening_of : Dql → Limit
-opening_of d = opening d.min_limit d.max_limit d.hold d.slack_start
+abbrev pub new_limit_of : Dql → Limit
+new_limit_of d = new_limit d.min_limit d.max_limit d.hold d.slack_start
 
 -- d is new or was just reset
-abbrev pub IsNew : Dql → Type 0
-IsNew d = Shows d (opening_of d)
+abbrev pub IsNewLimit : Dql → Type 0
+IsNewLimit d = Shows d (new_limit_of d)
 
 -- the limit s with the limit and the slack of a
 abbrev pub with_adjustment : Limit → Adjustment → Limit

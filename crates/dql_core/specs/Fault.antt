@@ -3,8 +3,8 @@ use Rattle.{std.specs.Prelude.ℕ, dql_core.specs.declared.event.DqlFault.{DqlFa
 use Rattle.dql_core.specs.declared.event.DqlFault.TheVariants.{MoreThanQueued}
 
 -- the number of an error
-abbrev pub number_of : DqlFault → ℕ
-number_of BadBounds = 1
-number_of TooLarge = 2
-number_of TooMuchInFlight = 3
-number_of MoreThanQueued = 4
+abbrev pub dql_fault_number : DqlFault → ℕ
+dql_fault_number BadBounds = 1
+dql_fault_number TooLarge = 2
+dql_fault_number TooMuchInFlight = 3
+dql_fault_number MoreThanQueued = 4

@@ -7,8 +7,8 @@ use Rattle.dql_core.specs.declared.event.{DqlFault.TheVariants.{TooLarge, TooMuc
 use Rattle.dql_core.specs.declared.{event.LimitEvent.TheVariants.{Queued, Completed, Reset}, whole.Limit.Limit}
 
 -- a new limit with these bounds and this hold time, made at the time now (`dql_init`)
-abbrev pub opening : ℕ → ℕ → ℕ → ℕ → Limit
-opening min_limit max_limit hold now = record {
+abbrev pub new_limit : ℕ → ℕ → ℕ → ℕ → Limit
+new_limit min_limit max_limit hold now = record {
   queued = 0;
   completed = 0;
   last_object = 0;
@@ -33,7 +33,7 @@ avail_of s = pos (s.limit + s.completed) -ℤ pos s.queued
 
 -- the limit after a reset, which keeps its bounds and its hold time (`dql_reset`)
 abbrev pub after_reset : Limit → ℕ → Limit
-after_reset s now = opening s.min_limit s.max_limit s.hold now
+after_reset s now = new_limit s.min_limit s.max_limit s.hold now
 
 -- the limit after an object of count bytes is queued (`dql_queued`)
 abbrev pub after_queued : Limit → ℕ → Limit
@@ -46,8 +46,8 @@ abbrev pub over_of : Limit → ℕ
 over_of s = in_flight_of s - s.limit
 
 -- the bytes still in flight after it (`inprogress`)
-abbrev pub left_of : Limit → ℕ → ℕ
-left_of s count = s.queued - (s.completed + count)
+abbrev pub in_flight_after : Limit → ℕ → ℕ
+in_flight_after s count = s.queued - (s.completed + count)
 
 -- the bytes that the previous completion left in flight (`prev_inprogress`)
 abbrev pub previous_left_of : Limit → ℕ
@@ -60,13 +60,13 @@ completes_previous s count = nat_le s.previous_queued (s.completed + count)
 -- the queue ran empty while it was over its limit, now or at the previous completion: the limit is too low
 abbrev pub is_starved : Limit → ℕ → Bool
 is_starved s count =
-    (not (nat_eq (over_of s) 0) && nat_eq (left_of s count) 0)
+    (not (nat_eq (over_of s) 0) && nat_eq (in_flight_after s count) 0)
     || (not (nat_eq s.previous_over 0) && completes_previous s count)
 
 -- the queue was busy all the time since the previous completion: the limit may be too high
-abbrev pub is_busy : Limit → ℕ → Bool
-is_busy s count =
-    not (nat_eq (left_of s count) 0) && (not (nat_eq (previous_left_of s) 0) && not (completes_previous s count))
+abbrev pub was_busy : Limit → ℕ → Bool
+was_busy s count =
+    not (nat_eq (in_flight_after s count) 0) && (not (nat_eq (previous_left_of s) 0) && not (completes_previous s count))
 
 -- the bytes in the queue that weren't needed to keep it busy (`slack`)
 abbrev pub slack_of : Limit → ℕ → ℕ
@@ -92,15 +92,15 @@ slackened s lowest now =
 abbrev pub adjusted : Limit → ℕ → ℕ → Limit
 adjusted s count now =
     if is_starved s count then grown s count now
-    else (if is_busy s count then slackened s (min s.lowest_slack (slack_of s count)) now else s)
+    else (if was_busy s count then slackened s (min s.lowest_slack (slack_of s count)) now else s)
 
 -- clamped between the least and the greatest limit
 abbrev pub bounded : Limit → ℕ → ℕ
 bounded s limit = max s.min_limit (min limit s.max_limit)
 
 -- the limit after count bytes are completed and the limit is set to aimed; if the limit changes, the recorded excess is 0
-abbrev pub settled : Limit → ℕ → Limit → Limit
-settled s count aim = record s {
+abbrev pub limit_settled : Limit → ℕ → Limit → Limit
+limit_settled s count aim = record s {
   completed = s.completed + count;
   limit = bounded s aim.limit;
   lowest_slack = aim.lowest_slack;
@@ -112,7 +112,7 @@ settled s count aim = record s {
 
 -- the limit after count bytes are completed at the time now (`dql_completed`)
 abbrev pub after_completed : Limit → ℕ → ℕ → Limit
-after_completed s count now = settled s count (adjusted s count now)
+after_completed s count now = limit_settled s count (adjusted s count now)
 
 -- Whole runs.
 
@@ -127,13 +127,13 @@ abbrev pub completed_fault : Limit → ℕ → Option DqlFault
 completed_fault s count = if nat_lt (in_flight_of s) count then Some MoreThanQueued else None
 
 -- the reason why an event fails, if it does
-abbrev pub fault_of : Limit → LimitEvent → Option DqlFault
-fault_of s (Queued count) = queued_fault s count
-fault_of s (Completed count now) = completed_fault s count
-fault_of s (Reset now) = None
+abbrev pub limit_event_fault : Limit → LimitEvent → Option DqlFault
+limit_event_fault s (Queued count) = queued_fault s count
+limit_event_fault s (Completed count now) = completed_fault s count
+limit_event_fault s (Reset now) = None
 
 -- the limit after an event that succeeds
-abbrev pub after : Limit → LimitEvent → Limit
-after s (Queued count) = after_queued s count
-after s (Completed count now) = after_completed s count now
-after s (Reset now) = after_reset s now
+abbrev pub limit_after : Limit → LimitEvent → Limit
+limit_after s (Queued count) = after_queued s count
+limit_after s (Completed count now) = after_completed s count now
+limit_after s (Reset now) = after_reset s now

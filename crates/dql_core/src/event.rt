@@ -1,7 +1,7 @@
 //! The calls on a limit as values, and their errors.
 
 ghost use Rattle.std.specs.Prelude.{◌≡◌};
-ghost use Rattle.dql_core.specs.Fault.{number_of};
+ghost use Rattle.dql_core.specs.Fault.{dql_fault_number};
 
 use thiserror::Error;
 
@@ -39,7 +39,7 @@ pub enum DqlFault {
 impl DqlFault {
     /// The number of this error, 1 to 4.
     pub fn number(self) -> u8
-        ensures { result ≡ number_of self }
+        ensures { result ≡ dql_fault_number self }
     {
         self as u8
     }

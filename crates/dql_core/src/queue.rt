@@ -52,8 +52,8 @@ impl Dql {
     ghost use Rattle.std.specs.Result.{result_err};
     ghost use Rattle.dql_core.specs.Accepted.{accepted, after_all};
     ghost use Rattle.dql_core.specs.Counter.{IsWrapped, distance_of};
-    ghost use Rattle.dql_core.specs.Dql.{Shows, IsNew, bytes_in_flight, with_adjustment};
-    ghost use Rattle.dql_core.specs.Limit.{opening, in_flight_of, avail_of, after_reset, after_queued, over_of, completes_previous, is_starved, is_busy, slack_of, slackened, adjusted, settled, after_completed, queued_fault, completed_fault, fault_of, after};
+    ghost use Rattle.dql_core.specs.Dql.{Shows, IsNewLimit, bytes_in_flight, with_adjustment};
+    ghost use Rattle.dql_core.specs.Limit.{new_limit, in_flight_of, avail_of, after_reset, after_queued, over_of, completes_previous, is_starved, was_busy, slack_of, slackened, adjusted, limit_settled, after_completed, queued_fault, completed_fault, limit_event_fault, limit_after};
     ghost use Rattle.dql_core.specs.declared.event.DqlFault.TheVariants.{BadBounds};
     ghost use Rattle.dql_core.specs.declared.whole.Limit.{Limit};
 
@@ -63,8 +63,8 @@ impl Dql {
     ///
     /// Fails with [`BadBounds`](DqlFault::BadBounds) if `min` is over `max` or `max` over `MAX_LIMIT`.
     pub fn new(min: u32, max: u32, hold: u64, now: u64) -> Result<Dql, DqlFault>
-        ensures ok { IfOk result (λ d. Shows d (opening min max hold now)) }
-        ensures fresh { IfOk result IsNew }
+        ensures ok { IfOk result (λ d. Shows d (new_limit min max hold now)) }
+        ensures fresh { IfOk result IsNewLimit }
         ensures fault { IfErr result (λ e. e ≡ BadBounds) }
         ensures refused { IsErr result ↔ ((max < min) ⊎ (DQL_MAX_LIMIT < max)) }
     {
@@ -91,7 +91,7 @@ impl Dql {
     /// flight, and the limit is its least.
     pub fn reset(&mut self, now: u64)
         ensures reset { (s : Limit) → Shows self.old s → Shows self.new (after_reset s now) }
-        ensures fresh { IsNew self.new }
+        ensures fresh { IsNewLimit self.new }
     {
         self.queued = 0;
         self.completed = 0;
@@ -221,9 +221,10 @@ impl Dql {
     /// Makes these calls in order, and returns how many failed.
     pub fn run(&mut self, events: &[LimitEvent]) -> u64
         ensures state { (s : Limit) → Shows self.old s
-            → Shows self.new (after_all fault_of after s events.now) }
+            → Shows self.new (after_all limit_event_fault limit_after s events.now) }
         ensures refused { (s : Limit) → Shows self.old s
-            → result + length (accepted fault_of after s events.now) ≡ length events.now }
+            → result + length (accepted limit_event_fault limit_after s events.now)
+            ≡ length events.now }
     {
         let mut refused = 0u64;
         for i in 0..events.len() {
@@ -235,9 +236,11 @@ impl Dql {
 
     // Makes the call that the event names.
     fn apply(&mut self, event: LimitEvent) -> Result<(), DqlFault>
-        ensures ok { (s : Limit) → Shows self.old s → OnOk result (Shows self.new (after s event)) }
+        ensures ok { (s : Limit) → Shows self.old s
+            → OnOk result (Shows self.new (limit_after s event)) }
         ensures err { OnErr result (self.new ≡ self.old) }
-        ensures fault { (s : Limit) → Shows self.old s → result_err result ≡ fault_of s event }
+        ensures fault { (s : Limit) → Shows self.old s
+            → result_err result ≡ limit_event_fault s event }
     {
         match event {
             LimitEvent::Queued(count) => self.queued(count),
@@ -283,7 +286,7 @@ impl Dql {
 
     fn is_busy(&self, count: u32) -> bool
         requires { count ≤ bytes_in_flight self.now }
-        ensures { (s : Limit) → Shows self.now s → result ≡ is_busy s count }
+        ensures { (s : Limit) → Shows self.now s → result ≡ was_busy s count }
     {
         self.in_flight() != count
             && distance(self.previous_queued, self.completed) != 0
@@ -359,7 +362,7 @@ impl Dql {
         requires { count ≤ bytes_in_flight self.old }
         ensures in_flight { bytes_in_flight self.new + count ≡ bytes_in_flight self.old }
         ensures whole { (s : Limit) → Shows self.old s
-            → Shows self.new (settled s count (with_adjustment s adjustment)) }
+            → Shows self.new (limit_settled s count (with_adjustment s adjustment)) }
     {
         let limit = adjustment.limit.min(self.max_limit).max(self.min_limit);
         let over = if limit == self.limit { self.over() } else { 0 };

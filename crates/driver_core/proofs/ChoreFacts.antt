@@ -4,10 +4,10 @@ use Rattle.std.proofs.Common.{refl, sym, ap, arith, w64, get_or, set, replicate}
 use Rattle.std.proofs.lemmas.{List.{get_or-replicate, get_or-set_other, get_or-set_same, get_or_default, get_or_past, length-replicate}}
 use Rattle.std.proofs.lemmas.{Bool.{cases_eq, cases_lt}, Nat.Bits.{bit_at-trailing_zeros, bit_at-zero}}
 use Rattle.std.specs.{Prelude.{Option, Some, None, is_some}, List.All, Int.{bit_at, trailing_zeros}}
-use Rattle.driver_core.specs.{Device.{at, chore_at}, Queue.{MarksChores, device_at}}
-use Rattle.driver_core.specs.declared.device.{Chore.Chore, Device.{Device}, Stage.TheVariants.Closed}
+use Rattle.driver_core.specs.{Device.{in_stage, chore_at}, Queue.{MarksChores, device_at}}
+use Rattle.driver_core.specs.declared.device.{Chore.Chore, DriverDevice.{DriverDevice}, Stage.TheVariants.Closed}
 
-abbrev has_chore : Device → Bool
+abbrev has_chore : DriverDevice → Bool
 has_chore d = is_some (chore_at d.stage)
 
 abbrev flag : Bool → ℕ
@@ -25,11 +25,11 @@ no-chore : (o : Option Chore) → is_some o ≡ false → o ≡ None
 no-chore None h = refl
 no-chore (Some c) h = absurd (cc h)
 
-past : (devices : List Device) (id : ℕ) → length devices ≤ id → device_at devices id ≡ at Closed false
-past devices id le = get_or_past devices id (at Closed false) le
+past : (devices : List DriverDevice) (id : ℕ) → length devices ≤ id → device_at devices id ≡ in_stage Closed false
+past devices id le = get_or_past devices id (in_stage Closed false) le
 
 -- the lowest bit is of a device that has something to be done
-pub first_in : (devices : List Device) (bits : ℕ) → 0 < bits → bits < 2 ^ 64 → MarksChores devices bits
+pub first_in : (devices : List DriverDevice) (bits : ℕ) → 0 < bits → bits < 2 ^ 64 → MarksChores devices bits
     → (trailing_zeros w64 bits < length devices) × (has_chore (device_at devices (trailing_zeros w64 bits)) ≡ true)
 first_in devices bits some fits marks =
     let id = trailing_zeros w64 bits in
@@ -46,32 +46,32 @@ first_in devices bits some fits marks =
     (within, on)
 
 -- without a bit nothing is to be done
-pub none_in : (devices : List Device) (bits : ℕ) → bits ≡ 0 → length devices ≤ 64 → MarksChores devices bits
-    → All (λ (d : Device). chore_at d.stage ≡ None) devices
+pub none_in : (devices : List DriverDevice) (bits : ℕ) → bits ≡ 0 → length devices ≤ 64 → MarksChores devices bits
+    → All (λ (d : DriverDevice). chore_at d.stage ≡ None) devices
 none_in devices bits zero few marks k d lt =
-    let e : get_or devices k d ≡ device_at devices k = get_or_default devices k d (at Closed false) lt in
+    let e : get_or devices k d ≡ device_at devices k = get_or_default devices k d (in_stage Closed false) lt in
     let off : has_chore (device_at devices k) ≡ false =
     let none : bit_at bits k ≡ 0 = ap (λ (n : ℕ). bit_at n k) zero ∙ bit_at-zero k in
     flag-none (has_chore (device_at devices k)) (sym none ∙ marks k (omega (arith, lt, few))) in
-    ap (λ (d : Device). chore_at d.stage) e ∙ no-chore (chore_at (device_at devices k).stage) off
+    ap (λ (d : DriverDevice). chore_at d.stage) e ∙ no-chore (chore_at (device_at devices k).stage) off
 
 -- a device and its bit change together
-pub put_marks : (devices : List Device) (bits after : ℕ) (id : ℕ) (to : Device) → id < length devices
+pub put_marks : (devices : List DriverDevice) (bits after : ℕ) (id : ℕ) (to : DriverDevice) → id < length devices
     → bit_at after id ≡ cond (is_some (chore_at to.stage)) 1 0
     → ((k : ℕ) → k < 64 → k ≢ id → bit_at after k ≡ bit_at bits k)
     → MarksChores devices bits → MarksChores (set devices id to) after
 put_marks devices bits after id to lt same others marks k small = elim (cases_eq k id) [
-  | inl e ↦ rw e (same ∙ sym (ap (λ (d : Device). flag (has_chore d)) (get_or-set_same devices id to (at Closed false) lt)))
+  | inl e ↦ rw e (same ∙ sym (ap (λ (d : DriverDevice). flag (has_chore d)) (get_or-set_same devices id to (at Closed false) lt)))
   | inr ne ↦
       others k small ne ∙ marks k small
-      ∙ sym (ap (λ (d : Device). flag (has_chore d)) (get_or-set_other devices id k to (at Closed false) ne))
+      ∙ sym (ap (λ (d : DriverDevice). flag (has_chore d)) (get_or-set_other devices id k to (in_stage Closed false) ne))
 ]
 
 -- closed devices have nothing to be done
-pub new_marks : (count : ℕ) → MarksChores (replicate count (at Closed false)) 0
+pub new_marks : (count : ℕ) → MarksChores (replicate count (in_stage Closed false)) 0
 new_marks count k small =
-    let closed : device_at (replicate count (at Closed false)) k ≡ at Closed false = elim (cases_lt k count) [
-      | inl lt ↦ get_or-replicate count k (at Closed false) (at Closed false) lt
-      | inr le ↦ past (replicate count (at Closed false)) k (omega (arith, le, length-replicate count (at Closed false)))
+    let closed : device_at (replicate count (in_stage Closed false)) k ≡ in_stage Closed false = elim (cases_lt k count) [
+      | inl lt ↦ get_or-replicate count k (in_stage Closed false) (in_stage Closed false) lt
+      | inr le ↦ past (replicate count (in_stage Closed false)) k (omega (arith, le, length-replicate count (in_stage Closed false)))
     ] in
-    bit_at-zero k ∙ sym (ap (λ (d : Device). flag (has_chore d)) closed)
+    bit_at-zero k ∙ sym (ap (λ (d : DriverDevice). flag (has_chore d)) closed)

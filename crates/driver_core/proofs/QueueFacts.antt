@@ -10,12 +10,13 @@ use Rattle.std.specs.Prelude.{◌==◌, ◌||◌, if◌then◌else◌}
 use Rattle.std.specs.List.{All}
 use Rattle.poll_runs.specs.declared.bench.Next.TheVariants as next
 use Rattle.napi_model.specs.declared.state.Kind.TheVariants as kind
-use Rattle.poll_runs.specs.{Driven.held, Plain.{HasRoom, NothingBehind, OwnPushes, all_held}, Turn.{HandsOn, Refills, asked_for}}
+use Rattle.poll_runs.specs.{Driven.held, Plain.{HasListRoom, NothingBehind, OwnPushes, all_held}, Turn.{HandsOn, Refills, asked_for}}
 use Rattle.poll_runs.specs.{Polls.{is_arrival, is_repoll}, Steps.{Asks, Begins, HoldsNothing, has_spent}}
 use Rattle.poll_runs.specs.{declared.{bench.Next.Next, polling_run.PollingRun.PollingRun}}
-use Rattle.driver_core.specs.{Device.{at, chore_at, completed_at, is_listed, is_stopping, polled, polled_at, IsAtRest}}
+use Rattle.driver_core.specs.Device.{in_stage, chore_at, completed_at, stage_is_listed, is_stopping, after_driver_poll, after_poll_at}
+use Rattle.driver_core.specs.Device.{IsAtRest}
 use Rattle.driver_core.specs.{Queue.{IsAsked, IsQueue, device_at, listed_at, listed_in, occurs}}
-use Rattle.driver_core.specs.declared.device.{Chore.Chore, Device.Device}
+use Rattle.driver_core.specs.declared.device.{Chore.Chore, DriverDevice.DriverDevice}
 use Rattle.driver_core.specs.declared.device.{Stage.{Stage, TheVariants.{Closed, Masking, Closing, Listed, Unmasking, Looking, Armed}}}
 
 -- ---- devices
@@ -23,19 +24,21 @@ use Rattle.driver_core.specs.declared.device.{Stage.{Stage, TheVariants.{Closed,
 abbrev flag : Bool → ℕ
 flag b = cond b 1 0
 
-listed-same : (devices : List Device) (id : ℕ) (to : Device) → id < length devices → listed_at (set devices id to) id ≡ is_listed to.stage
-listed-same devices id to lt = ap (λ (d : Device). is_listed d.stage) (get_or-set_same devices id to (at Closed false) lt)
+listed-same : (devices : List DriverDevice) (id : ℕ) (to : DriverDevice) → id < length devices
+    → listed_at (set devices id to) id ≡ stage_is_listed to.stage
+listed-same devices id to lt = ap (λ (d : DriverDevice). stage_is_listed d.stage) (get_or-set_same devices id to (in_stage Closed false) lt)
 
-listed-other : (devices : List Device) (id k : ℕ) (to : Device) → k ≢ id → listed_at (set devices id to) k ≡ listed_at devices k
-listed-other devices id k to ne = ap (λ (d : Device). is_listed d.stage) (get_or-set_other devices id k to (at Closed false) ne)
+listed-other : (devices : List DriverDevice) (id k : ℕ) (to : DriverDevice) → k ≢ id → listed_at (set devices id to) k ≡ listed_at devices k
+listed-other devices id k to ne = ap (λ (d : DriverDevice). stage_is_listed d.stage)
+    (get_or-set_other devices id k to (in_stage Closed false) ne)
 
-sum-set : (devices : List Device) (id : ℕ) (to : Device) → id < length devices
-    → listed_in (set devices id to) + cond (listed_at devices id) 1 0 ≡ listed_in devices + cond (is_listed to.stage) 1 0
-sum-set devices id to lt = sum_by-set (λ (d : Device). cond (is_listed d.stage) 1 0) devices id to (at Closed false) lt
+sum-set : (devices : List DriverDevice) (id : ℕ) (to : DriverDevice) → id < length devices
+    → listed_in (set devices id to) + cond (listed_at devices id) 1 0 ≡ listed_in devices + cond (stage_is_listed to.stage) 1 0
+sum-set devices id to lt = sum_by-set (λ (d : DriverDevice). cond (stage_is_listed d.stage) 1 0) devices id to (in_stage Closed false) lt
 
 -- a device that is listed as before changes nothing
-pub put_same : (devices : List Device) (list : List ℕ) (run : PollingRun) (id : ℕ) (to : Device) → id < length devices
-    → is_listed to.stage ≡ listed_at devices id → IsQueue devices list run → IsQueue (set devices id to) list run
+pub put_same : (devices : List DriverDevice) (list : List ℕ) (run : PollingRun) (id : ℕ) (to : DriverDevice) → id < length devices
+    → stage_is_listed to.stage ≡ listed_at devices id → IsQueue devices list run → IsQueue (set devices id to) list run
 put_same devices list run id to lt same q = record {
   each = λ k. q.each k ∙ sym (ap (λ (b : Bool). cond b 1 0) (elim (cases_eq k id) [
     | inl e ↦ rw e (listed-same devices id to lt ∙ same)
@@ -59,18 +62,18 @@ occurs-other k id ne = elim (eqb_tells id k) [
 ]
 
 -- there is room for one that isn't listed
-pub room : (devices : List Device) (list : List ℕ) (run : PollingRun) (id : ℕ) → id < length devices → listed_at devices id ≡ false
+pub room : (devices : List DriverDevice) (list : List ℕ) (run : PollingRun) (id : ℕ) → id < length devices → listed_at devices id ≡ false
     → IsQueue devices list run → length list + held run < length devices
 room devices list run id lt unlisted q =
-    let to : Device = at (Listed false) false in
+    let to : DriverDevice = in_stage (Listed false) false in
     let s = sum-set devices id to lt in
     let t = rw unlisted at s in
-    let most = count_by-le-length (λ (d : Device). is_listed d.stage) (set devices id to) in
+    let most = count_by-le-length (λ (d : DriverDevice). stage_is_listed d.stage) (set devices id to) in
     omega (arith, t, most, q.size, length-set devices id to)
 
 -- one that wasn't listed, and is now, goes onto the list
-pub put_new : (devices : List Device) (list : List ℕ) (run : PollingRun) (id : ℕ) (to : Device) → id < length devices
-    → listed_at devices id ≡ false → is_listed to.stage ≡ true → IsQueue devices list run
+pub put_new : (devices : List DriverDevice) (list : List ℕ) (run : PollingRun) (id : ℕ) (to : DriverDevice) → id < length devices
+    → listed_at devices id ≡ false → stage_is_listed to.stage ≡ true → IsQueue devices list run
     → IsQueue (set devices id to) (list ++ id ∷ []) run
 put_new devices list run id to lt unlisted listed q = record {
   each = λ k. elim (cases_eq k id) [
@@ -96,7 +99,7 @@ module _ (m : List ℕ → ℕ) (add : (xs ys : List ℕ) → m (xs ++ ys) ≡ m
   none : m [] ≡ 0
   none = omega (arith, add [] [])
 
-  refilled : (own list repoll filled after : List ℕ) → Refills all_held OwnPushes NothingBehind HasRoom own list repoll filled after
+  refilled : (own list repoll filled after : List ℕ) → Refills all_held OwnPushes NothingBehind HasListRoom own list repoll filled after
       → m filled + m after ≡ m own + m list
   refilled (id ∷ own) list repoll filled after r = rw (r.0, r.1) refl
   refilled [] list (id ∷ repoll) filled after r = rw (r.0, r.1) refl
@@ -110,7 +113,7 @@ module _ (m : List ℕ → ℕ) (add : (xs ys : List ℕ) → m (xs ++ ys) ≡ m
   asks-first (Some id) filled own h = rw h (add (id ∷ []) own)
 
   asks-keep : (run : PollingRun) (list own after : List ℕ) (answer : Option ℕ)
-      → Asks all_held OwnPushes NothingBehind HasRoom run list answer own after
+      → Asks all_held OwnPushes NothingBehind HasListRoom run list answer own after
       → m (asked_for answer) + m own + m after ≡ m run.own + m list
   asks-keep run list own after answer a =
       omega (arith, refilled run.own list run.repoll a.filled after a.refills, asks-first answer a.filled own a.first)
@@ -119,8 +122,8 @@ held-is : (run : PollingRun) → held run ≡ length (asked_for run.asked) + len
 held-is run = ap (λ (n : ℕ). n + length run.repoll) (length-append (asked_for run.asked) run.own)
 
 -- the run asks for its next poll
-pub next_keeps : (devices : List Device) (list after : List ℕ) (run run' : PollingRun) → run.asked ≡ None
-    → Asks all_held OwnPushes NothingBehind HasRoom run list run'.asked run'.own after → run'.repoll ≡ run.repoll
+pub next_keeps : (devices : List DriverDevice) (list after : List ℕ) (run run' : PollingRun) → run.asked ≡ None
+    → Asks all_held OwnPushes NothingBehind HasListRoom run list run'.asked run'.own after → run'.repoll ≡ run.repoll
     → IsQueue devices list run → IsQueue devices after run'
 next_keeps devices list after run run' rests a repoll q =
     let count : (k : ℕ) → occurs k (asked_for run'.asked) + occurs k run'.own + occurs k after ≡ occurs k run.own + occurs k list =
@@ -134,9 +137,9 @@ next_keeps devices list after run run' rests a repoll q =
     }
 
 -- the same where budget or window may be spent
-pub advance_keeps : (devices : List Device) (list after : List ℕ) (run run' : PollingRun) (answer : Option ℕ) → run.asked ≡ None
+pub advance_keeps : (devices : List DriverDevice) (list after : List ℕ) (run run' : PollingRun) (answer : Option ℕ) → run.asked ≡ None
     → (has_spent run ≡ true → (answer ≡ None) × (run' ≡ run) × (after ≡ list))
-    → (has_spent run ≡ false → Asks all_held OwnPushes NothingBehind HasRoom run list answer run'.own after)
+    → (has_spent run ≡ false → Asks all_held OwnPushes NothingBehind HasListRoom run list answer run'.own after)
     → run'.asked ≡ answer → run'.repoll ≡ run.repoll
     → IsQueue devices list run → IsQueue devices after run'
 advance_keeps devices list after run run' answer rests spent left asks repoll q =
@@ -146,7 +149,7 @@ advance_keeps devices list after run run' answer rests spent left asks repoll q 
     ]
 
 -- a run begins
-pub begin_keeps : (devices : List Device) (list after : List ℕ) (run run' : PollingRun) → HoldsNothing run
+pub begin_keeps : (devices : List DriverDevice) (list after : List ℕ) (run run' : PollingRun) → HoldsNothing run
     → Begins all_held OwnPushes NothingBehind list run' after → run'.asked ≡ None
     → IsQueue devices list run → IsQueue devices after run'
 begin_keeps devices list after run run' nothing b rests q =
@@ -171,7 +174,7 @@ begin_keeps devices list after run run' nothing b rests q =
     }
 
 -- a run ends
-pub finish_keeps : (devices : List Device) (list came after : List ℕ) (run run' : PollingRun) → run.asked ≡ None → HoldsNothing run'
+pub finish_keeps : (devices : List DriverDevice) (list came after : List ℕ) (run run' : PollingRun) → run.asked ≡ None → HoldsNothing run'
     → came ≡ [] → after ≡ run.own ++ (list ++ came) ++ run.repoll
     → IsQueue devices list run → IsQueue devices after run'
 finish_keeps devices list came after run run' rests nothing nobody back q =
@@ -203,7 +206,7 @@ abbrev pub comes_back : Next → Bool
 comes_back next = is_arrival next || is_repoll next
 
 module _ (m : List ℕ → ℕ) (add : (xs ys : List ℕ) → m (xs ++ ys) ≡ m xs + m ys) where
-  handed : (next : Next) (id : ℕ) (list after repoll : List ℕ) → HandsOn all_held OwnPushes HasRoom list (is_arrival next) id after
+  handed : (next : Next) (id : ℕ) (list after repoll : List ℕ) → HandsOn all_held OwnPushes HasListRoom list (is_arrival next) id after
       → m after + m (repoll ++ (if is_repoll next then id ∷ [] else [])) ≡ m list + m repoll + cond (comes_back next) (m (id ∷ [])) 0
   handed next.Absent id list after repoll h = rw (h, add repoll []) (omega (arith, none m add))
   handed next.Gone id list after repoll h = rw (h, add repoll []) (omega (arith, none m add))
@@ -221,32 +224,32 @@ flag-one true h = refl
 flag-one false h = absurd (omega arith)
 
 -- the number that is being polled is that of a listed device
-pub asked_is_listed : (devices : List Device) (list : List ℕ) (run : PollingRun) (id : ℕ) → run.asked ≡ Some id
+pub asked_is_listed : (devices : List DriverDevice) (list : List ℕ) (run : PollingRun) (id : ℕ) → run.asked ≡ Some id
     → IsQueue devices list run → listed_at devices id ≡ true
 asked_is_listed devices list run id asked q =
     let one : occurs id (asked_for run.asked) ≡ occurs id (id ∷ []) = ap (λ (o : Option ℕ). occurs id (asked_for o)) asked in
     flag-one (listed_at devices id) (omega (arith, q.each id, one, occurs-itself id id refl))
 
-pub asked_in_range : (devices : List Device) (list : List ℕ) (run : PollingRun) (id : ℕ) → run.asked ≡ Some id
+pub asked_in_range : (devices : List DriverDevice) (list : List ℕ) (run : PollingRun) (id : ℕ) → run.asked ≡ Some id
     → IsQueue devices list run → id < length devices
 asked_in_range devices list run id asked q = elim (cases_lt id (length devices)) [
   | inl lt ↦ lt
   | inr past ↦
       let none : listed_at devices id ≡ false =
-      ap (λ (d : Device). is_listed d.stage) (get_or_past devices id (at Closed false) past) in
+      ap (λ (d : DriverDevice). stage_is_listed d.stage) (get_or_past devices id (in_stage Closed false) past) in
       let both : true ≡ false = sym (asked_is_listed devices list run id asked q) ∙ none in
       absurd (cc both)
 ]
 
-pub polled_keeps : (devices : List Device) (list after : List ℕ) (run run' : PollingRun) (id : ℕ) (to : Device) (next : Next)
+pub polled_keeps : (devices : List DriverDevice) (list after : List ℕ) (run run' : PollingRun) (id : ℕ) (to : DriverDevice) (next : Next)
     → id < length devices → run.asked ≡ Some id → run'.asked ≡ None → run'.own ≡ run.own
     → run'.repoll ≡ run.repoll ++ (if is_repoll next then id ∷ [] else [])
-    → HandsOn all_held OwnPushes HasRoom list (is_arrival next) id after
-    → is_listed to.stage ≡ comes_back next
+    → HandsOn all_held OwnPushes HasListRoom list (is_arrival next) id after
+    → stage_is_listed to.stage ≡ comes_back next
     → IsQueue devices list run → IsQueue (set devices id to) after run'
 polled_keeps devices list after run run' id to next lt asked rests own repoll hands back q =
     let was : flag (listed_at devices id) ≡ 1 = ap flag (asked_is_listed devices list run id asked q) in
-    let now : flag (is_listed to.stage) ≡ flag (comes_back next) = ap flag back in
+    let now : flag (stage_is_listed to.stage) ≡ flag (comes_back next) = ap flag back in
     let moved : (m : List ℕ → ℕ) → ((xs ys : List ℕ) → m (xs ++ ys) ≡ m xs + m ys)
     → (m after + (m (asked_for run'.asked) + (m run'.own + m run'.repoll)) + m (id ∷ [])
     ≡ m list + (m (asked_for run.asked) + (m run.own + m run.repoll)) + cond (comes_back next) (m (id ∷ [])) 0) =
@@ -265,7 +268,7 @@ polled_keeps devices list after run run' id to next lt asked rests own repoll ha
             let one = occurs-itself k id e in
             let extra : cond (comes_back next) (occurs k (id ∷ [])) 0 ≡ flag (comes_back next) =
             ap (λ (n : ℕ). cond (comes_back next) n 0) one in
-            let to-now : flag (listed_at (set devices id to) k) ≡ flag (is_listed to.stage) =
+            let to-now : flag (listed_at (set devices id to) k) ≡ flag (stage_is_listed to.stage) =
             rw e (ap flag (listed-same devices id to lt)) in
             let before : flag (listed_at devices k) ≡ 1 = rw e was in
             omega (arith, moved (occurs k) (occurs-append k), q.each k, one, extra, to-now, before, now)
@@ -281,7 +284,7 @@ polled_keeps devices list after run run' id to next lt asked rests own repoll ha
 
 -- ---- sleep
 
-rests-at : (stage : Stage) → chore_at stage ≡ None → is_listed stage ≡ false → IsAtRest stage
+rests-at : (stage : Stage) → chore_at stage ≡ None → stage_is_listed stage ≡ false → IsAtRest stage
 rests-at Closed c l = tt
 rests-at (Masking stopping) c l = cc
 rests-at Closing c l = cc
@@ -295,10 +298,11 @@ flag-none true h = absurd (omega arith)
 flag-none false h = refl
 
 -- with nothing to be done at any card and nothing on the list each device is at rest
-pub all_rest : (devices : List Device) (list : List ℕ) (run : PollingRun) → All (λ (d : Device). chore_at d.stage ≡ None) devices
-    → list ≡ [] → HoldsNothing run → IsQueue devices list run → All (λ (d : Device). IsAtRest d.stage) devices
+pub all_rest : (devices : List DriverDevice) (list : List ℕ) (run : PollingRun)
+    → All (λ (d : DriverDevice). chore_at d.stage ≡ None) devices
+    → list ≡ [] → HoldsNothing run → IsQueue devices list run → All (λ (d : DriverDevice). IsAtRest d.stage) devices
 all_rest devices list run chores empty nothing q k d lt =
-    let e : get_or devices k d ≡ device_at devices k = get_or_default devices k d (at Closed false) lt in
+    let e : get_or devices k d ≡ device_at devices k = get_or_default devices k d (in_stage Closed false) lt in
     let unlisted : listed_at devices k ≡ false =
     flag-none (listed_at devices k) (omega (
       arith,
@@ -312,25 +316,28 @@ all_rest devices list run chores empty nothing q k d lt =
 
 -- ---- of devices
 
-after-completion : (stopping missed : Bool) → is_listed (completed_at stopping missed).0.stage ≡ comes_back (completed_at stopping missed).1
+after-completion : (stopping missed : Bool)
+    → stage_is_listed (completed_at stopping missed).0.stage ≡ comes_back (completed_at stopping missed).1
 after-completion stopping true = refl
 after-completion false false = refl
 after-completion true false = refl
 
 after-poll : (full stopping missed : Bool)
-    → is_listed (polled_at full stopping missed).0.stage ≡ comes_back (polled_at full stopping missed).1
+    → stage_is_listed (after_poll_at full stopping missed).0.stage ≡ comes_back (after_poll_at full stopping missed).1
 after-poll true false missed = refl
 after-poll true true missed = after-completion true missed
 after-poll false stopping missed = after-completion stopping missed
 
 -- after a poll a device is listed if its number comes back
-pub polled_listed : (full : Bool) (d : Device) → is_listed (polled full d).0.stage ≡ comes_back (polled full d).1
+pub polled_listed : (full : Bool) (d : DriverDevice)
+    → stage_is_listed (after_driver_poll full d).0.stage ≡ comes_back (after_driver_poll full d).1
 polled_listed full d = after-poll full (is_stopping d.stage) d.missed
 
 -- ---- what was said
 
 -- what was said last is still due after a device changed, if it is kept
-pub put_asked : (devices : List Device) (polled : Option ℕ) (said kept : Option (ℕ × Chore)) (id : ℕ) (to : Device) → id < length devices
+pub put_asked : (devices : List DriverDevice) (polled : Option ℕ) (said kept : Option (ℕ × Chore)) (id : ℕ) (to : DriverDevice)
+    → id < length devices
     → (kept ≡ said) ⊎ (kept ≡ None)
     → ((k : ℕ) (chore : Chore) → kept ≡ Some (k, chore) → (k ≢ id) ⊎ (chore_at to.stage ≡ Some chore))
     → IsAsked devices polled said → IsAsked (set devices id to) polled kept
@@ -344,17 +351,17 @@ put_asked devices run-asked said kept id to lt same due a =
             let is : device_at (set devices id to) k ≡ to = rw here (get_or-set_same devices id to (at Closed false) lt) in
             elim (due k chore e) [
               | inl ne ↦ absurd (ne here)
-              | inr c ↦ ap (λ (d : Device). chore_at d.stage) is ∙ c
+              | inr c ↦ ap (λ (d : DriverDevice). chore_at d.stage) is ∙ c
             ]
         | inr ne ↦
-            let is : device_at (set devices id to) k ≡ device_at devices k = get_or-set_other devices id k to (at Closed false) ne in
-            ap (λ (d : Device). chore_at d.stage) is ∙ a.chore k chore (was k chore e)
+            let is : device_at (set devices id to) k ≡ device_at devices k = get_or-set_other devices id k to (in_stage Closed false) ne in
+            ap (λ (d : DriverDevice). chore_at d.stage) is ∙ a.chore k chore (was k chore e)
       ];
       alone = λ k chore e. a.alone k chore (was k chore e);
     }
 
 -- while a device is polled nothing is said of a card
-pub asked_alone : (devices : List Device) (polled : Option ℕ) (id : ℕ) (said : Option (ℕ × Chore)) → polled ≡ Some id
+pub asked_alone : (devices : List DriverDevice) (polled : Option ℕ) (id : ℕ) (said : Option (ℕ × Chore)) → polled ≡ Some id
     → IsAsked devices polled said → said ≡ None
 asked_alone devices run-asked id None is a = refl
 asked_alone devices run-asked id (Some (k, chore)) is a =

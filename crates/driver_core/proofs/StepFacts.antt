@@ -2,12 +2,14 @@
 use Rattle.std.proofs.Common.{◌≡◌, inl, inr, Bool, true, false, [], ◌∷◌, refl, subst, sym}
 use Rattle.napi_model.specs.{History.{LegalHistory, state_after}, Step.{event, schedule_reply}}
 use Rattle.napi_model.specs.declared.event.Operation.TheVariants.{Schedule, Enable, MarkDisable}
-use Rattle.driver_core.specs.Device.{at, interrupted, is_listed, looked, masked, opened, polled, stopped, unmasked, IsMasking, MayStop}
+use Rattle.driver_core.specs.Device.{in_stage, after_interrupt, stage_is_listed, after_look, masked, after_open, after_driver_poll}
+use Rattle.driver_core.specs.Device.{after_stop, unmasked, IsMasking, MayStop}
 use Rattle.driver_core.specs.Steps.{CallsAreLegal, Leads, CONTROLLER, INTERRUPT, look_events, mask_events, napi_of, poll_events}
 use Rattle.driver_core.specs.declared.device.{Stage.{Stage, TheVariants.{Closed, Masking, Closing, Listed, Unmasking, Looking, Armed}}}
 
 interrupts : (stage : Stage) (missed : Bool)
-    → Leads (at stage missed) (event INTERRUPT (Schedule (schedule_reply (napi_of (at stage missed)))) ∷ []) (interrupted (at stage missed))
+    → Leads (in_stage stage missed) (event INTERRUPT (Schedule (schedule_reply (napi_of (in_stage stage missed)))) ∷ [])
+    (after_interrupt (in_stage stage missed))
 unfolding LegalHistory state_after
 interrupts Closed missed = ((((refl, refl), tt), tt), refl)
 interrupts (Masking false) missed = ((((refl, refl), tt), tt), refl)
@@ -19,7 +21,8 @@ interrupts Unmasking missed = ((((refl, refl), tt), tt), refl)
 interrupts Looking missed = ((((refl, refl), tt), tt), refl)
 interrupts Armed missed = ((((refl, refl), tt), tt), refl)
 
-masks : (stage : Stage) (missed : Bool) → IsMasking stage → Leads (at stage missed) (mask_events stage) (masked (at stage missed))
+masks : (stage : Stage) (missed : Bool) → IsMasking stage
+    → Leads (in_stage stage missed) (mask_events stage) (masked (in_stage stage missed))
 unfolding LegalHistory state_after
 masks (Masking stopping) missed h = (((inl refl, tt), tt), refl)
 masks Closing missed h = ((((refl, refl, refl), refl), (((refl, refl), refl), tt)), refl)
@@ -29,7 +32,7 @@ masks Unmasking missed h = absurd h
 masks Looking missed h = absurd h
 masks Armed missed h = absurd h
 
-unmasks : (stage : Stage) (missed : Bool) → Leads (at stage missed) [] (unmasked (at stage missed))
+unmasks : (stage : Stage) (missed : Bool) → Leads (in_stage stage missed) [] (unmasked (in_stage stage missed))
 unfolding LegalHistory state_after
 unmasks Closed missed = (tt, refl)
 unmasks (Masking stopping) missed = (tt, refl)
@@ -39,13 +42,13 @@ unmasks Unmasking missed = (tt, refl)
 unmasks Looking missed = (tt, refl)
 unmasks Armed missed = (tt, refl)
 
-looks : (missed has_more : Bool) → Leads (at Looking missed) (look_events has_more) (looked has_more (at Looking missed))
+looks : (missed has_more : Bool) → Leads (in_stage Looking missed) (look_events has_more) (after_look has_more (in_stage Looking missed))
 unfolding LegalHistory state_after
 looks missed true = ((((refl, refl), tt), tt), refl)
 looks missed false = (tt, refl)
 
-polls : (full stopping missed : Bool) → Leads (at (Listed stopping) missed) (poll_events full (at (Listed stopping) missed))
-    (polled full (at (Listed stopping) missed)).0
+polls : (full stopping missed : Bool) → Leads (in_stage (Listed stopping) missed) (poll_events full (in_stage (Listed stopping) missed))
+    (after_driver_poll full (in_stage (Listed stopping) missed)).0
 unfolding LegalHistory state_after
 polls true false missed = (((refl, tt), ((inr (refl, refl), tt), tt)), refl)
 polls true true true = (((refl, tt), (((refl, refl, refl), tt), ((inl refl, tt), tt))), refl)
@@ -54,8 +57,8 @@ polls false stopping true = (((refl, tt), (((refl, refl, refl), tt), ((inl refl,
 polls false true false = (((refl, tt), (((refl, refl, refl), tt), (((refl, refl, refl), refl), (((refl, refl), refl), tt)))), refl)
 polls false false false = (((refl, tt), (((refl, refl, refl), tt), tt)), refl)
 
-polls-listed : (stage : Stage) (full missed : Bool) → is_listed stage ≡ true
-    → Leads (at stage missed) (poll_events full (at stage missed)) (polled full (at stage missed)).0
+polls-listed : (stage : Stage) (full missed : Bool) → stage_is_listed stage ≡ true
+    → Leads (in_stage stage missed) (poll_events full (in_stage stage missed)) (after_driver_poll full (in_stage stage missed)).0
 polls-listed (Listed stopping) full missed h = polls full stopping missed
 polls-listed Closed full missed h = absurd (cc h)
 polls-listed (Masking stopping) full missed h = absurd (cc h)
@@ -64,12 +67,12 @@ polls-listed Unmasking full missed h = absurd (cc h)
 polls-listed Looking full missed h = absurd (cc h)
 polls-listed Armed full missed h = absurd (cc h)
 
-opens : (missed : Bool) → Leads (at Closed missed) (event CONTROLLER (Enable false) ∷ []) (opened (at Closed missed))
+opens : (missed : Bool) → Leads (in_stage Closed missed) (event CONTROLLER (Enable false) ∷ []) (after_open (in_stage Closed missed))
 unfolding LegalHistory state_after
 opens missed = ((((refl, refl), refl), tt), refl)
 
 stops : (stage : Stage) (missed : Bool) → MayStop stage
-    → Leads (at stage missed) (event CONTROLLER MarkDisable ∷ []) (stopped (at stage missed))
+    → Leads (in_stage stage missed) (event CONTROLLER MarkDisable ∷ []) (after_stop (in_stage stage missed))
 unfolding LegalHistory state_after
 stops (Masking false) missed h = ((((refl, λ x. x), refl), tt), refl)
 stops (Listed false) missed h = ((((refl, λ x. x), refl), tt), refl)
@@ -87,11 +90,13 @@ calls-are-legal = record {
   masked = λ d h. masks d.stage d.missed h;
   unmasked = λ d. unmasks d.stage d.missed;
   looked = λ d has_more h.
-      let P : Stage → Type 0 = λ stage. Leads (at stage d.missed) (look_events has_more) (looked has_more (at stage d.missed)) in
+      let P : Stage → Type 0 = λ stage. Leads (in_stage stage d.missed) (look_events has_more)
+      (after_look has_more (in_stage stage d.missed)) in
       subst P (sym h) (looks d.missed has_more);
   polled = λ d full h. polls-listed d.stage full d.missed h;
   opened = λ d h.
-      let P : Stage → Type 0 = λ stage. Leads (at stage d.missed) (event CONTROLLER (Enable false) ∷ []) (opened (at stage d.missed)) in
+      let P : Stage → Type 0 = λ stage. Leads (in_stage stage d.missed) (event CONTROLLER (Enable false) ∷ [])
+      (after_open (in_stage stage d.missed)) in
       subst P (sym h) (opens d.missed);
   stopped = λ d h. stops d.stage d.missed h;
 }

@@ -1,10 +1,10 @@
 -- What holds of a device and its card whatever happens, and whenever.
 use Rattle.std.proofs.Common.{◌≡◌, ◌⊎◌, inl, inr, ℕ, ◌+◌, zero, suc, Bool, true, false, cond, List, [], ◌∷◌, refl, subst}
 use Rattle.std.specs.Prelude.{◌||◌, not}
-use Rattle.driver_core.specs.Device.{at, completed_at, interrupted, opened, polled_at, stopped}
-use Rattle.driver_core.specs.World.{Hand, World, Event, free, to_mask, to_unmask, to_look, to_fetch, did_mask, did_unmask, saw, took}
+use Rattle.driver_core.specs.Device.{in_stage, completed_at, after_interrupt, after_open, after_poll_at, after_stop}
+use Rattle.driver_core.specs.World.{Hand, World, DriverEvent, free, to_mask, to_unmask, to_look, to_fetch, did_mask, did_unmask, saw, took}
 use Rattle.driver_core.specs.World.{arrives, interrupts, says, acts, reports, forgets, opens, stops, world_step, world_after, new_world}
-use Rattle.driver_core.specs.World.{says_by, hand_after, masked_after, packets_after, is_told, told, IsWatched}
+use Rattle.driver_core.specs.World.{says_by, hand_after, masked_after, packets_after, is_told, after_message, IsWatched}
 use Rattle.driver_core.specs.World.{NoPacketWaitsUnseen, IsMaskedWhileListed, ListedIsMasked}
 use Rattle.driver_core.specs.declared.device.{Stage.{Stage, TheVariants.{Closed, Masking, Closing, Listed, Unmasking, Looking, Armed}}}
 
@@ -63,7 +63,7 @@ arrived hand Armed m i p h = h
 arrived hand stage m i p h = h
 
 interrupted-by : (hand : Hand) (stage : Stage) (missed m i : Bool) (p : ℕ) → Good hand stage m i p
-    → Good hand (cond i (interrupted (at stage missed)) (at stage missed)).stage m false p
+    → Good hand (cond i (after_interrupt (in_stage stage missed)) (in_stage stage missed)).stage m false p
 interrupted-by hand stage missed m false p h = h
 interrupted-by free Unmasking missed m true p h = tt
 interrupted-by free Looking missed m true p h = tt
@@ -111,13 +111,13 @@ completed-to stopping true m i p h = h
 completed-to false false m i p h = tt
 completed-to true false m i p h = h
 
-polled-to : (full stopping missed m i : Bool) (p : ℕ) → m ≡ true → Good free (polled_at full stopping missed).0.stage m i p
+polled-to : (full stopping missed m i : Bool) (p : ℕ) → m ≡ true → Good free (after_poll_at full stopping missed).0.stage m i p
 polled-to true false missed m i p h = h
 polled-to true true missed m i p h = completed-to true missed m i p h
 polled-to false stopping missed m i p h = completed-to stopping missed m i p h
 
 reported : (hand : Hand) (stage : Stage) (missed m i : Bool) (p : ℕ) → Good hand stage m i p
-    → Good (is_told hand) (told hand (at stage missed)).stage m i p
+    → Good (is_told hand) (after_message hand (in_stage stage missed)).stage m i p
 reported did_mask (Masking s) missed m i p h = h
 reported did_mask Closing missed m i p h = h
 reported did_mask stage missed m i p h = absurd h
@@ -168,7 +168,7 @@ forgot (took full) (Listed s) m i p h = h
 forgot (took full) stage m i p h = absurd h
 
 opened-by : (hand : Hand) (stage : Stage) (missed m i : Bool) (p : ℕ) → Good hand stage m i p
-    → Good hand (opened (at stage missed)).stage m i p
+    → Good hand (after_open (in_stage stage missed)).stage m i p
 opened-by free Closed missed m i p h = tt
 opened-by (saw true) Closed missed m i p h = absurd h
 opened-by (saw false) Closed missed m i p h = absurd h
@@ -176,7 +176,7 @@ opened-by hand Closed missed m i p h = absurd h
 opened-by hand stage missed m i p h = h
 
 stopped-by : (hand : Hand) (stage : Stage) (missed m i : Bool) (p : ℕ) → Good hand stage m i p
-    → Good hand (stopped (at stage missed)).stage m i p
+    → Good hand (after_stop (in_stage stage missed)).stage m i p
 stopped-by free (Masking s) missed m i p h = tt
 stopped-by free (Listed s) missed m i p h = h
 stopped-by free Closed missed m i p h = h
@@ -212,7 +212,7 @@ stopped-by to_fetch stage missed m i p h = absurd h
 stopped-by (took full) (Listed s) missed m i p h = h
 stopped-by (took full) stage missed m i p h = absurd h
 
-keeps : (e : Event) (w : World) → IsGood w → IsGood (world_step e w)
+keeps : (e : DriverEvent) (w : World) → IsGood w → IsGood (world_step e w)
 keeps arrives w g = arrived w.hand w.device.stage w.masked w.interrupting w.packets g
 keeps interrupts w g = interrupted-by w.hand w.device.stage w.device.missed w.masked w.interrupting w.packets g
 keeps says w g = said w.hand w.device.stage w.masked w.interrupting w.packets g
@@ -222,7 +222,7 @@ keeps forgets w g = forgot w.hand w.device.stage w.masked w.interrupting w.packe
 keeps opens w g = opened-by w.hand w.device.stage w.device.missed w.masked w.interrupting w.packets g
 keeps stops w g = stopped-by w.hand w.device.stage w.device.missed w.masked w.interrupting w.packets g
 
-good-after : (es : List Event) (w : World) → IsGood w → IsGood (world_after es w)
+good-after : (es : List DriverEvent) (w : World) → IsGood w → IsGood (world_after es w)
 good-after [] w g = g
 good-after (e ∷ es) w g = good-after es (world_step e w) (keeps e w g)
 

@@ -1,13 +1,13 @@
 -- The rule of one device of a driver: an instance (`struct napi_struct`), the mask of its card's interrupt, and the effect of
 -- each call on them. A card interrupts when a packet arrives, and loses that interrupt while it is masked.
 use Rattle.std.specs.Prelude.{◌≡◌, Bool, true, false, Option, Some, None}
-use Rattle.driver_core.specs.declared.device.{Chore.{Chore, TheVariants.{Mask, Unmask, Look}}, Device.Device}
+use Rattle.driver_core.specs.declared.device.{Chore.{Chore, TheVariants.{Mask, Unmask, Look}}, DriverDevice.DriverDevice}
 use Rattle.driver_core.specs.declared.device.Stage.{Stage, TheVariants.{Closed, Masking, Closing, Listed, Unmasking, Looking, Armed}}
 use Rattle.poll_runs.specs.declared.bench.Next.{Next, TheVariants.{Gone, Again, Repoll}}
 use Rattle.napi_model.specs.declared.state.Kind.TheVariants as kind
 
-abbrev pub at : Stage → Bool → Device
-at stage missed = record { stage = stage; missed = missed }
+abbrev pub in_stage : Stage → Bool → DriverDevice
+in_stage stage missed = record { stage = stage; missed = missed }
 
 -- ---- what is to be done at its card
 
@@ -24,16 +24,16 @@ chore_at Armed = None
 
 -- While an instance is scheduled or disabled the request is missed; while it is being disabled it is rejected. Else it is
 -- granted: the card is masked first, and then the instance is handed over.
-abbrev pub interrupted_at : Stage → Bool → Device
-interrupted_at Closed missed = at Closed true
-interrupted_at (Masking false) missed = at (Masking false) true
-interrupted_at (Masking true) missed = at (Masking true) missed
-interrupted_at Closing missed = at Closing missed
-interrupted_at (Listed false) missed = at (Listed false) true
-interrupted_at (Listed true) missed = at (Listed true) missed
-interrupted_at Unmasking missed = at (Masking false) missed
-interrupted_at Looking missed = at (Masking false) missed
-interrupted_at Armed missed = at (Masking false) missed
+abbrev pub interrupted_at : Stage → Bool → DriverDevice
+interrupted_at Closed missed = in_stage Closed true
+interrupted_at (Masking false) missed = in_stage (Masking false) true
+interrupted_at (Masking true) missed = in_stage (Masking true) missed
+interrupted_at Closing missed = in_stage Closing missed
+interrupted_at (Listed false) missed = in_stage (Listed false) true
+interrupted_at (Listed true) missed = in_stage (Listed true) missed
+interrupted_at Unmasking missed = in_stage (Masking false) missed
+interrupted_at Looking missed = in_stage (Masking false) missed
+interrupted_at Armed missed = in_stage (Masking false) missed
 
 -- ---- its card was masked, unmasked, looked at
 
@@ -57,16 +57,16 @@ looked_at has_more stage = stage
 -- ---- it was polled (`__napi_poll`, `napi_complete_done`)
 
 -- the instance is completed: again, if a request was missed, else released; a stop ends here
-abbrev pub completed_at : Bool → Bool → Device × Next
-completed_at stopping true = (at (Listed stopping) false, Again kind.List)
-completed_at false false = (at Unmasking false, Gone)
-completed_at true false = (at Closed false, Gone)
+abbrev pub completed_at : Bool → Bool → DriverDevice × Next
+completed_at stopping true = (in_stage (Listed stopping) false, Again kind.List)
+completed_at false false = (in_stage Unmasking false, Gone)
+completed_at true false = (in_stage Closed false, Gone)
 
 -- a poll that used its whole weight keeps the instance, unless it is being disabled
-abbrev pub polled_at : Bool → Bool → Bool → Device × Next
-polled_at true false missed = (at (Listed false) missed, Repoll)
-polled_at true true missed = completed_at true missed
-polled_at false stopping missed = completed_at stopping missed
+abbrev pub after_poll_at : Bool → Bool → Bool → DriverDevice × Next
+after_poll_at true false missed = (in_stage (Listed false) missed, Repoll)
+after_poll_at true true missed = completed_at true missed
+after_poll_at false stopping missed = completed_at stopping missed
 
 -- ---- it is opened and stopped (`napi_enable`, `napi_disable`)
 
@@ -100,39 +100,39 @@ is_stopping _ = false
 
 -- ---- the same of a device
 
-abbrev pub interrupted : Device → Device
-interrupted d = interrupted_at d.stage d.missed
+abbrev pub after_interrupt : DriverDevice → DriverDevice
+after_interrupt d = interrupted_at d.stage d.missed
 
-abbrev pub masked : Device → Device
-masked d = at (masked_at d.stage) d.missed
+abbrev pub masked : DriverDevice → DriverDevice
+masked d = in_stage (masked_at d.stage) d.missed
 
-abbrev pub unmasked : Device → Device
-unmasked d = at (unmasked_at d.stage) d.missed
+abbrev pub unmasked : DriverDevice → DriverDevice
+unmasked d = in_stage (unmasked_at d.stage) d.missed
 
-abbrev pub looked : Bool → Device → Device
-looked has_more d = at (looked_at has_more d.stage) d.missed
+abbrev pub after_look : Bool → DriverDevice → DriverDevice
+after_look has_more d = in_stage (looked_at has_more d.stage) d.missed
 
-abbrev pub opened : Device → Device
-opened d = at (opened_at d.stage) d.missed
+abbrev pub after_open : DriverDevice → DriverDevice
+after_open d = in_stage (opened_at d.stage) d.missed
 
-abbrev pub stopped : Device → Device
-stopped d = at (stopped_at d.stage) d.missed
+abbrev pub after_stop : DriverDevice → DriverDevice
+after_stop d = in_stage (stopped_at d.stage) d.missed
 
 -- what was to be done at its card was done; a look found packets or none
-abbrev pub did : Chore → Bool → Device → Device
+abbrev pub did : Chore → Bool → DriverDevice → DriverDevice
 did Mask has_more d = masked d
 did Unmask has_more d = unmasked d
-did Look has_more d = looked has_more d
+did Look has_more d = after_look has_more d
 
 -- after a poll, and how the poll ends
-abbrev pub polled : Bool → Device → Device × Next
-polled full d = polled_at full (is_stopping d.stage) d.missed
+abbrev pub after_driver_poll : Bool → DriverDevice → DriverDevice × Next
+after_driver_poll full d = after_poll_at full (is_stopping d.stage) d.missed
 
 -- ---- words of clauses
 
-abbrev pub is_listed : Stage → Bool
-is_listed (Listed stopping) = true
-is_listed _ = false
+abbrev pub stage_is_listed : Stage → Bool
+stage_is_listed (Listed stopping) = true
+stage_is_listed _ = false
 
 abbrev pub IsMasking : Stage → Type 0
 IsMasking (Masking stopping) = Unit {0}

@@ -6,18 +6,18 @@ use Rattle.poll_runs.specs.{Laws.IsPlainRun, declared.run.RunReport.RunReport}
 use Rattle.driver_core.specs.declared.limits.Limits.{Limits}
 use Rattle.poll_runs.specs.{Driven.IsGoing, Steps.HoldsNothing, Plain.{NothingBehind, OwnPushes, all_held}, Polls.Poll}
 use Rattle.poll_runs.specs.{declared.bench.Next.Next}
-use Rattle.driver_core.specs.declared.device.{Chore.Chore, Device.Device, Stage.{Stage, TheVariants.Closed}}
+use Rattle.driver_core.specs.declared.device.{Chore.Chore, DriverDevice.DriverDevice, Stage.{Stage, TheVariants.Closed}}
 use Rattle.driver_core.specs.declared.device.Chore.TheVariants as chore
 use Rattle.driver_core.specs.{Counts.{counting, no_counts}, declared.counts.PollCounts.PollCounts}
-use Rattle.driver_core.specs.{Device.{at, chore_at, did, is_listed, polled, IsAtRest}, Queue.{device_at, following}}
+use Rattle.driver_core.specs.{Device.{in_stage, chore_at, did, stage_is_listed, after_driver_poll, IsAtRest}, Queue.{device_at, following}}
 use Rattle.driver_core.specs.declared.{driver.Driver.Driver, todo.Todo.Todo}
 use Rattle.driver_core.specs.declared.todo.What.{What, TheVariants.{Mask, Unmask, Look, Fetch, Ended, Sleep}}
 
-abbrev pub devices_of : Driver → List Device
-devices_of driver = driver.devices.all.items
+abbrev pub driver_devices : Driver → List DriverDevice
+driver_devices driver = driver.devices.all.items
 
-abbrev pub device_of : Driver → ℕ → Device
-device_of driver id = device_at (devices_of driver) id
+abbrev pub device_of : Driver → ℕ → DriverDevice
+device_of driver id = device_at (driver_devices driver) id
 
 abbrev pub stage_of : Driver → ℕ → Stage
 stage_of driver id = (device_of driver id).stage
@@ -37,8 +37,8 @@ abbrev pub is_running : Driver → Bool
 is_running driver = driver.runs
 
 -- the device that is being polled
-abbrev pub polled_in : Driver → Option ℕ
-polled_in driver = driver.run.asked
+abbrev pub polled_device : Driver → Option ℕ
+polled_device driver = driver.run.asked
 
 -- what was said last of a card, and isn't reported yet
 abbrev pub said_of : Driver → Option (ℕ × Chore)
@@ -50,7 +50,7 @@ number_of driver = driver.number
 
 -- nothing that was said is still to be reported
 abbrev pub IsFree : Driver → Type 0
-IsFree driver = (said_of driver ≡ None) × (polled_in driver ≡ None)
+IsFree driver = (said_of driver ≡ None) × (polled_device driver ≡ None)
 
 -- ---- what calls change
 
@@ -63,33 +63,33 @@ pub record SameRun (before after : Driver) : Type 0 where
   pub number : after.number ≡ before.number
 
 -- this device is so now, and nothing else changed, except that what was said last may not be due any more
-pub record Puts (id : ℕ) (to : Device) (before after : Driver) : Type 0 where
-  pub devices : devices_of after ≡ slice_set (devices_of before) id to
+pub record PutsDevice (id : ℕ) (to : DriverDevice) (before after : Driver) : Type 0 where
+  pub devices : driver_devices after ≡ slice_set (driver_devices before) id to
   pub list : after.list ≡ before.list
   pub same : SameRun before after
   pub said : (said_of after ≡ said_of before) ⊎ (said_of after ≡ None)
 
 -- the same; if the device is listed now, it is the last on the list
-pub record HandsOver (id : ℕ) (to : Device) (before after : Driver) : Type 0 where
-  pub devices : devices_of after ≡ slice_set (devices_of before) id to
-  pub list : after.list ≡ before.list ++ (if is_listed to.stage then id ∷ [] else [])
+pub record PutsOnList (id : ℕ) (to : DriverDevice) (before after : Driver) : Type 0 where
+  pub devices : driver_devices after ≡ slice_set (driver_devices before) id to
+  pub list : after.list ≡ before.list ++ (if stage_is_listed to.stage then id ∷ [] else [])
   pub same : SameRun before after
   pub free : IsFree after
 
 -- what was to be done at the card of a device was done
 abbrev pub Does : ℕ → Chore → Bool → Driver → Driver → Type 0
-Does id chore has_more before after = HandsOver id (did chore has_more (device_of before id)) before after
+Does id chore has_more before after = PutsOnList id (did chore has_more (device_of before id)) before after
 
 -- the poll of a device that took so many packets, and how it ended
-abbrev pub polled_of : ℕ → ℕ → Driver → Device × Next
-polled_of id packets driver = polled (packets == driver.limits.weight) (device_of driver id)
+abbrev pub after_poll_of : ℕ → ℕ → Driver → DriverDevice × Next
+after_poll_of id packets driver = after_driver_poll (packets == driver.limits.weight) (device_of driver id)
 
 abbrev pub poll_of : ℕ → ℕ → Driver → Poll
-poll_of id packets driver = record { id = id; once = record { work = packets; next = (polled_of id packets driver).1 } }
+poll_of id packets driver = record { id = id; once = record { work = packets; next = (after_poll_of id packets driver).1 } }
 
 -- the poll under way was this one, and its device is what the poll leaves
 pub record Ends (id packets : ℕ) (before after : Driver) : Type 0 where
-  pub devices : devices_of after ≡ slice_set (devices_of before) id (polled_of id packets before).0
+  pub devices : driver_devices after ≡ slice_set (driver_devices before) id (after_poll_of id packets before).0
   pub counts : after.counts.items ≡ slice_set before.counts.items id (counting packets (counts_of before id))
   pub limits : after.limits ≡ before.limits
   pub number : number_of after ≡ number_of before
@@ -106,7 +106,7 @@ IsAwaited packets weight None None = ⊥
 -- a report under this number is due
 abbrev pub IsReport : ℕ → ℕ → Driver → Type 0
 IsReport number packets driver =
-    (number ≡ number_of driver) × IsAwaited packets (limits_of driver).weight (said_of driver) (polled_in driver)
+    (number ≡ number_of driver) × IsAwaited packets (limits_of driver).weight (said_of driver) (polled_device driver)
 
 abbrev pub ReportsOf : ℕ → Driver → Driver → Option (ℕ × Chore) → Option ℕ → Type 0
 ReportsOf packets before after said (Some id) = Ends id packets before after
@@ -115,7 +115,7 @@ ReportsOf packets before after None None = ⊥
 
 -- what was said last was done: a poll that took so many packets, or what was to be done at a card
 abbrev pub Reports : ℕ → Driver → Driver → Type 0
-Reports packets before after = ReportsOf packets before after (said_of before) (polled_in before)
+Reports packets before after = ReportsOf packets before after (said_of before) (polled_device before)
 
 abbrev pub IsNumberedAs : ℕ → ℕ → ℕ → What → Type 0
 IsNumberedAs before after number Sleep = (number ≡ 0) × (after ≡ before)
@@ -136,20 +136,20 @@ abbrev pub IsRunning : List ℕ → List Poll → Driver → Type 0
 IsRunning start polls driver = (is_running driver ≡ true) × IsGoing all_held OwnPushes NothingBehind start polls driver.list driver.run
 
 -- the run that began when the list held these devices, and made these polls, is over, and this is its report
-abbrev pub IsEnded : Limits → List ℕ → List Poll → Driver → RunReport → Type 0
-IsEnded limits start polls after report = IsPlainRun limits.budget limits.window start polls (list_of after) report
+abbrev pub IsDriverReport : Limits → List ℕ → List Poll → Driver → RunReport → Type 0
+IsDriverReport limits start polls after report = IsPlainRun limits.budget limits.window start polls (list_of after) report
 
 -- so many devices, all closed
 abbrev pub AreClosed : ℕ → Driver → Type 0
-AreClosed count driver = devices_of driver ≡ replicate count (at Closed false)
+AreClosed count driver = driver_devices driver ≡ replicate count (in_stage Closed false)
 
 -- what is said to be done is to be done; sleep is said only if each device is at rest, and nothing is on the list
 abbrev pub IsDue : Driver → What → Type 0
-IsDue driver (Mask id) = (id < length (devices_of driver)) × (chore_at (stage_of driver id) ≡ Some chore.Mask)
-IsDue driver (Unmask id) = (id < length (devices_of driver)) × (chore_at (stage_of driver id) ≡ Some chore.Unmask)
-IsDue driver (Look id) = (id < length (devices_of driver)) × (chore_at (stage_of driver id) ≡ Some chore.Look)
-IsDue driver (Fetch id most) = (id < length (devices_of driver)) × (polled_in driver ≡ Some id)
-    × (is_listed (stage_of driver id) ≡ true) × (most ≡ (limits_of driver).weight)
+IsDue driver (Mask id) = (id < length (driver_devices driver)) × (chore_at (stage_of driver id) ≡ Some chore.Mask)
+IsDue driver (Unmask id) = (id < length (driver_devices driver)) × (chore_at (stage_of driver id) ≡ Some chore.Unmask)
+IsDue driver (Look id) = (id < length (driver_devices driver)) × (chore_at (stage_of driver id) ≡ Some chore.Look)
+IsDue driver (Fetch id most) = (id < length (driver_devices driver)) × (polled_device driver ≡ Some id)
+    × (stage_is_listed (stage_of driver id) ≡ true) × (most ≡ (limits_of driver).weight)
 IsDue driver (Ended report) = HoldsNothing driver.run × (report.polls ≤ (limits_of driver).window)
     × (report.work < (limits_of driver).budget + (limits_of driver).weight)
-IsDue driver Sleep = All (λ device. IsAtRest device.stage) (devices_of driver) × IsIdle driver
+IsDue driver Sleep = All (λ device. IsAtRest device.stage) (driver_devices driver) × IsIdle driver

@@ -4,27 +4,28 @@ use Rattle.std.specs.Prelude.{◌≡◌, ◌<◌, ◌==◌, ℕ, ◌+◌, Bool, 
 use Rattle.std.specs.{Prelude.{Option, Some, None, is_some}, Int.bit_at}
 use Rattle.poll_runs.specs.{Driven.held, Turn.asked_for, declared.polling_run.PollingRun.PollingRun}
 use Rattle.driver_core.specs.declared.limits.Limits.{Limits}
-use Rattle.driver_core.specs.{Device.{at, chore_at, is_listed}, declared.device.{Chore.Chore, Device.Device, Stage.TheVariants.Closed}}
+use Rattle.driver_core.specs.{Device.{in_stage, chore_at, stage_is_listed}}
+use Rattle.driver_core.specs.{declared.device.{Chore.Chore, DriverDevice.DriverDevice, Stage.TheVariants.Closed}}
 
-abbrev pub device_at : List Device → ℕ → Device
-device_at devices id = slice_index_or devices id (at Closed false)
+abbrev pub device_at : List DriverDevice → ℕ → DriverDevice
+device_at devices id = slice_index_or devices id (in_stage Closed false)
 
-abbrev pub listed_at : List Device → ℕ → Bool
-listed_at devices id = is_listed (device_at devices id).stage
+abbrev pub listed_at : List DriverDevice → ℕ → Bool
+listed_at devices id = stage_is_listed (device_at devices id).stage
 
 -- bit n is set exactly if something is to be done at the card of device n
-abbrev pub MarksChores : List Device → ℕ → Type 0
+abbrev pub MarksChores : List DriverDevice → ℕ → Type 0
 MarksChores devices bits = (id : ℕ) → id < 64 → bit_at bits id ≡ (if is_some (chore_at (device_at devices id).stage) then 1 else 0)
 
 -- how many devices are listed
-abbrev pub listed_in : List Device → ℕ
-listed_in devices = count_by (λ device. is_listed device.stage) devices
+abbrev pub listed_in : List DriverDevice → ℕ
+listed_in devices = count_by (λ device. stage_is_listed device.stage) devices
 
 -- how often a number is in a list
 abbrev pub occurs : ℕ → List ℕ → ℕ
 occurs id ids = count_by (λ x. x == id) ids
 
-pub record IsQueue (devices : List Device) (list : List ℕ) (run : PollingRun) : Type 0 where
+pub record IsQueue (devices : List DriverDevice) (list : List ℕ) (run : PollingRun) : Type 0 where
   pub each : (id : ℕ) → occurs id list + (occurs id (asked_for run.asked) + (occurs id run.own + occurs id run.repoll))
       ≡ (if listed_at devices id then 1 else 0)
   pub size : length list + held run ≡ listed_in devices
@@ -36,7 +37,7 @@ pub record HasLimits (limits : Limits) (run : PollingRun) : Type 0 where
   pub window : run.window ≡ limits.window
 
 -- what was said last of a card is still to be done there, and then no device is polled
-pub record IsAsked (devices : List Device) (polled : Option ℕ) (said : Option (ℕ × Chore)) : Type 0 where
+pub record IsAsked (devices : List DriverDevice) (polled : Option ℕ) (said : Option (ℕ × Chore)) : Type 0 where
   pub range : (id : ℕ) (chore : Chore) → said ≡ Some (id, chore) → id < length devices
   pub chore : (id : ℕ) (chore : Chore) → said ≡ Some (id, chore) → chore_at (device_at devices id).stage ≡ Some chore
   pub alone : (id : ℕ) (chore : Chore) → said ≡ Some (id, chore) → polled ≡ None

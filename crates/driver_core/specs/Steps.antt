@@ -8,9 +8,11 @@ use Rattle.napi_model.specs.{History.{LegalHistory, state_after}, Step.{event, n
 use Rattle.napi_model.specs.declared.state.Place.TheVariants as place
 use Rattle.napi_model.specs.declared.state.Kind.TheVariants as kind
 use Rattle.napi_model.specs.declared.event.Prep.TheVariants as prep
-use Rattle.driver_core.specs.Device.{interrupted, is_listed, is_stopping, looked, masked, opened, polled, stopped, unmasked}
+use Rattle.driver_core.specs.Device.{after_interrupt, stage_is_listed, is_stopping, after_look, masked, after_open, after_driver_poll}
+use Rattle.driver_core.specs.Device.{after_stop, unmasked}
 use Rattle.driver_core.specs.Device.{IsMasking, MayStop}
-use Rattle.driver_core.specs.declared.device.{Device.Device, Stage.{Stage, TheVariants.{Closed, Masking, Closing, Listed, Looking}}}
+use Rattle.driver_core.specs.declared.device.{DriverDevice.DriverDevice}
+use Rattle.driver_core.specs.declared.device.{Stage.{Stage, TheVariants.{Closed, Masking, Closing, Listed, Looking}}}
 
 -- the callers of the instance: the one that opens and stops it, its interrupt, and its poller
 abbrev pub CONTROLLER : ℕ
@@ -22,31 +24,37 @@ INTERRUPT = 1
 abbrev pub POLLER : ℕ
 POLLER = 2
 
-abbrev pub place_of : Stage → Place
-place_of Closed = Control CONTROLLER
-place_of (Masking stopping) = Granted INTERRUPT
-place_of (Listed stopping) = place.Listed
-place_of stage = Nobody
+abbrev pub stage_place : Stage → Place
+stage_place Closed = Control CONTROLLER
+stage_place (Masking stopping) = Granted INTERRUPT
+stage_place (Listed stopping) = place.Listed
+stage_place stage = Nobody
 
-abbrev pub is_scheduled : Stage → Bool
-is_scheduled Closed = true
-is_scheduled (Masking stopping) = true
-is_scheduled (Listed stopping) = true
-is_scheduled stage = false
+abbrev pub stage_is_scheduled : Stage → Bool
+stage_is_scheduled Closed = true
+stage_is_scheduled (Masking stopping) = true
+stage_is_scheduled (Listed stopping) = true
+stage_is_scheduled stage = false
 
 abbrev pub is_closed : Stage → Bool
 is_closed Closed = true
 is_closed stage = false
 
 -- the instance of a device
-abbrev pub napi_of : Device → State
+abbrev pub napi_of : DriverDevice → State
 napi_of d = record {
-  flags = record no_flags { sched = is_scheduled d.stage; missed = d.missed; disable = is_stopping d.stage; npsvc = is_closed d.stage };
-  place = place_of d.stage;
+  flags = record no_flags {
+    sched = stage_is_scheduled d.stage;
+    missed = d.missed;
+    disable = is_stopping d.stage;
+    npsvc =
+        is_closed d.stage;
+  };
+  place = stage_place d.stage;
 }
 
 -- by these events, each of them legal, the one device becomes the other
-abbrev pub Leads : Device → List Event → Device → Type 0
+abbrev pub Leads : DriverDevice → List Event → DriverDevice → Type 0
 Leads d events d' = LegalHistory CONTROLLER (napi_of d) events × (napi_of d' ≡ state_after (napi_of d) events)
 
 -- a stop ends: the controller takes the instance (`napi_disable`)
@@ -73,15 +81,15 @@ end_events true true missed = complete_events true missed
 end_events false stopping missed = complete_events stopping missed
 
 -- a poll: the instance is taken from the list, and the poll ends by its rule
-abbrev pub poll_events : Bool → Device → List Event
+abbrev pub poll_events : Bool → DriverDevice → List Event
 poll_events full d = event POLLER (Take kind.List true) ∷ end_events full (is_stopping d.stage) d.missed
 
 -- law: each call of a device makes legal steps of its instance, with that object's replies
 pub record CallsAreLegal : Type 0 where
-  pub interrupted : (d : Device) → Leads d (event INTERRUPT (Schedule (schedule_reply (napi_of d))) ∷ []) (interrupted d)
-  pub masked : (d : Device) → IsMasking d.stage → Leads d (mask_events d.stage) (masked d)
-  pub unmasked : (d : Device) → Leads d [] (unmasked d)
-  pub looked : (d : Device) (has_more : Bool) → d.stage ≡ Looking → Leads d (look_events has_more) (looked has_more d)
-  pub polled : (d : Device) (full : Bool) → is_listed d.stage ≡ true → Leads d (poll_events full d) (polled full d).0
-  pub opened : (d : Device) → d.stage ≡ Closed → Leads d (event CONTROLLER (Enable false) ∷ []) (opened d)
-  pub stopped : (d : Device) → MayStop d.stage → Leads d (event CONTROLLER MarkDisable ∷ []) (stopped d)
+  pub interrupted : (d : DriverDevice) → Leads d (event INTERRUPT (Schedule (schedule_reply (napi_of d))) ∷ []) (after_interrupt d)
+  pub masked : (d : DriverDevice) → IsMasking d.stage → Leads d (mask_events d.stage) (masked d)
+  pub unmasked : (d : DriverDevice) → Leads d [] (unmasked d)
+  pub looked : (d : DriverDevice) (has_more : Bool) → d.stage ≡ Looking → Leads d (look_events has_more) (after_look has_more d)
+  pub polled : (d : DriverDevice) (full : Bool) → stage_is_listed d.stage ≡ true → Leads d (poll_events full d) (after_driver_poll full d).0
+  pub opened : (d : DriverDevice) → d.stage ≡ Closed → Leads d (event CONTROLLER (Enable false) ∷ []) (after_open d)
+  pub stopped : (d : DriverDevice) → MayStop d.stage → Leads d (event CONTROLLER MarkDisable ∷ []) (after_stop d)

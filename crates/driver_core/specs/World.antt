@@ -2,8 +2,8 @@
 -- any two of them packets may arrive, the card may interrupt, the device may be opened and stopped, and the thread may forget what it
 -- was about, done or not, and ask again. A report under a number that isn't due changes nothing, so it is no event.
 use Rattle.std.specs.Prelude.{◌≡◌, ◌⊎◌, ◌||◌, ℕ, ◌+◌, ◌-◌, zero, suc, Bool, true, false, not, List, [], ◌∷◌, if◌then◌else◌}
-use Rattle.driver_core.specs.Device.{at, interrupted, looked, masked, opened, polled, stopped, unmasked}
-use Rattle.driver_core.specs.declared.device.{Device.Device}
+use Rattle.driver_core.specs.Device.{in_stage, after_interrupt, after_look, masked, after_open, after_driver_poll, after_stop, unmasked}
+use Rattle.driver_core.specs.declared.device.{DriverDevice.DriverDevice}
 use Rattle.driver_core.specs.declared.device.Stage.{Stage, TheVariants.{Closed, Masking, Closing, Listed, Unmasking, Looking, Armed}}
 
 -- what the thread is doing: nothing, or what `next` said, done or not yet, and not yet reported
@@ -21,28 +21,28 @@ pub data Hand : Type 0 where
   took : Bool → Hand
 
 pub record World : Type 0 where
-  pub device : Device
+  pub device : DriverDevice
   pub hand : Hand
   -- the card: whether its interrupt is masked, whether it has an interrupt that isn't reported yet, the packets that it has
   pub masked : Bool
   pub interrupting : Bool
   pub packets : ℕ
 
-pub data Event : Type 0 where
+pub data DriverEvent : Type 0 where
   -- a packet arrives; the card interrupts unless it is masked
-  arrives : Event
+  arrives : DriverEvent
   -- an interrupt is reported to the driver
-  interrupts : Event
+  interrupts : DriverEvent
   -- `next` says what is to be done
-  says : Event
+  says : DriverEvent
   -- it is done; a fetch takes so many packets, which are the weight or fewer
-  acts : ℕ → Bool → Event
+  acts : ℕ → Bool → DriverEvent
   -- it is reported
-  reports : Event
+  reports : DriverEvent
   -- the thread asks again, without a report
-  forgets : Event
-  opens : Event
-  stops : Event
+  forgets : DriverEvent
+  opens : DriverEvent
+  stops : DriverEvent
 
 abbrev pub said_at : Stage → Hand
 said_at Closed = free
@@ -84,34 +84,34 @@ is_told (saw more) = free
 is_told (took full) = free
 is_told hand = hand
 
-abbrev pub told : Hand → Device → Device
-told did_mask d = masked d
-told did_unmask d = unmasked d
-told (saw more) d = looked more d
-told (took full) d = (polled full d).0
-told hand d = d
+abbrev pub after_message : Hand → DriverDevice → DriverDevice
+after_message did_mask d = masked d
+after_message did_unmask d = unmasked d
+after_message (saw more) d = after_look more d
+after_message (took full) d = (after_driver_poll full d).0
+after_message hand d = d
 
-abbrev pub world_step : Event → World → World
+abbrev pub world_step : DriverEvent → World → World
 world_step arrives w = record w { packets = w.packets + 1; interrupting = w.interrupting || not w.masked }
-world_step interrupts w = record w { device = (if w.interrupting then interrupted w.device else w.device); interrupting = false }
+world_step interrupts w = record w { device = (if w.interrupting then after_interrupt w.device else w.device); interrupting = false }
 world_step says w = record w { hand = says_by w.hand w.device.stage }
 world_step (acts taken full) w = record w {
   hand = hand_after w.packets full w.hand;
   masked = masked_after w.hand w.masked;
   packets = packets_after taken w.hand w.packets;
 }
-world_step reports w = record w { hand = is_told w.hand; device = told w.hand w.device }
+world_step reports w = record w { hand = is_told w.hand; device = after_message w.hand w.device }
 world_step forgets w = record w { hand = free }
-world_step opens w = record w { device = opened w.device }
-world_step stops w = record w { device = stopped w.device }
+world_step opens w = record w { device = after_open w.device }
+world_step stops w = record w { device = after_stop w.device }
 
-abbrev pub world_after : List Event → World → World
+abbrev pub world_after : List DriverEvent → World → World
 world_after [] w = w
 world_after (e ∷ es) w = world_after es (world_step e w)
 
 -- a new device: its card is masked, and may have packets
 abbrev pub new_world : ℕ → World
-new_world packets = record { device = at Closed false; hand = free; masked = true; interrupting = false; packets = packets }
+new_world packets = record { device = in_stage Closed false; hand = free; masked = true; interrupting = false; packets = packets }
 
 -- an open device at rest has its card unmasked, and no packets, or an interrupt that isn't reported yet; a closed one is
 -- masked
@@ -123,7 +123,7 @@ IsWatched stage w = Unit {0}
 -- law: whatever arrives, interrupts, is opened and stopped, and whenever, no packet waits unseen while the device is at rest
 abbrev pub NoPacketWaitsUnseen : Type 0
 NoPacketWaitsUnseen =
-    (packets : ℕ) (events : List Event) → (world_after events (new_world packets)).hand ≡ free
+    (packets : ℕ) (events : List DriverEvent) → (world_after events (new_world packets)).hand ≡ free
     → IsWatched (world_after events (new_world packets)).device.stage (world_after events (new_world packets))
 
 -- law: while a device is listed, or closed, its card is masked
@@ -134,5 +134,5 @@ IsMaskedWhileListed stage w = Unit {0}
 
 abbrev pub ListedIsMasked : Type 0
 ListedIsMasked =
-    (packets : ℕ) (events : List Event)
+    (packets : ℕ) (events : List DriverEvent)
     → IsMaskedWhileListed (world_after events (new_world packets)).device.stage (world_after events (new_world packets))

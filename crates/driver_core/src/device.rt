@@ -38,30 +38,30 @@ pub enum Chore {
 
 /// One device of a driver.
 #[derive(Clone, Copy, PartialEq, Eq, PartialOrd, Ord, Debug)]
-pub struct Device {
+pub struct DriverDevice {
     /// Its stage.
     pub stage: Stage,
     /// A poll was requested while one was pending (`NAPI_STATE_MISSED`): another poll follows.
     pub missed: bool,
 }
 
-impl Device {
+impl DriverDevice {
     ghost use Rattle.std.specs.Prelude.{◌≡◌, ◌↔◌, IsTrue, true};
-    ghost use Rattle.driver_core.specs.Device.{at, chore_at, completed_at, did, interrupted, is_listed, looked, masked, opened, polled, stopped, unmasked, is_stopping, MayStop};
-    ghost use Rattle.driver_core.specs.Steps.{is_scheduled, napi_of};
+    ghost use Rattle.driver_core.specs.Device.{in_stage, chore_at, completed_at, did, after_interrupt, stage_is_listed, after_look, masked, after_open, after_driver_poll, after_stop, unmasked, is_stopping, MayStop};
+    ghost use Rattle.driver_core.specs.Steps.{stage_is_scheduled, napi_of};
     ghost use Rattle.napi_model.specs.Step.{schedule_reply};
 
     /// A new device is closed.
-    pub const NEW: Device = Device {
+    pub const NEW: DriverDevice = DriverDevice {
         stage: Stage::Closed,
         missed: false,
     };
 
     // The same device, at another stage.
-    fn to(self, stage: Stage) -> Device
-        ensures { result ≡ at stage self.missed }
+    fn to(self, stage: Stage) -> DriverDevice
+        ensures { result ≡ in_stage stage self.missed }
     {
-        Device { stage, ..self }
+        DriverDevice { stage, ..self }
     }
 
     /// What is to be done at its card, `None` if nothing is.
@@ -78,7 +78,7 @@ impl Device {
 
     // Whether it is on the poll list, or being polled.
     pub(crate) fn is_listed(self) -> bool
-        ensures { result ≡ is_listed self.stage }
+        ensures { result ≡ stage_is_listed self.stage }
     {
         matches!(&self.stage, Stage::Listed(_))
     }
@@ -107,7 +107,7 @@ impl Device {
 
     /// Whether a poll was requested and isn't completed (`NAPI_STATE_SCHED`); a closed device counts too, as in the kernel.
     pub fn is_scheduled(self) -> bool
-        ensures { result ≡ is_scheduled self.stage }
+        ensures { result ≡ stage_is_scheduled self.stage }
     {
         matches!(
             &self.stage,
@@ -126,11 +126,11 @@ impl Device {
     }
 
     // After an interrupt of its card.
-    pub(crate) fn interrupted(self) -> Device
-        ensures { result ≡ interrupted self }
+    pub(crate) fn interrupted(self) -> DriverDevice
+        ensures { result ≡ after_interrupt self }
     {
         match self.stage {
-            Stage::Closed | Stage::Masking(false) | Stage::Listed(false) => Device {
+            Stage::Closed | Stage::Masking(false) | Stage::Listed(false) => DriverDevice {
                 missed: true,
                 ..self
             },
@@ -140,7 +140,7 @@ impl Device {
     }
 
     // After its card was masked.
-    fn masked(self) -> Device
+    fn masked(self) -> DriverDevice
         ensures { result ≡ masked self }
     {
         match self.stage {
@@ -151,7 +151,7 @@ impl Device {
     }
 
     // After its card was unmasked.
-    fn unmasked(self) -> Device
+    fn unmasked(self) -> DriverDevice
         ensures { result ≡ unmasked self }
     {
         if self.stage == Stage::Unmasking {
@@ -161,8 +161,8 @@ impl Device {
     }
 
     // After its card was looked at, and had packets or none.
-    fn looked(self, has_more: bool) -> Device
-        ensures { result ≡ looked has_more self }
+    fn looked(self, has_more: bool) -> DriverDevice
+        ensures { result ≡ after_look has_more self }
     {
         if self.stage != Stage::Looking {
             return self;
@@ -175,7 +175,7 @@ impl Device {
     }
 
     // After what was to be done at its card was done; a look found packets or none.
-    pub(crate) fn did(self, chore: Chore, has_more: bool) -> Device
+    pub(crate) fn did(self, chore: Chore, has_more: bool) -> DriverDevice
         ensures { result ≡ did chore has_more self }
     {
         match chore {
@@ -186,11 +186,11 @@ impl Device {
     }
 
     // After its instance was completed, and how that ends the poll.
-    fn completed(self, stopping: bool) -> (Device, Next)
+    fn completed(self, stopping: bool) -> (DriverDevice, Next)
         ensures { result ≡ completed_at stopping self.missed }
     {
         if self.missed {
-            let listed = Device {
+            let listed = DriverDevice {
                 stage: Stage::Listed(stopping),
                 missed: false,
             };
@@ -205,9 +205,9 @@ impl Device {
     }
 
     // After a poll, which used its whole weight or less, and how the poll ends.
-    pub(crate) fn polled(self, full: bool) -> (Device, Next)
-        requires { is_listed self.stage ≡ true }
-        ensures { result ≡ polled full self }
+    pub(crate) fn polled(self, full: bool) -> (DriverDevice, Next)
+        requires { stage_is_listed self.stage ≡ true }
+        ensures { result ≡ after_driver_poll full self }
     {
         let stopping = self.stage == Stage::Listed(true);
         if full && !stopping {
@@ -217,8 +217,8 @@ impl Device {
     }
 
     // After it was opened.
-    pub(crate) fn opened(self) -> Device
-        ensures { result ≡ opened self }
+    pub(crate) fn opened(self) -> DriverDevice
+        ensures { result ≡ after_open self }
     {
         if self.stage == Stage::Closed {
             return self.to(Stage::Unmasking);
@@ -227,8 +227,8 @@ impl Device {
     }
 
     // After it was stopped.
-    pub(crate) fn stopped(self) -> Device
-        ensures { result ≡ stopped self }
+    pub(crate) fn stopped(self) -> DriverDevice
+        ensures { result ≡ after_stop self }
     {
         match self.stage {
             Stage::Masking(_) => self.to(Stage::Masking(true)),

@@ -3,17 +3,17 @@
 ghost use Rattle.std.specs.Prelude.{◌≡◌, ◌≢◌, ◌≤◌, ◌<◌, ℕ, length, if◌then◌else◌, IfOk, IfNone, IfSome, Some, None, replicate, slice_set, slice_index_or, false};
 ghost use Rattle.std.specs.List.{All};
 ghost use Rattle.std.specs.Int.{bit_at};
-ghost use Rattle.driver_core.specs.Device.{at, chore_at};
+ghost use Rattle.driver_core.specs.Device.{in_stage, chore_at};
 ghost use Rattle.driver_core.specs.declared.device.Stage.TheVariants.{Closed};
 ghost use Rattle.driver_core.specs.Queue.{device_at, MarksChores};
 
-use crate::device::{Chore, Device};
+use crate::device::{Chore, DriverDevice};
 use std::alloc::{AllocError, Global};
 
 /// At most 64 devices.
 #[derive(Drop)]
 pub struct Devices {
-    pub(crate) all: Vec<Device>,
+    pub(crate) all: Vec<DriverDevice>,
     // Bit n is set if something is to be done at the card of device n, so that the first one is found at once.
     chores: u64,
     ghost few: { length all.items ≤ 64 },
@@ -54,16 +54,17 @@ impl Devices {
     #[tactic(auto, using(crate::proofs::ChoreFacts::new_marks))]
     pub(crate) fn new(alloc: Global, count: u32) -> Result<Devices, AllocError>
         requires { count ≤ 64 }
-        ensures { IfOk result (λ devices. devices.all.items ≡ replicate count (at Closed false)) }
+        ensures { IfOk result (λ devices. devices.all.items
+            ≡ replicate count (in_stage Closed false)) }
     {
         Ok(Devices {
-            all: vec![in alloc; Device::NEW; count as usize]?,
+            all: vec![in alloc; DriverDevice::NEW; count as usize]?,
             chores: 0,
         })
     }
 
     // A device, by its number.
-    pub(crate) fn get(&self, device: u32) -> Device
+    pub(crate) fn get(&self, device: u32) -> DriverDevice
         requires { device < length self.now.all.items }
         ensures { result ≡ device_at self.now.all.items device }
     {
@@ -72,7 +73,7 @@ impl Devices {
 
     // A device is so now.
     #[tactic(auto, using(crate::proofs::ChoreFacts::put_marks))]
-    pub(crate) fn put(&mut self, device: u32, to: Device)
+    pub(crate) fn put(&mut self, device: u32, to: DriverDevice)
         requires { device < length self.old.all.items }
         ensures { self.new.all.items ≡ slice_set self.old.all.items device to }
     {

@@ -6,7 +6,7 @@ ghost use Rattle.driver_core.specs.Counts.{no_counts};
 ghost use Rattle.driver_core.specs.Queue.{HasLimits, IsAsked, IsQueue};
 
 use crate::counts::PollCounts;
-use crate::device::{Chore, Device, Stage};
+use crate::device::{Chore, DriverDevice, Stage};
 use crate::devices::Devices;
 use crate::limits::Limits;
 use crate::said::{following, still_due};
@@ -52,9 +52,9 @@ impl Driver {
     ghost use Rattle.driver_core.specs.declared.todo.{Refused.TheVariants.{TooMany}, What.TheVariants.{Ended}};
     ghost use Rattle.driver_core.specs.declared.device.Stage.TheVariants.{Closed};
     ghost use Rattle.driver_core.specs.Counts.{counting};
-    ghost use Rattle.driver_core.specs.Device.{chore_at, interrupted, is_listed, opened, stopped, MayStop};
+    ghost use Rattle.driver_core.specs.Device.{chore_at, after_interrupt, stage_is_listed, after_open, after_stop, MayStop};
     ghost use Rattle.driver_core.specs.Steps.{napi_of};
-    ghost use Rattle.driver_core.specs.Driver.{counts_of, device_of, devices_of, number_of, polled_in, poll_of, said_of, stage_of, is_running, limits_of, list_of, AreClosed, Ends, Does, IsDue, IsEnded, IsFree, IsIdle, IsNumbered, IsReport, IsRunning, Puts, Reports};
+    ghost use Rattle.driver_core.specs.Driver.{counts_of, device_of, driver_devices, number_of, polled_device, poll_of, said_of, stage_of, is_running, limits_of, list_of, AreClosed, Ends, Does, IsDue, IsDriverReport, IsFree, IsIdle, IsNumbered, IsReport, IsRunning, PutsDevice, Reports};
 
     /// Creates a driver of so many devices, at most 64, all closed.
     pub fn new(alloc: Global, devices: u32, limits: Limits) -> Result<Driver, AllocError>
@@ -79,15 +79,15 @@ impl Driver {
 
     /// The number of its devices, at most 64.
     pub fn len(&self) -> usize
-        ensures len { result ≡ length (devices_of self.now) }
+        ensures len { result ≡ length (driver_devices self.now) }
         ensures few { result ≤ 64 }
     {
         self.devices.all.len()
     }
 
     /// A device, by its number.
-    pub fn device(&self, device: u32) -> Device
-        requires { device < length (devices_of self.now) }
+    pub fn device(&self, device: u32) -> DriverDevice
+        requires { device < length (driver_devices self.now) }
         ensures { result ≡ device_of self.now device }
     {
         self.devices.get(device)
@@ -95,17 +95,17 @@ impl Driver {
 
     /// The counts of a device's polls.
     pub fn counts(&self, device: u32) -> PollCounts
-        requires { device < length (devices_of self.now) }
+        requires { device < length (driver_devices self.now) }
         ensures { result ≡ counts_of self.now device }
     {
         self.counts[device as usize]
     }
 
     // A device is so now. What was said of it and isn't due any more is forgotten.
-    fn put(&mut self, device: u32, to: Device)
-        requires range { device < length (devices_of self.old) }
-        requires listed { is_listed to.stage ≡ is_listed (stage_of self.old device) }
-        ensures { Puts device to self.old self.new }
+    fn put(&mut self, device: u32, to: DriverDevice)
+        requires range { device < length (driver_devices self.old) }
+        requires listed { stage_is_listed to.stage ≡ stage_is_listed (stage_of self.old device) }
+        ensures { PutsDevice device to self.old self.new }
     {
         self.devices.put(device, to);
         self.said = still_due(self.said, device, to);
@@ -114,9 +114,10 @@ impl Driver {
     /// Reports an interrupt of a card (`napi_schedule_prep`), at any time. If a poll is granted, [`next`](Driver::next) says what
     /// to do, first to mask the card.
     pub fn interrupt(&mut self, device: u32) -> Prep
-        requires { device < length (devices_of self.old) }
+        requires { device < length (driver_devices self.old) }
         ensures reply { result ≡ schedule_reply (napi_of (device_of self.old device)) }
-        ensures puts { Puts device (interrupted (device_of self.old device)) self.old self.new }
+        ensures puts { PutsDevice device (after_interrupt (device_of self.old device)) self.old
+            self.new }
     {
         let before = self.devices.get(device);
         self.put(device, before.interrupted());
@@ -125,9 +126,9 @@ impl Driver {
 
     /// Opens a device that is closed (`napi_enable`).
     pub fn open(&mut self, device: u32) -> Result<(), NotDue>
-        requires { device < length (devices_of self.old) }
+        requires { device < length (driver_devices self.old) }
         ensures when { IsOk result ↔ (stage_of self.old device ≡ Closed) }
-        ensures ok { OnOk result (Puts device (opened (device_of self.old device))
+        ensures ok { OnOk result (PutsDevice device (after_open (device_of self.old device))
             self.old self.new) }
         ensures err { OnErr result (self.new ≡ self.old) }
     {
@@ -142,9 +143,9 @@ impl Driver {
     /// Stops a device that is open (`napi_disable`). It is closed once its card is masked, and the polls that were requested are
     /// made.
     pub fn stop(&mut self, device: u32) -> Result<(), NotDue>
-        requires { device < length (devices_of self.old) }
+        requires { device < length (driver_devices self.old) }
         ensures when { IsOk result ↔ MayStop (stage_of self.old device) }
-        ensures ok { OnOk result (Puts device (stopped (device_of self.old device))
+        ensures ok { OnOk result (PutsDevice device (after_stop (device_of self.old device))
             self.old self.new) }
         ensures err { OnErr result (self.new ≡ self.old) }
     {
@@ -160,7 +161,7 @@ impl Driver {
     // granted (`____napi_schedule`), and is closed if it was stopped.
     #[tactic(auto, using(crate::proofs::QueueFacts::put_same, crate::proofs::QueueFacts::put_new, crate::proofs::QueueFacts::room))]
     fn did(&mut self, device: u32, chore: Chore, has_more: bool)
-        requires range { device < length (devices_of self.old) }
+        requires range { device < length (driver_devices self.old) }
         requires chore { chore_at (stage_of self.old device) ≡ Some chore }
         requires free { IsFree self.old }
         ensures { Does device chore has_more self.old self.new }
@@ -176,9 +177,9 @@ impl Driver {
     // `napi_complete_done`).
     #[tactic(auto, using(crate::proofs::QueueFacts::asked_alone))]
     fn fetched(&mut self, device: u32, packets: u32)
-        requires range { device < length (devices_of self.old) }
-        requires listed { is_listed (stage_of self.old device) ≡ true }
-        requires polled { polled_in self.old ≡ Some device }
+        requires range { device < length (driver_devices self.old) }
+        requires listed { stage_is_listed (stage_of self.old device) ≡ true }
+        requires polled { polled_device self.old ≡ Some device }
         requires most { packets ≤ (limits_of self.old).weight }
         ensures ends { Ends device packets self.old self.new }
         ensures going { (start : List _) (polls : List Poll) → IsRunning start polls self.old
@@ -204,13 +205,14 @@ impl Driver {
         ensures when { IsOk result ↔ IsReport number packets self.old }
         ensures ok { OnOk result (Reports packets self.old self.new) }
         ensures free { OnOk result (IsFree self.new) }
-        ensures len { length (devices_of self.new) ≡ length (devices_of self.old) }
-        ensures going { (start : List _) (polls : List Poll) (id : _) → polled_in self.old ≡ Some id
+        ensures len { length (driver_devices self.new) ≡ length (driver_devices self.old) }
+        ensures going { (start : List _) (polls : List Poll) (id : _)
+            → polled_device self.old ≡ Some id
             → IsRunning start polls self.old → OnOk result
             (IsRunning start (polls ++ poll_of id packets self.old ∷ []) self.new) }
         ensures err { OnErr result (self.new ≡ self.old) }
         ensures many { IfErr result (λ why. (why ≡ TooMany)
-            ↔ ((number ≡ number_of self.old) × IsSome (polled_in self.old))) }
+            ↔ ((number ≡ number_of self.old) × IsSome (polled_device self.old))) }
     {
         if number != self.number {
             return Err(Refused::NotDue);
@@ -270,7 +272,7 @@ impl Driver {
             → is_running self.new ≡ true → IsRunning start polls self.new }
         ensures ended { (start : List _) (polls : List Poll) (report : _)
             → result.what ≡ Ended report → IsRunning start polls self.old
-            → IsEnded (limits_of self.old) start polls self.new report }
+            → IsDriverReport (limits_of self.old) start polls self.new report }
     {
         match self.run.next(&mut self.list) {
             Some(device) => {
@@ -322,7 +324,7 @@ impl Driver {
             → IsNumbered (number_of self.old) (number_of self.new) result }
         ensures again { ¬ IsFree self.old
             → (self.new ≡ self.old) × (result.number ≡ number_of self.old) }
-        ensures devices { devices_of self.new ≡ devices_of self.old }
+        ensures devices { driver_devices self.new ≡ driver_devices self.old }
         ensures counts { self.new.counts ≡ self.old.counts }
         ensures limits { limits_of self.new ≡ limits_of self.old }
 
@@ -333,9 +335,9 @@ impl Driver {
             → is_running self.new ≡ true → IsRunning start polls self.new }
         ensures ended { (start : List _) (polls : List Poll) (report : _)
             → result.what ≡ Ended report → IsRunning start polls self.old
-            → IsEnded (limits_of self.old) start polls self.new report }
+            → IsDriverReport (limits_of self.old) start polls self.new report }
         ensures whole { (report : _) → result.what ≡ Ended report → is_running self.old ≡ false
-            → IsEnded (limits_of self.old) (list_of self.old) [] self.new report }
+            → IsDriverReport (limits_of self.old) (list_of self.old) [] self.new report }
     {
         if let Some(todo) = self.last() {
             return todo;

@@ -1,7 +1,8 @@
 //! The core of a driver that polls up to 64 devices by NAPI's rules on one thread.
 //!
 //! [`Driver`] owns the instances, the poll list and the runs over it, and does no input or output: [`Driver::next`] says what is
-//! to be done at a card, [`Driver::done`] reports that it was done, and the other calls report what else happened. `specs/Device`
+//! to be done at a card, [`Driver::done`] reports that it was done, and the other calls report what else happened.
+//! `specs/DriverDevice`
 //! has the rule of one device, `specs/World` a card and a thread that drives it.
 #![tactic(auto)]
 
@@ -15,7 +16,7 @@ mod said;
 mod todo;
 
 pub use counts::PollCounts;
-pub use device::{Chore, Device, Stage};
+pub use device::{Chore, DriverDevice, Stage};
 pub use driver::Driver;
 pub use laws::{calls_are_legal, listed_is_masked, no_packet_waits_unseen};
 pub use limits::Limits;

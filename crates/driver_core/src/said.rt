@@ -5,7 +5,7 @@ ghost use Rattle.driver_core.specs.Device.{chore_at};
 ghost use Rattle.driver_core.specs.Queue.{following};
 ghost use Rattle.driver_core.specs.declared.device.Chore.{Chore};
 
-use crate::device::{Chore, Device};
+use crate::device::{Chore, DriverDevice};
 
 // The number after this one. It is never 0.
 pub(crate) fn following(number: u64) -> u64
@@ -19,7 +19,11 @@ pub(crate) fn following(number: u64) -> u64
 }
 
 // What was said, unless it was of this device, and isn't to be done at its card as it is now.
-pub(crate) fn still_due(said: Option<(u32, Chore)>, device: u32, to: Device) -> Option<(u32, Chore)>
+pub(crate) fn still_due(
+    said: Option<(u32, Chore)>,
+    device: u32,
+    to: DriverDevice,
+) -> Option<(u32, Chore)>
     ensures kept { (result ≡ said) ⊎ (result ≡ None) }
     ensures due { (id : ℕ) (chore : Chore) → result ≡ Some (id, chore)
         → (id ≢ device) ⊎ (chore_at to.stage ≡ Some chore) }

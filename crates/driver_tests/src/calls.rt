@@ -1,6 +1,6 @@
 //! Each call once, by hand.
 
-use driver_core::{Device, Driver, Limits, NotDue, PollCounts, Refused, Stage, Todo, What};
+use driver_core::{Driver, DriverDevice, Limits, NotDue, PollCounts, Refused, Stage, Todo, What};
 use napi_model::Prep;
 use std::test::Fail;
 
@@ -15,7 +15,7 @@ const LIMITS: Limits = Limits {
 fn one_device(rt: HostRuntime) -> Result<(), Fail> {
     let mut driver = Driver::new(rt.alloc(), 2, LIMITS)?;
     assert_eq!(rt; driver.len(), 2);
-    assert_eq!(rt; driver.device(1), Device::NEW);
+    assert_eq!(rt; driver.device(1), DriverDevice::NEW);
     assert_eq!(rt; driver.next().what, What::Sleep);
     assert_eq!(rt; driver.interrupt(1), Prep::Missed);
     assert_eq!(rt; driver.open(1), Ok(()));

@@ -1,14 +1,14 @@
 //! A card, the driver of it, and the thread that does what the driver says.
 
 ghost use Rattle.std.specs.Prelude.{◌≡◌, length, IfOk};
-ghost use Rattle.driver_core.specs.Driver.{devices_of};
+ghost use Rattle.driver_core.specs.Driver.{driver_devices};
 
-use driver_core::{Device, Driver, Limits, Stage, What};
+use driver_core::{Driver, DriverDevice, Limits, Stage, What};
 use std::alloc::{AllocError, Global};
 
 /// A card that interrupts when a packet arrives, and loses that interrupt while it is masked.
 #[derive(Clone, Copy, PartialEq, Eq, PartialOrd, Ord, Debug)]
-pub struct Card {
+pub struct TestCard {
     /// The packets that are still to arrive.
     pub to_come: u32,
     /// The packets that it has.
@@ -44,7 +44,7 @@ pub enum Hand {
 
 /// One step of the card, of the thread, or an open or stop of the device. Each may come between any two others.
 #[derive(Clone, Copy, PartialEq, Eq, Debug)]
-pub enum Step {
+pub enum DriverStep {
     /// A packet arrives at the card.
     Arrive,
     /// The card's interrupt is reported to the driver.
@@ -64,15 +64,15 @@ pub enum Step {
 }
 
 /// Each step.
-pub const STEPS: [Step; 8] = [
-    Step::Arrive,
-    Step::Interrupt,
-    Step::Say,
-    Step::Act,
-    Step::Report,
-    Step::Forget,
-    Step::Open,
-    Step::Stop,
+pub const STEPS: [DriverStep; 8] = [
+    DriverStep::Arrive,
+    DriverStep::Interrupt,
+    DriverStep::Say,
+    DriverStep::Act,
+    DriverStep::Report,
+    DriverStep::Forget,
+    DriverStep::Open,
+    DriverStep::Stop,
 ];
 
 /// What a run did so far.
@@ -97,9 +97,9 @@ impl RunSoFar {
 
 /// The state of a bench: two benches in the same state go on alike.
 #[derive(Clone, Copy, PartialEq, Eq, PartialOrd, Ord, Debug)]
-pub struct State {
-    device: Device,
-    card: Card,
+pub struct DriverState {
+    device: DriverDevice,
+    card: TestCard,
     hand: Hand,
     run: Option<RunSoFar>,
     stops: u32,
@@ -108,11 +108,11 @@ pub struct State {
 
 /// A driver of one device, its card, and its thread.
 #[derive(Drop)]
-pub struct Bench {
+pub struct DriverBench {
     /// The driver under test.
     pub driver: Driver,
     /// Its card.
-    pub card: Card,
+    pub card: TestCard,
     /// What its thread is about.
     pub hand: Hand,
     // The number of that, and an older one.
@@ -127,20 +127,20 @@ pub struct Bench {
     weight: u32,
     /// The driver said that nothing is to be done, and nothing happened since.
     pub sleeps: bool,
-    ghost one: { length (devices_of driver) ≡ 1 },
+    ghost one: { length (driver_devices driver) ≡ 1 },
 }
 
-impl Bench {
+impl DriverBench {
     /// A closed device. So many packets are to arrive, and it may be stopped so often.
     pub fn new(
         alloc: Global,
         limits: Limits,
         to_come: u32,
         stops: u32,
-    ) -> Result<Bench, AllocError> {
-        Ok(Bench {
+    ) -> Result<DriverBench, AllocError> {
+        Ok(DriverBench {
             driver: Driver::new(alloc, 1, limits)?,
-            card: Card {
+            card: TestCard {
                 to_come,
                 packets: 0,
                 masked: true,
@@ -275,8 +275,8 @@ impl Bench {
     }
 
     /// Its state. Packets that were taken are those that aren't in the card and aren't to come.
-    pub fn state(&self) -> State {
-        State {
+    pub fn state(&self) -> DriverState {
+        DriverState {
             device: self.driver.device(0),
             card: self.card,
             hand: self.hand,
@@ -287,18 +287,18 @@ impl Bench {
     }
 
     /// Makes a step. Returns whether it could be made.
-    pub fn make(&mut self, step: Step) -> bool {
+    pub fn make(&mut self, step: DriverStep) -> bool {
         let made = match step {
-            Step::Arrive => self.arrive(),
-            Step::Interrupt => self.interrupt(),
-            Step::Say => return self.say(),
-            Step::Act => self.act(),
-            Step::Report => self.report(),
-            Step::Forget => self.forget(),
-            Step::Open => self.open(),
-            Step::Stop => self.stop(),
+            DriverStep::Arrive => self.arrive(),
+            DriverStep::Interrupt => self.interrupt(),
+            DriverStep::Say => return self.say(),
+            DriverStep::Act => self.act(),
+            DriverStep::Report => self.report(),
+            DriverStep::Forget => self.forget(),
+            DriverStep::Open => self.open(),
+            DriverStep::Stop => self.stop(),
         };
-        self.sleeps &= !made || step == Step::Arrive;
+        self.sleeps &= !made || step == DriverStep::Arrive;
         made
     }
 }

@@ -1,6 +1,6 @@
 //! Each interleaving of a card, the thread that drives it, and stops, over the driver itself.
 
-use crate::card::{Bench, STEPS, State, Step};
+use crate::card::{DriverBench, DriverState, DriverStep, STEPS};
 use driver_core::{Limits, Stage};
 use std::alloc::Global;
 use std::collections::{BTreeSet, VecDeque};
@@ -15,8 +15,13 @@ const LIMITS: Limits = Limits {
 };
 
 // The bench that these steps lead to.
-fn bench_after(alloc: Global, packets: u32, stops: u32, path: &[Step]) -> Result<Bench, Fail> {
-    let mut bench = Bench::new(alloc, LIMITS, packets, stops)?;
+fn bench_after(
+    alloc: Global,
+    packets: u32,
+    stops: u32,
+    path: &[DriverStep],
+) -> Result<DriverBench, Fail> {
+    let mut bench = DriverBench::new(alloc, LIMITS, packets, stops)?;
     for step in path {
         bench.make(*step);
     }
@@ -25,7 +30,7 @@ fn bench_after(alloc: Global, packets: u32, stops: u32, path: &[Step]) -> Result
 
 // While it sleeps the device is closed and masked, or the card is unmasked and has no packets, or an interrupt
 // that isn't reported yet.
-fn check_sleep(rt: &impl Abort, bench: &Bench) {
+fn check_sleep(rt: &impl Abort, bench: &DriverBench) {
     if !bench.sleeps {
         return;
     }
@@ -41,15 +46,15 @@ fn check_sleep(rt: &impl Abort, bench: &Bench) {
 }
 
 // With nothing more arriving, the thread takes all packets and sleeps.
-fn check_drains(rt: &impl Abort, mut bench: Bench) {
+fn check_drains(rt: &impl Abort, mut bench: DriverBench) {
     for _ in 0..100 {
         if bench.sleeps && !bench.card.interrupting {
             break;
         }
-        let _ = bench.make(Step::Interrupt)
-            || bench.make(Step::Act)
-            || bench.make(Step::Report)
-            || bench.make(Step::Say);
+        let _ = bench.make(DriverStep::Interrupt)
+            || bench.make(DriverStep::Act)
+            || bench.make(DriverStep::Report)
+            || bench.make(DriverStep::Say);
     }
     check_sleep(rt, &bench);
     assert!(rt; bench.sleeps, "doesn't come to rest");
@@ -70,8 +75,8 @@ struct Met {
 
 // Each state that so many packets and stops lead to.
 fn explore(rt: &impl Abort, alloc: Global, packets: u32, stops: u32) -> Result<Met, Fail> {
-    let mut seen: BTreeSet<State> = BTreeSet::new(alloc);
-    let mut paths: VecDeque<Vec<Step>> = VecDeque::new(alloc);
+    let mut seen: BTreeSet<DriverState> = BTreeSet::new(alloc);
+    let mut paths: VecDeque<Vec<DriverStep>> = VecDeque::new(alloc);
     paths.push_back(Vec::new(alloc))?;
     let mut met = Met {
         states: 0,

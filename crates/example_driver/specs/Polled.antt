@@ -23,44 +23,44 @@ pub record CardView : Type 0 where
   pub napi : State
   pub ring : ReceiveRing
 
-abbrev pub view_of : Card → CardView
-view_of card = record { napi = state_of card.napi; ring = ring_of card.input card.ctx }
+abbrev pub card_view : Card → CardView
+card_view card = record { napi = state_of card.napi; ring = ring_of card.input card.ctx }
 
 -- the card after the poller's operation on its instance
-abbrev pub made : Operation → CardView → CardView
-made operation card = record card { napi = after card.napi (event POLLER operation) }
+abbrev pub card_operated : Operation → CardView → CardView
+card_operated operation card = record card { napi = after card.napi (event POLLER operation) }
 
 -- a poll takes the ring's next packets, as many as there are and the weight allows
-abbrev pub given : ℕ → CardView → List Packet
-given weight card = take weight (held_of card.ring)
+abbrev pub card_given : ℕ → CardView → List Packet
+card_given weight card = take weight (held_of card.ring)
 
 abbrev pub received : ℕ → CardView → CardView
-received weight card = record card { ring = record card.ring { received = card.ring.received ++ given weight card } }
+received weight card = record card { ring = record card.ring { received = card.ring.received ++ card_given weight card } }
 
 -- a completion releases the instance; if a request was missed, the poller still owns it and queues it on the list
-abbrev pub completed : Done → CardView → Next × CardView
-completed Released card = (next.Gone, made (operation.Complete Released) card)
-completed Again card = (next.Again kind.List, made (operation.Hand kind.List) (made (operation.Complete Again) card))
-completed Held card = (next.Repoll, card)
+abbrev pub card_completed : Done → CardView → Next × CardView
+card_completed Released card = (next.Gone, card_operated (operation.Complete Released) card)
+card_completed Again card = (next.Again kind.List, card_operated (operation.Hand kind.List) (card_operated (operation.Complete Again) card))
+card_completed Held card = (next.Repoll, card)
 
 -- a poll that used its whole weight puts the instance back on the list; any other one completes it
-abbrev pub ended : Bool → CardView → Next × CardView
-ended true card = (next.Repoll, made (operation.Hand kind.List) card)
-ended false card = completed (complete_reply card.napi) card
+abbrev pub card_ended : Bool → CardView → Next × CardView
+card_ended true card = (next.Repoll, card_operated (operation.Hand kind.List) card)
+card_ended false card = card_completed (complete_reply card.napi) card
 
 abbrev pub after_take : Bool → ℕ → CardView → Once × CardView
 after_take false weight card = (record { work = 0; next = next.Absent }, card)
 after_take true weight card =
-    let work = length (given weight card) in
-    let end = ended (work == weight) (received weight (made (operation.Take kind.List true) card)) in
+    let work = length (card_given weight card) in
+    let end = card_ended (work == weight) (received weight (card_operated (operation.Take kind.List true) card)) in
     (record { work = work; next = end.0 }, end.1)
 
 -- the card is taken from the list and polled once, if it is there
-unfoldable pub polled : ℕ → CardView → Once × CardView
-polled weight card = after_take (take_reply kind.List card.napi) weight card
+unfoldable pub card_polled : ℕ → CardView → Once × CardView
+card_polled weight card = after_take (take_reply kind.List card.napi) weight card
 
 -- a poll of the bench: another number than the card's is absent
-abbrev pub Polls : StatedBench → ℕ → ℕ → Once → StatedBench → Type 0
-Polls before id weight once after =
-    (once ≡ (if id == CARD then (polled weight (view_of before.card)).0 else record { work = 0; next = next.Absent }))
-    × (view_of after.card ≡ (if id == CARD then (polled weight (view_of before.card)).1 else view_of before.card))
+abbrev pub CardPolls : StatedBench → ℕ → ℕ → Once → StatedBench → Type 0
+CardPolls before id weight once after =
+    (once ≡ (if id == CARD then (card_polled weight (card_view before.card)).0 else record { work = 0; next = next.Absent }))
+    × (card_view after.card ≡ (if id == CARD then (card_polled weight (card_view before.card)).1 else card_view before.card))

@@ -36,7 +36,7 @@ pub(crate) struct Card {
 }
 
 /// A bench that drives one card.
-pub(crate) trait Driver: Bench {
+pub(crate) trait CardDriver: Bench {
     /// The card.
     fn card(&mut self) -> &mut Card;
 }

@@ -7,7 +7,7 @@ mod card;
 mod quiet;
 mod stated;
 
-use crate::card::{CARD, Card, Driver};
+use crate::card::{CARD, Card, CardDriver};
 use crate::quiet::QuietBench;
 use crate::stated::StatedBench;
 use anyhow::Result;
@@ -32,7 +32,7 @@ fn burst(card: &mut Card, list: &mut PlainList, packets: u32) {
 
 // Runs the softirq until the list is empty, at most four times. Returns how many polls it made and how many packets these
 // processed.
-fn softirq<D: Driver>(driver: &mut D, list: &mut PlainList) -> (u32, u32) {
+fn softirq<D: CardDriver>(driver: &mut D, list: &mut PlainList) -> (u32, u32) {
     let mut polls = 0u32;
     let mut work = 0u32;
     for _ in 0..4 {
@@ -47,7 +47,7 @@ fn softirq<D: Driver>(driver: &mut D, list: &mut PlainList) -> (u32, u32) {
 }
 
 // Ten rounds: a burst arrives, packets are sent, the softirq runs, and what was sent completes.
-fn simulate<D: Driver>(rt: &HostRuntime, driver: &mut D) -> Result<()> {
+fn simulate<D: CardDriver>(rt: &HostRuntime, driver: &mut D) -> Result<()> {
     let mut list = PlainList::new();
     for moment in 0u64..10 {
         burst(driver.card(), &mut list, 30 * moment as u32);

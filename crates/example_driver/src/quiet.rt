@@ -3,7 +3,7 @@
 //! isn't checked: one that returns `Gone` and leaves the instance scheduled is accepted too, and the card is never polled
 //! again.
 
-use crate::card::{CARD, Card, Driver, POLLER};
+use crate::card::{CARD, Card, CardDriver, POLLER};
 use napi_model::{Done, Kind};
 use poll_engine::{Bench, BusyReport, Next, Once, ThreadReport};
 
@@ -13,7 +13,7 @@ pub(crate) struct QuietBench {
     pub(crate) card: Card,
 }
 
-impl Driver for QuietBench {
+impl CardDriver for QuietBench {
     fn card(&mut self) -> &mut Card {
         &mut self.card
     }

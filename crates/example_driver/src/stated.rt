@@ -4,10 +4,10 @@
 ghost use Rattle.std.specs.Prelude.{◌≡◌, ◌≤◌, ◌==◌, length};
 ghost use Rattle.napi_model.specs.Serial.{state_of};
 ghost use Rattle.napi_model.specs.declared.state.Place.TheVariants.{Polling};
-ghost use Rattle.example_driver.specs.Polled.{Polls, ended, given, polled, received, view_of};
+ghost use Rattle.example_driver.specs.Polled.{CardPolls, card_ended, card_given, card_polled, received, card_view};
 ghost use Rattle.example_driver.specs.declared.card.TheConstants.{POLLER};
 
-use crate::card::{CARD, Card, Driver, POLLER};
+use crate::card::{CARD, Card, CardDriver, POLLER};
 use napi_model::{Done, Kind};
 use poll_engine::{Bench, BusyReport, Next, Once, ThreadReport};
 use rx_ring::beside;
@@ -23,8 +23,8 @@ impl Card {
     // weight.
     fn poll_ring(&mut self, weight: u32) -> u32
         requires { (1 ≤ weight) × (weight ≤ 64) }
-        ensures card { view_of self.new ≡ received weight (view_of self.old) }
-        ensures work { result ≡ length (given weight (view_of self.old)) }
+        ensures card { card_view self.new ≡ received weight (card_view self.old) }
+        ensures work { result ≡ length (card_given weight (card_view self.old)) }
     {
         beside(&mut self.input, &mut self.ctx);
         self.ctx.poll(weight as usize, &mut self.batch) as u32
@@ -33,8 +33,8 @@ impl Card {
     // Ends a poll.
     fn end_poll(&mut self, is_whole: bool) -> Next
         requires { (state_of self.old.napi).place ≡ Polling POLLER }
-        ensures next { result ≡ (ended is_whole (view_of self.old)).0 }
-        ensures card { view_of self.new ≡ (ended is_whole (view_of self.old)).1 }
+        ensures next { result ≡ (card_ended is_whole (card_view self.old)).0 }
+        ensures card { card_view self.new ≡ (card_ended is_whole (card_view self.old)).1 }
     {
         if is_whole {
             self.napi.hand(POLLER, Kind::List);
@@ -51,11 +51,11 @@ impl Card {
     }
 
     // Takes the card from the list and polls it once.
-    #[tactic(auto, unfolding(crate::specs::Polled::polled))]
+    #[tactic(auto, unfolding(crate::specs::Polled::card_polled))]
     fn poll(&mut self, weight: u32) -> Once
         requires { (1 ≤ weight) × (weight ≤ 64) }
-        ensures once { result ≡ (polled weight (view_of self.old)).0 }
-        ensures card { view_of self.new ≡ (polled weight (view_of self.old)).1 }
+        ensures once { result ≡ (card_polled weight (card_view self.old)).0 }
+        ensures card { card_view self.new ≡ (card_polled weight (card_view self.old)).1 }
         ensures bound { result.work ≤ weight }
     {
         if !self.napi.take(POLLER, Kind::List) {
@@ -70,14 +70,14 @@ impl Card {
     }
 }
 
-impl Driver for StatedBench {
+impl CardDriver for StatedBench {
     fn card(&mut self) -> &mut Card {
         &mut self.card
     }
 }
 
 impl Bench for StatedBench {
-    ghost polls = { Polls };
+    ghost polls = { CardPolls };
 
     fn poll_once(&mut self, id: u32, weight: u32) -> Once {
         if id == CARD {

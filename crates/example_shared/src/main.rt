@@ -4,7 +4,7 @@
 //! fail. However the threads are scheduled, every packet is polled before the program ends.
 //!
 //! `handlers.rt` has what each thread does; here the instance is made, served and closed. A seat of the instance (`Caller`,
-//! `Control`) is linear: it goes to its thread in a `Kept`, comes back as the thread's result, and goes to `close`.
+//! `Control`) is linear: it goes to its thread in a `DropBomb`, comes back as the thread's result, and goes to `close`.
 #![tactic(auto)]
 
 ghost use Rattle.rx_ring.specs.Ends.{SameIn};
@@ -15,7 +15,7 @@ mod handlers;
 
 use anyhow::Result;
 use handlers::{open, poll_all, receive, request};
-use napi_calls::{Caller, Control, Kept, Napi, NewBack, On, next_caller};
+use napi_calls::{Caller, Control, DropBomb, Napi, NewBack, On, next_caller};
 use rx_ring::{RxIn, Totals, finish, ring};
 use std::sync::Wait;
 use std::sync::atomic::AtomicU64;
@@ -40,9 +40,9 @@ fn serve<R: Threads + Wait + Copy + Drop + Send>(
     let (first, second, poller) = seats;
     let ended = AtomicU64::new(0);
     let end = &ended;
-    let first = Kept::new(rt, first);
-    let second = Kept::new(rt, second);
-    let poller = Kept::new(rt, poller);
+    let first = DropBomb::new(rt, first);
+    let second = DropBomb::new(rt, second);
+    let poller = DropBomb::new(rt, poller);
     // If no thread can be started, the second closure is called first: so the poller comes after both interrupts.
     let (poller, (first, second)) = join(
         &rt,

@@ -6,11 +6,11 @@ use Rattle.napi_model.specs.declared.event.Operation.{Operation}
 use Rattle.napi_model.specs.declared.event.Operation.TheVariants.{Look, Complete, BusyTake, BusyStop, MarkDisable, TakeDisable, Unmark}
 use Rattle.napi_model.specs.declared.event.Operation.TheVariants.{Enable}
 use Rattle.napi_model.specs.Laws.{is_owner}
-use Rattle.napi_word.specs.{View.{View, number_of}, Events.Steps, Passes.{HasController, HasPoll, view_of, IsWithin}}
+use Rattle.napi_word.specs.{View.{View, view_number}, Events.Steps, Passes.{HasController, HasPoll, view_of, IsSlotFilled}}
 use Rattle.napi_word.specs.declared.{table.Pass.Pass, view.Holds.{Holds, TheVariants.{Out, Within}}}
 use Rattle.napi_word.proofs.Knowing.{state_then, place_then, quiet_polls}
 use Rattle.rx_ring.specs.declared.ends.RxCtx.{RxCtx}
-use Rattle.napi_word.specs.{declared.table.StateTable.StateTable, Passes.IsNew, View.controller_of}
+use Rattle.napi_word.specs.{declared.table.StateTable.StateTable, Passes.IsNewPass, View.view_controller}
 use Rattle.napi_word.proofs.Start.{new_controls, new_unmarked}
 use Rattle.library_tests.specs.Controller.{IsOff, IsOn, IsMarked, IsTaken}
 
@@ -24,7 +24,7 @@ module _ (v w : View) where
 
   pub stopped_polls : HasPoll true v → Steps v BusyStop w → HasPoll false w
   stopped_polls is g =
-      let owner = ap (is_owner (number_of v)) is.0 ∙ eq-eqb (number_of v) (number_of v) refl in (
+      let owner = ap (is_owner (view_number v)) is.0 ∙ eq-eqb (view_number v) (view_number v) refl in (
         place_then v BusyStop w g ∙ g.place owner ∙ is.0
             ∙ ap Polling (sym g.number),
         ap (λ (s : Napi). s.flags.in_busy_poll) (state_then v BusyStop w g),
@@ -37,9 +37,9 @@ controls : (v w : View) (o : Operation) → HasController v → Steps v o w → 
 controls v w o top g = g.number ∙ top ∙ sym g.controller
 
 -- the controller's pass as it was made, for a table with two callers
-pub opens : {t : StateTable} {ctx : RxCtx} (p : Pass) → IsNew t 2 ctx 2 p → IsOff p
+pub opens : {t : StateTable} {ctx : RxCtx} (p : Pass) → IsNewPass t 2 ctx 2 p → IsOff p
 opens {t} {ctx} p new = record {
-  controller = ap number_of new.view ∙ sym (ap controller_of new.view);
+  controller = ap view_number new.view ∙ sym (ap view_controller new.view);
   owner = new_controls 2 ctx p new;
   unmarked = new_unmarked 2 2 ctx p new;
   within = not_out p.holds (new.own refl);
@@ -48,7 +48,7 @@ opens {t} {ctx} p new = record {
 pub enabled : {p : Pass} (q : Pass) → IsOff p → Steps (view_of p) (Enable false) (view_of q) → IsOn q
 enabled {p} q is g = record {
   controller = controls (view_of p) (view_of q) (Enable false) is.controller g;
-  free = ap (is_owner (number_of (view_of q))) (place_then (view_of p) (Enable false) (view_of q) g);
+  free = ap (is_owner (view_number (view_of q))) (place_then (view_of p) (Enable false) (view_of q) g);
   unmarked =
       ap (λ (s : Napi). s.flags.disable) (state_then (view_of p) (Enable false) (view_of q) g) ∙ g.disable is.controller ∙ is.unmarked;
 }
@@ -61,7 +61,7 @@ marked {p} q is g = record {
 }
 
 pub taken : {p : Pass} {x : Seen} (q r : Pass) → IsMarked p → Steps (view_of p) (Look x) (view_of q)
-    → Steps (view_of q) (TakeDisable true) (view_of r) → IsWithin r → IsTaken r
+    → Steps (view_of q) (TakeDisable true) (view_of r) → IsSlotFilled r → IsTaken r
 taken {p} {x} q r is look g within =
     let top = controls (view_of p) (view_of q) (Look x) is.controller look in
     let found = ap (λ (s : Napi). s.flags.disable) (state_then (view_of p) (Look x) (view_of q) look) ∙ look.disable is.controller
@@ -74,7 +74,8 @@ taken {p} {x} q r is look g within =
 
 pub unmarked : {p : Pass} (q : Pass) → IsTaken p → Steps (view_of p) Unmark (view_of q) → q.holds ≡ p.holds → IsOff q
 unmarked {p} q is g same =
-    let owner = ap (is_owner (number_of (view_of p))) is.owner ∙ eq-eqb (number_of (view_of p)) (number_of (view_of p)) refl in record {
+    let owner = ap (is_owner (view_number (view_of p))) is.owner
+    ∙ eq-eqb (view_number (view_of p)) (view_number (view_of p)) refl in record {
       controller = controls (view_of p) (view_of q) Unmark is.controller g;
       owner = place_then (view_of p) Unmark (view_of q) g ∙ g.place owner ∙ is.owner ∙ ap Control (sym g.number);
       unmarked = ap (λ (s : Napi). s.flags.disable) (state_then (view_of p) Unmark (view_of q) g);

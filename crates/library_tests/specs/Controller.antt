@@ -1,13 +1,13 @@
 -- What the controller of an instance did with it, by its pass.
 use Rattle.std.specs.Prelude.{true, false}
 use Rattle.napi_word.specs.declared.table.Pass.{Pass}
-use Rattle.napi_word.specs.Passes.{Controls, Disable, IsController, IsNoOwner, IsWithin}
+use Rattle.napi_word.specs.Passes.{Controls, Disable, IsController, IsNoOwner, IsSlotFilled}
 
 pub record IsOff (p : Pass) : Type 0 where
   pub controller : IsController p
   pub owner : Controls p
   pub unmarked : Disable false p
-  pub within : IsWithin p
+  pub within : IsSlotFilled p
 
 pub record IsOn (p : Pass) : Type 0 where
   pub controller : IsController p
@@ -24,4 +24,4 @@ pub record IsTaken (p : Pass) : Type 0 where
   pub controller : IsController p
   pub owner : Controls p
   pub marked : Disable true p
-  pub within : IsWithin p
+  pub within : IsSlotFilled p

@@ -1,7 +1,7 @@
 //! A worked list of events, and the state words.
 
 ghost use Rattle.std.specs.Prelude.{◌≡◌};
-ghost use Rattle.napi_model.specs.Serial.{controller_of};
+ghost use Rattle.napi_model.specs.Serial.{serial_controller};
 ghost use Rattle.library_tests.specs.declared.model.TheConstants.{CONTROLLER};
 
 use napi_model::{
@@ -16,14 +16,14 @@ const CONTROLLER: u32 = 2;
 
 /// An instance of this controller.
 #[derive(Drop)]
-struct Instance {
+struct ModelInstance {
     napi: SerialNapi,
-    ghost controlled: { controller_of napi ≡ CONTROLLER },
+    ghost controlled: { serial_controller napi ≡ CONTROLLER },
 }
 
-impl Instance {
-    fn new() -> Instance {
-        Instance {
+impl ModelInstance {
+    fn new() -> ModelInstance {
+        ModelInstance {
             napi: SerialNapi::new(CONTROLLER),
         }
     }
@@ -158,7 +158,7 @@ fn two_callers_and_a_controller(rt: HostRuntime) -> Result<(), Fail> {
         (2, Operation::TakeDisable(true), 13),
         (2, Operation::Unmark, 9),
     ];
-    let mut instance = Instance::new();
+    let mut instance = ModelInstance::new();
     let mut history = Vec::new(rt.alloc());
     assert_eq!(rt; instance.word(), 9);
     for (i, &(caller, operation, word)) in events.iter().enumerate() {
@@ -185,7 +185,7 @@ fn two_callers_and_a_controller(rt: HostRuntime) -> Result<(), Fail> {
 }
 
 fn word_after(rt: &impl Abort, calls: &[(u32, Call)]) -> u64 {
-    let mut instance = Instance::new();
+    let mut instance = ModelInstance::new();
     for &(caller, call) in calls {
         let operation = instance.perform(caller, call);
         assert!(rt; operation.is_some());

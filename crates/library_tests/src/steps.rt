@@ -2,12 +2,12 @@
 //! docs/FORMATS.md.
 
 ghost use Rattle.std.specs.Prelude.{◌≡◌, true, false};
-ghost use Rattle.napi_word.specs.Passes.{HandsOver, IsPassOf, IsWithin, Polls, SameTable};
+ghost use Rattle.napi_word.specs.Passes.{PassMayHand, IsPassOf, IsSlotFilled, PassPolls, SameTable};
 ghost use Rattle.napi_word.specs.declared.view.Holds.TheVariants.{Within};
 ghost use Rattle.napi_model.specs.declared.state.Kind.TheVariants as kind;
 ghost use Rattle.library_tests.specs.Controller.{IsMarked, IsOff, IsOn, IsTaken};
 
-use crate::word::{Opened, end_of_three, table_of_two};
+use crate::word::{OpenedTable, end_of_three, table_of_two};
 use napi_model::{Done, Kind, Prep, Seen, encode};
 use napi_word::{Ended, Pass, StateTable};
 use rx_ring::{Batch, Packet, ring};
@@ -44,10 +44,10 @@ fn enables(rt: &impl Abort, table: &StateTable, pass: &mut Pass, seen: Seen)
 // Requests a poll of an idle instance, which is granted.
 fn is_granted(rt: &impl Abort, table: &StateTable, pass: &mut Pass)
     requires table { IsPassOf table.now pass.old }
-    requires within { IsWithin pass.old }
+    requires within { IsSlotFilled pass.old }
     ensures table { SameTable pass.old pass.new }
-    ensures owner { HandsOver kind.List pass.new }
-    ensures within { IsWithin pass.new }
+    ensures owner { PassMayHand kind.List pass.new }
+    ensures within { IsSlotFilled pass.new }
 {
     let Some(seen) = table.schedule_load(pass) else {
         panic!(rt; "disabled")
@@ -61,7 +61,7 @@ fn is_granted(rt: &impl Abort, table: &StateTable, pass: &mut Pass)
 fn takes(rt: &impl Abort, table: &StateTable, pass: &mut Pass)
     requires table { IsPassOf table.now pass.old }
     ensures table { SameTable pass.old pass.new }
-    ensures owner { Polls false pass.new }
+    ensures owner { PassPolls false pass.new }
     ensures within { pass.new.holds ≡ Within }
 {
     if !table.take(pass, Kind::List) {
@@ -72,10 +72,10 @@ fn takes(rt: &impl Abort, table: &StateTable, pass: &mut Pass)
 // Polls with the context out of the slot, and puts it back.
 fn polls(table: &StateTable, pass: &mut Pass, batch: &mut Batch) -> usize
     requires table { IsPassOf table.now pass.old }
-    requires owner { Polls false pass.old }
+    requires owner { PassPolls false pass.old }
     requires within { pass.old.holds ≡ Within }
     ensures table { SameTable pass.old pass.new }
-    ensures owner { Polls false pass.new }
+    ensures owner { PassPolls false pass.new }
     ensures within { pass.new.holds ≡ Within }
 {
     let mut ctx = table.slot_out(pass);
@@ -87,8 +87,8 @@ fn polls(table: &StateTable, pass: &mut Pass, batch: &mut Batch) -> usize
 // Completes a poll without a missed request.
 fn releases(rt: &impl Abort, table: &StateTable, pass: &mut Pass, seen: Seen)
     requires table { IsPassOf table.now pass.old }
-    requires owner { Polls false pass.old }
-    requires within { IsWithin pass.old }
+    requires owner { PassPolls false pass.old }
+    requires within { IsSlotFilled pass.old }
     ensures table { SameTable pass.old pass.new }
 {
     let done = table.complete_swap(pass, seen);
@@ -99,7 +99,7 @@ fn releases(rt: &impl Abort, table: &StateTable, pass: &mut Pass, seen: Seen)
 fn busy_takes(rt: &impl Abort, table: &StateTable, pass: &mut Pass, seen: Seen)
     requires table { IsPassOf table.now pass.old }
     ensures table { SameTable pass.old pass.new }
-    ensures owner { Polls true pass.new }
+    ensures owner { PassPolls true pass.new }
     ensures within { pass.new.holds ≡ Within }
 {
     if seen.flags.disable || seen.flags.sched || seen.flags.in_busy_poll {
@@ -112,10 +112,10 @@ fn busy_takes(rt: &impl Abort, table: &StateTable, pass: &mut Pass, seen: Seen)
 
 fn is_held(table: &StateTable, pass: &mut Pass)
     requires table { IsPassOf table.now pass.old }
-    requires owner { Polls true pass.old }
+    requires owner { PassPolls true pass.old }
     requires within { pass.old.holds ≡ Within }
     ensures table { SameTable pass.old pass.new }
-    ensures owner { Polls true pass.new }
+    ensures owner { PassPolls true pass.new }
     ensures within { pass.new.holds ≡ Within }
 {
     table.complete_load(pass);
@@ -123,10 +123,10 @@ fn is_held(table: &StateTable, pass: &mut Pass)
 
 fn stops(rt: &impl Abort, table: &StateTable, pass: &mut Pass, seen: Seen)
     requires table { IsPassOf table.now pass.old }
-    requires owner { Polls true pass.old }
+    requires owner { PassPolls true pass.old }
     requires within { pass.old.holds ≡ Within }
     ensures table { SameTable pass.old pass.new }
-    ensures owner { Polls false pass.new }
+    ensures owner { PassPolls false pass.new }
     ensures within { pass.new.holds ≡ Within }
 {
     let Ok(()) = table.stop_swap(pass, seen) else {
@@ -170,7 +170,7 @@ fn unmarks(table: &StateTable, pass: &mut Pass)
 // Is granted the idle instance, queues it, takes it again, polls it and releases it.
 fn is_polled(rt: &impl Abort, table: &StateTable, pass: &mut Pass, watch: &mut Pass)
     requires passes { IsPassOf table.now pass.old × IsPassOf table.now watch.old }
-    requires within { IsWithin pass.old }
+    requires within { IsSlotFilled pass.old }
     ensures pass { SameTable pass.old pass.new }
     ensures watch { SameTable watch.old watch.new }
 {
@@ -227,7 +227,7 @@ fn each_step(rt: HostRuntime) -> Result<(), Fail> {
     let Some(opened) = table_of_two(rt.alloc(), ctx) else {
         panic!(rt; "no memory")
     };
-    let Opened {
+    let OpenedTable {
         table,
         mut first,
         second: mut watch,
@@ -248,7 +248,7 @@ fn each_step(rt: HostRuntime) -> Result<(), Fail> {
     let (found, then) = table.meet(&mut first, &mut watch);
     assert_eq!(rt; (encode(found), encode(then)), (0, 0));
     is_disabled(&rt, &table, &mut control, &mut watch);
-    let opened = Opened {
+    let opened = OpenedTable {
         table,
         first,
         second: watch,

@@ -3,7 +3,7 @@ ghost use Rattle.std.specs.Prelude.{◌≡◌, [], ◌∷◌, IfSome};
 ghost use Rattle.napi_model.specs.declared.event.Operation.TheVariants.{Look};
 ghost use Rattle.napi_model.specs.Step.{event};
 ghost use Rattle.napi_word.specs.View.{mine};
-ghost use Rattle.napi_word.specs.Passes.{view_of, IsNew};
+ghost use Rattle.napi_word.specs.Passes.{view_of, IsNewPass};
 
 use napi_model::{Seen, encode};
 use napi_word::{Pass, StateTable};
@@ -22,10 +22,10 @@ struct Opened {
 }
 
 fn table_of_three(alloc: Global, ctx: RxCtx) -> Option<Opened>
-    ensures first { IfSome result (λ o. IsNew o.table 3 ctx 0 o.first) }
-    ensures second { IfSome result (λ o. IsNew o.table 3 ctx 1 o.second) }
-    ensures third { IfSome result (λ o. IsNew o.table 3 ctx 2 o.third) }
-    ensures control { IfSome result (λ o. IsNew o.table 3 ctx 3 o.control) }
+    ensures first { IfSome result (λ o. IsNewPass o.table 3 ctx 0 o.first) }
+    ensures second { IfSome result (λ o. IsNewPass o.table 3 ctx 1 o.second) }
+    ensures third { IfSome result (λ o. IsNewPass o.table 3 ctx 2 o.third) }
+    ensures control { IfSome result (λ o. IsNewPass o.table 3 ctx 3 o.control) }
 {
     let Ok((table, mut room)) = StateTable::new(alloc, ctx, 4) else {
         return None;

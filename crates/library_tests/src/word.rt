@@ -6,9 +6,9 @@ ghost use Rattle.napi_model.specs.declared.event.Prep.TheVariants as prep;
 ghost use Rattle.napi_model.specs.declared.event.Operation.TheVariants.{Look, Schedule, Enable};
 ghost use Rattle.napi_model.specs.Step.{event};
 ghost use Rattle.napi_word.specs.declared.table.Pass.{Pass};
-ghost use Rattle.napi_word.specs.View.{mine, number_of};
-ghost use Rattle.napi_word.specs.Passes.{view_of, IsPassOf, SameTable, IsNew, controller_of_table};
-ghost use Rattle.napi_word.specs.Ends.{IsEnded};
+ghost use Rattle.napi_word.specs.View.{mine, view_number};
+ghost use Rattle.napi_word.specs.Passes.{view_of, IsPassOf, SameTable, IsNewPass, controller_of_table};
+ghost use Rattle.napi_word.specs.Ends.{IsClosedTable};
 ghost use Rattle.napi_word.specs.Runs.{HasOwnLists};
 
 use napi_model::{Prep, Seen, decode, encode};
@@ -20,7 +20,7 @@ use std::thread::join;
 
 // A table with two callers, 0 and 1, and the controller 2: the three passes, and the vector from which they were taken.
 #[derive(Drop)]
-pub(crate) struct Opened {
+pub(crate) struct OpenedTable {
     pub(crate) table: StateTable,
     pub(crate) first: Pass,
     pub(crate) second: Pass,
@@ -28,10 +28,10 @@ pub(crate) struct Opened {
     pub(crate) room: Vec<Pass>,
 }
 
-pub(crate) fn table_of_two(alloc: Global, ctx: RxCtx) -> Option<Opened>
-    ensures first { IfSome result (λ o. IsNew o.table 2 ctx 0 o.first) }
-    ensures second { IfSome result (λ o. IsNew o.table 2 ctx 1 o.second) }
-    ensures control { IfSome result (λ o. IsNew o.table 2 ctx 2 o.control) }
+pub(crate) fn table_of_two(alloc: Global, ctx: RxCtx) -> Option<OpenedTable>
+    ensures first { IfSome result (λ o. IsNewPass o.table 2 ctx 0 o.first) }
+    ensures second { IfSome result (λ o. IsNewPass o.table 2 ctx 1 o.second) }
+    ensures control { IfSome result (λ o. IsNewPass o.table 2 ctx 2 o.control) }
     ensures room { IfSome result (λ o. o.room.items ≡ []) }
     ensures controller { IfSome result (λ o. controller_of_table o.table ≡ 2) }
 {
@@ -44,7 +44,7 @@ pub(crate) fn table_of_two(alloc: Global, ctx: RxCtx) -> Option<Opened>
     let Some(second) = last else { unreachable!() };
     let last = room.pop();
     let Some(first) = last else { unreachable!() };
-    Some(Opened {
+    Some(OpenedTable {
         table,
         first,
         second,
@@ -56,9 +56,9 @@ pub(crate) fn table_of_two(alloc: Global, ctx: RxCtx) -> Option<Opened>
 // The controller's own list after it enabled the instance, when no other word than 9 was possible.
 fn enable(table: &StateTable, control: &mut Pass) -> bool
     requires table { IsPassOf table.now control.old }
-    requires new { (ctx : RxCtx) × IsNew table.now 2 ctx 2 control.old }
+    requires new { (ctx : RxCtx) × IsNewPass table.now 2 ctx 2 control.old }
     ensures table { SameTable control.old control.new }
-    ensures number { number_of (view_of control.new) ≡ 2 }
+    ensures number { view_number (view_of control.new) ≡ 2 }
     ensures own { IsTrue result → mine (view_of control.new) ≡ event 2 (Enable false) ∷ [] }
 {
     let Some(nine) = decode(9) else {
@@ -74,16 +74,16 @@ fn enable(table: &StateTable, control: &mut Pass) -> bool
 fn swaps(table: &StateTable, first: &mut Pass, second: &mut Pass) -> Option<(Seen, Seen)>
     requires table { IsPassOf table.now first.old × IsPassOf table.now second.old }
     ensures table { SameTable first.old first.new × SameTable second.old second.new }
-    ensures numbers { (number_of (view_of first.new) ≡ number_of (view_of first.old))
-        × (number_of (view_of second.new) ≡ number_of (view_of second.old)) }
+    ensures numbers { (view_number (view_of first.new) ≡ view_number (view_of first.old))
+        × (view_number (view_of second.new) ≡ view_number (view_of second.old)) }
     ensures first { IfSome result
         (λ r. mine (view_of first.new) ≡ mine (view_of first.old)
-        ++ event (number_of (view_of first.old)) (Look r.0)
-        ∷ event (number_of (view_of first.old)) (Schedule prep.Granted) ∷ []) }
+        ++ event (view_number (view_of first.old)) (Look r.0)
+        ∷ event (view_number (view_of first.old)) (Schedule prep.Granted) ∷ []) }
     ensures second { IfSome result
         (λ r. mine (view_of second.new) ≡ mine (view_of second.old)
-        ++ event (number_of (view_of second.old)) (Look r.1)
-        ∷ event (number_of (view_of second.old)) (Schedule prep.Missed) ∷ []) }
+        ++ event (view_number (view_of second.old)) (Look r.1)
+        ∷ event (view_number (view_of second.old)) (Schedule prep.Missed) ∷ []) }
 {
     let idle = table.look(first);
     if idle.flags.disable {
@@ -105,16 +105,17 @@ fn swaps(table: &StateTable, first: &mut Pass, second: &mut Pass) -> Option<(See
 }
 
 // The end of a table of three: each caller's own list is the events of its number in the one history.
-pub(crate) fn end_of_three(opened: Opened) -> Option<Ended>
+pub(crate) fn end_of_three(opened: OpenedTable) -> Option<Ended>
     requires first { IsPassOf opened.table opened.first }
     requires second { IsPassOf opened.table opened.second }
     requires control { IsPassOf opened.table opened.control }
     requires room { opened.room.items ≡ [] }
     requires controller { controller_of_table opened.table ≡ 2 }
     ensures { IfSome result
-        (λ e. IsEnded opened.table (opened.first ∷ opened.second ∷ opened.control ∷ []) e.ctx) }
+        (λ e. IsClosedTable opened.table (opened.first ∷ opened.second ∷ opened.control ∷ [])
+        e.ctx) }
 {
-    let Opened {
+    let OpenedTable {
         table,
         first,
         second,
@@ -239,7 +240,7 @@ fn one_of_all_schedules_is_granted(rt: HostRuntime) -> Result<(), Fail> {
         panic!(rt; "no memory")
     };
     assert!(rt; enable(&opened.table, &mut opened.control));
-    let Opened {
+    let OpenedTable {
         table,
         first,
         second,
@@ -260,7 +261,7 @@ fn one_of_all_schedules_is_granted(rt: HostRuntime) -> Result<(), Fail> {
     assert_eq!(rt; first.granted.checked_add(second.granted), Some(1));
     assert_eq!(rt; (first.steps, second.steps), (2000, 2000));
     assert_eq!(rt; encode(table.look(&mut control)), 3);
-    let opened = Opened {
+    let opened = OpenedTable {
         table,
         first: first.pass,
         second: second.pass,

@@ -1,6 +1,6 @@
 pub use Rattle.machine_words.specs.Usual
 pub use Rattle.machine_words.specs.Words
-pub use Rattle.machine_words.specs.declared.settings.Settings
+pub use Rattle.machine_words.specs.declared.settings.MachineSettings
 pub use Rattle.machine_model.specs.Machine
 pub use Rattle.machine_model.specs.Processor
 pub use Rattle.machine_laws.specs.Applications

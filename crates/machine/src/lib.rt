@@ -15,9 +15,9 @@ pub use machine_laws::{
 };
 pub use machine_lives::reports_live;
 pub use machine_model::{
-    ApplicationReport, DeviceCounts, DeviceReport, Machine, ProcessorCounts, ProcessorReport,
+    ApplicationReport, Machine, ProcessorCounts, ProcessorReport, QueueCounts, QueueReport,
     WaitCounts,
 };
 pub use machine_report::{Arrival, Arrivals, MachineFault, fault_line, run_machine, status};
-pub use machine_words::{Settings, parse_words};
+pub use machine_words::{MachineSettings, parse_words};
 pub use replay_words::{WordFault, word_line, word_status};

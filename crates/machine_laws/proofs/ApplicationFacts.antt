@@ -4,12 +4,12 @@ use Rattle.std.proofs.Common.{length, length-append, map, refl, sym, ap, subst, 
 use Rattle.std.proofs.lemmas.Bool.{and_parts, leb-true}
 use Rattle.std.proofs.lemmas.List.{append-nil, map-append}
 use Rattle.std.{proofs.{lemmas.Grind.common_steps, Math.Nat.mul-le-mul_right}, specs.Prelude.{◌&&◌, if◌then◌else◌, nat_le}}
-use Rattle.{machine_words.specs.declared.settings.Settings.Settings, circular_buffer.specs.Buffer.{Buffer}}
-use Rattle.machine_laws.specs.Applications.{Follows, Serves, ended_until, ended_with, fed_all, in_hand, placed_all, use_of, used_all}
+use Rattle.{machine_words.specs.declared.settings.MachineSettings.MachineSettings, circular_buffer.specs.Buffer.{Buffer}}
+use Rattle.machine_laws.specs.Applications.{UsesFollow, Serves, ended_until, ended_with, fed_all, being_read, placed_all, use_of, used_all}
 use Rattle.machine_laws.specs.Fates.{counting}
 use Rattle.machine_model.specs.declared.application.Activity.{Activity, TheVariants.{Asleep, Waking, Using}}
-use Rattle.machine_model.specs.Application.{ApplicationView, ended_by, fed, goes_on, has_place, is_awake, is_over, put, refuses}
-use Rattle.machine_model.specs.{Application.{takes_next, went_on, went_on_with, woken_by}, Waits.{WaitsView, counted, held, no_waits}}
+use Rattle.machine_model.specs.Application.{ApplicationView, ended_by, fed, goes_on, has_place, is_awake, is_use_over, put, refuses}
+use Rattle.machine_model.specs.{Application.{takes_next, went_on, went_on_with, woken_by}, Waits.{WaitsView, counted, saturated, no_waits}}
 use Rattle.machine_laws.proofs.TallyFacts.{counting-more}
 
 -- ---- lists of uses
@@ -18,9 +18,9 @@ pub last_end : ℕ → List (ℕ × ℕ) → ℕ
 last_end before [] = before
 last_end before (x ∷ more) = last_end x.1 more
 
-follows-append : (time before : ℕ) (xs ys : List (ℕ × ℕ)) → Follows time before xs → Follows time (last_end before xs) ys
-    → Follows time before (xs ++ ys)
-unfolding Follows last_end
+follows-append : (time before : ℕ) (xs ys : List (ℕ × ℕ)) → UsesFollow time before xs → UsesFollow time (last_end before xs) ys
+    → UsesFollow time before (xs ++ ys)
+unfolding UsesFollow last_end
 follows-append time before [] ys first second = second
 follows-append time before (x ∷ xs) ys first second = (first.0, follows-append time x.1 xs ys first.1 second)
 
@@ -38,12 +38,12 @@ wait_of x = x.1 - x.0
 abbrev pub at_end : ℕ → List ℕ → List (ℕ × ℕ)
 at_end end hand = map (λ (came : ℕ). (came, end)) hand
 
-hand-arrival : (w : Activity) (end : ℕ) → map arrival (at_end end (in_hand w)) ≡ in_hand w
+hand-arrival : (w : Activity) (end : ℕ) → map arrival (at_end end (being_read w)) ≡ being_read w
 hand-arrival Asleep end = refl
 hand-arrival Waking end = refl
 hand-arrival (Using came) end = refl
 
-hand-length : (w : Activity) (end : ℕ) → length (at_end end (in_hand w)) ≡ length (in_hand w)
+hand-length : (w : Activity) (end : ℕ) → length (at_end end (being_read w)) ≡ length (being_read w)
 hand-length Asleep end = refl
 hand-length Waking end = refl
 hand-length (Using came) end = refl
@@ -68,17 +68,17 @@ leb-is a b less = grind (arith, common_steps)
 
 -- ---- what is true of an application at a time
 
-pub record Works (s : Settings) (t : ℕ) (placed away : List ℕ) (uses : List (ℕ × ℕ)) (a : ApplicationView) : Type 0 where
+pub record Works (s : MachineSettings) (t : ℕ) (placed away : List ℕ) (uses : List (ℕ × ℕ)) (a : ApplicationView) : Type 0 where
   pub serves : Serves s placed away uses a
   -- the use under way begins at the end of the one before or later, and ends last
-  pub chain : Follows s.use_time 0 (uses ++ use_of a)
+  pub chain : UsesFollow s.use_time 0 (uses ++ use_of a)
   pub last : last_end 0 (uses ++ use_of a) ≤ a.end
   pub fits : a.end < 2 ^ 64
   -- it slept before that time, and wakes for a packet
   pub low : a.activity ≡ Asleep → a.end ≤ t
   pub full : a.activity ≡ Waking → a.socket.items ≡ [] → ⊥
 
-pub works-later : (s : Settings) (t u : ℕ) (placed away : List ℕ) (uses : List (ℕ × ℕ)) (a : ApplicationView) → t ≤ u
+pub works-later : (s : MachineSettings) (t u : ℕ) (placed away : List ℕ) (uses : List (ℕ × ℕ)) (a : ApplicationView) → t ≤ u
     → Works s t placed away uses a → Works s u placed away uses a
 works-later s t u placed away uses a less w = record {
   serves = w.serves;
@@ -103,7 +103,7 @@ ended-same Waking a = record { socket = refl; refused = refl; end = refl; wakes 
 ended-same (Using came) a = record { socket = refl; refused = refl; end = refl; wakes = refl }
 
 ended-waits : (w : Activity) (a : ApplicationView) (uses : List (ℕ × ℕ)) → a.waits ≡ counting (map wait_of uses) no_waits
-    → (ended_by w a).waits ≡ counting (map wait_of (uses ++ at_end a.end (in_hand w))) no_waits
+    → (ended_by w a).waits ≡ counting (map wait_of (uses ++ at_end a.end (being_read w))) no_waits
 ended-waits Asleep a uses is = is ∙ ap (λ (xs : List (ℕ × ℕ)). counting (map wait_of xs) no_waits) (sym (append-nil uses))
 ended-waits Waking a uses is = is ∙ ap (λ (xs : List (ℕ × ℕ)). counting (map wait_of xs) no_waits) (sym (append-nil uses))
 ended-waits (Using came) a uses is =
@@ -113,30 +113,30 @@ ended-waits (Using came) a uses is =
 
 -- each use corresponds to one time that it was woken
 woken-less : (w : Activity) (wakes n : ℕ) (items : List ℕ) → is_awake w ≡ true → (w ≡ Waking → items ≡ [] → ⊥)
-    → wakes ≤ n + (if is_awake w then 1 else 0) → items ≡ [] → wakes ≤ n + length (in_hand w)
+    → wakes ≤ n + (if is_awake w then 1 else 0) → items ≡ [] → wakes ≤ n + length (being_read w)
 woken-less Asleep wakes n items awake full less empty = cc awake
 woken-less Waking wakes n items awake full less empty = absurd (full refl empty)
 woken-less (Using came) wakes n items awake full less empty = less
 
-woken-more : (w : Activity) (wakes n : ℕ) → wakes ≤ n + (if is_awake w then 1 else 0) → wakes ≤ n + length (in_hand w) + 1
+woken-more : (w : Activity) (wakes n : ℕ) → wakes ≤ n + (if is_awake w then 1 else 0) → wakes ≤ n + length (being_read w) + 1
 woken-more Asleep wakes n less = omega (arith, less)
 woken-more Waking wakes n less = omega (arith, less)
 woken-more (Using came) wakes n less = omega (arith, less)
 
-uses-length : (uses : List (ℕ × ℕ)) (a : ApplicationView) → length (uses ++ use_of a) ≡ length uses + length (in_hand a.activity)
+uses-length : (uses : List (ℕ × ℕ)) (a : ApplicationView) → length (uses ++ use_of a) ≡ length uses + length (being_read a.activity)
 uses-length uses a = omega (arith, length-append uses (use_of a), hand-length a.activity a.end)
 
 -- the order of its packets, after the one in hand was used
 uses-order : (placed : List ℕ) (uses : List (ℕ × ℕ)) (a : ApplicationView)
-    → placed ≡ map arrival uses ++ (in_hand a.activity ++ a.socket.items) → placed ≡ map arrival (uses ++ use_of a) ++ a.socket.items
+    → placed ≡ map arrival uses ++ (being_read a.activity ++ a.socket.items) → placed ≡ map arrival (uses ++ use_of a) ++ a.socket.items
 uses-order placed uses a is =
-    is ∙ (sym (append_assoc (map arrival uses) (in_hand a.activity) a.socket.items)
+    is ∙ (sym (append_assoc (map arrival uses) (being_read a.activity) a.socket.items)
     ∙ ap (λ (xs : List ℕ). xs ++ a.socket.items)
     (ap (λ (xs : List ℕ). map arrival uses ++ xs) (sym (hand-arrival a.activity a.end)) ∙ sym (map-append arrival uses (use_of a))))
 
-works-goes : (s : Settings) (t : ℕ) (placed away : List ℕ) (uses : List (ℕ × ℕ)) (a : ApplicationView) → Works s t placed away uses a
+works-goes : (s : MachineSettings) (t : ℕ) (placed away : List ℕ) (uses : List (ℕ × ℕ)) (a : ApplicationView) → Works s t placed away uses a
     → is_awake a.activity ≡ true → a.end ≤ t → Works s t placed away (uses ++ use_of a) (goes_on s.use_time a)
-unfolding goes_on Follows
+unfolding goes_on UsesFollow
 works-goes s t placed away uses a w awake below = by a.socket.items refl
   where
     e : ApplicationView
@@ -157,7 +157,7 @@ works-goes s t placed away uses a w awake below = by a.socket.items refl
     waits : e.waits ≡ counting (map wait_of more) no_waits
     waits = ended-waits a.activity a uses v.waits
 
-    count : length more ≡ length uses + length (in_hand a.activity)
+    count : length more ≡ length uses + length (being_read a.activity)
     count = uses-length uses a
 
     idle : a.end < 2 ^ 64 - 1 → a.wakes * s.app_wake + length more * s.use_time ≤ a.end
@@ -178,7 +178,7 @@ works-goes s t placed away uses a w awake below = by a.socket.items refl
             subst (λ (k : ℕ). k * s.app_wake + (length more + 0) * s.use_time ≤ e.end) (sym same.wakes)
             (subst (λ (k : ℕ). a.wakes * s.app_wake + k * s.use_time ≤ e.end) (plus-none (length more)) (omega (arith, first, same.end)));
       };
-      chain = subst (λ (xs : List (ℕ × ℕ)). Follows s.use_time 0 xs) (sym (append-nil more)) w.chain;
+      chain = subst (λ (xs : List (ℕ × ℕ)). UsesFollow s.use_time 0 xs) (sym (append-nil more)) w.chain;
       last = subst (λ (xs : List (ℕ × ℕ)). last_end 0 xs ≤ e.end) (sym (append-nil more)) (omega (arith, w.last, same.end));
       fits = omega (arith, w.fits, same.end);
       low = λ asleep. omega (arith, below, same.end);
@@ -194,13 +194,13 @@ works-goes s t placed away uses a w awake below = by a.socket.items refl
         wakes = omega (arith, same.wakes, count, woken-more a.activity a.wakes (length uses) v.wakes);
         idle = λ small.
             let first = idle (omega (arith, same.end, small)) in
-            let step : a.wakes * s.app_wake + (length more + 1) * s.use_time ≤ held (e.end + s.use_time) =
+            let step : a.wakes * s.app_wake + (length more + 1) * s.use_time ≤ saturated (e.end + s.use_time) =
             omega (arith, first, small, same.end, plus-one (length more) s.use_time) in
-            subst (λ (k : ℕ). k * s.app_wake + (length more + 1) * s.use_time ≤ held (e.end + s.use_time)) (sym same.wakes) step;
+            subst (λ (k : ℕ). k * s.app_wake + (length more + 1) * s.use_time ≤ saturated (e.end + s.use_time)) (sym same.wakes) step;
       };
       chain =
-          follows-append s.use_time 0 more ((came, held (e.end + s.use_time)) ∷ []) w.chain (omega (arith, w.last, same.end), tt);
-      last = omega (arith, last-append 0 more (came, held (e.end + s.use_time)));
+          follows-append s.use_time 0 more ((came, saturated (e.end + s.use_time)) ∷ []) w.chain (omega (arith, w.last, same.end), tt);
+      last = omega (arith, last-append 0 more (came, saturated (e.end + s.use_time)));
       fits = omega arith;
       low = λ asleep. cc asleep;
       full = λ waking. cc waking;
@@ -208,23 +208,23 @@ works-goes s t placed away uses a w awake below = by a.socket.items refl
 
 -- ---- it advances
 
-over-parts : (t : ℕ) (a : ApplicationView) → is_over t a ≡ true → (is_awake a.activity ≡ true) × (a.end ≤ t)
+over-parts : (t : ℕ) (a : ApplicationView) → is_use_over t a ≡ true → (is_awake a.activity ≡ true) × (a.end ≤ t)
 over-parts t a over = let parts = and_parts (is_awake a.activity) (nat_le a.end t) over in (parts.0, leb-true a.end t parts.1)
 
-works-with : (s : Settings) (t : ℕ) (placed away : List ℕ) (items : List ℕ) (uses : List (ℕ × ℕ)) (a : ApplicationView)
+works-with : (s : MachineSettings) (t : ℕ) (placed away : List ℕ) (items : List ℕ) (uses : List (ℕ × ℕ)) (a : ApplicationView)
     → Works s t placed away uses a
     → Works s t placed away (uses ++ ended_with items t s.use_time a) (went_on_with items t s.use_time a)
 unfolding ended_with went_on_with
-works-with s t placed away [] uses a w = by (is_over t a) refl
+works-with s t placed away [] uses a w = by (is_use_over t a) refl
   where
-    by : (b : Bool) → is_over t a ≡ b
+    by : (b : Bool) → is_use_over t a ≡ b
         → Works s t placed away (uses ++ (if b then use_of a else [])) (if b then goes_on s.use_time a else a)
     by true over = let parts = over-parts t a over in works-goes s t placed away uses a w parts.0 parts.1
     by false stays = subst (λ (xs : List (ℕ × ℕ)). Works s t placed away xs a) (sym (append-nil uses)) w
 works-with s t placed away (came ∷ items) uses a w =
-    by (is_over t a) refl (λ v. works-with s t placed away items (uses ++ use_of a) (goes_on s.use_time a) v)
+    by (is_use_over t a) refl (λ v. works-with s t placed away items (uses ++ use_of a) (goes_on s.use_time a) v)
   where
-    by : (b : Bool) → is_over t a ≡ b
+    by : (b : Bool) → is_use_over t a ≡ b
         → (Works s t placed away (uses ++ use_of a) (goes_on s.use_time a)
         → Works s t placed away ((uses ++ use_of a) ++ ended_with items t s.use_time (goes_on s.use_time a))
         (went_on_with items t s.use_time (goes_on s.use_time a)))
@@ -238,7 +238,8 @@ works-with s t placed away (came ∷ items) uses a w =
         (next (works-goes s t placed away uses a w parts.0 parts.1))
     by false stays next = subst (λ (xs : List (ℕ × ℕ)). Works s t placed away xs a) (sym (append-nil uses)) w
 
-pub works-went : (s : Settings) (t : ℕ) (placed away : List ℕ) (uses : List (ℕ × ℕ)) (a : ApplicationView) → Works s t placed away uses a
+pub works-went : (s : MachineSettings) (t : ℕ) (placed away : List ℕ) (uses : List (ℕ × ℕ)) (a : ApplicationView)
+    → Works s t placed away uses a
     → Works s t placed away (uses ++ ended_until t s.use_time a) (went_on t s.use_time a)
 unfolding ended_until went_on
 works-went s t placed away uses a w = works-with s t placed away a.socket.items uses a w
@@ -255,13 +256,14 @@ some-append : (xs : List ℕ) (x : ℕ) → xs ++ x ∷ [] ≡ [] → ⊥
 some-append [] x is = cc is
 some-append (y ∷ xs) x is = cc is
 
-works-puts : (s : Settings) (t came : ℕ) (placed away : List ℕ) (uses : List (ℕ × ℕ)) (a : ApplicationView) → Works s t placed away uses a
+works-puts : (s : MachineSettings) (t came : ℕ) (placed away : List ℕ) (uses : List (ℕ × ℕ)) (a : ApplicationView)
+    → Works s t placed away uses a
     → (a.activity ≡ Asleep → ⊥) → Works s t (placed ++ came ∷ []) away uses (put came a)
 works-puts s t came placed away uses a w awake =
     let v = w.serves in
     record {
       serves = record {
-        order = put-order placed (map arrival uses) (in_hand a.activity) a.socket.items came v.order;
+        order = put-order placed (map arrival uses) (being_read a.activity) a.socket.items came v.order;
         refused = v.refused;
         waits = v.waits;
         follows = v.follows;
@@ -276,17 +278,18 @@ works-puts s t came placed away uses a w awake =
       full = λ waking. some-append a.socket.items came;
     }
 
-works-put : (s : Settings) (t came : ℕ) (placed away : List ℕ) (uses : List (ℕ × ℕ)) (a : ApplicationView) (w : Activity) → a.activity ≡ w
+works-put : (s : MachineSettings) (t came : ℕ) (placed away : List ℕ) (uses : List (ℕ × ℕ)) (a : ApplicationView) (w : Activity)
+    → a.activity ≡ w
     → t < 2 ^ 64 → Works s t placed away uses a
-    → Works s t (placed ++ came ∷ []) away uses (woken_by w (held (t + s.app_wake)) (put came a))
+    → Works s t (placed ++ came ∷ []) away uses (woken_by w (saturated (t + s.app_wake)) (put came a))
 works-put s t came placed away uses a Asleep is fits w =
     let v = w.serves in
-    let none : uses ++ use_of a ≡ uses ++ [] = ap (λ (x : Activity). uses ++ at_end a.end (in_hand x)) is in
+    let none : uses ++ use_of a ≡ uses ++ [] = ap (λ (x : Activity). uses ++ at_end a.end (being_read x)) is in
     let end : a.end ≤ t = w.low is in
     record {
       serves = record {
         order = put-order placed (map arrival uses) [] a.socket.items came
-            (v.order ∙ ap (λ (x : Activity). map arrival uses ++ (in_hand x ++ a.socket.items)) is);
+            (v.order ∙ ap (λ (x : Activity). map arrival uses ++ (being_read x ++ a.socket.items)) is);
         refused = v.refused;
         waits = v.waits;
         follows = v.follows;
@@ -294,12 +297,12 @@ works-put s t came placed away uses a Asleep is fits w =
         wakes = omega (arith, awake-none a.activity is a.wakes (length uses) v.wakes);
         idle = λ small.
             let first : a.wakes * s.app_wake + (length uses + 0) * s.use_time ≤ a.end =
-            subst (λ (x : Activity). a.wakes * s.app_wake + (length uses + length (in_hand x)) * s.use_time ≤ a.end) is
+            subst (λ (x : Activity). a.wakes * s.app_wake + (length uses + length (being_read x)) * s.use_time ≤ a.end) is
             (v.idle (omega (arith, end, small))) in
-            let times : held (a.wakes + 1) * s.app_wake ≤ (a.wakes + 1) * s.app_wake = mul-le-mul_right s.app_wake (omega arith) in
+            let times : saturated (a.wakes + 1) * s.app_wake ≤ (a.wakes + 1) * s.app_wake = mul-le-mul_right s.app_wake (omega arith) in
             omega (arith, first, times, plus-one a.wakes s.app_wake, end, small);
       };
-      chain = subst (λ (xs : List (ℕ × ℕ)). Follows s.use_time 0 xs) none w.chain;
+      chain = subst (λ (xs : List (ℕ × ℕ)). UsesFollow s.use_time 0 xs) none w.chain;
       last = let first : last_end 0 (uses ++ []) ≤ a.end = subst (λ (xs : List (ℕ × ℕ)). last_end 0 xs ≤ a.end) none w.last in
           omega (arith, first, end, fits);
       fits = omega arith;
@@ -309,7 +312,7 @@ works-put s t came placed away uses a Asleep is fits w =
 works-put s t came placed away uses a Waking is fits w = works-puts s t came placed away uses a w (λ asleep. cc (is, asleep))
 works-put s t came placed away uses a (Using x) is fits w = works-puts s t came placed away uses a w (λ asleep. cc (is, asleep))
 
-works-refuses : (s : Settings) (t came : ℕ) (placed away : List ℕ) (uses : List (ℕ × ℕ)) (a : ApplicationView)
+works-refuses : (s : MachineSettings) (t came : ℕ) (placed away : List ℕ) (uses : List (ℕ × ℕ)) (a : ApplicationView)
     → Works s t placed away uses a → Works s t placed (away ++ came ∷ []) uses (refuses a)
 works-refuses s t came placed away uses a w =
     let v = w.serves in
@@ -337,31 +340,31 @@ unfoldable pub Rising : ℕ → List (ℕ × ℕ) → Type 0
 Rising t [] = Unit {0}
 Rising t ((now, came) ∷ earlier) = (now ≤ t) × Rising now earlier
 
-fed-apart : (s : Settings) (now came : ℕ) (a : ApplicationView) → s.apart ≡ true
+fed-apart : (s : MachineSettings) (now came : ℕ) (a : ApplicationView) → s.apart ≡ true
     → let b = went_on now s.use_time a in
-    fed now came s a ≡ (if has_place b then woken_by b.activity (held (now + s.app_wake)) (put came b) else refuses b)
+    fed now came s a ≡ (if has_place b then woken_by b.activity (saturated (now + s.app_wake)) (put came b) else refuses b)
 unfolding fed
 fed-apart s now came a apart = rw apart refl
 
-works-fed : (s : Settings) (now came : ℕ) (placed away : List ℕ) (uses : List (ℕ × ℕ)) (b : ApplicationView) → now < 2 ^ 64
+works-fed : (s : MachineSettings) (now came : ℕ) (placed away : List ℕ) (uses : List (ℕ × ℕ)) (b : ApplicationView) → now < 2 ^ 64
     → Works s now placed away uses b
     → Works s now (placed ++ (if has_place b then came ∷ [] else [])) (away ++ (if has_place b then [] else came ∷ [])) uses
-    (if has_place b then woken_by b.activity (held (now + s.app_wake)) (put came b) else refuses b)
+    (if has_place b then woken_by b.activity (saturated (now + s.app_wake)) (put came b) else refuses b)
 works-fed s now came placed away uses b fits w = by (has_place b)
   where
     by : (room : Bool)
         → Works s now (placed ++ (if room then came ∷ [] else [])) (away ++ (if room then [] else came ∷ [])) uses
-        (if room then woken_by b.activity (held (now + s.app_wake)) (put came b) else refuses b)
+        (if room then woken_by b.activity (saturated (now + s.app_wake)) (put came b) else refuses b)
     by true =
-        subst (λ (xs : List ℕ). Works s now (placed ++ came ∷ []) xs uses (woken_by b.activity (held (now + s.app_wake)) (put came b)))
+        subst (λ (xs : List ℕ). Works s now (placed ++ came ∷ []) xs uses (woken_by b.activity (saturated (now + s.app_wake)) (put came b)))
         (sym (append-nil away)) (works-put s now came placed away uses b b.activity refl fits w)
     by false =
         subst (λ (xs : List ℕ). Works s now xs (away ++ came ∷ []) uses (refuses b)) (sym (append-nil placed))
         (works-refuses s now came placed away uses b w)
 
-pub works-all : (s : Settings) (t : ℕ) (ds : List (ℕ × ℕ)) → s.apart ≡ true → t < 2 ^ 64 → Rising t ds
+pub works-all : (s : MachineSettings) (t : ℕ) (ds : List (ℕ × ℕ)) → s.apart ≡ true → t < 2 ^ 64 → Rising t ds
     → Works s t (placed_all true s ds) (placed_all false s ds) (used_all s ds) (fed_all s ds)
-unfolding placed_all used_all fed_all Rising Follows last_end counting
+unfolding placed_all used_all fed_all Rising UsesFollow last_end counting
 works-all s t [] apart fits rising = record {
   serves = record {
     order = refl;
@@ -394,7 +397,7 @@ works-all s t ((now, came) ∷ earlier) apart fits rising =
     (sym (fed-apart s now came a apart))
     (works-later s now t (placed_all true s earlier ++ (if has_place b then came ∷ [] else []))
     (placed_all false s earlier ++ (if has_place b then [] else came ∷ [])) (used_all s earlier ++ ended_until now s.use_time a)
-    (if has_place b then woken_by b.activity (held (now + s.app_wake)) (put came b) else refuses b) rising.0 after)
+    (if has_place b then woken_by b.activity (saturated (now + s.app_wake)) (put came b) else refuses b) rising.0 after)
 
 -- ---- after the end
 
@@ -415,7 +418,7 @@ goes-items time a items is fits =
     (b.end < 2 ^ 64) × ((x : ℕ) (more : List ℕ) → items ≡ x ∷ more → b.socket.items ≡ more) × (items ≡ [] → is_awake b.activity ≡ false))
     (sym is) (goes-next time items a (ended_by a.activity a) (ended-same a.activity a) fits)
 
-not-over : (t : ℕ) (a : ApplicationView) → a.end ≤ t → is_over t a ≡ false → is_awake a.activity ≡ false
+not-over : (t : ℕ) (a : ApplicationView) → a.end ≤ t → is_use_over t a ≡ false → is_awake a.activity ≡ false
 not-over t a below is = by (is_awake a.activity) refl
   where
     by : (b : Bool) → is_awake a.activity ≡ b → is_awake a.activity ≡ false
@@ -426,15 +429,15 @@ not-over t a below is = by (is_awake a.activity) refl
 asleep-with : (time : ℕ) (items : List ℕ) (a : ApplicationView) → a.socket.items ≡ items → a.end < 2 ^ 64
     → is_awake (went_on_with items (2 ^ 64 - 1) time a).activity ≡ false
 unfolding went_on_with
-asleep-with time [] a is fits = by (is_over (2 ^ 64 - 1) a) refl
+asleep-with time [] a is fits = by (is_use_over (2 ^ 64 - 1) a) refl
   where
-    by : (b : Bool) → is_over (2 ^ 64 - 1) a ≡ b → is_awake (if b then goes_on time a else a).activity ≡ false
+    by : (b : Bool) → is_use_over (2 ^ 64 - 1) a ≡ b → is_awake (if b then goes_on time a else a).activity ≡ false
     by true over = (goes-items time a [] is fits).2 refl
     by false stays = not-over (2 ^ 64 - 1) a (omega (arith, fits)) stays
 asleep-with time (came ∷ items) a is fits =
-    by (is_over (2 ^ 64 - 1) a) refl (λ same small. asleep-with time items (goes_on time a) same small)
+    by (is_use_over (2 ^ 64 - 1) a) refl (λ same small. asleep-with time items (goes_on time a) same small)
   where
-    by : (b : Bool) → is_over (2 ^ 64 - 1) a ≡ b
+    by : (b : Bool) → is_use_over (2 ^ 64 - 1) a ≡ b
         → ((goes_on time a).socket.items ≡ items → (goes_on time a).end < 2 ^ 64
         → is_awake (went_on_with items (2 ^ 64 - 1) time (goes_on time a)).activity ≡ false)
         → is_awake (if b then went_on_with items (2 ^ 64 - 1) time (goes_on time a) else a).activity ≡ false

@@ -8,7 +8,7 @@ use Rattle.std.specs.List.{position_or_len}
 use Rattle.std.specs.Option.{option_map_or}
 use Rattle.std.specs.Prelude.{◌==◌, ◌&&◌, ◌||◌, if◌then◌else◌, is_some, nat_le, nat_lt, not}
 use Rattle.std.specs.Prelude.{position, slice_get}
-use Rattle.machine_words.specs.declared.settings.Settings.{Settings}
+use Rattle.machine_words.specs.declared.settings.MachineSettings.{MachineSettings}
 use Rattle.device_places.specs.Places.{at, changed}
 use Rattle.machine_laws.specs.{Deferrals.DeferralIsBounded, Lives.{behind}}
 use Rattle.machine_model.specs.declared.device.Phase.{Phase}
@@ -16,18 +16,18 @@ use Rattle.machine_model.specs.declared.device.Phase.TheVariants.{Scheduled, Def
 use Rattle.machine_model.specs.declared.processor.Work.{Work}
 use Rattle.machine_model.specs.declared.processor.Work.TheVariants.{Nothing, Interrupt, Poll, Packet}
 use Rattle.machine_model.specs.declared.processor.ProcessorCounts.{ProcessorCounts}
-use Rattle.machine_model.specs.declared.{processor.Upcoming.{Upcoming, TheVariants.{Ends, Expires}}, device.DeviceCounts.DeviceCounts}
-use Rattle.machine_model.specs.Device.{DeviceView, asks, expired, interrupted, is_fired, next_packet, without_next}
-use Rattle.machine_model.specs.Devices.{Devices, asks_at, is_fired_at}
+use Rattle.machine_model.specs.declared.{processor.Upcoming.{Upcoming, TheVariants.{Ends, Expires}}, device.QueueCounts.QueueCounts}
+use Rattle.machine_model.specs.Device.{QueueView, asks, expired, interrupted, is_fired, next_packet, without_next}
+use Rattle.machine_model.specs.Devices.{QueueViews, asks_at, is_fired_at}
 use Rattle.machine_model.specs.Devices.{next_packet_at}
-use Rattle.machine_model.specs.Softirq.{RunView, SoftirqView, asked_in, begun, next_of, pushed}
-use Rattle.machine_model.specs.Waits.{held}
+use Rattle.machine_model.specs.Softirq.{RunView, SoftirqView, asked_in, begun, run_next, pushed}
+use Rattle.machine_model.specs.Waits.{saturated}
 use Rattle.machine_model.specs.Processor.{ProcessorView, begins, begins_run, disturbed, ends_by, ends_current, ends_poll, goes_on}
 use Rattle.machine_model.specs.Processor.{happens, interrupts}
-use Rattle.machine_model.specs.Processor.{ends_interrupt, is_busy, is_polling, leaves_softirq, looks, polls, rests, set_aside}
+use Rattle.machine_model.specs.Processor.{ends_interrupt, is_busy, is_polling, leaves_softirq, poll_looks, polls, rests, set_aside}
 use Rattle.machine_model.specs.Processor.{spent, step}
 use Rattle.machine_model.specs.Processor.{takes_up, upcoming, woken}
-use Rattle.machine_model.specs.{Softirq.{filled, next_from}, declared.tasks.Task.TheVariants.Thread}
+use Rattle.machine_model.specs.{Softirq.{filled, next_from}, declared.tasks.RunnableTask.TheVariants.Thread}
 use Rattle.machine_model.specs.Device as device
 use Rattle.machine_laws.proofs.{TableFacts.{at-apart, at-changed, at-either, map_at}, WorkFacts.{Goes, goes-on, stirred}}
 use Rattle.machine_laws.proofs.LeftFacts.{Resting, list-empty, rested-on}
@@ -44,12 +44,12 @@ if-of true x y is = cc is
 
 -- ---- the first device that asks
 
-below-is : (ds : Devices) (n : ℕ) → asks_at (at n ds) ≡ true → n < length ds
+below-is : (ds : QueueViews) (n : ℕ) → asks_at (at n ds) ≡ true → n < length ds
 below-is [] n asks = cc asks
 below-is (place ∷ more) zero asks = omega arith
 below-is (place ∷ more) (suc n) asks = omega (arith, below-is more n asks)
 
-position-is : (ds : Devices) (n : ℕ) → asks_at (at n ds) ≡ true → ((k : ℕ) → k < n → asks_at (at k ds) ≡ false) → position asks_at ds
+position-is : (ds : QueueViews) (n : ℕ) → asks_at (at n ds) ≡ true → ((k : ℕ) → k < n → asks_at (at k ds) ≡ false) → position asks_at ds
     ≡ Some n
 position-is ds n asks none =
     let below : n < length ds = below-is ds n asks in
@@ -61,7 +61,7 @@ position-is ds n asks none =
     lt-is : (a b : ℕ) → a < b → nat_lt a b ≡ true
     lt-is a b below = grind (arith, common_steps)
 
-position-none : (ds : Devices) → ((k : ℕ) → asks_at (at k ds) ≡ false) → position asks_at ds ≡ None
+position-none : (ds : QueueViews) → ((k : ℕ) → asks_at (at k ds) ≡ false) → position asks_at ds ≡ None
 position-none ds none =
     let last : position_or_len asks_at ds ≡ length ds =
     position_or_len_is asks_at ds (length ds) None (omega arith) (λ k below. none k) (λ less. absurd (omega (arith, less))) in
@@ -90,7 +90,7 @@ stirred-idle t p nothing =
 -- how an interrupt leaves the processor, with polling and without threads
 pub record Interrupted (n : ℕ) (p q : ProcessorView) : Type 0 where
   pub work : q.work ≡ Interrupt n
-  pub ends : q.ends ≡ held (p.clock + p.settings.interrupt)
+  pub ends : q.ends ≡ saturated (p.clock + p.settings.interrupt)
   pub settings : q.settings ≡ p.settings
   pub softirq : q.softirq ≡ pushed n p.softirq
   pub devices : q.devices ≡ changed (interrupted true) n p.devices
@@ -100,8 +100,8 @@ unfolding interrupts
 interrupted-is n p polling single = by (is_polling p.settings) p.settings.threaded polling single
   where
     counts : ProcessorCounts
-    counts = if is_fired_at (at n p.devices) then record p.counts { timers = held (p.counts.timers + 1) }
-        else record p.counts { interrupts = held (p.counts.interrupts + 1) }
+    counts = if is_fired_at (at n p.devices) then record p.counts { timers = saturated (p.counts.timers + 1) }
+        else record p.counts { interrupts = saturated (p.counts.interrupts + 1) }
 
     x : Bool → ProcessorView
     x b = record p { devices = changed (interrupted b) n p.devices; counts = counts }
@@ -115,13 +115,13 @@ interrupted-is n p polling single = by (is_polling p.settings) p.settings.thread
     by false t polling single = cc polling
 
 -- the timer's device asks, and no other does
-one-asks : (n : ℕ) (ds : Devices) (d : DeviceView) (until : ℕ) → ((k : ℕ) → asks_at (at k ds) ≡ false) → at n ds ≡ Some d → d.phase
+one-asks : (n : ℕ) (ds : QueueViews) (d : QueueView) (until : ℕ) → ((k : ℕ) → asks_at (at k ds) ≡ false) → at n ds ≡ Some d → d.phase
     ≡ Deferred until
     → position asks_at (changed expired n ds) ≡ Some n
 unfolding map_at
 one-asks n ds d until quiet there deferred =
     position-is (changed expired n ds) n
-    (ap asks_at (at-changed expired n ds) ∙ (ap (λ (o : Option DeviceView). asks_at (map_at expired o)) there
+    (ap asks_at (at-changed expired n ds) ∙ (ap (λ (o : Option QueueView). asks_at (map_at expired o)) there
     ∙ ap (λ (x : Phase). asks (device.expired_phase x)) deferred))
     (λ k below. ap asks_at (at-apart expired n k ds (apart k below)) ∙ quiet k)
   where
@@ -129,21 +129,21 @@ one-asks n ds d until quiet there deferred =
     apart k below = grind (arith, common_steps)
 
 -- after its interrupt none asks
-none-asks : (n : ℕ) (ds : Devices) → ((k : ℕ) → asks_at (at k ds) ≡ false) → (k : ℕ)
+none-asks : (n : ℕ) (ds : QueueViews) → ((k : ℕ) → asks_at (at k ds) ≡ false) → (k : ℕ)
     → asks_at (at k (changed (interrupted true) n (changed expired n ds))) ≡ false
 unfolding map_at interrupted
 none-asks n ds quiet k =
     at-either (λ b o. asks_at o ≡ false) (interrupted true) n k (changed expired n ds) (λ here. by (at k (changed expired n ds)))
     (λ other. ap asks_at (at-apart expired n k ds other) ∙ quiet k)
   where
-    also : (d : DeviceView) (counts : DeviceCounts) (b : Bool)
+    also : (d : QueueView) (counts : QueueCounts) (b : Bool)
         → asks (if b then record d { phase = Scheduled } else record d { phase = Scheduled; frames = 0; counts = counts }).phase ≡ false
     also d counts true = refl
     also d counts false = refl
 
-    by : (o : Option DeviceView) → asks_at (map_at (interrupted true) o) ≡ false
+    by : (o : Option QueueView) → asks_at (map_at (interrupted true) o) ≡ false
     by None = refl
-    by (Some d) = also d (record d.counts { interrupts = held (d.counts.interrupts + 1) }) (is_fired d.phase)
+    by (Some d) = also d (record d.counts { interrupts = saturated (d.counts.interrupts + 1) }) (is_fired d.phase)
 
 -- ---- the interrupt ends
 
@@ -166,9 +166,9 @@ rests-begins n p polling list =
     (ap (λ (b : Bool). b && not (length p.softirq.list == 0)) polling ∙ ap (λ (xs : List ℕ). not (length xs == 0)) list)
 
 -- the run asks for the device
-asks-first : (n clock : ℕ) (s : Settings) (list : List ℕ) (run : Option RunView) (began : ℕ) → is_polling s ≡ true → list ≡ n ∷ []
-    → asked_in (next_of (begun clock s.budget s.weight s.window (record { list = list; run = run; began = began }))).run ≡ Some n
-unfolding next_of
+asks-first : (n clock : ℕ) (s : MachineSettings) (list : List ℕ) (run : Option RunView) (began : ℕ) → is_polling s ≡ true → list ≡ n ∷ []
+    → asked_in (run_next (begun clock s.budget s.weight s.window (record { list = list; run = run; began = began }))).run ≡ Some n
+unfolding run_next
 asks-first n clock s list run began polling is = by (nat_le s.budget 0 || nat_le s.window 0) (not-spent s polling)
   where
     r : RunView
@@ -177,7 +177,7 @@ asks-first n clock s list run began polling is = by (nat_le s.budget 0 || nat_le
     q : SoftirqView
     q = record { list = []; run = Some r; began = clock }
 
-    not-spent : (x : Settings) → is_polling x ≡ true → (nat_le x.budget 0 || nat_le x.window 0) ≡ false
+    not-spent : (x : MachineSettings) → is_polling x ≡ true → (nat_le x.budget 0 || nat_le x.window 0) ≡ false
     not-spent x polling = grind (arith, common_steps, x.window_in)
 
     by : (b : Bool) → b ≡ false
@@ -187,21 +187,21 @@ asks-first n clock s list run began polling is = by (nat_le s.budget 0 || nat_le
 
 begins-first : (n : ℕ) (p : ProcessorView) → is_polling p.settings ≡ true → p.softirq.list ≡ n ∷ []
     → begins_run p ≡ polls n
-    (record p { softirq = next_of (begun p.clock p.settings.budget p.settings.weight p.settings.window p.softirq) })
+    (record p { softirq = run_next (begun p.clock p.settings.budget p.settings.weight p.settings.window p.softirq) })
 unfolding begins_run
 begins-first n p polling list =
     let s = p.settings in
-    let q : ProcessorView = record p { softirq = next_of (begun p.clock s.budget s.weight s.window p.softirq) } in
+    let q : ProcessorView = record p { softirq = run_next (begun p.clock s.budget s.weight s.window p.softirq) } in
     ap (λ (o : Option ℕ). option_map_or (λ (k : ℕ). polls k q) o q)
     (asks-first n p.clock s p.softirq.list p.softirq.run p.softirq.began polling list)
 
 -- ---- the poll looks for its first packet
 
 looks-is : (n came : ℕ) (p : ProcessorView) → next_packet_at p.settings.backlog (at n p.devices) ≡ Some came
-    → looks n 0 p
+    → poll_looks n 0 p
     ≡ begins (Packet (record { device = n; came = came; given = 0 })) p.settings.packet
     (record p { devices = changed (without_next p.settings.backlog) n p.devices })
-unfolding looks
+unfolding poll_looks
 looks-is n came p is =
     let q : ProcessorView = record p { devices = changed (without_next p.settings.backlog) n p.devices } in
     let f = λ (c : ℕ). begins (Packet (record { device = n; came = c; given = 0 })) p.settings.packet q in
@@ -210,7 +210,7 @@ looks-is n came p is =
     (some-weight p.settings)
     ∙ ap (λ (o : Option ℕ). option_map_or f o (ends_poll n 0 q)) is
   where
-    some-weight : (x : Settings) → nat_lt 0 x.weight ≡ true
+    some-weight : (x : MachineSettings) → nat_lt 0 x.weight ≡ true
     some-weight x = grind (arith, common_steps, x.weight_in)
 
 busy-takes : (p : ProcessorView) → is_busy p.work ≡ true → takes_up p ≡ p
@@ -222,7 +222,7 @@ busy-takes p busy = rw busy refl
 -- the interrupt has ended, and the first poll is under way
 pub record PollsFirst (n : ℕ) (p q : ProcessorView) : Type 0 where
   pub work : q.work ≡ Poll n
-  pub ends : q.ends ≡ held (p.ends + p.settings.poll)
+  pub ends : q.ends ≡ saturated (p.ends + p.settings.poll)
   pub settings : q.settings ≡ p.settings
   pub devices : q.devices ≡ p.devices
 
@@ -240,7 +240,7 @@ unfolding step
 after-interrupt n p work polling quiet idle list second =
     let e : ProcessorView = record p { clock = p.ends; work = Nothing; counts = spent p.work (p.ends - p.clock) p.counts } in
     let s = p.settings in
-    let q = polls n (record e { softirq = next_of (begun e.clock s.budget s.weight s.window e.softirq) }) in
+    let q = polls n (record e { softirq = run_next (begun e.clock s.budget s.weight s.window e.softirq) }) in
     let is : happens (upcoming p) p ≡ q =
     ap (λ (u : Upcoming). happens u p) second
     ∙ (ap takes_up (ended-interrupt n p work polling)
@@ -249,10 +249,10 @@ after-interrupt n p work polling quiet idle list second =
 
 pub record TakesFirst (n came : ℕ) (p q : ProcessorView) : Type 0 where
   pub work : q.work ≡ Packet (record { device = n; came = came; given = 0 })
-  pub ends : q.ends ≡ held (p.ends + p.settings.packet)
+  pub ends : q.ends ≡ saturated (p.ends + p.settings.packet)
 
 ended-poll : (n : ℕ) (p : ProcessorView) → p.work ≡ Poll n
-    → ends_current p ≡ looks n 0 (record p { clock = p.ends; work = Nothing; counts = spent p.work (p.ends - p.clock) p.counts })
+    → ends_current p ≡ poll_looks n 0 (record p { clock = p.ends; work = Nothing; counts = spent p.work (p.ends - p.clock) p.counts })
 unfolding ends_current
 ended-poll n p work =
     let e : ProcessorView = record p { clock = p.ends; work = Nothing; counts = spent p.work (p.ends - p.clock) p.counts } in
@@ -272,10 +272,10 @@ after-poll n came p work found third =
 -- the timer expires on an idle processor
 abbrev pub awake : ℕ → ℕ → ProcessorView → ProcessorView
 awake until n p =
-    let counts = record p.counts { interrupt_time = held (p.counts.interrupt_time + p.settings.wake) } in
-    record p { devices = changed expired n p.devices; clock = held (until + p.settings.wake); counts = counts }
+    let counts = record p.counts { interrupt_time = saturated (p.counts.interrupt_time + p.settings.wake) } in
+    record p { devices = changed expired n p.devices; clock = saturated (until + p.settings.wake); counts = counts }
 
-after-timer : (n until : ℕ) (d : DeviceView) (p : ProcessorView) → ((k : ℕ) → asks_at (at k p.devices) ≡ false) → is_polling p.settings
+after-timer : (n until : ℕ) (d : QueueView) (p : ProcessorView) → ((k : ℕ) → asks_at (at k p.devices) ≡ false) → is_polling p.settings
     ≡ true
     → p.settings.threaded ≡ false → p.work ≡ Nothing → at n p.devices ≡ Some d → d.phase ≡ Deferred until
     → upcoming p ≡ Expires (record { at = until; device = n }) → Interrupted n (awake until n p) (step p)
@@ -289,7 +289,7 @@ after-timer n until d p quiet polling single nothing there deferred first =
     ∙ takes-interrupt n (awake until n p) nothing asks) in
     subst (λ (x : ProcessorView). Interrupted n (awake until n p) x) (sym is) (interrupted-is n (awake until n p) polling single)
 
-next-backlog : (x : DeviceView) → next_packet true x ≡ slice_get (if length x.taken == 0 then x.ring else x.taken) 0
+next-backlog : (x : QueueView) → next_packet true x ≡ slice_get (if length x.taken == 0 then x.ring else x.taken) 0
 next-backlog x = by (length x.taken == 0)
   where
     by : (b : Bool) → slice_get (if b then record x { ring = []; taken = x.ring } else x).taken 0
@@ -297,15 +297,15 @@ next-backlog x = by (length x.taken == 0)
     by true = refl
     by false = refl
 
-next-same : (backlog : Bool) (d : DeviceView) → next_packet backlog (interrupted true (expired d)) ≡ next_packet backlog d
+next-same : (backlog : Bool) (d : QueueView) → next_packet backlog (interrupted true (expired d)) ≡ next_packet backlog d
 unfolding interrupted
 next-same backlog d = by (is_fired (expired d).phase) backlog
   where
-    e : DeviceView
+    e : QueueView
     e = expired d
 
-    counts : DeviceCounts
-    counts = record d.counts { interrupts = held (d.counts.interrupts + 1) }
+    counts : QueueCounts
+    counts = record d.counts { interrupts = saturated (d.counts.interrupts + 1) }
 
     by : (b backlog : Bool)
         → next_packet backlog (if b then record e { phase = Scheduled } else record e { phase = Scheduled; frames = 0; counts = counts })
@@ -315,16 +315,16 @@ next-same backlog d = by (is_fired (expired d).phase) backlog
     by false true = next-backlog (record e { phase = Scheduled; frames = 0; counts = counts }) ∙ sym (next-backlog d)
     by false false = refl
 
-next-there : (backlog : Bool) (n came : ℕ) (ds : Devices) (d : DeviceView) → at n ds ≡ Some d → next_packet backlog d ≡ Some came
+next-there : (backlog : Bool) (n came : ℕ) (ds : QueueViews) (d : QueueView) → at n ds ≡ Some d → next_packet backlog d ≡ Some came
     → next_packet_at backlog (at n (changed (interrupted true) n (changed expired n ds))) ≡ Some came
 unfolding map_at
 next-there backlog n came ds d there found =
     ap (next_packet_at backlog) (at-changed (interrupted true) n (changed expired n ds))
-    ∙ (ap (λ (o : Option DeviceView). next_packet_at backlog (map_at (interrupted true) o)) (at-changed expired n ds)
-    ∙ (ap (λ (o : Option DeviceView). next_packet_at backlog (map_at (interrupted true) (map_at expired o))) there
+    ∙ (ap (λ (o : Option QueueView). next_packet_at backlog (map_at (interrupted true) o)) (at-changed expired n ds)
+    ∙ (ap (λ (o : Option QueueView). next_packet_at backlog (map_at (interrupted true) (map_at expired o))) there
     ∙ (next-same backlog d ∙ found)))
 
-deferral-steps : (s : Settings) (n until came : ℕ) (d : DeviceView) (p : ProcessorView) → Goes s p → Resting p → is_polling s ≡ true
+deferral-steps : (s : MachineSettings) (n until came : ℕ) (d : QueueView) (p : ProcessorView) → Goes s p → Resting p → is_polling s ≡ true
     → s.threaded ≡ false → p.work ≡ Nothing → at n p.devices ≡ Some d → d.phase ≡ Deferred until
     → upcoming p ≡ Expires (record { at = until; device = n }) → next_packet s.backlog d ≡ Some came → upcoming (step p) ≡ Ends
     → upcoming (step (step p)) ≡ Ends
@@ -332,30 +332,30 @@ deferral-steps : (s : Settings) (n until came : ℕ) (d : DeviceView) (p : Proce
     × ((step (step (step p))).ends ≤ until + (s.wake + (s.interrupt + (s.poll + s.packet))))
 deferral-steps s n until came d p goes r polls single nothing there deferred first found second third =
     let is : p.settings ≡ s = goes.rests.settings in
-    let polling : is_polling p.settings ≡ true = ap (λ (x : Settings). is_polling x) is ∙ polls in
-    let alone : p.settings.threaded ≡ false = ap (λ (x : Settings). x.threaded) is ∙ single in
+    let polling : is_polling p.settings ≡ true = ap (λ (x : MachineSettings). is_polling x) is ∙ polls in
+    let alone : p.settings.threaded ≡ false = ap (λ (x : MachineSettings). x.threaded) is ∙ single in
     let q = step p in
     let i = after-timer n until d p r.quiet polling alone nothing there deferred first in
     let q-settings : q.settings ≡ p.settings = i.settings in
-    let q-polling : is_polling q.settings ≡ true = ap (λ (x : Settings). is_polling x) q-settings ∙ polling in
+    let q-polling : is_polling q.settings ≡ true = ap (λ (x : MachineSettings). is_polling x) q-settings ∙ polling in
     let empty : p.softirq.list ≡ [] = list-empty (is_polling p.settings) p.softirq.list r.list (λ no. cc (no, polling)) in
     let list : q.softirq.list ≡ n ∷ [] =
     ap (λ (x : SoftirqView). x.list) i.softirq ∙ ap (λ (xs : List ℕ). xs ++ n ∷ []) empty in
     let idle : q.softirq.run ≡ None = ap (λ (x : SoftirqView). x.run) i.softirq ∙ r.idle in
     let quiet : (k : ℕ) → asks_at (at k q.devices) ≡ false =
-    λ k. ap (λ (ds : Devices). asks_at (at k ds)) i.devices ∙ none-asks n p.devices r.quiet k in
+    λ k. ap (λ (ds : QueueViews). asks_at (at k ds)) i.devices ∙ none-asks n p.devices r.quiet k in
     let f = after-interrupt n q i.work q-polling quiet idle list second in
     let v = step q in
     let v-settings : v.settings ≡ s = f.settings ∙ (q-settings ∙ is) in
     let packet : next_packet_at v.settings.backlog (at n v.devices) ≡ Some came =
-    ap (λ (x : Settings). next_packet_at x.backlog (at n v.devices)) v-settings
-    ∙ (ap (λ (ds : Devices). next_packet_at s.backlog (at n ds)) (f.devices ∙ i.devices)
+    ap (λ (x : MachineSettings). next_packet_at x.backlog (at n v.devices)) v-settings
+    ∙ (ap (λ (ds : QueueViews). next_packet_at s.backlog (at n ds)) (f.devices ∙ i.devices)
     ∙ next-there s.backlog n came p.devices d there found) in
     let l = after-poll n came v f.work packet third in
-    let one : p.settings.wake ≡ s.wake = ap (λ (x : Settings). x.wake) is in
-    let two : p.settings.interrupt ≡ s.interrupt = ap (λ (x : Settings). x.interrupt) is in
-    let three : q.settings.poll ≡ s.poll = ap (λ (x : Settings). x.poll) (q-settings ∙ is) in
-    let four : v.settings.packet ≡ s.packet = ap (λ (x : Settings). x.packet) v-settings in
+    let one : p.settings.wake ≡ s.wake = ap (λ (x : MachineSettings). x.wake) is in
+    let two : p.settings.interrupt ≡ s.interrupt = ap (λ (x : MachineSettings). x.interrupt) is in
+    let three : q.settings.poll ≡ s.poll = ap (λ (x : MachineSettings). x.poll) (q-settings ∙ is) in
+    let four : v.settings.packet ≡ s.packet = ap (λ (x : MachineSettings). x.packet) v-settings in
     (l.work, omega (arith, l.ends, f.ends, i.ends, one, two, three, four))
 
 pub deferral-is-bounded : DeferralIsBounded

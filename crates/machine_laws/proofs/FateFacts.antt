@@ -2,18 +2,19 @@
 use Rattle.std.proofs.Common.{◌≡◌, ◌∙◌, ℕ, ◌+◌, ◌<◌, Bool, true, false, Option, Some, None, List, [], ◌∷◌, ◌++◌, append_assoc, length, drop}
 use Rattle.std.proofs.{Common.{refl, sym, ap, subst, arith}, lemmas.{List.append-nil, Bool.eqb-true, Grind.common_steps}}
 use Rattle.std.specs.{Prelude.{◌==◌, ◌&&◌, if◌then◌else◌, is_some, not, position, slice_get}}
-use Rattle.{machine_words.specs.declared.settings.Settings.Settings}
+use Rattle.{machine_words.specs.declared.settings.MachineSettings.MachineSettings}
 use Rattle.device_places.{specs.Places.{added_at, at, changed}}
-use Rattle.machine_laws.specs.Lives.{Event, behind, next, packet}
-use Rattle.machine_laws.specs.Fates.{DeliversInOrder, came, delivered, delivery, delivery_by, delivery_of, finds_room}
-use Rattle.machine_laws.specs.Fates.{hand_of, packet_for, ring_in, taken_in}
+use Rattle.machine_laws.specs.Lives.{MachineEvent, behind, next, packet}
+use Rattle.machine_laws.specs.Fates.{DeliversInOrder, came, delivered_packets, next_delivery, delivery_by, delivery_of, finds_room}
+use Rattle.machine_laws.specs.Fates.{hand_of, packet_for, queue_ring, taken_in}
 use Rattle.machine_model.specs.declared.processor.{Work.{Work, TheVariants.{Nothing, Interrupt, Poll, Packet, Use}}}
-use Rattle.machine_model.specs.declared.{processor.Upcoming.{Upcoming, TheVariants.{Never, Expires}}, tasks.Task.{TheVariants.Thread}}
-use Rattle.machine_model.specs.Device.{DeviceView, after_packet, completed, expired, has_room, interrupted, is_fired, is_masked}
-use Rattle.machine_model.specs.Device.{next_packet, notified, opened, polled}
+use Rattle.machine_model.specs.declared.{processor.Upcoming.{Upcoming, TheVariants.{Never, Expires}}}
+use Rattle.machine_model.specs.declared.{tasks.RunnableTask.{TheVariants.Thread}}
+use Rattle.machine_model.specs.Device.{QueueView, after_packet, queue_completed, expired, has_room, interrupted, is_fired, is_masked}
+use Rattle.machine_model.specs.Device.{next_packet, notified, new_queue, queue_polled}
 use Rattle.machine_model.specs.Device.{raised_again, spliced, without_next}
-use Rattle.machine_model.specs.Devices.{Devices, asks_at, has_room_at, is_fired_at, next_packet_at, with_device}
-use Rattle.machine_model.specs.{Softirq.{pushed}, Waits.held}
+use Rattle.machine_model.specs.Devices.{QueueViews, asks_at, has_room_at, is_fired_at, next_packet_at, with_device}
+use Rattle.machine_model.specs.{Softirq.{pushed}, Waits.saturated}
 use Rattle.machine_model.specs.Processor.{ProcessorView, arrives, disturbed, ends_current}
 use Rattle.machine_model.specs.Processor.{ends_run, happens, interrupts, is_busy, is_polling, scheduled, set_aside, step}
 use Rattle.machine_model.specs.Processor.{takes_up, upcoming, woken}
@@ -27,14 +28,14 @@ use Rattle.machine_model.specs.Device as device
 -- ---- a device's part that no work changes
 
 -- a part of a device that stays as work begins and timers expire
-pub record Blind {A : Type 0} (g : Option DeviceView → A) : Type 0 where
-  pub interrupted : (polling : Bool) (d : DeviceView) → g (Some (interrupted polling d)) ≡ g (Some d)
-  pub expired : (d : DeviceView) → g (Some (expired d)) ≡ g (Some d)
+pub record Blind {A : Type 0} (g : Option QueueView → A) : Type 0 where
+  pub interrupted : (polling : Bool) (d : QueueView) → g (Some (interrupted polling d)) ≡ g (Some d)
+  pub expired : (d : QueueView) → g (Some (expired d)) ≡ g (Some d)
 
-pub record Seen {A : Type 0} (g : Option DeviceView → A) (n : ℕ) (x : A) (p : ProcessorView) : Type 0 where
+pub record Seen {A : Type 0} (g : Option QueueView → A) (n : ℕ) (x : A) (p : ProcessorView) : Type 0 where
   pub seen : g (at n p.devices) ≡ x
 
-seen-scheduled : {A : Type 0} (g : Option DeviceView → A) (n : ℕ) (x : A) (b : Bool) (m : ℕ) (p : ProcessorView) → Seen g n x p
+seen-scheduled : {A : Type 0} (g : Option QueueView → A) (n : ℕ) (x : A) (b : Bool) (m : ℕ) (p : ProcessorView) → Seen g n x p
     → Seen g n x (if b then scheduled m p else p)
 seen-scheduled g n x b m p h =
     either (Seen g n x) b (scheduled m p) p
@@ -42,23 +43,23 @@ seen-scheduled g n x b m p h =
     (record p { softirq = pushed m p.softirq })
     (λ t. record { seen = h.seen }) (λ t. record { seen = h.seen })) (λ no. h)
 
-seen-interrupt : {A : Type 0} (g : Option DeviceView → A) → Blind g → (n : ℕ) (x : A) (m : ℕ) (p : ProcessorView) → Seen g n x p
+seen-interrupt : {A : Type 0} (g : Option QueueView → A) → Blind g → (n : ℕ) (x : A) (m : ℕ) (p : ProcessorView) → Seen g n x p
     → Seen g n x (interrupts m p)
 unfolding interrupts
 seen-interrupt g b n x m p h =
     let polling = is_polling p.settings in
-    let counts = if is_fired_at (at m p.devices) then record p.counts { timers = held (p.counts.timers + 1) }
-    else record p.counts { interrupts = held (p.counts.interrupts + 1) } in
+    let counts = if is_fired_at (at m p.devices) then record p.counts { timers = saturated (p.counts.timers + 1) }
+    else record p.counts { interrupts = saturated (p.counts.interrupts + 1) } in
     let q : ProcessorView = record p { devices = changed (interrupted polling) m p.devices; counts = counts } in
     let first : Seen g n x q = record { seen = at-kept g (interrupted polling) m n p.devices (b.interrupted polling) ∙ h.seen } in
     record { seen = (seen-scheduled g n x polling m q first).seen }
 
-seen-over : {A : Type 0} (g : Option DeviceView → A) (n : ℕ) (x : A) (late : Bool) (p : ProcessorView) → Seen g n x p
+seen-over : {A : Type 0} (g : Option QueueView → A) (n : ℕ) (x : A) (late : Bool) (p : ProcessorView) → Seen g n x p
     → Seen g n x (ends_run late p)
 unfolding ends_run
 seen-over g n x late p h = record { seen = h.seen }
 
-pub seen-walk : {A : Type 0} (g : Option DeviceView → A) → Blind g → (n : ℕ) (x : A) → Walk (Seen g n x) (Seen g n x)
+pub seen-walk : {A : Type 0} (g : Option QueueView → A) → Blind g → (n : ℕ) (x : A) → Walk (Seen g n x) (Seen g n x)
 seen-walk g b n x = record {
   interrupt = λ m p free h asks. seen-interrupt g b n x m p h;
   next = λ p free h. record { seen = h.seen };
@@ -72,7 +73,7 @@ seen-walk g b n x = record {
   stays = λ p free h still settled. h;
 }
 
-pub seen-takes : {A : Type 0} (s : Settings) (g : Option DeviceView → A) → Blind g → (n : ℕ) (p : ProcessorView) → Goes s p
+pub seen-takes : {A : Type 0} (s : MachineSettings) (g : Option QueueView → A) → Blind g → (n : ℕ) (p : ProcessorView) → Goes s p
     → g (at n (takes_up p).devices) ≡ g (at n p.devices)
 seen-takes s g b n p goes =
     (walk-any (Seen g n (g (at n p.devices))) (Seen g n (g (at n p.devices))) (seen-walk g b n (g (at n p.devices))) p
@@ -103,12 +104,12 @@ pub record Undisturbed (p q : ProcessorView) : Type 0 where
 pub undisturbed : (moment : ℕ) (p : ProcessorView) → Undisturbed p (stirred moment p)
 undisturbed moment p =
     let asked = is_some (position asks_at p.devices) in
-    let counts = record p.counts { interrupt_time = held (p.counts.interrupt_time + p.settings.wake) } in
+    let counts = record p.counts { interrupt_time = saturated (p.counts.interrupt_time + p.settings.wake) } in
     either (Undisturbed p) (is_busy p.work) (if asked then set_aside moment p.work p else p) (woken moment asked p)
     (λ busy. either (Undisturbed p) asked (set_aside moment p.work p) p
     (λ yes. record { devices = aside-devices moment p.work p; hand = λ n. aside-hand n moment p.work p refl })
     (λ no. record { devices = refl; hand = λ n. refl }))
-    (λ idle. either (Undisturbed p) asked (record p { clock = held (moment + p.settings.wake); counts = counts })
+    (λ idle. either (Undisturbed p) asked (record p { clock = saturated (moment + p.settings.wake); counts = counts })
     (record p { clock = moment })
     (λ yes. record { devices = refl; hand = λ n. refl }) (λ no. record { devices = refl; hand = λ n. refl }))
 
@@ -152,7 +153,7 @@ pub busy-takes : (p : ProcessorView) → is_busy p.work ≡ true → takes_up p 
 unfolding takes_up
 busy-takes p busy = rw busy refl
 
-hand-takes : (s : Settings) (n : ℕ) (p : ProcessorView) → Goes s p → hand_of n (takes_up p).work ≡ hand_of n p.work
+hand-takes : (s : MachineSettings) (n : ℕ) (p : ProcessorView) → Goes s p → hand_of n (takes_up p).work ≡ hand_of n p.work
 hand-takes s n p goes = by (is_busy p.work) refl
   where
     by : (b : Bool) → is_busy p.work ≡ b → hand_of n (takes_up p).work ≡ hand_of n p.work
@@ -164,8 +165,8 @@ hand-takes s n p goes = by (is_busy p.work) refl
 
 -- ---- a device's queues
 
-unfoldable pub queued : Option DeviceView → List ℕ
-queued o = taken_in o ++ ring_in o
+unfoldable pub queued : Option QueueView → List ℕ
+queued o = taken_in o ++ queue_ring o
 
 pub if-same : {A B : Type 0} (g : A → B) (b : Bool) (x y : A) (z : B) → g x ≡ z → g y ≡ z → g (if b then x else y) ≡ z
 if-same g true x y z first second = first
@@ -175,8 +176,8 @@ pub queued-blind : Blind queued
 unfolding queued interrupted
 queued-blind = record {
   interrupted = λ polling d.
-      let counts = record d.counts { interrupts = held (d.counts.interrupts + 1) } in
-      if-same (λ (e : DeviceView). e.taken ++ e.ring) (is_fired d.phase) (record d { phase = Scheduled })
+      let counts = record d.counts { interrupts = saturated (d.counts.interrupts + 1) } in
+      if-same (λ (e : QueueView). e.taken ++ e.ring) (is_fired d.phase) (record d { phase = Scheduled })
       (record d { phase = if polling then Scheduled else Quiet; frames = 0; counts = counts }) (d.taken ++ d.ring) refl refl;
   expired = λ d. refl;
 }
@@ -185,31 +186,31 @@ taken-blind : Blind taken_in
 unfolding interrupted
 taken-blind = record {
   interrupted = λ polling d.
-      let counts = record d.counts { interrupts = held (d.counts.interrupts + 1) } in
-      if-same (λ (e : DeviceView). e.taken) (is_fired d.phase) (record d { phase = Scheduled })
+      let counts = record d.counts { interrupts = saturated (d.counts.interrupts + 1) } in
+      if-same (λ (e : QueueView). e.taken) (is_fired d.phase) (record d { phase = Scheduled })
       (record d { phase = if polling then Scheduled else Quiet; frames = 0; counts = counts }) d.taken refl refl;
   expired = λ d. refl;
 }
 
-pub queued-raised : (d : DeviceView) → queued (Some (raised_again d)) ≡ queued (Some d)
+pub queued-raised : (d : QueueView) → queued (Some (raised_again d)) ≡ queued (Some d)
 unfolding queued
 queued-raised d = refl
 
-pub queued-delivered : (now came : ℕ) (d : DeviceView) → queued (Some (device.delivered now came d)) ≡ queued (Some d)
+pub queued-delivered : (now came : ℕ) (d : QueueView) → queued (Some (device.queue_delivered now came d)) ≡ queued (Some d)
 unfolding queued
 queued-delivered now came d = refl
 
-pub queued-polled : (now given : ℕ) (s : Settings) (d : DeviceView) → queued (Some (polled now given s d)) ≡ queued (Some d)
-unfolding queued polled completed
+pub queued-polled : (now given : ℕ) (s : MachineSettings) (d : QueueView) → queued (Some (queue_polled now given s d)) ≡ queued (Some d)
+unfolding queued queue_polled queue_completed
 queued-polled now given s d =
-    let e : DeviceView = record d { counts = record d.counts { polls = held (d.counts.polls + 1) } } in
-    if-same (λ (x : DeviceView). x.taken ++ x.ring) (given == s.weight) e (completed now given s e) (d.taken ++ d.ring) refl refl
+    let e : QueueView = record d { counts = record d.counts { polls = saturated (d.counts.polls + 1) } } in
+    if-same (λ (x : QueueView). x.taken ++ x.ring) (given == s.weight) e (queue_completed now given s e) (d.taken ++ d.ring) refl refl
 
-taken-polled : (now given : ℕ) (s : Settings) (d : DeviceView) → (polled now given s d).taken ≡ d.taken
-unfolding polled completed
+taken-polled : (now given : ℕ) (s : MachineSettings) (d : QueueView) → (queue_polled now given s d).taken ≡ d.taken
+unfolding queue_polled queue_completed
 taken-polled now given s d =
-    let e : DeviceView = record d { counts = record d.counts { polls = held (d.counts.polls + 1) } } in
-    if-same (λ (x : DeviceView). x.taken) (given == s.weight) e (completed now given s e) d.taken refl refl
+    let e : QueueView = record d { counts = record d.counts { polls = saturated (d.counts.polls + 1) } } in
+    if-same (λ (x : QueueView). x.taken) (given == s.weight) e (queue_completed now given s e) d.taken refl refl
 
 -- the first of a list
 front-some : (xs : List ℕ) (c : ℕ) → slice_get xs 0 ≡ Some c → xs ≡ c ∷ drop 1 xs
@@ -237,41 +238,41 @@ taken-none taken ring true none is = rw (front-none ring is, no-length taken non
 taken-none taken ring false some is = ap (λ (xs : List ℕ). drop 1 xs ++ ring) (front-none taken is)
     ∙ ap (λ (xs : List ℕ). xs ++ ring) (sym (front-none taken is))
 
-next-taken : (d : DeviceView) (c : ℕ) (b : Bool) → (length d.taken == 0) ≡ b
-    → let e : DeviceView = if b then record d { ring = []; taken = d.ring } else d in
+next-taken : (d : QueueView) (c : ℕ) (b : Bool) → (length d.taken == 0) ≡ b
+    → let e : QueueView = if b then record d { ring = []; taken = d.ring } else d in
     (slice_get e.taken 0 ≡ Some c → c ∷ (drop 1 e.taken ++ e.ring) ≡ d.taken ++ d.ring)
     × (slice_get e.taken 0 ≡ None → drop 1 e.taken ++ e.ring ≡ d.taken ++ d.ring)
 next-taken d c true is = (taken-some d.taken d.ring c true is, taken-none d.taken d.ring true is)
 next-taken d c false is = (taken-some d.taken d.ring c false is, taken-none d.taken d.ring false is)
 
-next-some : (backlog : Bool) (d : DeviceView) (c : ℕ) → (backlog ≡ false → d.taken ≡ []) → next_packet backlog d ≡ Some c
+next-some : (backlog : Bool) (d : QueueView) (c : ℕ) → (backlog ≡ false → d.taken ≡ []) → next_packet backlog d ≡ Some c
     → c ∷ queued (Some (without_next backlog d)) ≡ queued (Some d)
 unfolding queued
 next-some true d c plain is = (next-taken d c (length d.taken == 0) refl).0 is
 next-some false d c plain is = rw (plain refl) (sym (front-some d.ring c is))
 
-next-none : (backlog : Bool) (d : DeviceView) → (backlog ≡ false → d.taken ≡ []) → next_packet backlog d ≡ None
+next-none : (backlog : Bool) (d : QueueView) → (backlog ≡ false → d.taken ≡ []) → next_packet backlog d ≡ None
     → queued (Some (without_next backlog d)) ≡ queued (Some d)
 unfolding queued
 next-none true d plain is = (next-taken d 0 (length d.taken == 0) refl).1 is
 next-none false d plain is = ap (λ (xs : List ℕ). d.taken ++ drop 1 xs) (front-none d.ring is)
     ∙ ap (λ (xs : List ℕ). d.taken ++ xs) (sym (front-none d.ring is))
 
-pub next-some-at : (backlog : Bool) (o : Option DeviceView) (c : ℕ) → (backlog ≡ false → taken_in o ≡ []) → next_packet_at backlog o
+pub next-some-at : (backlog : Bool) (o : Option QueueView) (c : ℕ) → (backlog ≡ false → taken_in o ≡ []) → next_packet_at backlog o
     ≡ Some c
     → c ∷ queued (map_at (without_next backlog) o) ≡ queued o
 unfolding map_at
 next-some-at backlog None c plain is = cc is
 next-some-at backlog (Some d) c plain is = next-some backlog d c plain is
 
-next-none-at : (backlog : Bool) (o : Option DeviceView) → (backlog ≡ false → taken_in o ≡ []) → next_packet_at backlog o ≡ None
+next-none-at : (backlog : Bool) (o : Option QueueView) → (backlog ≡ false → taken_in o ≡ []) → next_packet_at backlog o ≡ None
     → queued (map_at (without_next backlog) o) ≡ queued o
 unfolding map_at
 next-none-at backlog None plain is = refl
 next-none-at backlog (Some d) plain is = next-none backlog d plain is
 
 -- of the devices of a processor, only that one changes
-pub look-some : (backlog : Bool) (m n c : ℕ) (ds : Devices) → (backlog ≡ false → taken_in (at n ds) ≡ [])
+pub look-some : (backlog : Bool) (m n c : ℕ) (ds : QueueViews) → (backlog ≡ false → taken_in (at n ds) ≡ [])
     → next_packet_at backlog (at m ds) ≡ Some c
     → (if m == n then c ∷ [] else []) ++ queued (at n (changed (without_next backlog) m ds)) ≡ queued (at n ds)
 look-some backlog m n c ds plain is =
@@ -279,7 +280,7 @@ look-some backlog m n c ds plain is =
     (λ here. next-some-at backlog (at n ds) c plain (subst (λ (k : ℕ). next_packet_at backlog (at k ds) ≡ Some c) (eqb-true m n here) is))
     (λ other. refl)
 
-pub look-none : (backlog : Bool) (m n : ℕ) (ds : Devices) → (backlog ≡ false → taken_in (at n ds) ≡ [])
+pub look-none : (backlog : Bool) (m n : ℕ) (ds : QueueViews) → (backlog ≡ false → taken_in (at n ds) ≡ [])
     → next_packet_at backlog (at m ds) ≡ None → queued (at n (changed (without_next backlog) m ds)) ≡ queued (at n ds)
 look-none backlog m n ds plain is =
     at-either (λ b o. queued o ≡ queued (at n ds)) (without_next backlog) m n ds
@@ -287,26 +288,26 @@ look-none backlog m n ds plain is =
     (λ other. refl)
 
 -- without a backlog nothing is taken
-plain-next : (d : DeviceView) → taken_in (Some (without_next false d)) ≡ taken_in (Some d)
+plain-next : (d : QueueView) → taken_in (Some (without_next false d)) ≡ taken_in (Some d)
 plain-next d = refl
 
 -- ---- what ends
 
 -- what a device has: held by a poll, taken, and in its ring
-abbrev pub holds : ℕ → Devices → Work → List ℕ
+abbrev pub holds : ℕ → QueueViews → Work → List ℕ
 holds n ds w = hand_of n w ++ queued (at n ds)
 
-looks-hold : (s : Settings) (n m given now : ℕ) (xs : List ℕ) (ds : Devices) → (s.backlog ≡ false → taken_in (at n ds) ≡ [])
+looks-hold : (s : MachineSettings) (n m given now : ℕ) (xs : List ℕ) (ds : QueueViews) → (s.backlog ≡ false → taken_in (at n ds) ≡ [])
     → queued (at n ds) ≡ xs → Looks (λ es w. holds n es w ≡ xs) s now m given ds
 looks-hold s n m given now xs ds plain is = record {
   some = λ came next. look-some s.backlog m n came ds plain next ∙ is;
   none = λ none.
-      at-kept queued (polled now given s) m n (changed (without_next s.backlog) m ds) (queued-polled now given s)
+      at-kept queued (queue_polled now given s) m n (changed (without_next s.backlog) m ds) (queued-polled now given s)
       ∙ (look-none s.backlog m n ds plain none ∙ is);
-  full = λ most. at-kept queued (polled now given s) m n ds (queued-polled now given s) ∙ is;
+  full = λ most. at-kept queued (queue_polled now given s) m n ds (queued-polled now given s) ∙ is;
 }
 
-looks-more : (s : Settings) (n m given now : ℕ) (more xs : List ℕ) (ds : Devices)
+looks-more : (s : MachineSettings) (n m given now : ℕ) (more xs : List ℕ) (ds : QueueViews)
     → Looks (λ es w. holds n es w ≡ xs) s now m given ds → Looks (λ es w. more ++ holds n es w ≡ more ++ xs) s now m given ds
 looks-more s n m given now more xs ds l = record {
   some = λ came next. ap (λ (ys : List ℕ). more ++ ys) (l.some came next);
@@ -315,7 +316,7 @@ looks-more s n m given now more xs ds l = record {
 }
 
 -- nothing is taken without a backlog, nor without polling
-abbrev pub IsPlain : Settings → ℕ → Devices → Type 0
+abbrev pub IsPlain : MachineSettings → ℕ → QueueViews → Type 0
 IsPlain s n ds = (s.backlog && is_polling s) ≡ false → taken_in (at n ds) ≡ []
 
 pub unbacked : (a b : Bool) → a ≡ false → (a && b) ≡ false
@@ -341,10 +342,10 @@ ends-hold n p plain = record {
   silent = λ m is lone none. at-kept queued raised_again m n p.devices queued-raised ∙ without (Interrupt m) is refl;
   lone = λ m came is lone next.
       let one = changed (without_next false) m p.devices in
-      let two = changed (device.delivered p.ends came) m one in
+      let two = changed (device.queue_delivered p.ends came) m one in
       let kept : queued (at n (changed raised_again m two)) ≡ queued (at n one) =
       at-kept queued raised_again m n two queued-raised
-      ∙ at-kept queued (device.delivered p.ends came) m n one (queued-delivered p.ends came) in
+      ∙ at-kept queued (device.queue_delivered p.ends came) m n one (queued-delivered p.ends came) in
       ap (λ (xs : List ℕ). packet_for n (Some (m, came)) ++ xs) kept
       ∙ (look-some false m n came p.devices (λ no. plain (unpolled p.settings.backlog (is_polling p.settings) lone)) next
       ∙ without (Interrupt m) is refl);
@@ -352,11 +353,11 @@ ends-hold n p plain = record {
       looks-hold p.settings n m 0 p.ends (holds n p.devices p.work) p.devices
       (λ no. plain (unbacked p.settings.backlog (is_polling p.settings) no)) (without (Poll m) is refl);
   packet = λ hand is.
-      let ds = changed (device.delivered p.ends hand.came) hand.device p.devices in
+      let ds = changed (device.queue_delivered p.ends hand.came) hand.device p.devices in
       let same : queued (at n ds) ≡ all =
-      at-kept queued (device.delivered p.ends hand.came) hand.device n p.devices (queued-delivered p.ends hand.came) in
+      at-kept queued (device.queue_delivered p.ends hand.came) hand.device n p.devices (queued-delivered p.ends hand.came) in
       let untaken : taken_in (at n ds) ≡ taken_in (at n p.devices) =
-      at-kept taken_in (device.delivered p.ends hand.came) hand.device n p.devices (λ d. refl) in
+      at-kept taken_in (device.queue_delivered p.ends hand.came) hand.device n p.devices (λ d. refl) in
       let more : List ℕ = packet_for n (Some (hand.device, hand.came)) in
       let first : Looks (λ es w. more ++ holds n es w ≡ more ++ all) p.settings p.ends hand.device (hand.given + 1) ds =
       looks-more p.settings n hand.device (hand.given + 1) p.ends more all ds
@@ -375,63 +376,64 @@ ends-hold n p plain = record {
 
 -- ---- a packet arrives
 
-unfoldable pub made_at : ℕ → Option DeviceView → DeviceView
-made_at capacity None = opened capacity
+unfoldable pub made_at : ℕ → Option QueueView → QueueView
+made_at capacity None = new_queue capacity
 made_at capacity (Some d) = d
 
-at-added-here : (capacity n : ℕ) (ds : Devices) (o : Option DeviceView) → at n ds ≡ o → n < length ds
-    → at n (added_at n (opened capacity) o ds) ≡ Some (made_at capacity o)
+at-added-here : (capacity n : ℕ) (ds : QueueViews) (o : Option QueueView) → at n ds ≡ o → n < length ds
+    → at n (added_at n (new_queue capacity) o ds) ≡ Some (made_at capacity o)
 unfolding made_at
 at-added-here capacity n ds o is below = grind (arith, common_steps)
 
-at-added-apart : (capacity m n : ℕ) (ds : Devices) (o : Option DeviceView) → (m == n) ≡ false
-    → at n (added_at m (opened capacity) o ds) ≡ at n ds
+at-added-apart : (capacity m n : ℕ) (ds : QueueViews) (o : Option QueueView) → (m == n) ≡ false
+    → at n (added_at m (new_queue capacity) o ds) ≡ at n ds
 at-added-apart capacity m n ds o other = grind (arith, common_steps)
 
-pub with-here : (capacity n : ℕ) (ds : Devices) → at n (with_device capacity n ds) ≡ Some (made_at capacity (at n ds))
+pub with-here : (capacity n : ℕ) (ds : QueueViews) → at n (with_device capacity n ds) ≡ Some (made_at capacity (at n ds))
 unfolding with_device
 with-here capacity n ds = grind (arith, common_steps, at-added-here, at-made)
 
-pub with-apart : (capacity m n : ℕ) (ds : Devices) → (m == n) ≡ false → at n (with_device capacity m ds) ≡ at n ds
+pub with-apart : (capacity m n : ℕ) (ds : QueueViews) → (m == n) ≡ false → at n (with_device capacity m ds) ≡ at n ds
 unfolding with_device
 with-apart capacity m n ds other = grind (arith, common_steps, at-added-apart, at-made)
 
 -- what holds of the device that a packet arrived for, with the packet, and of each other as it was
-pub at-arrived : (Q : Bool → Option DeviceView → Type 0) (s : Settings) (moment capacity m n : ℕ) (ds : Devices)
+pub at-arrived : (Q : Bool → Option QueueView → Type 0) (s : MachineSettings) (moment capacity m n : ℕ) (ds : QueueViews)
     → ((m == n) ≡ true → Q true (Some (after_packet moment s (made_at capacity (at n ds))))) → ((m == n) ≡ false → Q false (at n ds))
     → Q (m == n) (at n (changed (after_packet moment s) m (with_device capacity m ds)))
 unfolding map_at
 at-arrived Q s moment capacity m n ds here apart =
     at-either Q (after_packet moment s) m n (with_device capacity m ds)
-    (λ same. subst (λ (o : Option DeviceView). Q true (map_at (after_packet moment s) o))
+    (λ same. subst (λ (o : Option QueueView). Q true (map_at (after_packet moment s) o))
     (sym (subst (λ (k : ℕ). at n (with_device capacity k ds) ≡ Some (made_at capacity (at n ds))) (sym (eqb-true m n same))
     (with-here capacity n ds)))
     (here same))
-    (λ other. subst (λ (o : Option DeviceView). Q false o) (sym (with-apart capacity m n ds other)) (apart other))
+    (λ other. subst (λ (o : Option QueueView). Q false o) (sym (with-apart capacity m n ds other)) (apart other))
 
 -- how a device takes a packet
-pub packet-by : (Q : Bool → DeviceView → Type 0) (moment : ℕ) (s : Settings) (d : DeviceView)
-    → (let e : DeviceView = record d { counts = record d.counts { arrived = held (d.counts.arrived + 1) } } in
-    let f : DeviceView = record e { ring = d.ring ++ moment ∷ [] } in
-    Q false (record e { counts = record e.counts { dropped = held (d.counts.dropped + 1) } }) × Q true f × Q true (notified moment s f))
+pub packet-by : (Q : Bool → QueueView → Type 0) (moment : ℕ) (s : MachineSettings) (d : QueueView)
+    → (let e : QueueView = record d { counts = record d.counts { arrived = saturated (d.counts.arrived + 1) } } in
+    let f : QueueView = record e { ring = d.ring ++ moment ∷ [] } in
+    Q false (record e { counts = record e.counts { dropped = saturated (d.counts.dropped + 1) } }) × Q true f
+    × Q true (notified moment s f))
     → Q (has_room d) (after_packet moment s d)
 unfolding after_packet
 packet-by Q moment s d each = by (has_room d) (is_masked d.phase)
   where
-    e : DeviceView
-    e = record d { counts = record d.counts { arrived = held (d.counts.arrived + 1) } }
+    e : QueueView
+    e = record d { counts = record d.counts { arrived = saturated (d.counts.arrived + 1) } }
 
-    f : DeviceView
+    f : QueueView
     f = record e { ring = d.ring ++ moment ∷ [] }
 
     by : (room masked : Bool)
-        → Q room (if not room then record e { counts = record e.counts { dropped = held (d.counts.dropped + 1) } }
+        → Q room (if not room then record e { counts = record e.counts { dropped = saturated (d.counts.dropped + 1) } }
         else (if masked then f else notified moment s f))
     by false masked = each.0
     by true true = each.1
     by true false = each.2
 
-packet-queued : (moment : ℕ) (s : Settings) (d : DeviceView)
+packet-queued : (moment : ℕ) (s : MachineSettings) (d : QueueView)
     → queued (Some (after_packet moment s d)) ≡ queued (Some d) ++ (if has_room d then moment ∷ [] else [])
 unfolding queued notified
 packet-queued moment s d =
@@ -441,25 +443,25 @@ packet-queued moment s d =
       sym (append_assoc d.taken d.ring (moment ∷ [])),
     )
 
-packet-taken : (moment : ℕ) (s : Settings) (d : DeviceView) → (after_packet moment s d).taken ≡ d.taken
+packet-taken : (moment : ℕ) (s : MachineSettings) (d : QueueView) → (after_packet moment s d).taken ≡ d.taken
 unfolding notified
 packet-taken moment s d = packet-by (λ room e. e.taken ≡ d.taken) moment s d (refl, refl, refl)
 
-made-queued : (capacity : ℕ) (o : Option DeviceView) → queued (Some (made_at capacity o)) ≡ queued o
+made-queued : (capacity : ℕ) (o : Option QueueView) → queued (Some (made_at capacity o)) ≡ queued o
 unfolding made_at queued
 made-queued capacity None = refl
 made-queued capacity (Some d) = refl
 
-made-taken : (capacity : ℕ) (o : Option DeviceView) → taken_in (Some (made_at capacity o)) ≡ taken_in o
+made-taken : (capacity : ℕ) (o : Option QueueView) → taken_in (Some (made_at capacity o)) ≡ taken_in o
 unfolding made_at
 made-taken capacity None = refl
 made-taken capacity (Some d) = refl
 
 -- a device that a packet arrives for has room as the device that was made for it
-pub room-made : (capacity n : ℕ) (ds : Devices) → has_room_at (at n (with_device capacity n ds)) ≡ has_room (made_at capacity (at n ds))
+pub room-made : (capacity n : ℕ) (ds : QueueViews) → has_room_at (at n (with_device capacity n ds)) ≡ has_room (made_at capacity (at n ds))
 room-made capacity n ds = ap has_room_at (with-here capacity n ds)
 
-pub arrived-queued : (s : Settings) (moment m n : ℕ) (p : ProcessorView)
+pub arrived-queued : (s : MachineSettings) (moment m n : ℕ) (p : ProcessorView)
     → queued (at n (changed (after_packet moment p.settings) m (with_device p.settings.ring m p.devices)))
     ≡ queued (at n p.devices) ++ (if m == n && finds_room n p then moment ∷ [] else [])
 arrived-queued s moment m n p =
@@ -480,19 +482,21 @@ arrived-taken moment m n p =
 
 -- ---- what is disturbed
 
-pub disturbed-part : {A : Type 0} (s : Settings) (g : Option DeviceView → A) → Blind g → (n moment : ℕ) (p : ProcessorView) → Goes s p
+pub disturbed-part : {A : Type 0} (s : MachineSettings) (g : Option QueueView → A) → Blind g → (n moment : ℕ) (p : ProcessorView) → Goes s p
     → g (at n (disturbed moment p).devices) ≡ g (at n p.devices)
 unfolding disturbed
 disturbed-part s g b n moment p goes =
-    seen-takes s g b n (stirred moment p) (work-stirred s moment p goes) ∙ ap (λ (ds : Devices). g (at n ds)) (undisturbed moment p).devices
+    seen-takes s g b n (stirred moment p) (work-stirred s moment p goes)
+    ∙ ap (λ (ds : QueueViews). g (at n ds)) (undisturbed moment p).devices
 
-disturbed-hand : (s : Settings) (n moment : ℕ) (p : ProcessorView) → Goes s p → hand_of n (disturbed moment p).work ≡ hand_of n p.work
+disturbed-hand : (s : MachineSettings) (n moment : ℕ) (p : ProcessorView) → Goes s p
+    → hand_of n (disturbed moment p).work ≡ hand_of n p.work
 unfolding disturbed
 disturbed-hand s n moment p goes =
     hand-takes s n (stirred moment p) (work-stirred s moment p goes) ∙ (undisturbed moment p).hand n
 
 -- a part of a device over an event: the event changes it as the end of work does, and no more
-pub part-happens : {A : Type 0} (s : Settings) (g : Option DeviceView → A) → Blind g
+pub part-happens : {A : Type 0} (s : MachineSettings) (g : Option QueueView → A) → Blind g
     → (Q : A → Type 0) (n : ℕ) (u : Upcoming) (p : ProcessorView)
     → Goes s p → Q (g (at n p.devices)) → Q (g (at n (ends_current p).devices)) → Q (g (at n (happens u p).devices))
 part-happens s g b Q n Never p goes stays ended = stays
@@ -505,19 +509,20 @@ part-happens {A = A} s g b Q n (Expires timer) p goes stays ended =
 
 -- ---- over a life
 
-taken-next : (backlog : Bool) (d : DeviceView) → backlog ≡ false → taken_in (Some (without_next backlog d)) ≡ taken_in (Some d)
+taken-next : (backlog : Bool) (d : QueueView) → backlog ≡ false → taken_in (Some (without_next backlog d)) ≡ taken_in (Some d)
 taken-next false d is = refl
 taken-next true d is = cc is
 
-looks-plain : (s : Settings) (n m given now : ℕ) (ds : Devices) → s.backlog ≡ false → taken_in (at n ds) ≡ []
+looks-plain : (s : MachineSettings) (n m given now : ℕ) (ds : QueueViews) → s.backlog ≡ false → taken_in (at n ds) ≡ []
     → Looks (λ es w. taken_in (at n es) ≡ []) s now m given ds
 looks-plain s n m given now ds single is =
     let next : taken_in (at n (changed (without_next s.backlog) m ds)) ≡ [] =
     at-kept taken_in (without_next s.backlog) m n ds (λ d. taken-next s.backlog d single) ∙ is in
     record {
       some = λ came some. next;
-      none = λ none. at-kept taken_in (polled now given s) m n (changed (without_next s.backlog) m ds) (taken-polled now given s) ∙ next;
-      full = λ most. at-kept taken_in (polled now given s) m n ds (taken-polled now given s) ∙ is;
+      none = λ none. at-kept taken_in (queue_polled now given s) m n (changed (without_next s.backlog) m ds) (taken-polled now given s)
+          ∙ next;
+      full = λ most. at-kept taken_in (queue_polled now given s) m n ds (taken-polled now given s) ∙ is;
     }
 
 backed : (a b : Bool) → (a && b) ≡ false → (b ≡ false → ⊥) → a ≡ false
@@ -525,30 +530,32 @@ backed false b never polling = refl
 backed true true never polling = cc never
 backed true false never polling = absurd (polling refl)
 
-ends-plain : (s : Settings) (n : ℕ) (p : ProcessorView) → Goes s p → (s.backlog && is_polling s) ≡ false → taken_in (at n p.devices) ≡ []
+ends-plain : (s : MachineSettings) (n : ℕ) (p : ProcessorView) → Goes s p → (s.backlog && is_polling s) ≡ false
+    → taken_in (at n p.devices) ≡ []
     → taken_in (at n (ends_current p).devices) ≡ []
 ends-plain s n p goes plain is =
     let settings : p.settings ≡ s = goes.rests.settings in
     let single : ((m : ℕ) → polled_by p.work ≡ Some m → p.settings.backlog ≡ false) =
-    λ m polls. ap (λ (x : Settings). x.backlog) settings
+    λ m polls. ap (λ (x : MachineSettings). x.backlog) settings
     ∙ backed s.backlog (is_polling s) plain (λ lone. cc (goes.polled lone, polls)) in
     ends (λ o ds w. taken_in (at n ds) ≡ []) p (record {
       rest = λ none polls. is;
       silent = λ m work lone none. at-kept taken_in raised_again m n p.devices (λ d. refl) ∙ is;
       lone = λ m came work lone next.
           let one = changed (without_next false) m p.devices in
-          let two = changed (device.delivered p.ends came) m one in
+          let two = changed (device.queue_delivered p.ends came) m one in
           at-kept taken_in raised_again m n two (λ d. refl)
-          ∙ (at-kept taken_in (device.delivered p.ends came) m n one (λ d. refl)
+          ∙ (at-kept taken_in (device.queue_delivered p.ends came) m n one (λ d. refl)
           ∙ (at-kept taken_in (without_next false) m n p.devices (λ d. refl) ∙ is));
       poll = λ m work. looks-plain p.settings n m 0 p.ends p.devices (single m (ap polled_by work)) is;
       packet = λ hand work.
-          looks-plain p.settings n hand.device (hand.given + 1) p.ends (changed (device.delivered p.ends hand.came) hand.device p.devices)
+          looks-plain p.settings n hand.device (hand.given + 1) p.ends
+          (changed (device.queue_delivered p.ends hand.came) hand.device p.devices)
           (single hand.device (ap polled_by work))
-          (at-kept taken_in (device.delivered p.ends hand.came) hand.device n p.devices (λ d. refl) ∙ is);
+          (at-kept taken_in (device.queue_delivered p.ends hand.came) hand.device n p.devices (λ d. refl) ∙ is);
     })
 
-pub plain-on : (s : Settings) (n : ℕ) (events : List Event) → IsPlain s n (behind s events).devices
+pub plain-on : (s : MachineSettings) (n : ℕ) (events : List MachineEvent) → IsPlain s n (behind s events).devices
 unfolding behind step arrives
 plain-on s n [] plain = refl
 plain-on s n (packet moment m ∷ earlier) plain =
@@ -566,7 +573,7 @@ plain-on s n (next ∷ earlier) plain =
     (ends-plain s n p (goes-on s earlier) plain (plain-on s n earlier plain))
 
 -- what is held by a poll, taken or in the ring
-happens-hold : (s : Settings) (n : ℕ) (u : Upcoming) (p : ProcessorView) → Goes s p → IsPlain p.settings n p.devices
+happens-hold : (s : MachineSettings) (n : ℕ) (u : Upcoming) (p : ProcessorView) → Goes s p → IsPlain p.settings n p.devices
     → packet_for n (delivery_by u p) ++ holds n (happens u p).devices (happens u p).work ≡ holds n p.devices p.work
 happens-hold s n Never p goes plain = refl
 happens-hold s n upcomings.Ends p goes plain =
@@ -583,7 +590,7 @@ happens-hold s n (Expires timer) p goes plain =
     ∙ ap (λ (xs : List ℕ). hand_of n p.work ++ xs)
     (disturbed-part s queued queued-blind n timer.at q g ∙ at-kept queued expired timer.device n p.devices queued-blind.expired)
 
-arrives-hold : (s : Settings) (moment m n : ℕ) (p : ProcessorView) → Goes s p
+arrives-hold : (s : MachineSettings) (moment m n : ℕ) (p : ProcessorView) → Goes s p
     → holds n (arrives moment m p).devices (arrives moment m p).work
     ≡ holds n p.devices p.work ++ (if m == n && finds_room n p then moment ∷ [] else [])
 unfolding arrives
@@ -601,24 +608,24 @@ arrives-hold s moment m n p goes =
     ∙ (ap (λ (xs : List ℕ). hand_of n q.work ++ xs) (disturbed-part s queued queued-blind n moment q g) ∙ now))
     (λ full. now)
 
-pub plain-of : (s : Settings) (n : ℕ) (p : ProcessorView) → p.settings ≡ s → IsPlain s n p.devices → IsPlain p.settings n p.devices
-plain-of s n p is plain = subst (λ (x : Settings). IsPlain x n p.devices) (sym is) plain
+pub plain-of : (s : MachineSettings) (n : ℕ) (p : ProcessorView) → p.settings ≡ s → IsPlain s n p.devices → IsPlain p.settings n p.devices
+plain-of s n p is plain = subst (λ (x : MachineSettings). IsPlain x n p.devices) (sym is) plain
 
-pub holds-order : (s : Settings) (n : ℕ) (events : List Event)
-    → came true n s events ≡ delivered n s events ++ holds n (behind s events).devices (behind s events).work
-unfolding behind came delivered delivery step queued
+pub holds-order : (s : MachineSettings) (n : ℕ) (events : List MachineEvent)
+    → came true n s events ≡ delivered_packets n s events ++ holds n (behind s events).devices (behind s events).work
+unfolding behind came delivered_packets next_delivery step queued
 holds-order s n [] = refl
 holds-order s n (packet moment m ∷ earlier) =
     let p = behind s earlier in
     let extra : List ℕ = if m == n && finds_room n p then moment ∷ [] else [] in
-    let done = delivered n s earlier in
+    let done = delivered_packets n s earlier in
     ap (λ (xs : List ℕ). xs ++ extra) (holds-order s n earlier) ∙ (append_assoc done (holds n p.devices p.work) extra
     ∙ ap (λ (xs : List ℕ). done ++ xs) (sym (arrives-hold s moment m n p (goes-on s earlier))))
 holds-order s n (next ∷ earlier) =
     let p = behind s earlier in
     let goes = goes-on s earlier in
     let u = upcoming p in
-    let done = delivered n s earlier in
+    let done = delivered_packets n s earlier in
     holds-order s n earlier
     ∙ (ap (λ (xs : List ℕ). done ++ xs) (sym (happens-hold s n u p goes (plain-of s n p goes.rests.settings (plain-on s n earlier))))
     ∙ sym (append_assoc done (packet_for n (delivery_by u p)) (holds n (happens u p).devices (happens u p).work)))

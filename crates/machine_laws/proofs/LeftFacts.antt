@@ -5,26 +5,27 @@ use Rattle.std.proofs.Common.{ap, subst, arith}
 use Rattle.std.proofs.lemmas.Bool.{eqb-true, eqb-false, leb-false, ltb-false}
 use Rattle.std.proofs.lemmas.List.Sums.{sum_by-append, sum_by-cons}
 use Rattle.std.specs.{Prelude.{◌==◌, ◌&&◌, if◌then◌else◌, is_some, min, nat_lt, not, position}, List.position_or_len}
-use Rattle.{machine_words.specs.declared.settings.Settings.Settings, device_places.specs.Places.{at, changed}}
-use Rattle.machine_laws.specs.{Lives.{Event, behind, next, packet}, Fates.{NothingIsLeft, ring_in, taken_in}}
+use Rattle.{machine_words.specs.declared.settings.MachineSettings.MachineSettings, device_places.specs.Places.{at, changed}}
+use Rattle.machine_laws.specs.{Lives.{MachineEvent, behind, next, packet}, Fates.{NothingIsLeft, queue_ring, taken_in}}
 use Rattle.machine_model.specs.declared.{device.Phase.{Phase, TheVariants.{Quiet, Coalescing, Raised, Scheduled, Deferred, Fired}}}
 use Rattle.machine_model.specs.declared.processor.{Work.{Work, TheVariants.{Nothing, Interrupt, Poll, Packet, Use}}}
 use Rattle.machine_model.specs.declared.processor.Upcoming.{Upcoming}
 use Rattle.machine_model.specs.declared.processor.Upcoming.TheVariants.{Never, Expires}
-use Rattle.machine_model.specs.declared.tasks.Task.{Task}
-use Rattle.machine_model.specs.declared.tasks.Task.TheVariants.{Application, Thread}
+use Rattle.machine_model.specs.declared.tasks.RunnableTask.{RunnableTask}
+use Rattle.machine_model.specs.declared.tasks.RunnableTask.TheVariants.{Application, Thread}
 use Rattle.poll_runs.specs.declared.bench.{Next.TheVariants.{Gone, Repoll}, Once.Once}
 use Rattle.machine_model.specs.Tasks.{applications, is_application, runnable, with_application}
 use Rattle.machine_model.specs.Application.{ApplicationView, has_place, put, refuses, used}
-use Rattle.machine_model.specs.Device.{DeviceView, after_packet, asks, expired, has_room, interrupted, polled, raised_again, timer_of}
+use Rattle.machine_model.specs.Device.{QueueView, after_packet, asks, expired, has_room, interrupted, queue_polled, raised_again, timer_of}
 use Rattle.machine_model.specs.Device.{without_next}
-use Rattle.machine_model.specs.Waits.{held}
-use Rattle.machine_model.specs.Devices.{Devices, asks_at, has_room_at, is_fired_at, next_packet_at, with_device}
+use Rattle.machine_model.specs.Waits.{saturated}
+use Rattle.machine_model.specs.Devices.{QueueViews, asks_at, has_room_at, is_fired_at, next_packet_at, with_device}
 use Rattle.machine_model.specs.Kept.{is_scheduled, scheduled_at}
-use Rattle.machine_model.specs.Softirq.{RunView, polled_once, pushed}
+use Rattle.machine_model.specs.Softirq.{RunView, softirq_polled, pushed}
 use Rattle.machine_model.specs.Processor.{ProcessorView, arrives, begins, delivers, delivers_oldest, disturbed, ends_by, ends_current}
 use Rattle.machine_model.specs.Processor.{ends_interrupt}
-use Rattle.machine_model.specs.Processor.{ends_poll, ends_run, happens, interrupts, is_busy, is_by, is_polling, looks, polls, scheduled}
+use Rattle.machine_model.specs.Processor.{ends_poll, ends_run, happens, interrupts, is_busy, is_by, is_polling, poll_looks, polls}
+use Rattle.machine_model.specs.Processor.{scheduled}
 use Rattle.machine_model.specs.Processor.{set_aside}
 use Rattle.machine_model.specs.Processor.{spent, step, takes_up, upcoming, uses, woken}
 use Rattle.machine_laws.proofs.{WalkFacts.{IsSettled, NoTask, Walk, either, nexted, started, walk-any}, SocketFacts.fed-here}
@@ -39,31 +40,31 @@ use Rattle.machine_model.specs.declared.processor.Upcoming.TheVariants as upcomi
 
 -- ---- tasks
 
-abbrev pub is_one : Task → ℕ
+abbrev pub is_one : RunnableTask → ℕ
 is_one task = if is_application task then 1 else 0
 
-apps-cons : (task : Task) (tasks : List Task) → applications (task ∷ tasks) ≡ is_one task + applications tasks
+apps-cons : (task : RunnableTask) (tasks : List RunnableTask) → applications (task ∷ tasks) ≡ is_one task + applications tasks
 apps-cons task tasks = sum_by-cons is_one task tasks
 
-apps-append : (xs ys : List Task) → applications (xs ++ ys) ≡ applications xs + applications ys
+apps-append : (xs ys : List RunnableTask) → applications (xs ++ ys) ≡ applications xs + applications ys
 apps-append xs ys = sum_by-append is_one xs ys
 
-apps-thread : (n : ℕ) (tasks : List Task) → applications (Thread n ∷ tasks) ≡ applications tasks
+apps-thread : (n : ℕ) (tasks : List RunnableTask) → applications (Thread n ∷ tasks) ≡ applications tasks
 apps-thread n tasks = omega (arith, apps-cons (Thread n) tasks)
 
-apps-more : (n : ℕ) (tasks : List Task) → applications (tasks ++ Thread n ∷ []) ≡ applications tasks
+apps-more : (n : ℕ) (tasks : List RunnableTask) → applications (tasks ++ Thread n ∷ []) ≡ applications tasks
 apps-more n tasks = omega (arith, apps-append tasks (Thread n ∷ []), apps-cons (Thread n) [], none)
   where
     none : applications [] ≡ 0
     none = refl
 
-apps-runnable : (idle : Bool) (tasks : List Task) → applications (runnable idle tasks) ≤ applications tasks
+apps-runnable : (idle : Bool) (tasks : List RunnableTask) → applications (runnable idle tasks) ≤ applications tasks
 apps-runnable true [] = omega arith
 apps-runnable true (Application ∷ more) = omega (arith, apps-cons Application more)
 apps-runnable true (Thread n ∷ more) = omega arith
 apps-runnable false tasks = omega arith
 
-apps-with : (tasks : List Task) → applications tasks ≤ 1 → applications (with_application tasks) ≡ 1
+apps-with : (tasks : List RunnableTask) → applications tasks ≤ 1 → applications (with_application tasks) ≡ 1
 unfolding with_application
 apps-with tasks most = by (applications tasks == 0) refl
   where
@@ -77,12 +78,12 @@ apps-with tasks most = by (applications tasks == 0) refl
     by false is = let some : applications tasks ≡ 0 → ⊥ = eqb-false (applications tasks) 0 is in omega (arith, some, most)
 
 -- the application is a task at most once, and it is one if its socket isn't empty
-pub record Tasked (s : Settings) (p : ProcessorView) : Type 0 where
+pub record Tasked (s : MachineSettings) (p : ProcessorView) : Type 0 where
   pub settings : p.settings ≡ s
   pub single : applications p.tasks ≤ 1
   pub wakes : s.threaded ≡ true → s.apart ≡ false → min 1 (length p.application.socket.items) ≤ applications p.tasks
 
-tasked-of : (s : Settings) (p q : ProcessorView) → Tasked s p → q.settings ≡ p.settings → applications q.tasks ≡ applications p.tasks
+tasked-of : (s : MachineSettings) (p q : ProcessorView) → Tasked s p → q.settings ≡ p.settings → applications q.tasks ≡ applications p.tasks
     → length q.application.socket.items ≤ length p.application.socket.items → Tasked s q
 tasked-of s p q h settings tasks less = record {
   settings = settings ∙ h.settings;
@@ -90,7 +91,7 @@ tasked-of s p q h settings tasks less = record {
   wakes = λ threaded here. let before = h.wakes threaded here in omega (arith, tasks, less, before);
 }
 
-tasked-scheduled : (s : Settings) (b : Bool) (n : ℕ) (p : ProcessorView) → Tasked s p → Tasked s (if b then scheduled n p else p)
+tasked-scheduled : (s : MachineSettings) (b : Bool) (n : ℕ) (p : ProcessorView) → Tasked s p → Tasked s (if b then scheduled n p else p)
 tasked-scheduled s b n p h =
     either (Tasked s) b (scheduled n p) p
     (λ yes. either (Tasked s) p.settings.threaded (record p { tasks = p.tasks ++ Thread n ∷ [] })
@@ -98,27 +99,27 @@ tasked-scheduled s b n p h =
     (λ y. tasked-of s p (record p { tasks = p.tasks ++ Thread n ∷ [] }) h refl (apps-more n p.tasks) (omega arith))
     (λ y. tasked-of s p (record p { softirq = pushed n p.softirq }) h refl refl (omega arith))) (λ no. h)
 
-tasked-interrupt : (s : Settings) (n : ℕ) (p : ProcessorView) → Tasked s p → Tasked s (interrupts n p)
+tasked-interrupt : (s : MachineSettings) (n : ℕ) (p : ProcessorView) → Tasked s p → Tasked s (interrupts n p)
 unfolding interrupts
 tasked-interrupt s n p h =
     let polling = is_polling p.settings in
-    let counts = if is_fired_at (at n p.devices) then record p.counts { timers = held (p.counts.timers + 1) }
-    else record p.counts { interrupts = held (p.counts.interrupts + 1) } in
+    let counts = if is_fired_at (at n p.devices) then record p.counts { timers = saturated (p.counts.timers + 1) }
+    else record p.counts { interrupts = saturated (p.counts.interrupts + 1) } in
     let q : ProcessorView = record p { devices = changed (interrupted polling) n p.devices; counts = counts } in
     let e = tasked-scheduled s polling n q (tasked-of s p q h refl refl (omega arith)) in
     record { settings = e.settings; single = e.single; wakes = e.wakes }
 
-tasked-over : (s : Settings) (late : Bool) (p : ProcessorView) → Tasked s p → Tasked s (ends_run late p)
+tasked-over : (s : MachineSettings) (late : Bool) (p : ProcessorView) → Tasked s p → Tasked s (ends_run late p)
 unfolding ends_run
 tasked-over s late p h = tasked-of s p (ends_run late p) h refl refl (omega arith)
 
-tasked-settle : (s : Settings) (tasks : List Task) (p : ProcessorView) → Tasked s p
+tasked-settle : (s : MachineSettings) (tasks : List RunnableTask) (p : ProcessorView) → Tasked s p
     → tasks ≡ runnable (length p.application.socket.items == 0) p.tasks → Tasked s (record p { tasks = tasks })
 tasked-settle s tasks p h is = record {
   settings = h.settings;
   single = omega (arith, ap applications is, apps-runnable (length p.application.socket.items == 0) p.tasks, h.single);
   wakes = λ threaded here.
-      subst (λ (xs : List Task). min 1 (length p.application.socket.items) ≤ applications xs) (sym is)
+      subst (λ (xs : List RunnableTask). min 1 (length p.application.socket.items) ≤ applications xs) (sym is)
       (by (length p.application.socket.items == 0) refl (h.wakes threaded here));
 }
   where
@@ -139,11 +140,11 @@ pub record Resting (p : ProcessorView) : Type 0 where
   pub tasks : p.settings.threaded ≡ true → p.tasks ≡ []
   pub socket : p.settings.apart ≡ false → p.application.socket.items ≡ []
 
-pub record Rested (s : Settings) (p : ProcessorView) : Type 0 where
+pub record Rested (s : MachineSettings) (p : ProcessorView) : Type 0 where
   pub tasked : Tasked s p
   pub resting : p.work ≡ Nothing → Resting p
 
-all-quiet : (ds : Devices) → length ds ≤ position_or_len asks_at ds → (n : ℕ) → asks_at (at n ds) ≡ false
+all-quiet : (ds : QueueViews) → length ds ≤ position_or_len asks_at ds → (n : ℕ) → asks_at (at n ds) ≡ false
 all-quiet [] most n = refl
 all-quiet (place ∷ more) most n = by (asks_at place) refl n (λ less k. all-quiet more less k)
   where
@@ -159,7 +160,7 @@ all-quiet (place ∷ more) most n = by (asks_at place) refl n (λ less k. all-qu
         subst (λ (c : Bool). length (place ∷ more) ≤ (if not c then 1 + position_or_len asks_at more else 0)) is most in
         rest (omega (arith, first)) n
 
-position-none : (ds : Devices) → position asks_at ds ≡ None → (n : ℕ) → asks_at (at n ds) ≡ false
+position-none : (ds : QueueViews) → position asks_at ds ≡ None → (n : ℕ) → asks_at (at n ds) ≡ false
 position-none ds none = by (nat_lt (position_or_len asks_at ds) (length ds)) refl none
   where
     by : (b : Bool) → nat_lt (position_or_len asks_at ds) (length ds) ≡ b → (if b then Some (position_or_len asks_at ds) else None) ≡ None
@@ -168,7 +169,7 @@ position-none ds none = by (nat_lt (position_or_len asks_at ds) (length ds)) ref
     by false more none = all-quiet ds (ltb-false (position_or_len asks_at ds) (length ds) more)
 
 -- it has no task
-two-apps : (more before : List Task) → Application ∷ more ≡ runnable true before → applications before ≤ 1 → ⊥
+two-apps : (more before : List RunnableTask) → Application ∷ more ≡ runnable true before → applications before ≤ 1 → ⊥
 two-apps more [] is most = cc is
 two-apps more (Application ∷ rest) is most =
     let first = apps-cons Application rest in
@@ -180,14 +181,15 @@ no-items : (items : List ℕ) → min 1 (length items) ≤ 0 → items ≡ []
 no-items [] less = refl
 no-items (x ∷ items) less = absurd (omega (arith, less))
 
-tasks-none : (tasks before : List Task) (items : List ℕ) → NoTask tasks items → tasks ≡ runnable (length items == 0) before
+tasks-none : (tasks before : List RunnableTask) (items : List ℕ) → NoTask tasks items → tasks ≡ runnable (length items == 0) before
     → applications before ≤ 1 → tasks ≡ []
 tasks-none [] before items none is most = refl
 tasks-none (Application ∷ more) before items none is most =
     absurd (two-apps more before (rw none at is) most)
 tasks-none (Thread n ∷ more) before items none is most = absurd none
 
-rested-stays : (s : Settings) (p : ProcessorView) → p.work ≡ Nothing → Tasked s p → walks.Still p → IsSettled (Tasked s) p → Rested s p
+rested-stays : (s : MachineSettings) (p : ProcessorView) → p.work ≡ Nothing → Tasked s p → walks.Still p → IsSettled (Tasked s) p
+    → Rested s p
 rested-stays s p nothing h still settled = record {
   tasked = h;
   resting = λ is. record {
@@ -208,20 +210,20 @@ rested-stays s p nothing h still settled = record {
     by : (b : Bool) → p.settings.threaded ≡ b → p.settings.apart ≡ false → p.application.socket.items ≡ []
     by false single here = still.socket single here
     by true threaded here =
-        let own : s.threaded ≡ true = sym (ap (λ (x : Settings). x.threaded) h.settings) ∙ threaded in
-        let apart : s.apart ≡ false = sym (ap (λ (x : Settings). x.apart) h.settings) ∙ here in
+        let own : s.threaded ≡ true = sym (ap (λ (x : MachineSettings). x.threaded) h.settings) ∙ threaded in
+        let apart : s.apart ≡ false = sym (ap (λ (x : MachineSettings). x.apart) h.settings) ∙ here in
         let less = h.wakes own apart in
         let zero : applications p.tasks ≡ 0 = ap applications (none threaded) in
         no-items p.application.socket.items (omega (arith, less, zero))
 
-busy-rested : (s : Settings) (p : ProcessorView) → is_busy p.work ≡ true → Tasked s p → Rested s p
+busy-rested : (s : MachineSettings) (p : ProcessorView) → is_busy p.work ≡ true → Tasked s p → Rested s p
 busy-rested s p busy h = record { tasked = h; resting = λ is. absurd (cc (ap is_busy is, busy)) }
 
 interrupt-busy : (n : ℕ) (p : ProcessorView) → is_busy (interrupts n p).work ≡ true
 unfolding interrupts
 interrupt-busy n p = refl
 
-rested-walk : (s : Settings) → Walk (Tasked s) (Rested s)
+rested-walk : (s : MachineSettings) → Walk (Tasked s) (Rested s)
 rested-walk s = record {
   interrupt = λ n p free h asks. busy-rested s (interrupts n p) (interrupt-busy n p) (tasked-interrupt s n p h);
   next = λ p free h. tasked-of s p (nexted p) h refl refl (omega arith);
@@ -242,29 +244,29 @@ rested-walk s = record {
   stays = λ p free h still settled. rested-stays s p free.nothing h still settled;
 }
 
-rested-takes : (s : Settings) (p : ProcessorView) → Goes s p → Tasked s p → Rested s (takes_up p)
+rested-takes : (s : MachineSettings) (p : ProcessorView) → Goes s p → Tasked s p → Rested s (takes_up p)
 rested-takes s p goes h =
     walk-any (Tasked s) (Rested s) (rested-walk s) p (goes-unasked s p goes) (λ busy. busy-rested s p busy h) (λ idle. h)
 
 -- ---- work ends
 
-tasked-polled : (s : Settings) (n given : ℕ) (p : ProcessorView) → Tasked s p → Tasked s (ends_poll n given p)
+tasked-polled : (s : MachineSettings) (n given : ℕ) (p : ProcessorView) → Tasked s p → Tasked s (ends_poll n given p)
 unfolding ends_poll
 tasked-polled s n given p h =
     let full = given == p.settings.weight in
-    let counts = record p.counts { polls = held (p.counts.polls + 1); work = held (p.counts.work + given) } in
-    let q : ProcessorView = record p { devices = changed (polled p.clock given p.settings) n p.devices; counts = counts } in
+    let counts = record p.counts { polls = saturated (p.counts.polls + 1); work = saturated (p.counts.work + given) } in
+    let q : ProcessorView = record p { devices = changed (queue_polled p.clock given p.settings) n p.devices; counts = counts } in
     let once : Once = record { work = given; next = if full then Repoll else Gone } in
     either (Tasked s) p.settings.threaded (record q { tasks = if full then Thread n ∷ q.tasks else q.tasks })
-    (record q { softirq = polled_once once q.softirq })
+    (record q { softirq = softirq_polled once q.softirq })
     (λ t. tasked-of s p (record q { tasks = if full then Thread n ∷ q.tasks else q.tasks }) h refl (by full) (omega arith))
-    (λ t. tasked-of s p (record q { softirq = polled_once once q.softirq }) h refl refl (omega arith))
+    (λ t. tasked-of s p (record q { softirq = softirq_polled once q.softirq }) h refl refl (omega arith))
   where
     by : (full : Bool) → applications (if full then Thread n ∷ p.tasks else p.tasks) ≡ applications p.tasks
     by true = apps-thread n p.tasks
     by false = refl
 
-tasked-looks : (s : Settings) (n given : ℕ) (p : ProcessorView) → Tasked s p → Tasked s (looks n given p)
+tasked-looks : (s : MachineSettings) (n given : ℕ) (p : ProcessorView) → Tasked s p → Tasked s (poll_looks n given p)
 tasked-looks s n given p h =
     let q : ProcessorView = record p { devices = changed (without_next p.settings.backlog) n p.devices } in
     let first = tasked-of s p q h refl refl (omega arith) in
@@ -273,14 +275,14 @@ tasked-looks s n given p h =
     first refl refl (omega arith))
     (λ none. tasked-polled s n given q first) (λ full. tasked-polled s n given p h)
 
-woken-apps : (b : Bool) (tasks : List Task) → applications tasks ≤ 1
+woken-apps : (b : Bool) (tasks : List RunnableTask) → applications tasks ≤ 1
     → (applications (if b then with_application tasks else tasks) ≤ 1)
     × (applications tasks ≤ applications (if b then with_application tasks else tasks))
     × (b ≡ true → applications (if b then with_application tasks else tasks) ≡ 1)
 woken-apps true tasks most = let one = apps-with tasks most in (omega (arith, one), omega (arith, one, most), λ is. one)
 woken-apps false tasks most = (most, omega arith, λ is. cc is)
 
-tasked-delivers : (s : Settings) (n came : ℕ) (p : ProcessorView) → Tasked s p → Tasked s (delivers n came p)
+tasked-delivers : (s : MachineSettings) (n came : ℕ) (p : ProcessorView) → Tasked s p → Tasked s (delivers n came p)
 unfolding delivers
 tasked-delivers s n came p h =
     let wakes = p.settings.threaded && not p.settings.apart && has_place p.application in
@@ -289,8 +291,8 @@ tasked-delivers s n came p h =
       settings = h.settings;
       single = w.0;
       wakes = λ threaded here.
-          let own : p.settings.threaded ≡ true = ap (λ (x : Settings). x.threaded) h.settings ∙ threaded in
-          let apart : p.settings.apart ≡ false = ap (λ (x : Settings). x.apart) h.settings ∙ here in
+          let own : p.settings.threaded ≡ true = ap (λ (x : MachineSettings). x.threaded) h.settings ∙ threaded in
+          let apart : p.settings.apart ≡ false = ap (λ (x : MachineSettings). x.apart) h.settings ∙ here in
           subst (λ (a : ApplicationView). min 1 (length a.socket.items)
           ≤ applications (if wakes then with_application p.tasks else p.tasks))
           (sym (fed-here p.settings p.clock came p.application apart))
@@ -307,13 +309,13 @@ tasked-delivers s n came p h =
     by true room threaded here before more one = let full = one (rw (threaded, here, room) refl) in omega (arith, full)
     by false room threaded here before more one = omega (arith, before, more)
 
-tasked-oldest : (s : Settings) (n : ℕ) (o : Option ℕ) (p : ProcessorView) → Tasked s p → Tasked s (delivers_oldest n o p)
+tasked-oldest : (s : MachineSettings) (n : ℕ) (o : Option ℕ) (p : ProcessorView) → Tasked s p → Tasked s (delivers_oldest n o p)
 tasked-oldest s n None p h = h
 tasked-oldest s n (Some came) p h =
     let q : ProcessorView = record p { devices = changed (without_next false) n p.devices } in
     tasked-delivers s n came q (tasked-of s p q h refl refl (omega arith))
 
-tasked-work : (s : Settings) (w : Work) (p : ProcessorView) → Tasked s p → Tasked s (ends_by w p)
+tasked-work : (s : MachineSettings) (w : Work) (p : ProcessorView) → Tasked s p → Tasked s (ends_by w p)
 unfolding ends_interrupt
 tasked-work s Nothing p h = h
 tasked-work s (Interrupt n) p h =
@@ -327,7 +329,7 @@ tasked-work s (Packet hand) p h =
     tasked-looks s hand.device (hand.given + 1) (delivers hand.device hand.came p) (tasked-delivers s hand.device hand.came p h)
 tasked-work s (Use came) p h = tasked-of s p (record p { application = used p.clock came p.application }) h refl refl (omega arith)
 
-tasked-ended : (s : Settings) (p : ProcessorView) → Tasked s p → Tasked s (ends_current p)
+tasked-ended : (s : MachineSettings) (p : ProcessorView) → Tasked s p → Tasked s (ends_current p)
 unfolding ends_current
 tasked-ended s p h =
     let q : ProcessorView = record p { clock = p.ends; work = Nothing; counts = spent p.work (p.ends - p.clock) p.counts } in
@@ -335,30 +337,31 @@ tasked-ended s p h =
 
 -- ---- what disturbs
 
-tasked-aside : (s : Settings) (moment : ℕ) (w : Work) (p : ProcessorView) → Tasked s p → Tasked s (set_aside moment w p)
+tasked-aside : (s : MachineSettings) (moment : ℕ) (w : Work) (p : ProcessorView) → Tasked s p → Tasked s (set_aside moment w p)
 tasked-aside s moment Nothing p h = h
 tasked-aside s moment (Interrupt n) p h = h
 tasked-aside s moment (Poll n) p h = h
 tasked-aside s moment (Packet hand) p h = h
 tasked-aside s moment (Use came) p h = tasked-of s p (set_aside moment (Use came) p) h refl refl (omega arith)
 
-tasked-stirred : (s : Settings) (moment : ℕ) (p : ProcessorView) → Tasked s p → Tasked s (stirred moment p)
+tasked-stirred : (s : MachineSettings) (moment : ℕ) (p : ProcessorView) → Tasked s p → Tasked s (stirred moment p)
 tasked-stirred s moment p h =
     let asked = is_some (position asks_at p.devices) in
-    let counts = record p.counts { interrupt_time = held (p.counts.interrupt_time + p.settings.wake) } in
+    let counts = record p.counts { interrupt_time = saturated (p.counts.interrupt_time + p.settings.wake) } in
     either (Tasked s) (is_busy p.work) (if asked then set_aside moment p.work p else p) (woken moment asked p)
     (λ busy. either (Tasked s) asked (set_aside moment p.work p) p (λ yes. tasked-aside s moment p.work p h) (λ no. h))
-    (λ idle. either (Tasked s) asked (record p { clock = held (moment + p.settings.wake); counts = counts }) (record p { clock = moment })
-    (λ yes. tasked-of s p (record p { clock = held (moment + p.settings.wake); counts = counts }) h refl refl (omega arith))
+    (λ idle. either (Tasked s) asked (record p { clock = saturated (moment + p.settings.wake); counts = counts })
+    (record p { clock = moment })
+    (λ yes. tasked-of s p (record p { clock = saturated (moment + p.settings.wake); counts = counts }) h refl refl (omega arith))
     (λ no. tasked-of s p (record p { clock = moment }) h refl refl (omega arith)))
 
-rested-disturbed : (s : Settings) (moment : ℕ) (p : ProcessorView) → Goes s p → Tasked s p → Rested s (disturbed moment p)
+rested-disturbed : (s : MachineSettings) (moment : ℕ) (p : ProcessorView) → Goes s p → Tasked s p → Rested s (disturbed moment p)
 unfolding disturbed
 rested-disturbed s moment p goes h = rested-takes s (stirred moment p) (work-stirred s moment p goes) (tasked-stirred s moment p h)
 
 -- ---- over a life
 
-rested-happens : (s : Settings) (u : Upcoming) (p : ProcessorView) → Goes s p → Rested s p → Rested s (happens u p)
+rested-happens : (s : MachineSettings) (u : Upcoming) (p : ProcessorView) → Goes s p → Rested s p → Rested s (happens u p)
 rested-happens s Never p goes h = h
 rested-happens s upcomings.Ends p goes h = rested-takes s (ends_current p) (work-ended s p goes) (tasked-ended s p h.tasked)
 rested-happens s (Expires timer) p goes h =
@@ -366,11 +369,11 @@ rested-happens s (Expires timer) p goes h =
     rested-disturbed s timer.at q (goes-devices s p q goes refl refl refl refl) (tasked-of s p q h.tasked refl refl (omega arith))
 
 -- a packet that finds no room changes no phase
-full-phase : (moment : ℕ) (s : Settings) (d : DeviceView) → has_room d ≡ false → (after_packet moment s d).phase ≡ d.phase
+full-phase : (moment : ℕ) (s : MachineSettings) (d : QueueView) → has_room d ≡ false → (after_packet moment s d).phase ≡ d.phase
 unfolding after_packet
 full-phase moment s d full = rw full refl
 
-made-asks : (capacity : ℕ) (o : Option DeviceView) → asks (made_at capacity o).phase ≡ asks_at o
+made-asks : (capacity : ℕ) (o : Option QueueView) → asks (made_at capacity o).phase ≡ asks_at o
 unfolding made_at
 made-asks capacity None = refl
 made-asks capacity (Some d) = refl
@@ -387,7 +390,7 @@ quiet-arrived moment m n p full quiet =
     ∙ subst (λ (k : ℕ). has_room_at (at k (with_device p.settings.ring k p.devices)) ≡ false) (eqb-true m n here) full in
     ap asks (full-phase moment p.settings made none) ∙ (made-asks p.settings.ring (at n p.devices) ∙ quiet)) (λ other. quiet)
 
-rested-arrives : (s : Settings) (moment m : ℕ) (p : ProcessorView) → Goes s p → Rested s p → Rested s (arrives moment m p)
+rested-arrives : (s : MachineSettings) (moment m : ℕ) (p : ProcessorView) → Goes s p → Rested s p → Rested s (arrives moment m p)
 unfolding arrives
 rested-arrives s moment m p goes h =
     let devices = with_device p.settings.ring m p.devices in
@@ -414,7 +417,7 @@ and-none : (b : Bool) → (b && not (0 == 0)) ≡ false
 and-none true = refl
 and-none false = refl
 
-pub rested-on : (s : Settings) (events : List Event) → Rested s (behind s events)
+pub rested-on : (s : MachineSettings) (events : List MachineEvent) → Rested s (behind s events)
 unfolding behind step
 rested-on s [] = record {
   tasked = record { settings = refl; single = omega arith; wakes = λ threaded here. omega arith };
@@ -474,7 +477,7 @@ pub soft-none : (a b : Bool) → a ≡ false → (a && b) ≡ false
 soft-none false b is = refl
 soft-none true b is = cc is
 
-no-threads : (n : ℕ) (tasks : List Task) → all_applications tasks → threads n tasks ≡ 0
+no-threads : (n : ℕ) (tasks : List RunnableTask) → all_applications tasks → threads n tasks ≡ 0
 unfolding threads
 no-threads n [] all = refl
 no-threads n (Application ∷ more) all = no-threads n more all.1
@@ -490,24 +493,24 @@ both-false true b is = is
 both-false false b is = refl
 
 -- its number is nowhere
-placeless : (s : Settings) (n : ℕ) (p : ProcessorView) → Goes s p → Resting p → places n p ≡ 0
+placeless : (s : MachineSettings) (n : ℕ) (p : ProcessorView) → Goes s p → Resting p → places n p ≡ 0
 unfolding listed_at count
 placeless s n p goes r =
     let rests = goes.rests in
     let list : p.softirq.list ≡ [] =
     list-empty (is_polling p.settings) p.softirq.list r.list
     (λ single. (rests.soft
-    (soft-none (is_polling s) (not s.threaded) (sym (ap (λ (x : Settings). is_polling x) rests.settings) ∙ single))).0) in
+    (soft-none (is_polling s) (not s.threaded) (sym (ap (λ (x : MachineSettings). is_polling x) rests.settings) ∙ single))).0) in
     let first : count n p.softirq.list ≡ 0 = ap (count n) list in
     let second : count_in n p.softirq.run ≡ 0 = no-run n p.softirq.run r.idle in
     let third : threads n p.tasks ≡ 0 = by p.settings.threaded refl rests in
     omega (arith, first, second, third)
   where
     by : (b : Bool) → p.settings.threaded ≡ b → Rests s p → threads n p.tasks ≡ 0
-    by true is rests = no-threads n p.tasks (subst (λ (xs : List Task). all_applications xs) (sym (r.tasks is)) tt)
+    by true is rests = no-threads n p.tasks (subst (λ (xs : List RunnableTask). all_applications xs) (sym (r.tasks is)) tt)
     by false is rests =
         no-threads n p.tasks
-        (rests.threads (both-false (is_polling s) s.threaded (sym (ap (λ (x : Settings). x.threaded) rests.settings) ∙ is)))
+        (rests.threads (both-false (is_polling s) s.threaded (sym (ap (λ (x : MachineSettings). x.threaded) rests.settings) ∙ is)))
 
 both-empty : (xs ys : List ℕ) → xs ++ ys ≡ [] → (xs ≡ []) × (ys ≡ [])
 both-empty [] ys is = (refl, is)
@@ -517,8 +520,8 @@ one-not : (b : Bool) → ◌≡◌ {A = ℕ} (if b then 1 else 0) 0 → b ≡ fa
 one-not true is = cc is
 one-not false is = refl
 
-left-device : (o : Option DeviceView) → TendAt false o → asks_at o ≡ false → Late (2 ^ 64) (timer_in o) → scheduled_at o ≡ 0
-    → (taken_in o ≡ []) × (ring_in o ≡ [])
+left-device : (o : Option QueueView) → TendAt false o → asks_at o ≡ false → Late (2 ^ 64) (timer_in o) → scheduled_at o ≡ 0
+    → (taken_in o ≡ []) × (queue_ring o ≡ [])
 unfolding queued
 left-device None tend asks late free = (refl, refl)
 left-device (Some d) tend asks late free =
@@ -539,7 +542,7 @@ nothing-is-left s events turns none =
           (free.timers n)
           (by n p goes r (stands-on s n events) nothing),
       r.rest,
-      λ here. r.socket (ap (λ (x : Settings). x.apart) goes.rests.settings ∙ here),
+      λ here. r.socket (ap (λ (x : MachineSettings). x.apart) goes.rests.settings ∙ here),
     )
   where
     idle : (b : Bool) → ◌≡◌ {A = ℕ} (if b then 0 else 0) 0

@@ -2,15 +2,16 @@
 use Rattle.std.proofs.Common.{◌≡◌, ℕ, ◌+◌, ◌<◌, ◌≤◌, ◌^◌, Bool, true, false, Option, Some, None, List, [], ◌∷◌, ◌++◌, length, refl, sym}
 use Rattle.std.proofs.Common.{ap, subst, arith}
 use Rattle.std.specs.Prelude.{◌==◌, ◌&&◌, ◌||◌, if◌then◌else◌, nat_le, not}
-use Rattle.{machine_words.specs.declared.settings.Settings.Settings, device_places.specs.Places.{at, changed}}
-use Rattle.machine_laws.specs.{Deferrals.TimersAreNear, Lives.{Event, InTurn, behind, next, packet}}
+use Rattle.{machine_words.specs.declared.settings.MachineSettings.MachineSettings, device_places.specs.Places.{at, changed}}
+use Rattle.machine_laws.specs.{Deferrals.TimersAreNear, Lives.{MachineEvent, InTurn, behind, next, packet}}
 use Rattle.machine_model.specs.declared.device.Phase.{Phase}
 use Rattle.machine_model.specs.declared.device.Phase.TheVariants.{Quiet, Coalescing, Raised, Scheduled, Deferred, Fired}
-use Rattle.machine_model.specs.declared.device.DeviceCounts.{DeviceCounts}
+use Rattle.machine_model.specs.declared.device.QueueCounts.{QueueCounts}
 use Rattle.machine_model.specs.declared.processor.{Upcoming.{Upcoming, TheVariants.{Never, Expires}}}
-use Rattle.machine_model.specs.Device.{DeviceView, after_packet, coalesced, completed, expired, has_room, interrupted, is_fired}
-use Rattle.machine_model.specs.Device.{is_masked, notified, polled}
-use Rattle.machine_model.specs.{Device.{raised_again, without_next}, Devices.{Devices, has_room_at, is_fired_at, with_device}, Waits.held}
+use Rattle.machine_model.specs.Device.{QueueView, after_packet, coalesced, queue_completed, expired, has_room, interrupted, is_fired}
+use Rattle.machine_model.specs.Device.{is_masked, notified, queue_polled}
+use Rattle.machine_model.specs.{Device.{raised_again, without_next}, Devices.{QueueViews, has_room_at, is_fired_at, with_device}}
+use Rattle.machine_model.specs.{Waits.saturated}
 use Rattle.machine_model.specs.Processor.{ProcessorView, arrives, disturbed, ends_current, ends_run, happens, interrupts, is_busy}
 use Rattle.machine_model.specs.Processor.{is_polling}
 use Rattle.machine_model.specs.Processor.{step, takes_up, upcoming}
@@ -26,7 +27,7 @@ abbrev pub NearBy : ℕ → Phase → Type 0
 NearBy end (Deferred until) = until ≤ end
 NearBy end _ = Unit {0}
 
-abbrev pub Near : ℕ → Option DeviceView → Type 0
+abbrev pub Near : ℕ → Option QueueView → Type 0
 Near end None = Unit {0}
 Near end (Some d) = NearBy end d.phase
 
@@ -38,7 +39,7 @@ near-later end other Scheduled less near = tt
 near-later end other (Deferred until) less near = omega (arith, less, near)
 near-later end other Fired less near = tt
 
-nears-later : (end other : ℕ) (o : Option DeviceView) → end ≤ other → Near end o → Near other o
+nears-later : (end other : ℕ) (o : Option QueueView) → end ≤ other → Near end o → Near other o
 nears-later end other None less near = tt
 nears-later end other (Some d) less near = near-later end other d.phase less near
 
@@ -46,22 +47,22 @@ near-if : (end : ℕ) (b : Bool) (x y : Phase) → NearBy end x → NearBy end y
 near-if end true x y first second = first
 near-if end false x y first second = second
 
-near-changed : (end : ℕ) (f : DeviceView → DeviceView) (m n : ℕ) (ds : Devices)
-    → ((d : DeviceView) → NearBy end d.phase → NearBy end (f d).phase)
+near-changed : (end : ℕ) (f : QueueView → QueueView) (m n : ℕ) (ds : QueueViews)
+    → ((d : QueueView) → NearBy end d.phase → NearBy end (f d).phase)
     → Near end (at n ds) → Near end (at n (changed f m ds))
 unfolding map_at
 near-changed end f m n ds keeps near = at-either (λ b o. Near end o) f m n ds (λ here. by (at n ds) near) (λ other. near)
   where
-    by : (o : Option DeviceView) → Near end o → Near end (map_at f o)
+    by : (o : Option QueueView) → Near end o → Near end (map_at f o)
     by None near = tt
     by (Some d) near = keeps d near
 
-near-interrupted : (end : ℕ) (polling : Bool) (d : DeviceView) → NearBy end (interrupted polling d).phase
+near-interrupted : (end : ℕ) (polling : Bool) (d : QueueView) → NearBy end (interrupted polling d).phase
 unfolding interrupted
 near-interrupted end polling d = by (is_fired d.phase) polling
   where
-    counts : DeviceCounts
-    counts = record d.counts { interrupts = held (d.counts.interrupts + 1) }
+    counts : QueueCounts
+    counts = record d.counts { interrupts = saturated (d.counts.interrupts + 1) }
 
     by : (fired polling : Bool) → NearBy end
         (if fired then record d { phase = Scheduled } else record d
@@ -86,44 +87,44 @@ near-coalesced end until Scheduled near = tt
 near-coalesced end until (Deferred other) near = near
 near-coalesced end until Fired near = tt
 
-near-packet : (end moment : ℕ) (s : Settings) (d : DeviceView) → NearBy end d.phase → NearBy end (after_packet moment s d).phase
+near-packet : (end moment : ℕ) (s : MachineSettings) (d : QueueView) → NearBy end d.phase → NearBy end (after_packet moment s d).phase
 unfolding after_packet notified
 near-packet end moment s d near = by (has_room d) (is_masked d.phase)
   where
-    counts : DeviceCounts
-    counts = record d.counts { arrived = held (d.counts.arrived + 1) }
+    counts : QueueCounts
+    counts = record d.counts { arrived = saturated (d.counts.arrived + 1) }
 
-    f : DeviceView
+    f : QueueView
     f = record d { counts = counts; ring = d.ring ++ moment ∷ [] }
 
     by : (room masked : Bool)
-        → NearBy end (if not room then record d { counts = record counts { dropped = held (d.counts.dropped + 1) } }
+        → NearBy end (if not room then record d { counts = record counts { dropped = saturated (d.counts.dropped + 1) } }
         else (if masked then f else notified moment s f)).phase
     by false masked = near
     by true true = near
     by true false =
-        near-if end (s.rx_nsecs == 0 || not (s.rx_frames == 0) && nat_le s.rx_frames (held (d.frames + 1))) Raised
-        (coalesced (held (moment + s.rx_nsecs)) d.phase) tt (near-coalesced end (held (moment + s.rx_nsecs)) d.phase near)
+        near-if end (s.rx_nsecs == 0 || not (s.rx_frames == 0) && nat_le s.rx_frames (saturated (d.frames + 1))) Raised
+        (coalesced (saturated (moment + s.rx_nsecs)) d.phase) tt (near-coalesced end (saturated (moment + s.rx_nsecs)) d.phase near)
 
-near-polled : (now given : ℕ) (s : Settings) (d : DeviceView) → NearBy (now + s.gro_flush_timeout) d.phase
-    → NearBy (now + s.gro_flush_timeout) (polled now given s d).phase
-unfolding polled completed
+near-polled : (now given : ℕ) (s : MachineSettings) (d : QueueView) → NearBy (now + s.gro_flush_timeout) d.phase
+    → NearBy (now + s.gro_flush_timeout) (queue_polled now given s d).phase
+unfolding queue_polled queue_completed
 near-polled now given s d near = by (given == s.weight)
   where
-    e : DeviceView
-    e = record d { counts = record d.counts { polls = held (d.counts.polls + 1) } }
+    e : QueueView
+    e = record d { counts = record d.counts { polls = saturated (d.counts.polls + 1) } }
 
     deferrals : ℕ
     deferrals = if given == 0 then d.deferrals else s.defer_hard_irqs
 
-    by : (full : Bool) → NearBy (now + s.gro_flush_timeout) (if full then e else completed now given s e).phase
+    by : (full : Bool) → NearBy (now + s.gro_flush_timeout) (if full then e else queue_completed now given s e).phase
     by true = near
     by false =
         near-if (now + s.gro_flush_timeout) (not (deferrals == 0) && not (s.gro_flush_timeout == 0))
-        (Deferred (held (now + s.gro_flush_timeout))) Quiet
+        (Deferred (saturated (now + s.gro_flush_timeout))) Quiet
         (omega arith) tt
 
-near-next : (end : ℕ) (backlog : Bool) (d : DeviceView) → NearBy end d.phase → NearBy end (without_next backlog d).phase
+near-next : (end : ℕ) (backlog : Bool) (d : QueueView) → NearBy end d.phase → NearBy end (without_next backlog d).phase
 near-next end backlog d near = subst (λ (x : Phase). NearBy end x) (sym ((calm-next backlog).phase d)) near
 
 -- ---- work is taken up and ends
@@ -135,11 +136,11 @@ nears-interrupt : (end n m : ℕ) (p : ProcessorView) → Nears end n p → Near
 unfolding interrupts
 nears-interrupt end n m p h =
     let polling = is_polling p.settings in
-    let counts = if is_fired_at (at m p.devices) then record p.counts { timers = held (p.counts.timers + 1) }
-    else record p.counts { interrupts = held (p.counts.interrupts + 1) } in
+    let counts = if is_fired_at (at m p.devices) then record p.counts { timers = saturated (p.counts.timers + 1) }
+    else record p.counts { interrupts = saturated (p.counts.interrupts + 1) } in
     let q : ProcessorView = record p { devices = changed (interrupted polling) m p.devices; counts = counts } in
     record {
-      near = subst (λ (ds : Devices). Near end (at n ds)) (sym (devices-scheduled m polling q))
+      near = subst (λ (ds : QueueViews). Near end (at n ds)) (sym (devices-scheduled m polling q))
           (near-changed end (interrupted polling) m n p.devices (λ d near. near-interrupted end polling d) h.near);
     }
 
@@ -161,12 +162,13 @@ nears-walk end n = record {
   stays = λ p free h still settled. h;
 }
 
-nears-takes : (s : Settings) (end n : ℕ) (p : ProcessorView) → Goes s p → Near end (at n p.devices) → Near end (at n (takes_up p).devices)
+nears-takes : (s : MachineSettings) (end n : ℕ) (p : ProcessorView) → Goes s p → Near end (at n p.devices)
+    → Near end (at n (takes_up p).devices)
 nears-takes s end n p goes near =
     (walk-any (Nears end n) (Nears end n) (nears-walk end n) p (goes-unasked s p goes) (λ busy. record { near = near })
     (λ idle. record { near = near })).near
 
-looks-near : (s : Settings) (n m given now : ℕ) (ds : Devices) → Near (now + s.gro_flush_timeout) (at n ds)
+looks-near : (s : MachineSettings) (n m given now : ℕ) (ds : QueueViews) → Near (now + s.gro_flush_timeout) (at n ds)
     → Looks (λ es w. Near (now + s.gro_flush_timeout) (at n es)) s now m given ds
 looks-near s n m given now ds near =
     let end = now + s.gro_flush_timeout in
@@ -174,8 +176,8 @@ looks-near s n m given now ds near =
     let second = near-changed end (without_next s.backlog) m n ds (near-next end s.backlog) near in
     record {
       some = λ came is. second;
-      none = λ none. near-changed end (polled now given s) m n es (near-polled now given s) second;
-      full = λ most. near-changed end (polled now given s) m n ds (near-polled now given s) near;
+      none = λ none. near-changed end (queue_polled now given s) m n es (near-polled now given s) second;
+      full = λ most. near-changed end (queue_polled now given s) m n ds (near-polled now given s) near;
     }
 
 ends-near : (n : ℕ) (p : ProcessorView) → Near (p.ends + p.settings.gro_flush_timeout) (at n p.devices)
@@ -188,31 +190,32 @@ ends-near n p near =
           near-changed end raised_again m n p.devices (λ d first. near-if end (length d.ring == 0) d.phase Raised first tt) near;
       lone = λ m came is lone found.
           let one = changed (without_next false) m p.devices in
-          let two = changed (device.delivered p.ends came) m one in
+          let two = changed (device.queue_delivered p.ends came) m one in
           near-changed end raised_again m n two (λ d first. near-if end (length d.ring == 0) d.phase Raised first tt)
-          (near-changed end (device.delivered p.ends came) m n one (λ d first. first)
+          (near-changed end (device.queue_delivered p.ends came) m n one (λ d first. first)
           (near-changed end (without_next false) m n p.devices (near-next end false) near));
       poll = λ m is. looks-near p.settings n m 0 p.ends p.devices near;
       packet = λ hand is.
-          looks-near p.settings n hand.device (hand.given + 1) p.ends (changed (device.delivered p.ends hand.came) hand.device p.devices)
-          (near-changed end (device.delivered p.ends hand.came) hand.device n p.devices (λ d first. first) near);
+          looks-near p.settings n hand.device (hand.given + 1) p.ends
+          (changed (device.queue_delivered p.ends hand.came) hand.device p.devices)
+          (near-changed end (device.queue_delivered p.ends hand.came) hand.device n p.devices (λ d first. first) near);
     }
 
-near-disturbed : (s : Settings) (end n moment : ℕ) (p : ProcessorView) → Goes s p → Near end (at n p.devices)
+near-disturbed : (s : MachineSettings) (end n moment : ℕ) (p : ProcessorView) → Goes s p → Near end (at n p.devices)
     → Near end (at n (disturbed moment p).devices)
 unfolding disturbed
 near-disturbed s end n moment p goes near =
     nears-takes s end n (stirred moment p) (work-stirred s moment p goes)
-    (subst (λ (ds : Devices). Near end (at n ds)) (sym (undisturbed moment p).devices) near)
+    (subst (λ (ds : QueueViews). Near end (at n ds)) (sym (undisturbed moment p).devices) near)
 
 -- ---- over a life
 
-near-happens : (s : Settings) (t n : ℕ) (u : Upcoming) (p : ProcessorView) → Goes s p → t ≤ time_by u p t
+near-happens : (s : MachineSettings) (t n : ℕ) (u : Upcoming) (p : ProcessorView) → Goes s p → t ≤ time_by u p t
     → Near (t + s.gro_flush_timeout) (at n p.devices)
     → Near (time_by u p t + s.gro_flush_timeout) (at n (happens u p).devices)
 near-happens s t n Never p goes less near = near
 near-happens s t n upcomings.Ends p goes less near =
-    let gro : p.settings.gro_flush_timeout ≡ s.gro_flush_timeout = ap (λ (x : Settings). x.gro_flush_timeout) goes.rests.settings in
+    let gro : p.settings.gro_flush_timeout ≡ s.gro_flush_timeout = ap (λ (x : MachineSettings). x.gro_flush_timeout) goes.rests.settings in
     let first : Near (p.ends + p.settings.gro_flush_timeout) (at n p.devices) =
     nears-later (t + s.gro_flush_timeout) (p.ends + p.settings.gro_flush_timeout) (at n p.devices) (omega (arith, less, gro)) near in
     nears-takes s (p.ends + s.gro_flush_timeout) n (ends_current p) (work-ended s p goes)
@@ -225,12 +228,12 @@ near-happens s t n (Expires timer) p goes less near =
     (near-changed end expired timer.device n p.devices (λ d first. near-expired end d.phase)
     (nears-later (t + s.gro_flush_timeout) end (at n p.devices) (omega (arith, less)) near))
 
-near-made : (end capacity : ℕ) (o : Option DeviceView) → Near end o → NearBy end (made_at capacity o).phase
+near-made : (end capacity : ℕ) (o : Option QueueView) → Near end o → NearBy end (made_at capacity o).phase
 unfolding made_at
 near-made end capacity None near = tt
 near-made end capacity (Some d) near = near
 
-near-arrives : (s : Settings) (end moment m n : ℕ) (p : ProcessorView) → Goes s p → Near end (at n p.devices)
+near-arrives : (s : MachineSettings) (end moment m n : ℕ) (p : ProcessorView) → Goes s p → Near end (at n p.devices)
     → Near end (at n (arrives moment m p).devices)
 unfolding arrives
 near-arrives s end moment m n p goes near =
@@ -244,7 +247,7 @@ near-arrives s end moment m n p goes near =
     either (λ r. Near end (at n r.devices)) (has_room_at (at m devices)) (disturbed moment q) q
     (λ room. near-disturbed s end n moment q (goes-devices s p q goes refl refl refl refl) first) (λ full. first)
 
-near-on : (s : Settings) (until n : ℕ) (events : List Event) → until < 2 ^ 64 → InTurn s until events
+near-on : (s : MachineSettings) (until n : ℕ) (events : List MachineEvent) → until < 2 ^ 64 → InTurn s until events
     → Near (now s events + s.gro_flush_timeout) (at n (behind s events).devices)
 unfolding behind InTurn step now
 near-on s until n [] fits turns = tt
@@ -265,7 +268,7 @@ near-on s until n (next ∷ earlier) fits turns =
 pub timers-are-near : TimersAreNear
 timers-are-near s moment events n d until fits turns there deferred =
     let near : Near (now s events + s.gro_flush_timeout) (Some d) =
-    subst (λ (o : Option DeviceView). Near (now s events + s.gro_flush_timeout) o) there (near-on s moment n events fits turns) in
+    subst (λ (o : Option QueueView). Near (now s events + s.gro_flush_timeout) o) there (near-on s moment n events fits turns) in
     let first : until ≤ now s events + s.gro_flush_timeout =
     subst (λ (x : Phase). NearBy (now s events + s.gro_flush_timeout) x) deferred near in
     omega (arith, first, (since s moment events fits turns).within)

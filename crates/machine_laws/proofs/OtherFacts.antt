@@ -1,19 +1,20 @@
 -- The receiving side is the same with any other application on a processor of its own.
 use Rattle.std.proofs.Common.{◌≡◌, ◌∙◌, ℕ, ◌+◌, ◌-◌, Bool, true, false, Option, Some, None, List, [], ◌∷◌, ◌++◌, refl, sym, ap, subst}
 use Rattle.std.specs.{Option.option_map_or, Prelude.{◌==◌, ◌&&◌, if◌then◌else◌, is_some, length, nat_lt, not, position, slice_get}}
-use Rattle.{machine_words.specs.declared.settings.Settings.Settings, device_places.specs.Places.{at, changed}}
-use Rattle.machine_laws.specs.Lives.{Event, InTurn, behind, next, packet}
+use Rattle.{machine_words.specs.declared.settings.MachineSettings.MachineSettings, device_places.specs.Places.{at, changed}}
+use Rattle.machine_laws.specs.Lives.{MachineEvent, InTurn, behind, next, packet}
 use Rattle.machine_laws.specs.Applications.{ReceivingIsApart, changed_application, deliveries, fed_all}
 use Rattle.machine_model.specs.declared.processor.{Work.{Work, TheVariants.{Nothing, Interrupt, Poll, Packet, Use}}, Rest.Rest}
 use Rattle.machine_model.specs.declared.processor.Upcoming.{Upcoming}
 use Rattle.machine_model.specs.declared.processor.Upcoming.TheVariants.{Never, Expires}
-use Rattle.machine_model.specs.declared.tasks.Task.{Task}
-use Rattle.machine_model.specs.declared.tasks.Task.TheVariants.{Application, Thread}
+use Rattle.machine_model.specs.declared.tasks.RunnableTask.{RunnableTask}
+use Rattle.machine_model.specs.declared.tasks.RunnableTask.TheVariants.{Application, Thread}
 use Rattle.poll_runs.specs.declared.bench.{Next.TheVariants.{Gone, Repoll}, Once.Once}
 use Rattle.machine_model.specs.Tasks.{after_first, runnable, with_application}
-use Rattle.machine_model.specs.Waits.{held}
-use Rattle.machine_model.specs.Softirq.{asked_in, begun, next_of, polled_once, pushed}
-use Rattle.machine_model.specs.Device.{after_packet, completed, delivered, expired, interrupted, notified, polled, raised_again}
+use Rattle.machine_model.specs.Waits.{saturated}
+use Rattle.machine_model.specs.Softirq.{asked_in, begun, run_next, softirq_polled, pushed}
+use Rattle.machine_model.specs.Device.{after_packet, queue_completed, queue_delivered, expired, interrupted, notified, queue_polled}
+use Rattle.machine_model.specs.Device.{raised_again}
 use Rattle.machine_model.specs.Device.{without_next}
 use Rattle.machine_model.specs.Devices.{asks_at, has_room_at}
 use Rattle.machine_model.specs.{Devices.{is_fired_at, next_packet_at, with_device}, Application.{ApplicationView, fed, has_place, used}}
@@ -21,7 +22,8 @@ use Rattle.machine_model.specs.Processor.{ProcessorView, arrives, begins, begins
 use Rattle.machine_model.specs.Processor.{ends_current}
 use Rattle.machine_model.specs.Processor.{ends_interrupt, ends_poll, ends_run, goes_on, happens, interrupts, is_busy, is_by, is_due}
 use Rattle.machine_model.specs.Processor.{is_late, is_polling}
-use Rattle.machine_model.specs.Processor.{leaves_softirq, looks, opened_processor, polls, rests, runs, runs_first, scheduled, set_aside}
+use Rattle.machine_model.specs.Processor.{leaves_softirq, poll_looks, opened_processor, polls, rests, runs, runs_first, scheduled}
+use Rattle.machine_model.specs.Processor.{set_aside}
 use Rattle.machine_model.specs.Processor.{spent, step}
 use Rattle.machine_model.specs.Processor.{takes_up, upcoming, uses, woken}
 use Rattle.machine_laws.proofs.ApartFacts.{AllThreads, Alone, alone-of, alone-on, alone-stirred, not-wakes, threads-ended}
@@ -29,36 +31,36 @@ use Rattle.machine_laws.proofs.WorkFacts.{goes-on, stirred, work-ended}
 use Rattle.machine_model.specs.declared.processor.Upcoming.TheVariants as upcomings
 
 -- this processor with another application
-abbrev pub other : Settings → ApplicationView → ProcessorView → ProcessorView
+abbrev pub other : MachineSettings → ApplicationView → ProcessorView → ProcessorView
 other t b p = record p { settings = changed_application p.settings t; application = b }
 
-abbrev pub IsOther : Settings → ProcessorView → ProcessorView → Type 0
+abbrev pub IsOther : MachineSettings → ProcessorView → ProcessorView → Type 0
 IsOther t p q = (b : ApplicationView) × (q ≡ other t b p)
 
-is-if : (t : Settings) (c : Bool) (x y v w : ProcessorView) → IsOther t x v → IsOther t y w
+is-if : (t : MachineSettings) (c : Bool) (x y v w : ProcessorView) → IsOther t x v → IsOther t y w
     → IsOther t (if c then x else y) (if c then v else w)
 is-if t true x y v w first second = first
 is-if t false x y v w first second = second
 
-is-true : (t : Settings) (c : Bool) (x y v w : ProcessorView) → c ≡ true → IsOther t x v
+is-true : (t : MachineSettings) (c : Bool) (x y v w : ProcessorView) → c ≡ true → IsOther t x v
     → IsOther t (if c then x else y) (if c then v else w)
 is-true t true x y v w is first = first
 is-true t false x y v w is first = cc is
 
-is-option : (t : Settings) (o : Option ℕ) (f g : ℕ → ProcessorView) (x y : ProcessorView) → ((n : ℕ) → IsOther t (f n) (g n))
+is-option : (t : MachineSettings) (o : Option ℕ) (f g : ℕ → ProcessorView) (x y : ProcessorView) → ((n : ℕ) → IsOther t (f n) (g n))
     → IsOther t x y
     → IsOther t (option_map_or f o x) (option_map_or g o y)
 is-option t None f g x y some none = none
 is-option t (Some n) f g x y some none = some n
 
 -- a step of both
-is-map : (t : Settings) (f : ProcessorView → ProcessorView) (x y : ProcessorView) → IsOther t x y
+is-map : (t : MachineSettings) (f : ProcessorView → ProcessorView) (x y : ProcessorView) → IsOther t x y
     → ((b : ApplicationView) → IsOther t (f x) (f (other t b x))) → IsOther t (f x) (f y)
 is-map t f x y is step = let r = step is.0 in (r.0, ap f is.1 ∙ r.1)
 
 -- ---- what is taken up
 
-is-scheduled : (t : Settings) (c : Bool) (n : ℕ) (b : ApplicationView) (p : ProcessorView)
+is-scheduled : (t : MachineSettings) (c : Bool) (n : ℕ) (b : ApplicationView) (p : ProcessorView)
     → IsOther t (if c then scheduled n p else p) (if c then scheduled n (other t b p) else other t b p)
 is-scheduled t c n b p =
     is-if t c (scheduled n p) p (scheduled n (other t b p)) (other t b p)
@@ -66,34 +68,35 @@ is-scheduled t c n b p =
     (record (other t b p) { tasks = p.tasks ++ Thread n ∷ [] }) (record (other t b p) { softirq = pushed n p.softirq }) (b, refl) (b, refl))
     (b, refl)
 
-is-interrupts : (t : Settings) (n : ℕ) (b : ApplicationView) (p : ProcessorView) → IsOther t (interrupts n p) (interrupts n (other t b p))
+is-interrupts : (t : MachineSettings) (n : ℕ) (b : ApplicationView) (p : ProcessorView)
+    → IsOther t (interrupts n p) (interrupts n (other t b p))
 unfolding interrupts
 is-interrupts t n b p =
     let polling = is_polling p.settings in
     let time = if polling then p.settings.interrupt else p.settings.interrupt + p.settings.packet in
-    let counts = if is_fired_at (at n p.devices) then record p.counts { timers = held (p.counts.timers + 1) }
-    else record p.counts { interrupts = held (p.counts.interrupts + 1) } in
+    let counts = if is_fired_at (at n p.devices) then record p.counts { timers = saturated (p.counts.timers + 1) }
+    else record p.counts { interrupts = saturated (p.counts.interrupts + 1) } in
     let q : ProcessorView = record p { devices = changed (interrupted polling) n p.devices; counts = counts } in
     is-map t (λ (r : ProcessorView). begins (Interrupt n) time r) (if polling then scheduled n q else q)
     (if polling then scheduled n (other t b q) else other t b q) (is-scheduled t polling n b q) (λ c. (c, refl))
 
-is-begins-run : (t : Settings) (b : ApplicationView) (p : ProcessorView) → IsOther t (begins_run p) (begins_run (other t b p))
+is-begins-run : (t : MachineSettings) (b : ApplicationView) (p : ProcessorView) → IsOther t (begins_run p) (begins_run (other t b p))
 unfolding begins_run
 is-begins-run t b p =
     let s = p.settings in
-    let q : ProcessorView = record p { softirq = next_of (begun p.clock s.budget s.weight s.window p.softirq) } in
+    let q : ProcessorView = record p { softirq = run_next (begun p.clock s.budget s.weight s.window p.softirq) } in
     is-option t (asked_in q.softirq.run) (λ n. polls n q) (λ n. polls n (other t b q)) q (other t b q) (λ n. (b, refl)) (b, refl)
 
-all-runnable : (c : Bool) (tasks : List Task) → AllThreads tasks → runnable c tasks ≡ tasks
+all-runnable : (c : Bool) (tasks : List RunnableTask) → AllThreads tasks → runnable c tasks ≡ tasks
 all-runnable true [] all = refl
 all-runnable true (Application ∷ more) all = cc (all.0)
 all-runnable true (Thread n ∷ more) all = refl
 all-runnable false tasks all = refl
 
-abbrev pub runs_with : List Task → ProcessorView → ProcessorView
+abbrev pub runs_with : List RunnableTask → ProcessorView → ProcessorView
 runs_with tasks p = runs (slice_get tasks 0) (record p { tasks = after_first tasks })
 
-is-runs : (t : Settings) (tasks : List Task) (b : ApplicationView) (p : ProcessorView) → AllThreads tasks
+is-runs : (t : MachineSettings) (tasks : List RunnableTask) (b : ApplicationView) (p : ProcessorView) → AllThreads tasks
     → IsOther t (runs_with tasks p) (runs_with tasks (other t b p))
 is-runs t [] b p all = (b, refl)
 is-runs t (Application ∷ more) b p all = cc (all.0)
@@ -101,15 +104,15 @@ is-runs t (Thread n ∷ more) b p all = (b, refl)
 
 first-is : (p : ProcessorView) → AllThreads p.tasks → runs_first p ≡ runs_with p.tasks p
 unfolding runs_first
-first-is p all = ap (λ (tasks : List Task). runs_with tasks p) (all-runnable (length p.application.socket.items == 0) p.tasks all)
+first-is p all = ap (λ (tasks : List RunnableTask). runs_with tasks p) (all-runnable (length p.application.socket.items == 0) p.tasks all)
 
-is-first : (t : Settings) (b : ApplicationView) (p : ProcessorView) → AllThreads p.tasks
+is-first : (t : MachineSettings) (b : ApplicationView) (p : ProcessorView) → AllThreads p.tasks
     → IsOther t (runs_first p) (runs_first (other t b p))
 is-first t b p all =
     let r = is-runs t p.tasks b p all in
     (r.0, first-is (other t b p) all ∙ (r.1 ∙ ap (λ (q : ProcessorView). other t r.0 q) (sym (first-is p all))))
 
-is-leaves : (t : Settings) (o : Option Rest) (b : ApplicationView) (p : ProcessorView) → p.settings.apart ≡ true → AllThreads p.tasks
+is-leaves : (t : MachineSettings) (o : Option Rest) (b : ApplicationView) (p : ProcessorView) → p.settings.apart ≡ true → AllThreads p.tasks
     → IsOther t (leaves_softirq o p) (leaves_softirq o (other t b p))
 is-leaves t (Some rest) b p apart all = (b, refl)
 is-leaves t None b p apart all =
@@ -118,23 +121,23 @@ is-leaves t None b p apart all =
     (if p.settings.apart then other t b p else uses b.socket.items (other t b p)) (is-first t b p all)
     (is-true t p.settings.apart p (uses p.application.socket.items p) (other t b p) (uses b.socket.items (other t b p)) apart (b, refl))
 
-is-rests : (t : Settings) (b : ApplicationView) (p : ProcessorView) → p.settings.apart ≡ true → AllThreads p.tasks
+is-rests : (t : MachineSettings) (b : ApplicationView) (p : ProcessorView) → p.settings.apart ≡ true → AllThreads p.tasks
     → IsOther t (rests p) (rests (other t b p))
 unfolding rests
 is-rests t b p apart all =
     is-if t (is_polling p.settings && not (length p.softirq.list == 0)) (begins_run p) (leaves_softirq p.rest p) (begins_run (other t b p))
     (leaves_softirq p.rest (other t b p)) (is-begins-run t b p) (is-leaves t p.rest b p apart all)
 
-is-over : (t : Settings) (late : Bool) (b : ApplicationView) (p : ProcessorView) → p.settings.apart ≡ true → AllThreads p.tasks
+is-over : (t : MachineSettings) (late : Bool) (b : ApplicationView) (p : ProcessorView) → p.settings.apart ≡ true → AllThreads p.tasks
     → IsOther t (rests (ends_run late p)) (rests (ends_run late (other t b p)))
 unfolding ends_run
 is-over t late b p apart all = is-rests t b (ends_run late p) apart all
 
-is-goes : (t : Settings) (b : ApplicationView) (p : ProcessorView) → p.settings.apart ≡ true → AllThreads p.tasks
+is-goes : (t : MachineSettings) (b : ApplicationView) (p : ProcessorView) → p.settings.apart ≡ true → AllThreads p.tasks
     → IsOther t (goes_on p) (goes_on (other t b p))
 unfolding goes_on
 is-goes t b p apart all =
-    let q : ProcessorView = record p { softirq = next_of p.softirq } in
+    let q : ProcessorView = record p { softirq = run_next p.softirq } in
     is-if t (is_late p) (rests (ends_run true p))
     (option_map_or (λ (n : ℕ). polls n q) (asked_in q.softirq.run) (rests (ends_run false q))) (rests (ends_run true (other t b p)))
     (option_map_or (λ (n : ℕ). polls n (other t b q)) (asked_in q.softirq.run) (rests (ends_run false (other t b q))))
@@ -142,7 +145,7 @@ is-goes t b p apart all =
     (is-option t (asked_in q.softirq.run) (λ n. polls n q) (λ n. polls n (other t b q)) (rests (ends_run false q))
     (rests (ends_run false (other t b q))) (λ n. (b, refl)) (is-over t false b q apart all))
 
-is-takes : (t : Settings) (b : ApplicationView) (p : ProcessorView) → p.settings.apart ≡ true → AllThreads p.tasks
+is-takes : (t : MachineSettings) (b : ApplicationView) (p : ProcessorView) → p.settings.apart ≡ true → AllThreads p.tasks
     → IsOther t (takes_up p) (takes_up (other t b p))
 unfolding takes_up
 is-takes t b p apart all =
@@ -159,31 +162,31 @@ is-takes t b p apart all =
 
 -- ---- what ends
 
-if-false : (c : Bool) (xs ys : List Task) → c ≡ false → (if c then xs else ys) ≡ ys
+if-false : (c : Bool) (xs ys : List RunnableTask) → c ≡ false → (if c then xs else ys) ≡ ys
 if-false false xs ys is = refl
 if-false true xs ys is = cc is
 
-is-delivers : (t : Settings) (n came : ℕ) (b : ApplicationView) (p : ProcessorView) → p.settings.apart ≡ true
+is-delivers : (t : MachineSettings) (n came : ℕ) (b : ApplicationView) (p : ProcessorView) → p.settings.apart ≡ true
     → IsOther t (delivers n came p) (delivers n came (other t b p))
 unfolding delivers
 is-delivers t n came b p apart =
     let s = p.settings in
     let a : ApplicationView = fed p.clock came (changed_application s t) b in
-    let ds = changed (delivered p.clock came) n p.devices in
+    let ds = changed (queue_delivered p.clock came) n p.devices in
     let mine : (if s.threaded && not s.apart && has_place p.application then with_application p.tasks else p.tasks) ≡ p.tasks =
     if-false (s.threaded && not s.apart && has_place p.application) (with_application p.tasks) p.tasks
     (not-wakes s.threaded s.apart (has_place p.application) apart) in
     let theirs : (if s.threaded && not s.apart && has_place b then with_application p.tasks else p.tasks) ≡ p.tasks =
     if-false (s.threaded && not s.apart && has_place b) (with_application p.tasks) p.tasks
     (not-wakes s.threaded s.apart (has_place b) apart) in
-    (a, ap (λ (tasks : List Task). record (other t a p) { devices = ds; tasks = tasks }) (theirs ∙ sym mine))
+    (a, ap (λ (tasks : List RunnableTask). record (other t a p) { devices = ds; tasks = tasks }) (theirs ∙ sym mine))
 
-is-oldest : (t : Settings) (n : ℕ) (o : Option ℕ) (b : ApplicationView) (p : ProcessorView) → p.settings.apart ≡ true
+is-oldest : (t : MachineSettings) (n : ℕ) (o : Option ℕ) (b : ApplicationView) (p : ProcessorView) → p.settings.apart ≡ true
     → IsOther t (delivers_oldest n o p) (delivers_oldest n o (other t b p))
 is-oldest t n None b p apart = (b, refl)
 is-oldest t n (Some came) b p apart = is-delivers t n came b (record p { devices = changed (without_next false) n p.devices }) apart
 
-is-lone : (t : Settings) (n : ℕ) (b : ApplicationView) (p : ProcessorView) → p.settings.apart ≡ true
+is-lone : (t : MachineSettings) (n : ℕ) (b : ApplicationView) (p : ProcessorView) → p.settings.apart ≡ true
     → IsOther t (ends_interrupt n p) (ends_interrupt n (other t b p))
 unfolding ends_interrupt
 is-lone t n b p apart =
@@ -191,21 +194,21 @@ is-lone t n b p apart =
     is-map t (λ (q : ProcessorView). record q { devices = changed raised_again n q.devices }) (delivers_oldest n o p)
     (delivers_oldest n o (other t b p)) (is-oldest t n o b p apart) (λ c. (c, refl))
 
-is-polled : (t : Settings) (n given : ℕ) (b : ApplicationView) (p : ProcessorView)
+is-polled : (t : MachineSettings) (n given : ℕ) (b : ApplicationView) (p : ProcessorView)
     → IsOther t (ends_poll n given p) (ends_poll n given (other t b p))
-unfolding ends_poll polled completed
+unfolding ends_poll queue_polled queue_completed
 is-polled t n given b p =
     let full = given == p.settings.weight in
-    let counts = record p.counts { polls = held (p.counts.polls + 1); work = held (p.counts.work + given) } in
-    let q : ProcessorView = record p { devices = changed (polled p.clock given p.settings) n p.devices; counts = counts } in
+    let counts = record p.counts { polls = saturated (p.counts.polls + 1); work = saturated (p.counts.work + given) } in
+    let q : ProcessorView = record p { devices = changed (queue_polled p.clock given p.settings) n p.devices; counts = counts } in
     let once : Once = record { work = given; next = if full then Repoll else Gone } in
     is-if t p.settings.threaded (record q { tasks = if full then Thread n ∷ q.tasks else q.tasks })
-    (record q { softirq = polled_once once q.softirq }) (record (other t b q) { tasks = if full then Thread n ∷ q.tasks else q.tasks })
-    (record (other t b q) { softirq = polled_once once q.softirq }) (b, refl) (b, refl)
+    (record q { softirq = softirq_polled once q.softirq }) (record (other t b q) { tasks = if full then Thread n ∷ q.tasks else q.tasks })
+    (record (other t b q) { softirq = softirq_polled once q.softirq }) (b, refl) (b, refl)
 
-is-looks : (t : Settings) (n given : ℕ) (b : ApplicationView) (p : ProcessorView)
-    → IsOther t (looks n given p) (looks n given (other t b p))
-unfolding looks
+is-looks : (t : MachineSettings) (n given : ℕ) (b : ApplicationView) (p : ProcessorView)
+    → IsOther t (poll_looks n given p) (poll_looks n given (other t b p))
+unfolding poll_looks
 is-looks t n given b p =
     let q : ProcessorView = record p { devices = changed (without_next p.settings.backlog) n p.devices } in
     let packet = λ (came : ℕ). Packet (record { device = n; came = came; given = given }) in
@@ -218,19 +221,19 @@ is-looks t n given b p =
     (ends_poll n given q) (ends_poll n given (other t b q)) (λ came. (b, refl)) (is-polled t n given b q))
     (is-polled t n given b p)
 
-is-ends : (t : Settings) (w : Work) (b : ApplicationView) (p : ProcessorView) → p.settings.apart ≡ true
+is-ends : (t : MachineSettings) (w : Work) (b : ApplicationView) (p : ProcessorView) → p.settings.apart ≡ true
     → IsOther t (ends_by w p) (ends_by w (other t b p))
 is-ends t Nothing b p apart = (b, refl)
 is-ends t (Interrupt n) b p apart =
     is-if t (is_polling p.settings) p (ends_interrupt n p) (other t b p) (ends_interrupt n (other t b p)) (b, refl) (is-lone t n b p apart)
 is-ends t (Poll n) b p apart = is-looks t n 0 b p
 is-ends t (Packet hand) b p apart =
-    is-map t (λ (q : ProcessorView). looks hand.device (hand.given + 1) q) (delivers hand.device hand.came p)
+    is-map t (λ (q : ProcessorView). poll_looks hand.device (hand.given + 1) q) (delivers hand.device hand.came p)
     (delivers hand.device hand.came (other t b p)) (is-delivers t hand.device hand.came b p apart)
     (λ c. is-looks t hand.device (hand.given + 1) c (delivers hand.device hand.came p))
 is-ends t (Use came) b p apart = (used p.clock came b, refl)
 
-is-ended : (t : Settings) (b : ApplicationView) (p : ProcessorView) → p.settings.apart ≡ true
+is-ended : (t : MachineSettings) (b : ApplicationView) (p : ProcessorView) → p.settings.apart ≡ true
     → IsOther t (ends_current p) (ends_current (other t b p))
 unfolding ends_current
 is-ended t b p apart =
@@ -238,7 +241,7 @@ is-ended t b p apart =
 
 -- ---- what disturbs
 
-is-aside : (t : Settings) (moment : ℕ) (w : Work) (b : ApplicationView) (p : ProcessorView)
+is-aside : (t : MachineSettings) (moment : ℕ) (w : Work) (b : ApplicationView) (p : ProcessorView)
     → IsOther t (set_aside moment w p) (set_aside moment w (other t b p))
 is-aside t moment Nothing b p = (b, refl)
 is-aside t moment (Interrupt n) b p = (b, refl)
@@ -246,24 +249,26 @@ is-aside t moment (Poll n) b p = (b, refl)
 is-aside t moment (Packet hand) b p = (b, refl)
 is-aside t moment (Use came) b p = (b, refl)
 
-is-stirred : (t : Settings) (moment : ℕ) (b : ApplicationView) (p : ProcessorView)
+is-stirred : (t : MachineSettings) (moment : ℕ) (b : ApplicationView) (p : ProcessorView)
     → IsOther t (stirred moment p) (stirred moment (other t b p))
 is-stirred t moment b p =
     let asked = is_some (position asks_at p.devices) in
-    let counts = record p.counts { interrupt_time = held (p.counts.interrupt_time + p.settings.wake) } in
+    let counts = record p.counts { interrupt_time = saturated (p.counts.interrupt_time + p.settings.wake) } in
     is-if t (is_busy p.work) (if asked then set_aside moment p.work p else p) (woken moment asked p)
     (if asked then set_aside moment p.work (other t b p) else other t b p) (woken moment asked (other t b p))
     (is-if t asked (set_aside moment p.work p) p (set_aside moment p.work (other t b p)) (other t b p) (is-aside t moment p.work b p)
     (b, refl))
-    (is-if t asked (record p { clock = held (moment + p.settings.wake); counts = counts }) (record p { clock = moment })
-    (record (other t b p) { clock = held (moment + p.settings.wake); counts = counts }) (record (other t b p) { clock = moment }) (b, refl)
+    (is-if t asked (record p { clock = saturated (moment + p.settings.wake); counts = counts }) (record p { clock = moment })
+    (record (other t b p) { clock = saturated (moment + p.settings.wake); counts = counts }) (record (other t b p) { clock = moment })
+    (b, refl)
     (b, refl))
 
 -- what is known of the application in both
-apart-of : (s : Settings) (a : ApplicationView) (p : ProcessorView) → s.apart ≡ true → Alone s a p → p.settings.apart ≡ true
-apart-of s a p apart h = ap (λ (x : Settings). x.apart) h.settings ∙ apart
+apart-of : (s : MachineSettings) (a : ApplicationView) (p : ProcessorView) → s.apart ≡ true → Alone s a p → p.settings.apart ≡ true
+apart-of s a p apart h = ap (λ (x : MachineSettings). x.apart) h.settings ∙ apart
 
-is-disturbed : (s t : Settings) (a : ApplicationView) (moment : ℕ) (b : ApplicationView) (p : ProcessorView) → s.apart ≡ true → Alone s a p
+is-disturbed : (s t : MachineSettings) (a : ApplicationView) (moment : ℕ) (b : ApplicationView) (p : ProcessorView) → s.apart ≡ true
+    → Alone s a p
     → IsOther t (disturbed moment p) (disturbed moment (other t b p))
 unfolding disturbed
 is-disturbed s t a moment b p apart h =
@@ -273,18 +278,20 @@ is-disturbed s t a moment b p apart h =
 
 -- ---- over a life
 
-is-happens : (s t : Settings) (a : ApplicationView) (u : Upcoming) (b : ApplicationView) (p : ProcessorView) → s.apart ≡ true → Alone s a p
+is-happens : (s t : MachineSettings) (a : ApplicationView) (u : Upcoming) (b : ApplicationView) (p : ProcessorView) → s.apart ≡ true
+    → Alone s a p
     → (ends_current p).settings ≡ s → IsOther t (happens u p) (happens u (other t b p))
 is-happens s t a Never b p apart h settings = (b, refl)
 is-happens s t a upcomings.Ends b p apart h settings =
     let own = apart-of s a p apart h in
     is-map t takes_up (ends_current p) (ends_current (other t b p)) (is-ended t b p own)
-    (λ c. is-takes t c (ends_current p) (ap (λ (x : Settings). x.apart) settings ∙ apart) (threads-ended p own h.tasks))
+    (λ c. is-takes t c (ends_current p) (ap (λ (x : MachineSettings). x.apart) settings ∙ apart) (threads-ended p own h.tasks))
 is-happens s t a (Expires timer) b p apart h settings =
     let q : ProcessorView = record p { devices = changed expired timer.device p.devices } in
     is-disturbed s t a timer.at b q apart (alone-of s a p q h refl refl h.unused refl h.tasks)
 
-is-arrives : (s t : Settings) (a : ApplicationView) (moment n : ℕ) (b : ApplicationView) (p : ProcessorView) → s.apart ≡ true → Alone s a p
+is-arrives : (s t : MachineSettings) (a : ApplicationView) (moment n : ℕ) (b : ApplicationView) (p : ProcessorView) → s.apart ≡ true
+    → Alone s a p
     → IsOther t (arrives moment n p) (arrives moment n (other t b p))
 unfolding arrives after_packet notified
 is-arrives s t a moment n b p apart h =
@@ -295,18 +302,18 @@ is-arrives s t a moment n b p apart h =
     (is-disturbed s t a moment b q apart (alone-of s a p q h refl refl h.unused refl h.tasks)) (b, refl)
 
 -- with the settings of the life, or with those of the processor
-made : (s t : Settings) (p q : ProcessorView) → p.settings ≡ s → IsOther t p q
+made : (s t : MachineSettings) (p q : ProcessorView) → p.settings ≡ s → IsOther t p q
     → (b : ApplicationView) × (q ≡ record p { settings = changed_application s t; application = b })
-made s t p q is o = (o.0, o.1 ∙ ap (λ (x : Settings). record p { settings = changed_application x t; application = o.0 }) is)
+made s t p q is o = (o.0, o.1 ∙ ap (λ (x : MachineSettings). record p { settings = changed_application x t; application = o.0 }) is)
 
-unmade : (s t : Settings) (p q : ProcessorView)
+unmade : (s t : MachineSettings) (p q : ProcessorView)
     → (b : ApplicationView) × (q ≡ record p { settings = changed_application s t; application = b })
     → p.settings ≡ s → IsOther t p q
 unmade s t p q o is =
-    (o.0, o.1 ∙ ap (λ (x : Settings). record p { settings = changed_application x t; application = o.0 }) (sym is))
+    (o.0, o.1 ∙ ap (λ (x : MachineSettings). record p { settings = changed_application x t; application = o.0 }) (sym is))
 
 -- the same events have the same effect on both, except for the settings and the application
-other-on : (s t : Settings) (events : List Event) → s.apart ≡ true
+other-on : (s t : MachineSettings) (events : List MachineEvent) → s.apart ≡ true
     → (b : ApplicationView) ×
     (behind (changed_application s t) events ≡ record (behind s events) { settings = changed_application s t; application = b })
 unfolding behind step
@@ -330,14 +337,14 @@ other-on s t (next ∷ earlier) apart =
     (λ b. is-happens s t (fed_all s (deliveries s earlier)) (upcoming p) b p apart (alone-on s earlier apart)
     (work-ended s p goes).rests.settings))
 
-due-other : (s t : Settings) (b : ApplicationView) (moment : ℕ) (p : ProcessorView) (u : Upcoming)
+due-other : (s t : MachineSettings) (b : ApplicationView) (moment : ℕ) (p : ProcessorView) (u : Upcoming)
     → is_by moment u (record p { settings = changed_application s t; application = b }) ≡ is_by moment u p
 due-other s t b moment p Never = refl
 due-other s t b moment p upcomings.Ends = refl
 due-other s t b moment p (Expires timer) = refl
 
 -- what is due is due in both
-turns-on : (s t : Settings) (until : ℕ) (events : List Event) → s.apart ≡ true → InTurn s until events
+turns-on : (s t : MachineSettings) (until : ℕ) (events : List MachineEvent) → s.apart ≡ true → InTurn s until events
     → InTurn (changed_application s t) until events
 unfolding InTurn
 turns-on s t until [] apart turns = tt

@@ -3,13 +3,13 @@ use Rattle.std.proofs.Common.{◌≡◌, ℕ, ◌+◌, ◌-◌, true, false, Opt
 use Rattle.std.specs.{List.AllByRecursion, Prelude.{◌==◌, if◌then◌else◌}}
 use Rattle.{device_places.specs.Places.{at, changed}}
 use Rattle.machine_model.specs.declared.processor.{Work.{Work, TheVariants.{Nothing, Interrupt, Poll, Packet, Use}}, InHand.InHand}
-use Rattle.machine_model.specs.declared.{tasks.Task.TheVariants.Thread}
+use Rattle.machine_model.specs.declared.{tasks.RunnableTask.TheVariants.Thread}
 use Rattle.poll_runs.specs.declared.bench.{Next.TheVariants.{Gone, Repoll}, Once.Once}
-use Rattle.machine_model.specs.{Device.{polled, raised_again, without_next}, Softirq.{polled_once}, Waits.held}
+use Rattle.machine_model.specs.{Device.{queue_polled, raised_again, without_next}, Softirq.{softirq_polled}, Waits.saturated}
 use Rattle.machine_model.specs.{Devices.{next_packet_at}}
 use Rattle.machine_model.specs.Application.{used}
 use Rattle.machine_model.specs.Processor.{ProcessorView, delivers, delivers_oldest, ends_by, ends_current, ends_interrupt}
-use Rattle.machine_model.specs.Processor.{ends_poll, is_busy, is_polling, looks}
+use Rattle.machine_model.specs.Processor.{ends_poll, is_busy, is_polling, poll_looks}
 use Rattle.machine_model.specs.Processor.{spent}
 use Rattle.machine_laws.proofs.WorkFacts.{looks-by}
 use Rattle.machine_laws.proofs.WalkFacts.{either}
@@ -34,7 +34,7 @@ weaker P Q (x ∷ xs) so all = (so x all.0, weaker P Q xs so all.1)
 pub record Over (p q : ProcessorView) : Type 0 where
   pub settings : q.settings ≡ p.settings
   pub clock : q.clock ≡ p.clock
-  pub ends : (hand : InHand) → q.work ≡ Packet hand → q.ends ≡ held (p.clock + p.settings.packet)
+  pub ends : (hand : InHand) → q.work ≡ Packet hand → q.ends ≡ saturated (p.clock + p.settings.packet)
   pub kind : is_busy q.work ≡ true → (hand : InHand) × (q.work ≡ Packet hand)
 
 over-none : (p q : ProcessorView) → q.settings ≡ p.settings → q.clock ≡ p.clock → q.work ≡ Nothing → Over p q
@@ -49,15 +49,15 @@ over-polled : (n given : ℕ) (p : ProcessorView) → p.work ≡ Nothing → Ove
 unfolding ends_poll
 over-polled n given p nothing =
     let full = given == p.settings.weight in
-    let counts = record p.counts { polls = held (p.counts.polls + 1); work = held (p.counts.work + given) } in
-    let q : ProcessorView = record p { devices = changed (polled p.clock given p.settings) n p.devices; counts = counts } in
+    let counts = record p.counts { polls = saturated (p.counts.polls + 1); work = saturated (p.counts.work + given) } in
+    let q : ProcessorView = record p { devices = changed (queue_polled p.clock given p.settings) n p.devices; counts = counts } in
     let once : Once = record { work = given; next = if full then Repoll else Gone } in
     either (Over p) p.settings.threaded (record q { tasks = if full then Thread n ∷ q.tasks else q.tasks })
-    (record q { softirq = polled_once once q.softirq })
+    (record q { softirq = softirq_polled once q.softirq })
     (λ y. over-none p (record q { tasks = if full then Thread n ∷ q.tasks else q.tasks }) refl refl nothing)
-    (λ y. over-none p (record q { softirq = polled_once once q.softirq }) refl refl nothing)
+    (λ y. over-none p (record q { softirq = softirq_polled once q.softirq }) refl refl nothing)
 
-over-looks : (n given : ℕ) (p : ProcessorView) → p.work ≡ Nothing → Over p (looks n given p)
+over-looks : (n given : ℕ) (p : ProcessorView) → p.work ≡ Nothing → Over p (poll_looks n given p)
 over-looks n given p nothing =
     let q : ProcessorView = record p { devices = changed (without_next p.settings.backlog) n p.devices } in
     looks-by (Over p) n given p
@@ -72,7 +72,7 @@ over-looks n given p nothing =
     record { settings = o.settings; clock = o.clock; ends = o.ends; kind = o.kind })
     (λ full. over-polled n given p nothing)
 
-over-delivers : (n came given : ℕ) (p : ProcessorView) → p.work ≡ Nothing → Over p (looks n given (delivers n came p))
+over-delivers : (n came given : ℕ) (p : ProcessorView) → p.work ≡ Nothing → Over p (poll_looks n given (delivers n came p))
 unfolding delivers
 over-delivers n came given p nothing =
     let o = over-looks n given (delivers n came p) nothing in

@@ -1,30 +1,31 @@
 -- The events on a processor end.
 use Rattle.std.proofs.Common.{◌≡◌, ◌∙◌, ℕ, zero, suc, ◌<◌, Bool, true, false, None, refl, sym, ap, subst, arith}
 use Rattle.std.specs.Prelude.{if◌then◌else◌}
-use Rattle.{machine_words.specs.declared.settings.Settings.Settings, machine_laws.specs.{Deferrals.EveryRunEnds, Lives.behind}}
-use Rattle.machine_model.specs.Processor.{Advances, ProcessorView, after, is_due, step, upcoming}
+use Rattle.{machine_words.specs.declared.settings.MachineSettings.MachineSettings}
+use Rattle.{machine_laws.specs.{Deferrals.EveryRunEnds, Lives.behind}}
+use Rattle.machine_model.specs.Processor.{Advances, ProcessorView, processor_after, is_due, step, upcoming}
 use Rattle.machine_model.proofs.LeftFacts.{left, load, step-asked}
 use Rattle.machine_model.specs.{Kept.polled_by, Softirq.asked_in}
 use Rattle.machine_laws.proofs.WorkFacts.{Goes, goes-on, work-happens}
 
 -- a step first, or last
-after-step : (count : ℕ) (p : ProcessorView) → after count (step p) ≡ after (suc count) p
-unfolding after
+after-step : (count : ℕ) (p : ProcessorView) → processor_after count (step p) ≡ processor_after (suc count) p
+unfolding processor_after
 after-step zero p = refl
 after-step (suc count) p = ap step (after-step count p)
 
-step-goes : (s : Settings) (p : ProcessorView) → Goes s p → Goes s (step p)
+step-goes : (s : MachineSettings) (p : ProcessorView) → Goes s p → Goes s (step p)
 unfolding step
 step-goes s p goes = work-happens s (upcoming p) p goes
 
-step-left : (s : Settings) (until : ℕ) (p : ProcessorView) → Goes s p → is_due until p ≡ true → left load (step p) < left load p
+step-left : (s : MachineSettings) (until : ℕ) (p : ProcessorView) → Goes s p → is_due until p ≡ true → left load (step p) < left load p
 step-left s until p goes due =
     step-asked until p
-    (subst (λ (x : Settings). asked_in p.softirq.run ≡ (if x.threaded then None else polled_by p.work)) (sym goes.rests.settings)
+    (subst (λ (x : MachineSettings). asked_in p.softirq.run ≡ (if x.threaded then None else polled_by p.work)) (sym goes.rests.settings)
     goes.asked) due
 
 one-more : (until : ℕ) (p q : ProcessorView) → is_due until p ≡ true → Advances until (step p) q → Advances until p q
-unfolding after
+unfolding processor_after
 one-more until p q due a = record {
   count = suc a.count;
   each = λ n below. by n below;
@@ -32,12 +33,13 @@ one-more until p q due a = record {
   none = a.none;
 }
   where
-    by : (n : ℕ) → n < suc a.count → is_due until (after n p) ≡ true
+    by : (n : ℕ) → n < suc a.count → is_due until (processor_after n p) ≡ true
     by zero below = due
     by (suc n) below = ap (is_due until) (sym (after-step n p)) ∙ a.each n (omega (arith, below))
 
-run-ends : (s : Settings) (until fuel : ℕ) (p : ProcessorView) → Goes s p → left load p < fuel → (q : ProcessorView) × Advances until p q
-unfolding after
+run-ends : (s : MachineSettings) (until fuel : ℕ) (p : ProcessorView) → Goes s p → left load p < fuel
+    → (q : ProcessorView) × Advances until p q
+unfolding processor_after
 run-ends s until zero p goes few = absurd (omega (arith, few))
 run-ends s until (suc fuel) p goes few =
     by (is_due until p) refl (λ less. run-ends s until fuel (step p) (step-goes s p goes) less)

@@ -3,23 +3,23 @@ use Rattle.std.proofs.Common.{◌≡◌, ◌∙◌, ℕ, ◌+◌, ◌-◌, Bool,
 use Rattle.std.proofs.Common.{length-append, map}
 use Rattle.std.proofs.{Common.{refl, sym, ap, subst, arith}, lemmas.{List.append-nil, Grind.common_steps}}
 use Rattle.std.specs.Prelude.{◌==◌, if◌then◌else◌, is_some, not, option_map, position}
-use Rattle.{machine_words.specs.declared.settings.Settings.Settings, device_places.specs.Places.{at, changed}}
-use Rattle.machine_laws.specs.Lives.{Event, behind, next, packet}
-use Rattle.machine_laws.specs.Fates.{TellsOfUse, UsesInOrder, counting, delivery, delivery_by, delivery_of, kept, placed, refused}
+use Rattle.{machine_words.specs.declared.settings.MachineSettings.MachineSettings, device_places.specs.Places.{at, changed}}
+use Rattle.machine_laws.specs.Lives.{MachineEvent, behind, next, packet}
+use Rattle.machine_laws.specs.Fates.{TellsOfUse, UsesInOrder, counting, next_delivery, delivery_by, delivery_of, kept, placed, refused}
 use Rattle.machine_laws.specs.Fates.{resting, use_by, use_waits, used_by}
 use Rattle.machine_laws.specs.Fates as fate
 use Rattle.machine_model.specs.declared.processor.{Work.{Work, TheVariants.{Nothing, Interrupt, Poll, Packet, Use}}, Rest.Rest}
 use Rattle.machine_model.specs.declared.processor.{Upcoming.{Upcoming, TheVariants.{Never, Expires}}, ProcessorCounts.ProcessorCounts}
-use Rattle.machine_model.specs.declared.tasks.Task.{TheVariants.Thread}
+use Rattle.machine_model.specs.declared.tasks.RunnableTask.{TheVariants.Thread}
 use Rattle.poll_runs.specs.declared.bench.{Next.TheVariants.{Gone, Repoll}, Once.Once}
-use Rattle.machine_model.specs.{Waits.{WaitsView, counted, held, no_waits}, Softirq.{polled_once, pushed}}
+use Rattle.machine_model.specs.{Waits.{WaitsView, counted, saturated, no_waits}, Softirq.{softirq_polled, pushed}}
 use Rattle.machine_model.specs.Application.{ApplicationView, fed, has_place, put, refuses, used}
-use Rattle.machine_model.specs.Device.{after_packet, expired, interrupted, polled, raised_again, without_next}
+use Rattle.machine_model.specs.Device.{after_packet, expired, interrupted, queue_polled, raised_again, without_next}
 use Rattle.machine_model.specs.Devices.{asks_at, has_room_at, is_fired_at}
 use Rattle.machine_model.specs.Devices.{next_packet_at, with_device}
 use Rattle.machine_model.specs.Processor.{ProcessorView, arrives, delivers, delivers_oldest, disturbed, ends_by, ends_current}
 use Rattle.machine_model.specs.Processor.{ends_interrupt}
-use Rattle.machine_model.specs.Processor.{ends_poll, ends_run, happens, interrupts, is_busy, is_polling, looks, scheduled, set_aside}
+use Rattle.machine_model.specs.Processor.{ends_poll, ends_run, happens, interrupts, is_busy, is_polling, poll_looks, scheduled, set_aside}
 use Rattle.machine_model.specs.Processor.{spent, step}
 use Rattle.machine_model.specs.Processor.{takes_up, upcoming, woken}
 use Rattle.machine_laws.proofs.{WalkFacts.{Walk, either, walk-any}, TallyFacts.counting-more}
@@ -38,15 +38,15 @@ same-polled : (n given : ℕ) (p : ProcessorView) → p.work ≡ Nothing → Sam
 unfolding ends_poll
 same-polled n given p nothing =
     let full = given == p.settings.weight in
-    let counts = record p.counts { polls = held (p.counts.polls + 1); work = held (p.counts.work + given) } in
-    let q : ProcessorView = record p { devices = changed (polled p.clock given p.settings) n p.devices; counts = counts } in
+    let counts = record p.counts { polls = saturated (p.counts.polls + 1); work = saturated (p.counts.work + given) } in
+    let q : ProcessorView = record p { devices = changed (queue_polled p.clock given p.settings) n p.devices; counts = counts } in
     let once : Once = record { work = given; next = if full then Repoll else Gone } in
     either (Same p) p.settings.threaded (record q { tasks = if full then Thread n ∷ q.tasks else q.tasks })
-    (record q { softirq = polled_once once q.softirq })
+    (record q { softirq = softirq_polled once q.softirq })
     (λ t. record { application = refl; rest = refl; unused = ap used_by nothing })
     (λ t. record { application = refl; rest = refl; unused = ap used_by nothing })
 
-same-looks : (n given : ℕ) (p : ProcessorView) → p.work ≡ Nothing → Same p (looks n given p)
+same-looks : (n given : ℕ) (p : ProcessorView) → p.work ≡ Nothing → Same p (poll_looks n given p)
 same-looks n given p nothing =
     let q : ProcessorView = record p { devices = changed (without_next p.settings.backlog) n p.devices } in
     looks-by (Same p) n given p (λ came is less. record { application = refl; rest = refl; unused = refl })
@@ -107,12 +107,12 @@ feeds-work Q (Interrupt m) p counts is f =
         )
 feeds-work Q (Poll m) p counts is f =
     let q : ProcessorView = record p { clock = p.ends; work = Nothing; counts = counts } in
-    feeds-same Q p q (looks m 0 q) (Poll m) f.none refl (same-looks m 0 q refl)
+    feeds-same Q p q (poll_looks m 0 q) (Poll m) f.none refl (same-looks m 0 q refl)
 feeds-work Q (Packet hand) p counts is f =
     let q : ProcessorView = record p { clock = p.ends; work = Nothing; counts = counts } in
     let r = delivers hand.device hand.came q in
     let d = delivers-fed hand.device hand.came q in
-    feeds-same Q p r (looks hand.device (hand.given + 1) r) (Packet hand)
+    feeds-same Q p r (poll_looks hand.device (hand.given + 1) r) (Packet hand)
     (subst (λ (a : ApplicationView). Q (Some (hand.device, hand.came)) [] a) (sym d.0)
     (f.gives hand.device hand.came (ap (λ (w : Work). delivery_of w p) is))) d.1
     (same-looks hand.device (hand.given + 1) r d.2)
@@ -150,8 +150,8 @@ use-interrupt : (xs : List ℕ) (r : ℕ) (v : WaitsView) (n : ℕ) (p : Process
 unfolding interrupts
 use-interrupt xs r v n p h =
     let polling = is_polling p.settings in
-    let counts = if is_fired_at (at n p.devices) then record p.counts { timers = held (p.counts.timers + 1) }
-    else record p.counts { interrupts = held (p.counts.interrupts + 1) } in
+    let counts = if is_fired_at (at n p.devices) then record p.counts { timers = saturated (p.counts.timers + 1) }
+    else record p.counts { interrupts = saturated (p.counts.interrupts + 1) } in
     let q : ProcessorView = record p { devices = changed (interrupted polling) n p.devices; counts = counts } in
     let e = hold-scheduled xs r v polling n q (record { items = h.items; refused = h.refused; waits = h.waits }) in
     record { items = e.items; refused = e.refused; waits = e.waits; alone = λ came is. cc is }
@@ -202,7 +202,8 @@ idle-unused : (w : Work) → is_busy w ≡ false → used_by w ≡ []
 idle-unused w idle = grind (arith, common_steps)
 
 -- taking up work doesn't change what the application has to use
-use-takes : (s : Settings) (xs : List ℕ) (r : ℕ) (v : WaitsView) (p : ProcessorView) → Goes s p → Uses xs r v p → Uses xs r v (takes_up p)
+use-takes : (s : MachineSettings) (xs : List ℕ) (r : ℕ) (v : WaitsView) (p : ProcessorView) → Goes s p → Uses xs r v p
+    → Uses xs r v (takes_up p)
 use-takes s xs r v p goes u =
     walk-any (Holds xs r v) (Uses xs r v) (use-walk xs r v) p (goes-unasked s p goes) (λ busy. u)
     (λ idle. record {
@@ -239,15 +240,15 @@ use-clock xs r v p q u work rest application = record {
 use-stirred : (xs : List ℕ) (r : ℕ) (v : WaitsView) (moment : ℕ) (p : ProcessorView) → Uses xs r v p → Uses xs r v (stirred moment p)
 use-stirred xs r v moment p u =
     let asked = is_some (position asks_at p.devices) in
-    let counts = record p.counts { interrupt_time = held (p.counts.interrupt_time + p.settings.wake) } in
+    let counts = record p.counts { interrupt_time = saturated (p.counts.interrupt_time + p.settings.wake) } in
     either (Uses xs r v) (is_busy p.work) (if asked then set_aside moment p.work p else p) (woken moment asked p)
     (λ busy. either (Uses xs r v) asked (set_aside moment p.work p) p (λ yes. use-aside xs r v moment p.work p refl u) (λ no. u))
-    (λ idle. either (Uses xs r v) asked (record p { clock = held (moment + p.settings.wake); counts = counts })
+    (λ idle. either (Uses xs r v) asked (record p { clock = saturated (moment + p.settings.wake); counts = counts })
     (record p { clock = moment })
-    (λ yes. use-clock xs r v p (record p { clock = held (moment + p.settings.wake); counts = counts }) u refl refl refl)
+    (λ yes. use-clock xs r v p (record p { clock = saturated (moment + p.settings.wake); counts = counts }) u refl refl refl)
     (λ no. use-clock xs r v p (record p { clock = moment }) u refl refl refl))
 
-use-disturbed : (s : Settings) (xs : List ℕ) (r : ℕ) (v : WaitsView) (moment : ℕ) (p : ProcessorView) → Goes s p → Uses xs r v p
+use-disturbed : (s : MachineSettings) (xs : List ℕ) (r : ℕ) (v : WaitsView) (moment : ℕ) (p : ProcessorView) → Goes s p → Uses xs r v p
     → Uses xs r v (disturbed moment p)
 unfolding disturbed
 use-disturbed s xs r v moment p goes u =
@@ -255,7 +256,7 @@ use-disturbed s xs r v moment p goes u =
 
 -- ---- an application on the same processor
 
-pub fed-here : (s : Settings) (now came : ℕ) (a : ApplicationView) → s.apart ≡ false
+pub fed-here : (s : MachineSettings) (now came : ℕ) (a : ApplicationView) → s.apart ≡ false
     → fed now came s a ≡ (if has_place a then put came a else refuses a)
 unfolding fed
 fed-here s now came a here = rw here refl
@@ -263,7 +264,7 @@ fed-here s now came a here = rw here refl
 -- what was delivered and used: the socket has those that found room, and the others are dropped
 pub record Moved (now : ℕ) (a : ApplicationView) (gives : Option (ℕ × ℕ)) (used : List ℕ) (b : ApplicationView) : Type 0 where
   pub items : b.socket.items ≡ a.socket.items ++ placed (has_place a) gives
-  pub refused : (k : ℕ) → a.refused ≡ held k → b.refused ≡ held (k + length (placed (not (has_place a)) gives))
+  pub refused : (k : ℕ) → a.refused ≡ saturated k → b.refused ≡ saturated (k + length (placed (not (has_place a)) gives))
   pub waits : (xs : List ℕ) → a.waits ≡ counting xs no_waits → b.waits ≡ counting (xs ++ map (λ came. now - came) used) no_waits
 
 same-waits : (xs : List ℕ) (w : WaitsView) → w ≡ counting xs no_waits → w ≡ counting (xs ++ []) no_waits
@@ -274,7 +275,7 @@ moved-none : (now : ℕ) (a : ApplicationView) (used : List ℕ) (b : Applicatio
     → Moved now a None used b
 moved-none now a used b socket refused waits = record {
   items = rw socket (by (has_place a));
-  refused = λ k is. refused ∙ (is ∙ ap held (rest k (not (has_place a))));
+  refused = λ k is. refused ∙ (is ∙ ap saturated (rest k (not (has_place a))));
   waits = waits;
 }
   where
@@ -286,14 +287,15 @@ moved-none now a used b socket refused waits = record {
     rest k true = omega arith
     rest k false = omega arith
 
-moved-gives : (s : Settings) (now m came : ℕ) (a : ApplicationView) → s.apart ≡ false → Moved now a (Some (m, came)) [] (fed now came s a)
+moved-gives : (s : MachineSettings) (now m came : ℕ) (a : ApplicationView) → s.apart ≡ false
+    → Moved now a (Some (m, came)) [] (fed now came s a)
 moved-gives s now m came a here = subst (λ (b : ApplicationView). Moved now a (Some (m, came)) [] b) (sym (fed-here s now came a here))
     (by (has_place a) refl)
   where
     by : (room : Bool) → has_place a ≡ room → Moved now a (Some (m, came)) [] (if room then put came a else refuses a)
     by true is = record {
       items = rw is refl;
-      refused = λ k before. rw is (before ∙ ap held (omega arith));
+      refused = λ k before. rw is (before ∙ ap saturated (omega arith));
       waits = λ xs before. same-waits xs a.waits before;
     }
     by false is = record {
@@ -307,21 +309,21 @@ moved-uses now came a =
     moved-none now a (came ∷ []) (used now came a) refl refl
     (λ xs before. ap (λ (w : WaitsView). counted (now - came) w) before ∙ sym (counting-more xs (now - came) no_waits))
 
-pub moved : (s : Settings) (p : ProcessorView) → p.settings ≡ s → s.apart ≡ false
+pub moved : (s : MachineSettings) (p : ProcessorView) → p.settings ≡ s → s.apart ≡ false
     → Fed (Moved p.ends p.application) p p.work (ends_current p)
 moved s p settings here =
     feeds (Moved p.ends p.application) p (record {
       none = moved-none p.ends p.application [] p.application refl refl (λ xs before. same-waits xs p.application.waits before);
-      gives = λ m came is. moved-gives p.settings p.ends m came p.application (ap (λ (x : Settings). x.apart) settings ∙ here);
+      gives = λ m came is. moved-gives p.settings p.ends m came p.application (ap (λ (x : MachineSettings). x.apart) settings ∙ here);
       uses = λ came is. moved-uses p.ends came p.application;
     })
 
 -- ---- over a life
 
-pub record Lives (s : Settings) (events : List Event) : Type 0 where
-  pub order : kept s events ≡ fate.used s events ++ (used_by (behind s events).work
+pub record Lives (s : MachineSettings) (events : List MachineEvent) : Type 0 where
+  pub order : kept s events ≡ fate.used_packets s events ++ (used_by (behind s events).work
       ++ (resting (behind s events).rest ++ (behind s events).application.socket.items))
-  pub refused : (behind s events).application.refused ≡ held (length (refused s events))
+  pub refused : (behind s events).application.refused ≡ saturated (length (refused s events))
   pub waits : (behind s events).application.waits ≡ counting (use_waits s events) no_waits
   pub alone : (came : ℕ) → (behind s events).work ≡ Use came → (behind s events).rest ≡ None
 
@@ -329,8 +331,8 @@ pub record Lives (s : Settings) (events : List Event) : Type 0 where
 pub record Happened (p : ProcessorView) (gives : Option (ℕ × ℕ)) (first : List ℕ) (q : ProcessorView) : Type 0 where
   pub items : first ++ (used_by q.work ++ (resting q.rest ++ q.application.socket.items))
       ≡ (used_by p.work ++ (resting p.rest ++ p.application.socket.items)) ++ placed (has_place p.application) gives
-  pub refused : (k : ℕ) → p.application.refused ≡ held k → q.application.refused
-      ≡ held (k + length (placed (not (has_place p.application)) gives))
+  pub refused : (k : ℕ) → p.application.refused ≡ saturated k → q.application.refused
+      ≡ saturated (k + length (placed (not (has_place p.application)) gives))
   pub waits : (xs : List ℕ) → p.application.waits ≡ counting xs no_waits
       → q.application.waits ≡ counting (xs ++ map (λ came. p.ends - came) first) no_waits
   pub alone : (came : ℕ) → q.work ≡ Use came → q.rest ≡ None
@@ -340,7 +342,7 @@ happened-none : (p q : ProcessorView)
     → Happened p None [] q
 happened-none p q u = record {
   items = u.items ∙ sym (by (has_place p.application));
-  refused = λ k is. u.refused ∙ (is ∙ ap held (rest k (not (has_place p.application))));
+  refused = λ k is. u.refused ∙ (is ∙ ap saturated (rest k (not (has_place p.application))));
   waits = λ xs is. u.waits ∙ same-waits xs p.application.waits is;
   alone = u.alone;
 }
@@ -370,7 +372,7 @@ used-first w rest items more alone =
 busy-or-not : (w : Work) → (is_busy w ≡ false) → Nothing ≡ w
 busy-or-not w idle = grind (arith, common_steps)
 
-happened : (s : Settings) (u : Upcoming) (p : ProcessorView) → Goes s p → s.apart ≡ false
+happened : (s : MachineSettings) (u : Upcoming) (p : ProcessorView) → Goes s p → s.apart ≡ false
     → ((came : ℕ) → p.work ≡ Use came → p.rest ≡ None)
     → Happened p (delivery_by u p) (use_by u p.work) (happens u p)
 happened s Never p goes here alone = happened-none p p (uses-of p alone)
@@ -403,7 +405,7 @@ happened s (Expires timer) p goes here alone =
     p.application.refused p.application.waits timer.at q g
     (record { items = refl; refused = refl; waits = refl; alone = alone }))
 
-uses-arrive : (s : Settings) (moment n : ℕ) (p : ProcessorView) → Goes s p → ((came : ℕ) → p.work ≡ Use came → p.rest ≡ None)
+uses-arrive : (s : MachineSettings) (moment n : ℕ) (p : ProcessorView) → Goes s p → ((came : ℕ) → p.work ≡ Use came → p.rest ≡ None)
     → Uses (used_by p.work ++ (resting p.rest ++ p.application.socket.items)) p.application.refused p.application.waits (arrives moment n p)
 unfolding arrives
 uses-arrive s moment n p goes alone =
@@ -416,15 +418,15 @@ uses-arrive s moment n p goes alone =
     either (Uses all p.application.refused p.application.waits) (has_room_at (at n devices)) (disturbed moment q) q
     (λ room. use-disturbed s all p.application.refused p.application.waits moment q g now) (λ full. now)
 
-pub uses-live : (s : Settings) (events : List Event) → s.apart ≡ false → Lives s events
-unfolding behind kept refused fate.used use_waits counting delivery step
+pub uses-live : (s : MachineSettings) (events : List MachineEvent) → s.apart ≡ false → Lives s events
+unfolding behind kept refused fate.used_packets use_waits counting next_delivery step
 uses-live s [] here = record { order = refl; refused = omega arith; waits = refl; alone = λ came is. refl }
 uses-live s (packet moment n ∷ earlier) here =
     let p = behind s earlier in
     let before = uses-live s earlier here in
     let u = uses-arrive s moment n p (goes-on s earlier) before.alone in
     record {
-      order = before.order ∙ ap (λ (xs : List ℕ). fate.used s earlier ++ xs) (sym u.items);
+      order = before.order ∙ ap (λ (xs : List ℕ). fate.used_packets s earlier ++ xs) (sym u.items);
       refused = u.refused ∙ before.refused;
       waits = u.waits ∙ before.waits;
       alone = u.alone;
@@ -435,7 +437,7 @@ uses-live s (next ∷ earlier) here =
     let u = upcoming p in
     let q = happens u p in
     let h = happened s u p (goes-on s earlier) here before.alone in
-    let done = fate.used s earlier in
+    let done = fate.used_packets s earlier in
     let first = use_by u p.work in
     let more = placed (has_place p.application) (delivery_by u p) in
     let all = used_by p.work ++ (resting p.rest ++ p.application.socket.items) in
@@ -445,7 +447,7 @@ uses-live s (next ∷ earlier) here =
           ∙ (ap (λ (xs : List ℕ). done ++ xs) (sym h.items)
           ∙ sym (append_assoc done first (used_by q.work ++ (resting q.rest ++ q.application.socket.items)))));
       refused = h.refused (length (refused s earlier)) before.refused
-          ∙ ap held (sym (length-append (refused s earlier) (placed (not (has_place p.application)) (delivery_by u p))));
+          ∙ ap saturated (sym (length-append (refused s earlier) (placed (not (has_place p.application)) (delivery_by u p))));
       waits = h.waits (use_waits s earlier) before.waits;
       alone = h.alone;
     }

@@ -3,20 +3,20 @@ use Rattle.std.proofs.Common.{◌≡◌, ◌∙◌, ℕ, suc, ◌+◌, ◌<◌, 
 use Rattle.std.proofs.{Common.{refl, sym, ap, subst, arith}, lemmas.{Bool.{eqb-true, eq-eqb, ltb-false}}}
 use Rattle.std.specs.Option.{option_map, option_map_or}
 use Rattle.std.specs.Prelude.{◌==◌, ◌&&◌, ◌||◌, if◌then◌else◌, is_some, nat_le, nat_lt, not, position, slice_get}
-use Rattle.{machine_words.specs.declared.settings.Settings.Settings, device_places.specs.Places.{at, changed}}
-use Rattle.machine_laws.specs.{Lives.{Event, behind, next, packet}, Fates.{taken_in}}
+use Rattle.{machine_words.specs.declared.settings.MachineSettings.MachineSettings, device_places.specs.Places.{at, changed}}
+use Rattle.machine_laws.specs.{Lives.{MachineEvent, behind, next, packet}, Fates.{taken_in}}
 use Rattle.machine_model.specs.declared.device.Phase.{Phase}
 use Rattle.machine_model.specs.declared.device.Phase.TheVariants.{Quiet, Coalescing, Raised, Scheduled, Deferred, Fired}
 use Rattle.machine_model.specs.declared.devices.Timer.{Timer}
 use Rattle.machine_model.specs.declared.processor.{Work.{Work, TheVariants.{Nothing, Interrupt, Poll, Packet, Use}}, InHand.InHand}
-use Rattle.machine_model.specs.declared.{processor.Upcoming.{Upcoming, TheVariants.{Never, Expires}}, device.DeviceCounts.DeviceCounts}
-use Rattle.machine_model.specs.Device.{DeviceView, after_packet, coalesced, completed, expired, has_room, interrupted, is_fired}
+use Rattle.machine_model.specs.declared.{processor.Upcoming.{Upcoming, TheVariants.{Never, Expires}}, device.QueueCounts.QueueCounts}
+use Rattle.machine_model.specs.Device.{QueueView, after_packet, coalesced, queue_completed, expired, has_room, interrupted, is_fired}
 use Rattle.machine_model.specs.Device.{is_masked, next_packet}
-use Rattle.machine_model.specs.Device.{notified, opened, polled, raised_again, timer_of, without_next}
-use Rattle.machine_model.specs.Devices.{Devices, asks_at, has_room_at, is_fired_at, next_packet_at, soonest_from, sooner, timer_at}
+use Rattle.machine_model.specs.Device.{notified, new_queue, queue_polled, raised_again, timer_of, without_next}
+use Rattle.machine_model.specs.Devices.{QueueViews, asks_at, has_room_at, is_fired_at, next_packet_at, soonest_from, sooner, timer_at}
 use Rattle.machine_model.specs.Devices.{with_device}
-use Rattle.machine_model.specs.Kept.{given_by, is_scheduled, polled_by, scheduled_at}
-use Rattle.machine_model.specs.Waits.{held}
+use Rattle.machine_model.specs.Kept.{work_given, is_scheduled, polled_by, scheduled_at}
+use Rattle.machine_model.specs.Waits.{saturated}
 use Rattle.machine_model.specs.Softirq.{asked_in}
 use Rattle.machine_model.specs.Processor.{ProcessorView, arrives, disturbed, ends_current, ends_run, happens, interrupts, is_busy}
 use Rattle.machine_model.specs.Processor.{is_polling, set_aside, step, takes_up, upcoming, woken}
@@ -37,16 +37,16 @@ abbrev pub Early : Option ℕ → Type 0
 Early None = Unit {0}
 Early (Some t) = t < 2 ^ 64
 
-pub record Tend (exempt : Bool) (d : DeviceView) : Type 0 where
+pub record Tend (exempt : Bool) (d : QueueView) : Type 0 where
   pub early : Early (timer_of d.phase)
   pub quiet : d.phase ≡ Quiet → exempt ≡ false → queued (Some d) ≡ []
 
-abbrev pub TendAt : Bool → Option DeviceView → Type 0
+abbrev pub TendAt : Bool → Option QueueView → Type 0
 TendAt exempt None = Unit {0}
 TendAt exempt (Some d) = Tend exempt d
 
 -- its interrupt without polling is in progress
-abbrev pub lone : Settings → ℕ → Work → Bool
+abbrev pub lone : MachineSettings → ℕ → Work → Bool
 lone s n (Interrupt m) = not (is_polling s) && m == n
 lone s n _ = false
 
@@ -54,30 +54,30 @@ early-if : (b : Bool) (x y : Phase) → Early (timer_of x) → Early (timer_of y
 early-if true x y first second = first
 early-if false x y first second = second
 
-tend-same : (b : Bool) (d e : DeviceView) → Tend b d → e.phase ≡ d.phase → queued (Some e) ≡ queued (Some d) → Tend b e
+tend-same : (b : Bool) (d e : QueueView) → Tend b d → e.phase ≡ d.phase → queued (Some e) ≡ queued (Some d) → Tend b e
 tend-same b d e t phase same = record {
   early = subst (λ (x : Phase). Early (timer_of x)) (sym phase) t.early;
   quiet = λ is free. same ∙ t.quiet (sym phase ∙ is) free;
 }
 
 -- a change that keeps phase and packets
-tends-same : (b : Bool) (f : DeviceView → DeviceView) (m n : ℕ) (ds : Devices) → ((d : DeviceView) → (f d).phase ≡ d.phase)
-    → ((d : DeviceView) → queued (Some (f d)) ≡ queued (Some d)) → TendAt b (at n ds) → TendAt b (at n (changed f m ds))
+tends-same : (b : Bool) (f : QueueView → QueueView) (m n : ℕ) (ds : QueueViews) → ((d : QueueView) → (f d).phase ≡ d.phase)
+    → ((d : QueueView) → queued (Some (f d)) ≡ queued (Some d)) → TendAt b (at n ds) → TendAt b (at n (changed f m ds))
 unfolding map_at
 tends-same b f m n ds phase same t = at-either (λ c o. TendAt b o) f m n ds (λ here. by (at n ds) t) (λ other. t)
   where
-    by : (o : Option DeviceView) → TendAt b o → TendAt b (map_at f o)
+    by : (o : Option QueueView) → TendAt b o → TendAt b (map_at f o)
     by None t = tt
     by (Some d) t = tend-same b d (f d) t (phase d) (same d)
 
 -- ---- work is taken up
 
-tend-interrupted : (polling : Bool) (d : DeviceView) → Tend (not polling) (interrupted polling d)
+tend-interrupted : (polling : Bool) (d : QueueView) → Tend (not polling) (interrupted polling d)
 unfolding interrupted
 tend-interrupted polling d = by (is_fired d.phase) polling
   where
-    counts : DeviceCounts
-    counts = record d.counts { interrupts = held (d.counts.interrupts + 1) }
+    counts : QueueCounts
+    counts = record d.counts { interrupts = saturated (d.counts.interrupts + 1) }
 
     by : (fired polling : Bool) → Tend (not polling)
         (if fired then record d { phase = Scheduled } else record d
@@ -86,50 +86,53 @@ tend-interrupted polling d = by (is_fired d.phase) polling
     by false true = record { early = tt; quiet = λ is free. cc is }
     by false false = record { early = tt; quiet = λ is free. cc free }
 
-tends-interrupted : (polling : Bool) (m n : ℕ) (ds : Devices) → TendAt false (at n ds)
+tends-interrupted : (polling : Bool) (m n : ℕ) (ds : QueueViews) → TendAt false (at n ds)
     → TendAt (not polling && m == n) (at n (changed (interrupted polling) m ds))
 unfolding map_at
 tends-interrupted polling m n ds t =
     at-either (λ b o. TendAt (not polling && b) o) (interrupted polling) m n ds (λ here. by polling (at n ds))
     (λ other. also polling (at n ds) t)
   where
-    by : (polling : Bool) (o : Option DeviceView) → TendAt (not polling && true) (map_at (interrupted polling) o)
+    by : (polling : Bool) (o : Option QueueView) → TendAt (not polling && true) (map_at (interrupted polling) o)
     by polling None = tt
     by true (Some d) = tend-interrupted true d
     by false (Some d) = tend-interrupted false d
 
-    also : (polling : Bool) (o : Option DeviceView) → TendAt false o → TendAt (not polling && false) o
+    also : (polling : Bool) (o : Option QueueView) → TendAt false o → TendAt (not polling && false) o
     also true o t = t
     also false o t = t
 
-pub record Idle (s : Settings) (n : ℕ) (p : ProcessorView) : Type 0 where
+pub record Idle (s : MachineSettings) (n : ℕ) (p : ProcessorView) : Type 0 where
   pub settings : p.settings ≡ s
   pub tend : TendAt false (at n p.devices)
 
-pub record Tended (s : Settings) (n : ℕ) (p : ProcessorView) : Type 0 where
+pub record Tended (s : MachineSettings) (n : ℕ) (p : ProcessorView) : Type 0 where
   pub tend : TendAt (lone s n p.work) (at n p.devices)
 
 work-is : (m : ℕ) (p : ProcessorView) → (interrupts m p).work ≡ Interrupt m
 unfolding interrupts
 work-is m p = refl
 
-tended-interrupt : (s : Settings) (n m : ℕ) (p : ProcessorView) → Idle s n p → Tended s n (interrupts m p)
+tended-interrupt : (s : MachineSettings) (n m : ℕ) (p : ProcessorView) → Idle s n p → Tended s n (interrupts m p)
 unfolding interrupts
 tended-interrupt s n m p h =
     let polling = is_polling p.settings in
-    let counts = if is_fired_at (at m p.devices) then record p.counts { timers = held (p.counts.timers + 1) }
-    else record p.counts { interrupts = held (p.counts.interrupts + 1) } in
+    let counts = if is_fired_at (at m p.devices) then record p.counts { timers = saturated (p.counts.timers + 1) }
+    else record p.counts { interrupts = saturated (p.counts.interrupts + 1) } in
     let q : ProcessorView = record p { devices = changed (interrupted polling) m p.devices; counts = counts } in
     let first : TendAt (not (is_polling s) && m == n) (at n q.devices) =
-    subst (λ (x : Settings). TendAt (not (is_polling x) && m == n) (at n q.devices)) h.settings
+    subst (λ (x : MachineSettings). TendAt (not (is_polling x) && m == n) (at n q.devices)) h.settings
     (tends-interrupted polling m n p.devices h.tend) in
-    record { tend = subst (λ (ds : Devices). TendAt (not (is_polling s) && m == n) (at n ds)) (sym (devices-scheduled m polling q)) first }
+    record {
+      tend = subst (λ (ds : QueueViews). TendAt (not (is_polling s) && m == n) (at n ds)) (sym (devices-scheduled m polling q))
+          first;
+    }
 
-idle-over : (s : Settings) (n : ℕ) (late : Bool) (p : ProcessorView) → Idle s n p → Idle s n (ends_run late p)
+idle-over : (s : MachineSettings) (n : ℕ) (late : Bool) (p : ProcessorView) → Idle s n p → Idle s n (ends_run late p)
 unfolding ends_run
 idle-over s n late p h = record { settings = h.settings; tend = h.tend }
 
-tended-walk : (s : Settings) (n : ℕ) → Walk (Idle s n) (Tended s n)
+tended-walk : (s : MachineSettings) (n : ℕ) → Walk (Idle s n) (Tended s n)
 tended-walk s n = record {
   interrupt = λ m p free h asks. tended-interrupt s n m p h;
   next = λ p free h. record { settings = h.settings; tend = h.tend };
@@ -145,14 +148,14 @@ tended-walk s n = record {
   };
 }
 
-idle-lone : (s : Settings) (n : ℕ) (w : Work) → is_busy w ≡ false → lone s n w ≡ false
+idle-lone : (s : MachineSettings) (n : ℕ) (w : Work) → is_busy w ≡ false → lone s n w ≡ false
 idle-lone s n Nothing idle = refl
 idle-lone s n (Interrupt m) idle = cc idle
 idle-lone s n (Poll m) idle = refl
 idle-lone s n (Packet hand) idle = refl
 idle-lone s n (Use came) idle = refl
 
-tended-takes : (s : Settings) (n : ℕ) (p : ProcessorView) → Goes s p → Tended s n p → Tended s n (takes_up p)
+tended-takes : (s : MachineSettings) (n : ℕ) (p : ProcessorView) → Goes s p → Tended s n p → Tended s n (takes_up p)
 tended-takes s n p goes h =
     walk-any (Idle s n) (Tended s n) (tended-walk s n) p (goes-unasked s p goes) (λ busy. h)
     (λ idle. record {
@@ -162,14 +165,14 @@ tended-takes s n p goes h =
 
 -- ---- work ends
 
-lone-polling : (s : Settings) (n : ℕ) (w : Work) → ((m : ℕ) → w ≡ Interrupt m → is_polling s ≡ true) → lone s n w ≡ false
+lone-polling : (s : MachineSettings) (n : ℕ) (w : Work) → ((m : ℕ) → w ≡ Interrupt m → is_polling s ≡ true) → lone s n w ≡ false
 lone-polling s n Nothing polls = refl
 lone-polling s n (Interrupt m) polls = rw (polls m refl) refl
 lone-polling s n (Poll m) polls = refl
 lone-polling s n (Packet hand) polls = refl
 lone-polling s n (Use came) polls = refl
 
-lone-other : (s : Settings) (m n : ℕ) → (m == n) ≡ false → lone s n (Interrupt m) ≡ false
+lone-other : (s : MachineSettings) (m n : ℕ) → (m == n) ≡ false → lone s n (Interrupt m) ≡ false
 lone-other s m n other = by (is_polling s)
   where
     by : (b : Bool) → (not b && m == n) ≡ false
@@ -185,7 +188,7 @@ no-length [] is = refl
 no-length (x ∷ xs) is = let none : length (x ∷ xs) ≡ 0 = eqb-true (length (x ∷ xs)) 0 is in absurd (omega arith)
 
 -- without polling: what is raised again has packets
-tend-again : (b : Bool) (d : DeviceView) → Early (timer_of d.phase) → d.taken ≡ [] → Tend false (raised_again d)
+tend-again : (b : Bool) (d : QueueView) → Early (timer_of d.phase) → d.taken ≡ [] → Tend false (raised_again d)
 unfolding queued
 tend-again b d early plain = by (length d.ring == 0) refl
   where
@@ -193,33 +196,33 @@ tend-again b d early plain = by (length d.ring == 0) refl
     by true is = record { early = early; quiet = λ phase free. rw (plain, no-length d.ring is) refl }
     by false is = record { early = tt; quiet = λ phase free. cc phase }
 
-tends-again : (s : Settings) (m n : ℕ) (ds : Devices) → TendAt (lone s n (Interrupt m)) (at n ds) → taken_in (at n ds) ≡ []
+tends-again : (s : MachineSettings) (m n : ℕ) (ds : QueueViews) → TendAt (lone s n (Interrupt m)) (at n ds) → taken_in (at n ds) ≡ []
     → TendAt false (at n (changed raised_again m ds))
 unfolding map_at
 tends-again s m n ds t plain =
     at-either (λ b o. TendAt false o) raised_again m n ds (λ here. by (at n ds) t plain)
     (λ other. subst (λ (b : Bool). TendAt b (at n ds)) (lone-other s m n other) t)
   where
-    by : (o : Option DeviceView) → TendAt (lone s n (Interrupt m)) o → taken_in o ≡ [] → TendAt false (map_at raised_again o)
+    by : (o : Option QueueView) → TendAt (lone s n (Interrupt m)) o → taken_in o ≡ [] → TendAt false (map_at raised_again o)
     by None t plain = tt
     by (Some d) t plain = tend-again true d t.early plain
 
 -- with an exemption that stays
-tends-early : (s : Settings) (m n : ℕ) (f : DeviceView → DeviceView) (ds : Devices) → ((d : DeviceView) → (f d).phase ≡ d.phase)
+tends-early : (s : MachineSettings) (m n : ℕ) (f : QueueView → QueueView) (ds : QueueViews) → ((d : QueueView) → (f d).phase ≡ d.phase)
     → is_polling s ≡ false
     → TendAt (lone s n (Interrupt m)) (at n ds) → TendAt (lone s n (Interrupt m)) (at n (changed f m ds))
 unfolding map_at
 tends-early s m n f ds phase single t =
     at-either (λ b o. TendAt (lone s n (Interrupt m)) o) f m n ds (λ here. by (at n ds) t here) (λ other. t)
   where
-    by : (o : Option DeviceView) → TendAt (lone s n (Interrupt m)) o → (m == n) ≡ true → TendAt (lone s n (Interrupt m)) (map_at f o)
+    by : (o : Option QueueView) → TendAt (lone s n (Interrupt m)) o → (m == n) ≡ true → TendAt (lone s n (Interrupt m)) (map_at f o)
     by None t here = tt
     by (Some d) t here = record {
       early = subst (λ (x : Phase). Early (timer_of x)) (sym (phase d)) t.early;
       quiet = λ is free. cc (rw (single, here) at free);
     }
 
-next-empty : (backlog : Bool) (o : Option DeviceView) → (backlog ≡ false → taken_in o ≡ []) → next_packet_at backlog o ≡ None → queued o
+next-empty : (backlog : Bool) (o : Option QueueView) → (backlog ≡ false → taken_in o ≡ []) → next_packet_at backlog o ≡ None → queued o
     ≡ []
 unfolding queued
 next-empty backlog None plain none = refl
@@ -239,43 +242,44 @@ sched-quiet Scheduled is quiet = cc quiet
 sched-quiet (Deferred until) is quiet = cc is
 sched-quiet Fired is quiet = cc is
 
-tends-next : (backlog : Bool) (m n : ℕ) (ds : Devices) → ((m == n) ≡ true → scheduled_at (at n ds) ≡ 1) → TendAt false (at n ds)
+tends-next : (backlog : Bool) (m n : ℕ) (ds : QueueViews) → ((m == n) ≡ true → scheduled_at (at n ds) ≡ 1) → TendAt false (at n ds)
     → TendAt false (at n (changed (without_next backlog) m ds))
 unfolding map_at
 tends-next backlog m n ds scheduled t =
     at-either (λ b o. TendAt false o) (without_next backlog) m n ds (λ here. by (at n ds) (scheduled here) t) (λ other. t)
   where
-    by : (o : Option DeviceView) → scheduled_at o ≡ 1 → TendAt false o → TendAt false (map_at (without_next backlog) o)
+    by : (o : Option QueueView) → scheduled_at o ≡ 1 → TendAt false o → TendAt false (map_at (without_next backlog) o)
     by None is t = tt
     by (Some d) is t = record {
       early = subst (λ (x : Phase). Early (timer_of x)) (sym ((calm-next backlog).phase d)) t.early;
       quiet = λ quiet free. absurd (sched-quiet d.phase is (sym ((calm-next backlog).phase d) ∙ quiet));
     }
 
-early-polled : (now given : ℕ) (s : Settings) (d : DeviceView) → Early (timer_of d.phase) → Early (timer_of (polled now given s d).phase)
-unfolding polled completed
+early-polled : (now given : ℕ) (s : MachineSettings) (d : QueueView) → Early (timer_of d.phase)
+    → Early (timer_of (queue_polled now given s d).phase)
+unfolding queue_polled queue_completed
 early-polled now given s d early = by (given == s.weight)
   where
-    e : DeviceView
-    e = record d { counts = record d.counts { polls = held (d.counts.polls + 1) } }
+    e : QueueView
+    e = record d { counts = record d.counts { polls = saturated (d.counts.polls + 1) } }
 
     deferrals : ℕ
     deferrals = if given == 0 then d.deferrals else s.defer_hard_irqs
 
-    by : (full : Bool) → Early (timer_of (if full then e else completed now given s e).phase)
+    by : (full : Bool) → Early (timer_of (if full then e else queue_completed now given s e).phase)
     by true = early
     by false =
-        early-if (not (deferrals == 0) && not (s.gro_flush_timeout == 0)) (Deferred (held (now + s.gro_flush_timeout))) Quiet
+        early-if (not (deferrals == 0) && not (s.gro_flush_timeout == 0)) (Deferred (saturated (now + s.gro_flush_timeout))) Quiet
         (omega arith) tt
 
 -- a device that has no packet completes
-tends-polled : (now given : ℕ) (s : Settings) (m n : ℕ) (ds : Devices) → queued (at n ds) ≡ [] → TendAt false (at n ds)
-    → TendAt false (at n (changed (polled now given s) m ds))
+tends-polled : (now given : ℕ) (s : MachineSettings) (m n : ℕ) (ds : QueueViews) → queued (at n ds) ≡ [] → TendAt false (at n ds)
+    → TendAt false (at n (changed (queue_polled now given s) m ds))
 unfolding map_at
 tends-polled now given s m n ds none t =
-    at-either (λ b o. TendAt false o) (polled now given s) m n ds (λ here. by (at n ds) none t) (λ other. t)
+    at-either (λ b o. TendAt false o) (queue_polled now given s) m n ds (λ here. by (at n ds) none t) (λ other. t)
   where
-    by : (o : Option DeviceView) → queued o ≡ [] → TendAt false o → TendAt false (map_at (polled now given s) o)
+    by : (o : Option QueueView) → queued o ≡ [] → TendAt false o → TendAt false (map_at (queue_polled now given s) o)
     by None none t = tt
     by (Some d) none t = record {
       early = early-polled now given s d t.early;
@@ -286,7 +290,7 @@ full-is : (given weight : ℕ) → given ≤ weight → nat_lt given weight ≡ 
 full-is given weight most not-less = let more : weight
     ≤ given = ltb-false given weight not-less in eq-eqb given weight (omega (arith, most, more))
 
-looks-tend : (s : Settings) (n m given now : ℕ) (ds : Devices) → given ≤ s.weight → (s.backlog ≡ false → taken_in (at n ds) ≡ [])
+looks-tend : (s : MachineSettings) (n m given now : ℕ) (ds : QueueViews) → given ≤ s.weight → (s.backlog ≡ false → taken_in (at n ds) ≡ [])
     → ((k : ℕ) → s.backlog ≡ false → taken_in (at k ds) ≡ [])
     → ((m == n) ≡ true → scheduled_at (at n ds) ≡ 1) → TendAt false (at n ds) → Looks (λ es w. TendAt false (at n es)) s now m given ds
 looks-tend s n m given now ds most plain plains scheduled t = record {
@@ -294,22 +298,24 @@ looks-tend s n m given now ds most plain plains scheduled t = record {
   none = λ none. by (m == n) refl none;
   full = λ not-less.
       let full = full-is given s.weight most not-less in
-      tends-same false (polled now given s) m n ds (calm-full s now given full).phase (queued-polled now given s) t;
+      tends-same false (queue_polled now given s) m n ds (calm-full s now given full).phase (queued-polled now given s) t;
 }
   where
-    es : Devices
+    es : QueueViews
     es = changed (without_next s.backlog) m ds
 
-    by : (b : Bool) → (m == n) ≡ b → next_packet_at s.backlog (at m ds) ≡ None → TendAt false (at n (changed (polled now given s) m es))
+    by : (b : Bool) → (m == n) ≡ b → next_packet_at s.backlog (at m ds) ≡ None
+        → TendAt false (at n (changed (queue_polled now given s) m es))
     by true here none =
         let empty : queued (at n ds) ≡ [] =
         next-empty s.backlog (at n ds) plain (subst (λ (k : ℕ). next_packet_at s.backlog (at k ds) ≡ None) (eqb-true m n here) none) in
         tends-polled now given s m n es (look-none s.backlog m n ds plain none ∙ empty) (tends-next s.backlog m n ds scheduled t)
     by false other none =
-        subst (λ (o : Option DeviceView). TendAt false o)
-        (sym (at-apart (polled now given s) m n es other ∙ at-apart (without_next s.backlog) m n ds other)) t
+        subst (λ (o : Option QueueView). TendAt false o)
+        (sym (at-apart (queue_polled now given s) m n es other ∙ at-apart (without_next s.backlog) m n ds other)) t
 
-ends-tend : (s : Settings) (n : ℕ) (p : ProcessorView) → Goes s p → Stands s n p → ((k : ℕ) → IsPlain p.settings k p.devices) → Tended s n p
+ends-tend : (s : MachineSettings) (n : ℕ) (p : ProcessorView) → Goes s p → Stands s n p → ((k : ℕ) → IsPlain p.settings k p.devices)
+    → Tended s n p
     → Ends (λ o ds w. TendAt false (at n ds)) p
 ends-tend s n p goes stands plain h = record {
   rest = λ none polls.
@@ -317,31 +323,31 @@ ends-tend s n p goes stands plain h = record {
   silent = λ m is single none. tends-again s m n p.devices (work m is) (untaken single n);
   lone = λ m came is single found.
       let first = changed (without_next false) m p.devices in
-      let second = changed (device.delivered p.ends came) m first in
+      let second = changed (device.queue_delivered p.ends came) m first in
       let free : is_polling s ≡ false = sym same ∙ single in
       let kept : taken_in (at n second) ≡ taken_in (at n p.devices) =
-      at-kept taken_in (device.delivered p.ends came) m n first (λ d. refl)
+      at-kept taken_in (device.queue_delivered p.ends came) m n first (λ d. refl)
       ∙ at-kept taken_in (without_next false) m n p.devices (λ d. refl) in
       tends-again s m n second
-      (tends-early s m n (device.delivered p.ends came) first (λ d. refl) free
+      (tends-early s m n (device.queue_delivered p.ends came) first (λ d. refl) free
       (tends-early s m n (without_next false) p.devices (λ d. refl) free (work m is))) (kept ∙ untaken single n);
   poll = λ m is.
       looks-tend p.settings n m 0 p.ends p.devices (omega arith) (backed n) backed (is-scheduled m (ap polled_by is) (ap (polled_at n) is))
       (subst (λ (b : Bool). TendAt b (at n p.devices)) (ap (lone s n) is) h.tend);
   packet = λ hand is.
-      let ds = changed (device.delivered p.ends hand.came) hand.device p.devices in
+      let ds = changed (device.queue_delivered p.ends hand.came) hand.device p.devices in
       let kept : (k : ℕ) → taken_in (at k ds) ≡ taken_in (at k p.devices) =
-      λ k. at-kept taken_in (device.delivered p.ends hand.came) hand.device k p.devices (λ d. refl) in
+      λ k. at-kept taken_in (device.queue_delivered p.ends hand.came) hand.device k p.devices (λ d. refl) in
       looks-tend p.settings n hand.device (hand.given + 1) p.ends ds (given hand is) (λ single. kept n ∙ backed n single)
       (λ k single. kept k ∙ backed k single)
-      (λ here. at-kept scheduled_at (device.delivered p.ends hand.came) hand.device n p.devices (λ d. refl)
+      (λ here. at-kept scheduled_at (device.queue_delivered p.ends hand.came) hand.device n p.devices (λ d. refl)
       ∙ is-scheduled hand.device (ap polled_by is) (ap (polled_at n) is) here)
-      (tends-same false (device.delivered p.ends hand.came) hand.device n p.devices (λ d. refl) (queued-delivered p.ends hand.came)
+      (tends-same false (device.queue_delivered p.ends hand.came) hand.device n p.devices (λ d. refl) (queued-delivered p.ends hand.came)
       (subst (λ (b : Bool). TendAt b (at n p.devices)) (ap (lone s n) is) h.tend));
 }
   where
     same : is_polling p.settings ≡ is_polling s
-    same = ap (λ (x : Settings). is_polling x) goes.rests.settings
+    same = ap (λ (x : MachineSettings). is_polling x) goes.rests.settings
 
     work : (m : ℕ) → p.work ≡ Interrupt m → TendAt (lone s n (Interrupt m)) (at n p.devices)
     work m is = subst (λ (w : Work). TendAt (lone s n w) (at n p.devices)) is h.tend
@@ -354,8 +360,8 @@ ends-tend s n p goes stands plain h = record {
 
     given : (hand : InHand) → p.work ≡ Packet hand → hand.given + 1 ≤ p.settings.weight
     given hand is =
-        let below : hand.given < s.weight = subst (λ (w : Work). given_by w < s.weight) is goes.given in
-        let weight : p.settings.weight ≡ s.weight = ap (λ (x : Settings). x.weight) goes.rests.settings in
+        let below : hand.given < s.weight = subst (λ (w : Work). work_given w < s.weight) is goes.given in
+        let weight : p.settings.weight ≡ s.weight = ap (λ (x : MachineSettings). x.weight) goes.rests.settings in
         omega (arith, below, weight)
 
     is-scheduled : (m : ℕ) → polled_by p.work ≡ Some m → polled_at n p.work ≡ one m n → (m == n) ≡ true → scheduled_at (at n p.devices) ≡ 1
@@ -365,23 +371,25 @@ ends-tend s n p goes stands plain h = record {
 
 -- ---- what disturbs, and what arrives
 
-tended-aside : (s : Settings) (n moment : ℕ) (w : Work) (p : ProcessorView) → p.work ≡ w → Tended s n p → Tended s n (set_aside moment w p)
+tended-aside : (s : MachineSettings) (n moment : ℕ) (w : Work) (p : ProcessorView) → p.work ≡ w → Tended s n p
+    → Tended s n (set_aside moment w p)
 tended-aside s n moment Nothing p is h = h
 tended-aside s n moment (Interrupt m) p is h = h
 tended-aside s n moment (Poll m) p is h = h
 tended-aside s n moment (Packet hand) p is h = h
 tended-aside s n moment (Use came) p is h = record { tend = subst (λ (w : Work). TendAt (lone s n w) (at n p.devices)) is h.tend }
 
-tended-stirred : (s : Settings) (n moment : ℕ) (p : ProcessorView) → Tended s n p → Tended s n (stirred moment p)
+tended-stirred : (s : MachineSettings) (n moment : ℕ) (p : ProcessorView) → Tended s n p → Tended s n (stirred moment p)
 tended-stirred s n moment p h =
     let asked = is_some (position asks_at p.devices) in
-    let counts = record p.counts { interrupt_time = held (p.counts.interrupt_time + p.settings.wake) } in
+    let counts = record p.counts { interrupt_time = saturated (p.counts.interrupt_time + p.settings.wake) } in
     either (Tended s n) (is_busy p.work) (if asked then set_aside moment p.work p else p) (woken moment asked p)
     (λ busy. either (Tended s n) asked (set_aside moment p.work p) p (λ yes. tended-aside s n moment p.work p refl h) (λ no. h))
-    (λ idle. either (Tended s n) asked (record p { clock = held (moment + p.settings.wake); counts = counts }) (record p { clock = moment })
+    (λ idle. either (Tended s n) asked (record p { clock = saturated (moment + p.settings.wake); counts = counts })
+    (record p { clock = moment })
     (λ yes. record { tend = h.tend }) (λ no. record { tend = h.tend }))
 
-tended-disturbed : (s : Settings) (n moment : ℕ) (p : ProcessorView) → Goes s p → Tended s n p → Tended s n (disturbed moment p)
+tended-disturbed : (s : MachineSettings) (n moment : ℕ) (p : ProcessorView) → Goes s p → Tended s n p → Tended s n (disturbed moment p)
 unfolding disturbed
 tended-disturbed s n moment p goes h = tended-takes s n (stirred moment p) (work-stirred s moment p goes) (tended-stirred s n moment p h)
 
@@ -401,11 +409,11 @@ early-expired Scheduled = tt
 early-expired (Deferred until) = tt
 early-expired Fired = tt
 
-tends-expired : (b : Bool) (m n : ℕ) (ds : Devices) → TendAt b (at n ds) → TendAt b (at n (changed expired m ds))
+tends-expired : (b : Bool) (m n : ℕ) (ds : QueueViews) → TendAt b (at n ds) → TendAt b (at n (changed expired m ds))
 unfolding map_at queued
 tends-expired b m n ds t = at-either (λ c o. TendAt b o) expired m n ds (λ here. by (at n ds) t) (λ other. t)
   where
-    by : (o : Option DeviceView) → TendAt b o → TendAt b (map_at expired o)
+    by : (o : Option QueueView) → TendAt b o → TendAt b (map_at expired o)
     by None t = tt
     by (Some d) t = record { early = early-expired d.phase; quiet = λ is free. t.quiet (quiet-expired d.phase is) free }
 
@@ -434,37 +442,37 @@ early-coalesced until Scheduled fits early = early
 early-coalesced until (Deferred other) fits early = early
 early-coalesced until Fired fits early = early
 
-tend-packet : (b : Bool) (moment : ℕ) (s : Settings) (d : DeviceView) → Tend b d → Tend b (after_packet moment s d)
+tend-packet : (b : Bool) (moment : ℕ) (s : MachineSettings) (d : QueueView) → Tend b d → Tend b (after_packet moment s d)
 unfolding after_packet notified queued
 tend-packet b moment s d t = by (has_room d) (is_masked d.phase) refl
   where
-    counts : DeviceCounts
-    counts = record d.counts { arrived = held (d.counts.arrived + 1) }
+    counts : QueueCounts
+    counts = record d.counts { arrived = saturated (d.counts.arrived + 1) }
 
-    f : DeviceView
+    f : QueueView
     f = record d { counts = counts; ring = d.ring ++ moment ∷ [] }
 
     at_once : Bool
-    at_once = s.rx_nsecs == 0 || not (s.rx_frames == 0) && nat_le s.rx_frames (held (d.frames + 1))
+    at_once = s.rx_nsecs == 0 || not (s.rx_frames == 0) && nat_le s.rx_frames (saturated (d.frames + 1))
 
     by : (room masked : Bool) → is_masked d.phase ≡ masked
-        → Tend b (if not room then record d { counts = record counts { dropped = held (d.counts.dropped + 1) } }
+        → Tend b (if not room then record d { counts = record counts { dropped = saturated (d.counts.dropped + 1) } }
         else (if masked then f else notified moment s f))
     by false masked is = record { early = t.early; quiet = t.quiet }
     by true true is = record { early = t.early; quiet = λ quiet free. absurd (masked-quiet d.phase is quiet) }
     by true false is = record {
       early =
-          early-if at_once Raised (coalesced (held (moment + s.rx_nsecs)) d.phase) tt
-          (early-coalesced (held (moment + s.rx_nsecs)) d.phase (omega arith) t.early);
-      quiet = λ quiet free. absurd (not-quiet (held (moment + s.rx_nsecs)) at_once d.phase quiet);
+          early-if at_once Raised (coalesced (saturated (moment + s.rx_nsecs)) d.phase) tt
+          (early-coalesced (saturated (moment + s.rx_nsecs)) d.phase (omega arith) t.early);
+      quiet = λ quiet free. absurd (not-quiet (saturated (moment + s.rx_nsecs)) at_once d.phase quiet);
     }
 
-tend-made : (b : Bool) (capacity : ℕ) (o : Option DeviceView) → TendAt b o → Tend b (made_at capacity o)
+tend-made : (b : Bool) (capacity : ℕ) (o : Option QueueView) → TendAt b o → Tend b (made_at capacity o)
 unfolding made_at queued
 tend-made b capacity None t = record { early = tt; quiet = λ is free. refl }
 tend-made b capacity (Some d) t = t
 
-tended-arrives : (s : Settings) (n moment m : ℕ) (p : ProcessorView) → Goes s p → Tended s n p → Tended s n (arrives moment m p)
+tended-arrives : (s : MachineSettings) (n moment m : ℕ) (p : ProcessorView) → Goes s p → Tended s n p → Tended s n (arrives moment m p)
 unfolding arrives
 tended-arrives s n moment m p goes h =
     let devices = with_device p.settings.ring m p.devices in
@@ -482,10 +490,10 @@ tended-arrives s n moment m p goes h =
 
 -- ---- over a life
 
-pub nothing-lone : (s : Settings) (n : ℕ) (w : Work) → (w ≡ Nothing) → lone s n w ≡ false
+pub nothing-lone : (s : MachineSettings) (n : ℕ) (w : Work) → (w ≡ Nothing) → lone s n w ≡ false
 nothing-lone s n w is = ap (lone s n) is
 
-ended-lone : (s : Settings) (n : ℕ) (ds : Devices) (w : Work) → TendAt false (at n ds) → ((m : ℕ) → w ≡ Interrupt m → ⊥)
+ended-lone : (s : MachineSettings) (n : ℕ) (ds : QueueViews) (w : Work) → TendAt false (at n ds) → ((m : ℕ) → w ≡ Interrupt m → ⊥)
     → TendAt (lone s n w) (at n ds)
 ended-lone s n ds Nothing t none = t
 ended-lone s n ds (Interrupt m) t none = absurd (none m refl)
@@ -499,11 +507,11 @@ no-interrupt p m is =
     let k = (over p).kind (ap is_busy is) in
     cc (is, k.1)
 
-ends-free : (s : Settings) (n : ℕ) (p : ProcessorView) → TendAt false (at n (ends_current p).devices)
+ends-free : (s : MachineSettings) (n : ℕ) (p : ProcessorView) → TendAt false (at n (ends_current p).devices)
     → ((m : ℕ) → (ends_current p).work ≡ Interrupt m → ⊥) → Tended s n (ends_current p)
 ends-free s n p t none = record { tend = ended-lone s n (ends_current p).devices (ends_current p).work t none }
 
-tended-happens : (s : Settings) (n : ℕ) (u : Upcoming) (p : ProcessorView) → Goes s p → Stands s n p
+tended-happens : (s : MachineSettings) (n : ℕ) (u : Upcoming) (p : ProcessorView) → Goes s p → Stands s n p
     → ((k : ℕ) → IsPlain p.settings k p.devices)
     → Tended s n p → Tended s n (happens u p)
 tended-happens s n Never p goes stands plain h = h
@@ -516,7 +524,7 @@ tended-happens s n (Expires timer) p goes stands plain h =
     tended-disturbed s n timer.at q (goes-devices s p q goes refl refl refl refl)
     (record { tend = tends-expired (lone s n p.work) timer.device n p.devices h.tend })
 
-pub tended-on : (s : Settings) (n : ℕ) (events : List Event) → Tended s n (behind s events)
+pub tended-on : (s : MachineSettings) (n : ℕ) (events : List MachineEvent) → Tended s n (behind s events)
 unfolding behind step
 tended-on s n [] = record { tend = tt }
 tended-on s n (packet moment m ∷ earlier) = tended-arrives s n moment m (behind s earlier) (goes-on s earlier) (tended-on s n earlier)
@@ -545,7 +553,7 @@ early-timer : (k : ℕ) (o : Option ℕ) → Early o → EarlyTimer (option_map 
 early-timer k None early = tt
 early-timer k (Some u) early = early
 
-early-soonest : (k : ℕ) (ds : Devices) → ((n : ℕ) → Early (timer_in (at n ds))) → EarlyTimer (soonest_from k ds)
+early-soonest : (k : ℕ) (ds : QueueViews) → ((n : ℕ) → Early (timer_in (at n ds))) → EarlyTimer (soonest_from k ds)
 unfolding soonest_from
 early-soonest k [] all = tt
 early-soonest k (place ∷ more) all =
@@ -572,11 +580,11 @@ early-up (Some timer) p early = by (is_busy p.work && nat_le p.ends timer.at)
     by true = tt
     by false = early
 
-pub early-of : (b : Bool) (o : Option DeviceView) → TendAt b o → Early (timer_in o)
+pub early-of : (b : Bool) (o : Option QueueView) → TendAt b o → Early (timer_in o)
 early-of b None t = tt
 early-of b (Some d) t = t.early
 
-pub next-early : (s : Settings) (events : List Event) → EarlyUp (upcoming (behind s events))
+pub next-early : (s : MachineSettings) (events : List MachineEvent) → EarlyUp (upcoming (behind s events))
 next-early s events =
     let p = behind s events in
     early-up (soonest_from 0 p.devices) p

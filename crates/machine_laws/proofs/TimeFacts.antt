@@ -3,21 +3,22 @@ use Rattle.std.proofs.Common.{◌≡◌, ◌∙◌, ℕ, ◌+◌, ◌-◌, ◌<�
 use Rattle.std.proofs.Common.{ap}
 use Rattle.std.proofs.{Common.{subst, arith}, lemmas.{Bool.{leb-true}}}
 use Rattle.std.specs.{List.AllByRecursion, Prelude.{◌==◌, ◌&&◌, if◌then◌else◌, is_some, not, position}}
-use Rattle.machine_words.specs.declared.settings.Settings.{Settings}
+use Rattle.machine_words.specs.declared.settings.MachineSettings.{MachineSettings}
 use Rattle.device_places.specs.Places.{at, changed}
 use Rattle.circular_buffer.specs.Buffer.{buffer}
-use Rattle.machine_laws.specs.Lives.{Event, InTurn, behind, next, packet}
+use Rattle.machine_laws.specs.Lives.{MachineEvent, InTurn, behind, next, packet}
 use Rattle.machine_laws.specs.Times.{ClocksNeverFall}
 use Rattle.machine_laws.specs.Fates.{delivery_of, finds_room, taken_in}
 use Rattle.machine_model.specs.declared.processor.Work.{Work}
 use Rattle.machine_model.specs.declared.processor.Work.TheVariants.{Nothing, Interrupt, Poll, Packet, Use}
 use Rattle.machine_model.specs.declared.processor.Rest.{Rest}
 use Rattle.machine_model.specs.declared.processor.InHand.{InHand}
-use Rattle.machine_model.specs.declared.{processor.{Upcoming.{Upcoming, TheVariants.{Never, Expires}}}, tasks.Task.TheVariants.Thread}
-use Rattle.machine_model.specs.Device.{after_packet, timer_of, expired, interrupted, polled, raised_again, without_next}
+use Rattle.machine_model.specs.declared.{processor.{Upcoming.{Upcoming, TheVariants.{Never, Expires}}}}
+use Rattle.machine_model.specs.declared.{tasks.RunnableTask.TheVariants.Thread}
+use Rattle.machine_model.specs.Device.{after_packet, timer_of, expired, interrupted, queue_polled, raised_again, without_next}
 use Rattle.machine_model.specs.Softirq.{pushed}
-use Rattle.machine_model.specs.Waits.{held}
-use Rattle.machine_model.specs.{Device.DeviceView, Devices.{Devices, asks_at, has_room_at, is_fired_at, with_device}}
+use Rattle.machine_model.specs.Waits.{saturated}
+use Rattle.machine_model.specs.{Device.QueueView, Devices.{QueueViews, asks_at, has_room_at, is_fired_at, with_device}}
 use Rattle.machine_model.specs.Application.{ApplicationView, fed, has_place, put, refuses}
 use Rattle.machine_model.specs.Processor.{ProcessorView, arrives, begins, disturbed, ends_current}
 use Rattle.machine_model.specs.Processor.{ends_run, happens, interrupts, is_busy, is_by, is_due, is_polling, scheduled, set_aside}
@@ -37,24 +38,24 @@ use Rattle.machine_model.specs.Device as device
 
 -- ---- what is true at a time
 
-abbrev pub use_cost : Settings → ℕ
+abbrev pub use_cost : MachineSettings → ℕ
 use_cost s = s.packet + s.use_time
 
 -- the application is on this processor, and there is polling
-abbrev pub IsFair : Settings → Type 0
+abbrev pub IsFair : MachineSettings → Type 0
 IsFair s = (is_polling s && not s.apart) ≡ true
 
-abbrev pub Came : ℕ → Devices → Type 0
+abbrev pub Came : ℕ → QueueViews → Type 0
 Came t ds = (n : ℕ) → AllByRecursion (λ came. came ≤ t) (queued (at n ds))
 
-abbrev pub Served : Settings → ℕ → List ℕ → Type 0
-Served s t items = IsFair s → AllByRecursion (λ came. held (came + s.packet) ≤ t) items
+abbrev pub Served : MachineSettings → ℕ → List ℕ → Type 0
+Served s t items = IsFair s → AllByRecursion (λ came. saturated (came + s.packet) ≤ t) items
 
-abbrev pub Left : Settings → ℕ → Option Rest → Type 0
-Left s t o = IsFair s → (rest : Rest) → o ≡ Some rest → held (rest.came + use_cost s) ≤ held (t + rest.left)
+abbrev pub Left : MachineSettings → ℕ → Option Rest → Type 0
+Left s t o = IsFair s → (rest : Rest) → o ≡ Some rest → saturated (rest.came + use_cost s) ≤ saturated (t + rest.left)
 
 -- nothing is under way
-pub record Base (s : Settings) (t : ℕ) (p : ProcessorView) : Type 0 where
+pub record Base (s : MachineSettings) (t : ℕ) (p : ProcessorView) : Type 0 where
   pub settings : p.settings ≡ s
   pub fits : p.clock < 2 ^ 64
   pub clock : p.clock ≤ t + s.wake
@@ -65,18 +66,18 @@ pub record Base (s : Settings) (t : ℕ) (p : ProcessorView) : Type 0 where
   pub rest : Left s t p.rest
 
 -- and if no device asks for an interrupt, it took no time to wake up
-pub record Calm (s : Settings) (t : ℕ) (p : ProcessorView) : Type 0 where
+pub record Calm (s : MachineSettings) (t : ℕ) (p : ProcessorView) : Type 0 where
   pub base : Base s t p
   pub low : position asks_at p.devices ≡ None → p.clock ≡ t
 
-pub record Timed (s : Settings) (t : ℕ) (p : ProcessorView) : Type 0 where
+pub record Timed (s : MachineSettings) (t : ℕ) (p : ProcessorView) : Type 0 where
   pub settings : p.settings ≡ s
   pub clock : p.clock ≤ t + s.wake
   pub idle : is_busy p.work ≡ false → p.clock ≤ t
   pub ends : is_busy p.work ≡ true → (p.clock ≤ p.ends) × (t ≤ p.ends) × (p.ends < 2 ^ 64)
   pub low : (came : ℕ) → p.work ≡ Use came → p.clock ≤ t
-  pub using : IsFair s → (came : ℕ) → p.work ≡ Use came → held (came + use_cost s) ≤ p.ends
-  pub hand : (hand : InHand) → p.work ≡ Packet hand → held (hand.came + s.packet) ≤ p.ends
+  pub using : IsFair s → (came : ℕ) → p.work ≡ Use came → saturated (came + use_cost s) ≤ p.ends
+  pub hand : (hand : InHand) → p.work ≡ Packet hand → saturated (hand.came + s.packet) ≤ p.ends
   pub timers : AllLate t p.devices
   pub came : Came t p.devices
   pub socket : Served s t p.application.socket.items
@@ -84,7 +85,8 @@ pub record Timed (s : Settings) (t : ℕ) (p : ProcessorView) : Type 0 where
 
 -- ---- work is taken up
 
-base-of : (s : Settings) (t : ℕ) (p q : ProcessorView) → Base s t p → q.settings ≡ p.settings → q.clock ≡ p.clock → q.devices ≡ p.devices
+base-of : (s : MachineSettings) (t : ℕ) (p q : ProcessorView) → Base s t p → q.settings ≡ p.settings → q.clock ≡ p.clock
+    → q.devices ≡ p.devices
     → q.application ≡ p.application → q.rest ≡ p.rest → Base s t q
 base-of s t p q b settings clock devices application rest = record {
   settings = settings ∙ b.settings;
@@ -98,9 +100,9 @@ base-of s t p q b settings clock devices application rest = record {
 }
 
 -- work other than a packet of a poll begins; if it is a use, its begin and its time are given
-timed-begins : (s : Settings) (t : ℕ) (w : Work) (time : ℕ) (p : ProcessorView) → Base s t p → is_busy w ≡ true
+timed-begins : (s : MachineSettings) (t : ℕ) (w : Work) (time : ℕ) (p : ProcessorView) → Base s t p → is_busy w ≡ true
     → ((hand : InHand) → w ≡ Packet hand → ⊥)
-    → ((came : ℕ) → w ≡ Use came → (p.clock ≡ t) × (IsFair s → held (came + use_cost s) ≤ held (p.clock + time)))
+    → ((came : ℕ) → w ≡ Use came → (p.clock ≡ t) × (IsFair s → saturated (came + use_cost s) ≤ saturated (p.clock + time)))
     → Timed s t (begins w time p)
 timed-begins s t w time p b busy unpacked used-up = record {
   settings = b.settings;
@@ -116,7 +118,8 @@ timed-begins s t w time p b busy unpacked used-up = record {
   rest = b.rest;
 }
 
-base-scheduled : (s : Settings) (t : ℕ) (b : Bool) (n : ℕ) (p : ProcessorView) → Base s t p → Base s t (if b then scheduled n p else p)
+base-scheduled : (s : MachineSettings) (t : ℕ) (b : Bool) (n : ℕ) (p : ProcessorView) → Base s t p
+    → Base s t (if b then scheduled n p else p)
 base-scheduled s t b n p h =
     either (Base s t) b (scheduled n p) p
     (λ yes. either (Base s t) p.settings.threaded (record p { tasks = p.tasks ++ Thread n ∷ [] })
@@ -124,18 +127,18 @@ base-scheduled s t b n p h =
     (λ y. base-of s t p (record p { tasks = p.tasks ++ Thread n ∷ [] }) h refl refl refl refl refl)
     (λ y. base-of s t p (record p { softirq = pushed n p.softirq }) h refl refl refl refl refl)) (λ no. h)
 
-came-changed : (t : ℕ) (f : DeviceView → DeviceView) (m : ℕ) (ds : Devices) → ((d : DeviceView) → queued (Some (f d)) ≡ queued (Some d))
+came-changed : (t : ℕ) (f : QueueView → QueueView) (m : ℕ) (ds : QueueViews) → ((d : QueueView) → queued (Some (f d)) ≡ queued (Some d))
     → Came t ds → Came t (changed f m ds)
 came-changed t f m ds same all n = subst (λ (xs : List ℕ). AllByRecursion (λ came. came ≤ t) xs) (sym (at-kept queued f m n ds same))
     (all n)
 
-timed-interrupt : (s : Settings) (t n : ℕ) (p : ProcessorView) → Base s t p → Timed s t (interrupts n p)
+timed-interrupt : (s : MachineSettings) (t n : ℕ) (p : ProcessorView) → Base s t p → Timed s t (interrupts n p)
 unfolding interrupts
 timed-interrupt s t n p h =
     let polling = is_polling p.settings in
     let time = if polling then p.settings.interrupt else p.settings.interrupt + p.settings.packet in
-    let counts = if is_fired_at (at n p.devices) then record p.counts { timers = held (p.counts.timers + 1) }
-    else record p.counts { interrupts = held (p.counts.interrupts + 1) } in
+    let counts = if is_fired_at (at n p.devices) then record p.counts { timers = saturated (p.counts.timers + 1) }
+    else record p.counts { interrupts = saturated (p.counts.interrupts + 1) } in
     let q : ProcessorView = record p { devices = changed (interrupted polling) n p.devices; counts = counts } in
     let first : Base s t q = record {
       settings = h.settings;
@@ -150,18 +153,18 @@ timed-interrupt s t n p h =
     timed-begins s t (Interrupt n) time (if polling then scheduled n q else q) (base-scheduled s t polling n q first) refl
     (λ hand is. cc is) (λ came is. cc is)
 
-base-over : (s : Settings) (t : ℕ) (late : Bool) (p : ProcessorView) → Calm s t p → Calm s t (ends_run late p)
+base-over : (s : MachineSettings) (t : ℕ) (late : Bool) (p : ProcessorView) → Calm s t p → Calm s t (ends_run late p)
 unfolding ends_run
 base-over s t late p h = record { base = base-of s t p (ends_run late p) h.base refl refl refl refl refl; low = h.low }
 
-timed-uses : (s : Settings) (t came : ℕ) (more : List ℕ) (p : ProcessorView) → Calm s t p → p.application.socket.items ≡ came ∷ more
+timed-uses : (s : MachineSettings) (t came : ℕ) (more : List ℕ) (p : ProcessorView) → Calm s t p → p.application.socket.items ≡ came ∷ more
     → position asks_at p.devices ≡ None → Timed s t (uses (came ∷ more) p)
 timed-uses s t came more p h is quiet =
     let b = h.base in
     let clock : p.clock ≡ t = h.low quiet in
-    let items : IsFair s → AllByRecursion (λ x. held (x + s.packet) ≤ t) (came ∷ more) = rw is at b.socket in
+    let items : IsFair s → AllByRecursion (λ x. saturated (x + s.packet) ≤ t) (came ∷ more) = rw is at b.socket in
     let q : ProcessorView = record p { application = record p.application { socket = buffer more p.application.socket.capacity } } in
-    let time : p.settings.use_time ≡ s.use_time = ap (λ (x : Settings). x.use_time) b.settings in
+    let time : p.settings.use_time ≡ s.use_time = ap (λ (x : MachineSettings). x.use_time) b.settings in
     timed-begins s t (Use came) p.settings.use_time q
     (record {
       settings = b.settings;
@@ -175,11 +178,11 @@ timed-uses s t came more p h is quiet =
     }) refl (λ hand same. cc same)
     (λ other same. (clock, λ fair. by other (cc same) ((items fair).0) clock time b.fits))
   where
-    by : (other : ℕ) → other ≡ came → held (came + s.packet) ≤ t → p.clock ≡ t → p.settings.use_time ≡ s.use_time → p.clock < 2 ^ 64
-        → held (other + use_cost s) ≤ held (p.clock + p.settings.use_time)
+    by : (other : ℕ) → other ≡ came → saturated (came + s.packet) ≤ t → p.clock ≡ t → p.settings.use_time ≡ s.use_time → p.clock < 2 ^ 64
+        → saturated (other + use_cost s) ≤ saturated (p.clock + p.settings.use_time)
     by other same first clock time fits = omega (arith, same, first, clock, time, fits)
 
-timed-resume : (s : Settings) (t : ℕ) (rest : Rest) (p : ProcessorView) → Calm s t p → p.rest ≡ Some rest
+timed-resume : (s : MachineSettings) (t : ℕ) (rest : Rest) (p : ProcessorView) → Calm s t p → p.rest ≡ Some rest
     → position asks_at p.devices ≡ None → Timed s t (begins (Use rest.came) rest.left (record p { rest = None }))
 timed-resume s t rest p h is quiet =
     let b = h.base in
@@ -197,11 +200,12 @@ timed-resume s t rest p h is quiet =
     }) refl (λ hand same. cc same)
     (λ other same. (clock, λ fair. by other (cc same) (b.rest fair rest is) clock))
   where
-    by : (other : ℕ) → other ≡ rest.came → held (rest.came + use_cost s) ≤ held (t + rest.left) → p.clock ≡ t
-        → held (other + use_cost s) ≤ held (p.clock + rest.left)
+    by : (other : ℕ) → other ≡ rest.came → saturated (rest.came + use_cost s) ≤ saturated (t + rest.left) → p.clock ≡ t
+        → saturated (other + use_cost s) ≤ saturated (p.clock + rest.left)
     by other same first clock = omega (arith, same, first, clock)
 
-timed-stays : (s : Settings) (t : ℕ) (p : ProcessorView) → p.work ≡ Nothing → position asks_at p.devices ≡ None → Calm s t p → Timed s t p
+timed-stays : (s : MachineSettings) (t : ℕ) (p : ProcessorView) → p.work ≡ Nothing → position asks_at p.devices ≡ None → Calm s t p
+    → Timed s t p
 timed-stays s t p nothing quiet h =
     let b = h.base in
     record {
@@ -218,7 +222,7 @@ timed-stays s t p nothing quiet h =
       rest = b.rest;
     }
 
-timed-walk : (s : Settings) (t : ℕ) → Walk (Calm s t) (Timed s t)
+timed-walk : (s : MachineSettings) (t : ℕ) → Walk (Calm s t) (Timed s t)
 timed-walk s t = record {
   interrupt = λ n p free h asks. timed-interrupt s t n p h.base;
   next = λ p free h. record { base = base-of s t p (nexted p) h.base refl refl refl refl refl; low = h.low };
@@ -234,17 +238,17 @@ timed-walk s t = record {
   stays = λ p free h still settled. timed-stays s t p free.nothing still.quiet h;
 }
 
-pub record Ready (s : Settings) (t : ℕ) (p : ProcessorView) : Type 0 where
+pub record Ready (s : MachineSettings) (t : ℕ) (p : ProcessorView) : Type 0 where
   pub busy : is_busy p.work ≡ true → Timed s t p
   pub idle : is_busy p.work ≡ false → Calm s t p
 
-timed-takes : (s : Settings) (t : ℕ) (p : ProcessorView) → Goes s p → Ready s t p → Timed s t (takes_up p)
+timed-takes : (s : MachineSettings) (t : ℕ) (p : ProcessorView) → Goes s p → Ready s t p → Timed s t (takes_up p)
 timed-takes s t p goes r = walk-any (Calm s t) (Timed s t) (timed-walk s t) p (goes-unasked s p goes) r.busy r.idle
 
 -- ---- work ends
 
 -- timers, what arrived, and the packet in hand
-pub record Kept (t : ℕ) (ds : Devices) (w : Work) : Type 0 where
+pub record Kept (t : ℕ) (ds : QueueViews) (w : Work) : Type 0 where
   pub timers : AllLate t ds
   pub came : Came t ds
   pub hand : (hand : InHand) → w ≡ Packet hand → hand.came ≤ t
@@ -252,7 +256,7 @@ pub record Kept (t : ℕ) (ds : Devices) (w : Work) : Type 0 where
 same-came : (h g : InHand) → Packet h ≡ Packet g → h.came ≡ g.came
 same-came h g is = let same : h ≡ g = cc is in ap (λ (x : InHand). x.came) same
 
-looks-kept : (s : Settings) (t m given : ℕ) (ds : Devices) → t < 2 ^ 64 → ((n : ℕ) → s.backlog ≡ false → taken_in (at n ds) ≡ [])
+looks-kept : (s : MachineSettings) (t m given : ℕ) (ds : QueueViews) → t < 2 ^ 64 → ((n : ℕ) → s.backlog ≡ false → taken_in (at n ds) ≡ [])
     → AllLate t ds → Came t ds
     → Looks (λ es w. Kept t es w) s t m given ds
 looks-kept s t m given ds fits plain timers came = record {
@@ -269,13 +273,13 @@ looks-kept s t m given ds fits plain timers came = record {
   none = λ none. record {
     timers = lates-polled t t given s m (changed (without_next s.backlog) m ds) (omega arith) fits (lates-next t s.backlog m ds timers);
     came =
-        came-changed t (polled t given s) m (changed (without_next s.backlog) m ds) (queued-polled t given s)
+        came-changed t (queue_polled t given s) m (changed (without_next s.backlog) m ds) (queued-polled t given s)
         (λ n. subst (λ (xs : List ℕ). AllByRecursion (λ x. x ≤ t) xs) (sym (look-none s.backlog m n ds (plain n) none)) (came n));
     hand = λ hand same. cc same;
   };
   full = λ most. record {
     timers = lates-polled t t given s m ds (omega arith) fits timers;
-    came = came-changed t (polled t given s) m ds (queued-polled t given s) came;
+    came = came-changed t (queue_polled t given s) m ds (queued-polled t given s) came;
     hand = λ hand same. cc same;
   };
 }
@@ -296,7 +300,7 @@ ends-kept p fits plain timers came =
       };
       lone = λ m oldest is lone found.
           let one = changed (without_next false) m p.devices in
-          let two = changed (device.delivered t oldest) m one in
+          let two = changed (device.queue_delivered t oldest) m one in
           let first : Came t one =
           λ n.
           (parts (λ x. x ≤ t) (if m == n then oldest ∷ [] else []) (queued (at n one))
@@ -306,35 +310,36 @@ ends-kept p fits plain timers came =
           record {
             timers = lates-raised t m two (lates-delivered t t oldest m one (lates-next t false m p.devices timers));
             came = came-changed t raised_again m two queued-raised
-                (came-changed t (device.delivered t oldest) m one (queued-delivered t oldest) first);
+                (came-changed t (device.queue_delivered t oldest) m one (queued-delivered t oldest) first);
             hand = λ hand same. cc same;
           };
       poll = λ m is. looks-kept p.settings t m 0 p.devices fits untaken timers came;
       packet = λ hand is.
-          let ds = changed (device.delivered t hand.came) hand.device p.devices in
+          let ds = changed (device.queue_delivered t hand.came) hand.device p.devices in
           looks-kept p.settings t hand.device (hand.given + 1) ds fits
-          (λ n single. at-kept taken_in (device.delivered t hand.came) hand.device n p.devices (λ d. refl) ∙ untaken n single)
+          (λ n single. at-kept taken_in (device.queue_delivered t hand.came) hand.device n p.devices (λ d. refl) ∙ untaken n single)
           (lates-delivered t t hand.came hand.device p.devices timers)
-          (came-changed t (device.delivered t hand.came) hand.device p.devices (queued-delivered t hand.came) came);
+          (came-changed t (device.queue_delivered t hand.came) hand.device p.devices (queued-delivered t hand.came) came);
     }
 
-came-later : (t u : ℕ) (ds : Devices) → t ≤ u → Came t ds → Came u ds
+came-later : (t u : ℕ) (ds : QueueViews) → t ≤ u → Came t ds → Came u ds
 came-later t u ds less all n = weaker (λ x. x ≤ t) (λ x. x ≤ u) (queued (at n ds)) (λ x below. omega (arith, below, less)) (all n)
 
-served-later : (s : Settings) (t u : ℕ) (items : List ℕ) → t ≤ u → Served s t items → Served s u items
+served-later : (s : MachineSettings) (t u : ℕ) (items : List ℕ) → t ≤ u → Served s t items → Served s u items
 served-later s t u items less all fair =
-    weaker (λ x. held (x + s.packet) ≤ t) (λ x. held (x + s.packet) ≤ u) items (λ x below. omega (arith, below, less)) (all fair)
+    weaker (λ x. saturated (x + s.packet) ≤ t) (λ x. saturated (x + s.packet) ≤ u) items (λ x below. omega (arith, below, less)) (all fair)
 
-left-later : (s : Settings) (t u : ℕ) (o : Option Rest) → t ≤ u → Left s t o → Left s u o
+left-later : (s : MachineSettings) (t u : ℕ) (o : Option Rest) → t ≤ u → Left s t o → Left s u o
 left-later s t u o less left fair rest is =
-    let first : held (rest.came + use_cost s) ≤ held (t + rest.left) = left fair rest is in omega (arith, first, less)
+    let first : saturated (rest.came + use_cost s) ≤ saturated (t + rest.left) = left fair rest is in omega (arith, first, less)
 
 -- a packet that is delivered at that time may be put into the socket
-served-fed : (s : Settings) (t came : ℕ) (a : ApplicationView) → (IsFair s → held (came + s.packet) ≤ t) → Served s t a.socket.items
+served-fed : (s : MachineSettings) (t came : ℕ) (a : ApplicationView) → (IsFair s → saturated (came + s.packet) ≤ t)
+    → Served s t a.socket.items
     → Served s t (fed t came s a).socket.items
 served-fed s t came a first all fair =
     let here : s.apart ≡ false = single (is_polling s) s.apart fair in
-    subst (λ (b : ApplicationView). AllByRecursion (λ x. held (x + s.packet) ≤ t) b.socket.items) (sym (fed-here s t came a here))
+    subst (λ (b : ApplicationView). AllByRecursion (λ x. saturated (x + s.packet) ≤ t) b.socket.items) (sym (fed-here s t came a here))
     (by (has_place a))
   where
     single : (b c : Bool) → (b && not c) ≡ true → c ≡ false
@@ -342,8 +347,8 @@ served-fed s t came a first all fair =
     single true true is = cc is
     single false c is = cc is
 
-    by : (room : Bool) → AllByRecursion (λ x. held (x + s.packet) ≤ t) (if room then put came a else refuses a).socket.items
-    by true = both (λ x. held (x + s.packet) ≤ t) a.socket.items (came ∷ []) (all fair) (first fair, tt)
+    by : (room : Bool) → AllByRecursion (λ x. saturated (x + s.packet) ≤ t) (if room then put came a else refuses a).socket.items
+    by true = both (λ x. saturated (x + s.packet) ≤ t) a.socket.items (came ∷ []) (all fair) (first fair, tt)
     by false = all fair
 
 polling-of : (b c : Bool) → (b && not c) ≡ true → b ≡ true
@@ -354,8 +359,9 @@ same-delivery : (x y : ℕ × ℕ) → Some x ≡ Some y → x.1 ≡ y.1
 same-delivery x y is = let same : x ≡ y = cc is in ap (λ (z : ℕ × ℕ). z.1) same
 
 -- with polling only a packet in hand is delivered
-pub hand-delivery : (s : Settings) (t : ℕ) (w : Work) (p : ProcessorView) (m came : ℕ) → is_polling p.settings ≡ true
-    → ((hand : InHand) → w ≡ Packet hand → held (hand.came + s.packet) ≤ t) → delivery_of w p ≡ Some (m, came) → held (came + s.packet) ≤ t
+pub hand-delivery : (s : MachineSettings) (t : ℕ) (w : Work) (p : ProcessorView) (m came : ℕ) → is_polling p.settings ≡ true
+    → ((hand : InHand) → w ≡ Packet hand → saturated (hand.came + s.packet) ≤ t) → delivery_of w p ≡ Some (m, came)
+    → saturated (came + s.packet) ≤ t
 hand-delivery s t Nothing p m came polling hands is = cc is
 hand-delivery s t (Interrupt n) p m came polling hands is = cc (rw polling at is)
 hand-delivery s t (Poll n) p m came polling hands is = cc is
@@ -363,7 +369,7 @@ hand-delivery s t (Packet hand) p m came polling hands is =
     omega (arith, hands hand refl, same-delivery (hand.device, hand.came) (m, came) is)
 hand-delivery s t (Use other) p m came polling hands is = cc is
 
-ready-ended : (s : Settings) (t : ℕ) (p : ProcessorView) → Timed s t p → is_busy p.work ≡ true → AllLate p.ends p.devices
+ready-ended : (s : MachineSettings) (t : ℕ) (p : ProcessorView) → Timed s t p → is_busy p.work ≡ true → AllLate p.ends p.devices
     → ((n : ℕ) → IsPlain p.settings n p.devices) → Ready s p.ends (ends_current p)
 ready-ended s t p h busy late plain =
     let u = p.ends in
@@ -376,10 +382,10 @@ ready-ended s t p h busy late plain =
     feeds (λ gives used a. Served s u a.socket.items) p (record {
       none = served-later s t u p.application.socket.items e.1 h.socket;
       gives = λ m came is.
-          subst (λ (x : Settings). Served s u (fed u came x p.application).socket.items) (sym h.settings)
+          subst (λ (x : MachineSettings). Served s u (fed u came x p.application).socket.items) (sym h.settings)
           (served-fed s u came p.application
           (λ fair. hand-delivery s u p.work p m came
-          (ap (λ (x : Settings). is_polling x) h.settings ∙ polling-of (is_polling s) s.apart fair)
+          (ap (λ (x : MachineSettings). is_polling x) h.settings ∙ polling-of (is_polling s) s.apart fair)
           h.hand is)
           (served-later s t u p.application.socket.items e.1 h.socket));
       uses = λ came is. served-later s t u p.application.socket.items e.1 h.socket;
@@ -388,8 +394,8 @@ ready-ended s t p h busy late plain =
     record {
       busy = λ yes.
           let hand = o.kind yes in
-          let ends : q.ends ≡ held (u + s.packet) =
-          o.ends hand.0 hand.1 ∙ ap (λ (x : Settings). held (u + x.packet)) h.settings in
+          let ends : q.ends ≡ saturated (u + s.packet) =
+          o.ends hand.0 hand.1 ∙ ap (λ (x : MachineSettings). saturated (u + x.packet)) h.settings in
           record {
             settings = settings;
             clock = omega (arith, o.clock);
@@ -421,7 +427,7 @@ ready-ended s t p h busy late plain =
 -- ---- what disturbs
 
 -- the same at a later time, before which nothing happens
-timed-later : (s : Settings) (t u : ℕ) (p : ProcessorView) → Timed s t p → t ≤ u → NotBefore u p → Timed s u p
+timed-later : (s : MachineSettings) (t u : ℕ) (p : ProcessorView) → Timed s t p → t ≤ u → NotBefore u p → Timed s u p
 timed-later s t u p h less before = record {
   settings = h.settings;
   clock = omega (arith, h.clock, less);
@@ -436,10 +442,10 @@ timed-later s t u p h less before = record {
   rest = left-later s t u p.rest less h.rest;
 }
 
-ready-timed : (s : Settings) (t : ℕ) (p : ProcessorView) → Timed s t p → is_busy p.work ≡ true → Ready s t p
+ready-timed : (s : MachineSettings) (t : ℕ) (p : ProcessorView) → Timed s t p → is_busy p.work ≡ true → Ready s t p
 ready-timed s t p h busy = record { busy = λ yes. h; idle = λ idle. absurd (cc (busy, idle)) }
 
-ready-aside : (s : Settings) (t : ℕ) (w : Work) (p : ProcessorView) → p.work ≡ w → t < 2 ^ 64 → Timed s t p → is_busy p.work ≡ true
+ready-aside : (s : MachineSettings) (t : ℕ) (w : Work) (p : ProcessorView) → p.work ≡ w → t < 2 ^ 64 → Timed s t p → is_busy p.work ≡ true
     → Ready s t (set_aside t w p)
 ready-aside s t Nothing p is fits h busy = ready-timed s t p h busy
 ready-aside s t (Interrupt n) p is fits h busy = ready-timed s t p h busy
@@ -467,21 +473,22 @@ ready-aside s t (Use came) p is fits h busy =
     made : Rest
     made = record { came = came; left = p.ends - t }
 
-    by : (rest : Rest) → made ≡ rest → held (came + use_cost s) ≤ p.ends → t ≤ p.ends → held (rest.came + use_cost s) ≤ held (t + rest.left)
+    by : (rest : Rest) → made ≡ rest → saturated (came + use_cost s) ≤ p.ends → t ≤ p.ends
+        → saturated (rest.came + use_cost s) ≤ saturated (t + rest.left)
     by rest same using less =
         let first : came ≡ rest.came = ap (λ (x : Rest). x.came) same in
         let left : p.ends - t ≡ rest.left = ap (λ (x : Rest). x.left) same in
         omega (arith, first, left, using, less)
 
-ready-stirred : (s : Settings) (t : ℕ) (p : ProcessorView) → t < 2 ^ 64 → Timed s t p → Ready s t (stirred t p)
+ready-stirred : (s : MachineSettings) (t : ℕ) (p : ProcessorView) → t < 2 ^ 64 → Timed s t p → Ready s t (stirred t p)
 ready-stirred s t p fits h =
     let asked = is_some (position asks_at p.devices) in
-    let counts = record p.counts { interrupt_time = held (p.counts.interrupt_time + p.settings.wake) } in
-    let wake : p.settings.wake ≡ s.wake = ap (λ (x : Settings). x.wake) h.settings in
+    let counts = record p.counts { interrupt_time = saturated (p.counts.interrupt_time + p.settings.wake) } in
+    let wake : p.settings.wake ≡ s.wake = ap (λ (x : MachineSettings). x.wake) h.settings in
     either (Ready s t) (is_busy p.work) (if asked then set_aside t p.work p else p) (woken t asked p)
     (λ busy. either (Ready s t) asked (set_aside t p.work p) p (λ yes. ready-aside s t p.work p refl fits h busy)
     (λ no. ready-timed s t p h busy))
-    (λ idle. either (Ready s t) asked (record p { clock = held (t + p.settings.wake); counts = counts }) (record p { clock = t })
+    (λ idle. either (Ready s t) asked (record p { clock = saturated (t + p.settings.wake); counts = counts }) (record p { clock = t })
     (λ yes. record {
       busy = λ busy. absurd (cc (idle, busy));
       idle = λ same. record {
@@ -515,7 +522,7 @@ ready-stirred s t p fits h =
       };
     }))
 
-timed-disturbed : (s : Settings) (t : ℕ) (p : ProcessorView) → t < 2 ^ 64 → Goes s p → Timed s t p → Timed s t (disturbed t p)
+timed-disturbed : (s : MachineSettings) (t : ℕ) (p : ProcessorView) → t < 2 ^ 64 → Goes s p → Timed s t p → Timed s t (disturbed t p)
 unfolding disturbed
 timed-disturbed s t p fits goes h = timed-takes s t (stirred t p) (work-stirred s t p goes) (ready-stirred s t p fits h)
 
@@ -535,8 +542,8 @@ clock-interrupt : (c n : ℕ) (p : ProcessorView) → Clocked c p → Clocked c 
 unfolding interrupts
 clock-interrupt c n p h =
     let polling = is_polling p.settings in
-    let counts = if is_fired_at (at n p.devices) then record p.counts { timers = held (p.counts.timers + 1) }
-    else record p.counts { interrupts = held (p.counts.interrupts + 1) } in
+    let counts = if is_fired_at (at n p.devices) then record p.counts { timers = saturated (p.counts.timers + 1) }
+    else record p.counts { interrupts = saturated (p.counts.interrupts + 1) } in
     let q : ProcessorView = record p { devices = changed (interrupted polling) n p.devices; counts = counts } in
     record { clock = (clock-scheduled c polling n q (record { clock = h.clock })).clock }
 
@@ -558,29 +565,29 @@ clock-walk c = record {
   stays = λ p free h still settled. h;
 }
 
-pub clock-takes : (s : Settings) (p : ProcessorView) → Goes s p → (takes_up p).clock ≡ p.clock
+pub clock-takes : (s : MachineSettings) (p : ProcessorView) → Goes s p → (takes_up p).clock ≡ p.clock
 clock-takes s p goes =
     (walk-any (Clocked p.clock) (Clocked p.clock) (clock-walk p.clock) p (goes-unasked s p goes) (λ busy. record { clock = refl })
     (λ idle. record { clock = refl })).clock
 
-clock-aside : (s : Settings) (t : ℕ) (w : Work) (p : ProcessorView) → p.work ≡ w → Timed s t p → p.clock ≤ (set_aside t w p).clock
+clock-aside : (s : MachineSettings) (t : ℕ) (w : Work) (p : ProcessorView) → p.work ≡ w → Timed s t p → p.clock ≤ (set_aside t w p).clock
 clock-aside s t Nothing p is h = omega arith
 clock-aside s t (Interrupt n) p is h = omega arith
 clock-aside s t (Poll n) p is h = omega arith
 clock-aside s t (Packet hand) p is h = omega arith
 clock-aside s t (Use came) p is h = h.low came is
 
-clock-stirred : (s : Settings) (t : ℕ) (p : ProcessorView) → t < 2 ^ 64 → Timed s t p → p.clock ≤ (stirred t p).clock
+clock-stirred : (s : MachineSettings) (t : ℕ) (p : ProcessorView) → t < 2 ^ 64 → Timed s t p → p.clock ≤ (stirred t p).clock
 clock-stirred s t p fits h =
     let asked = is_some (position asks_at p.devices) in
-    let counts = record p.counts { interrupt_time = held (p.counts.interrupt_time + p.settings.wake) } in
+    let counts = record p.counts { interrupt_time = saturated (p.counts.interrupt_time + p.settings.wake) } in
     either (λ q. p.clock ≤ q.clock) (is_busy p.work) (if asked then set_aside t p.work p else p) (woken t asked p)
     (λ busy. either (λ q. p.clock ≤ q.clock) asked (set_aside t p.work p) p (λ yes. clock-aside s t p.work p refl h) (λ no. omega arith))
-    (λ idle. either (λ q. p.clock ≤ q.clock) asked (record p { clock = held (t + p.settings.wake); counts = counts })
+    (λ idle. either (λ q. p.clock ≤ q.clock) asked (record p { clock = saturated (t + p.settings.wake); counts = counts })
     (record p { clock = t })
     (λ yes. let low : p.clock ≤ t = h.idle idle in omega (arith, low, fits)) (λ no. h.idle idle))
 
-clock-disturbed : (s : Settings) (t : ℕ) (p : ProcessorView) → t < 2 ^ 64 → Goes s p → Timed s t p → p.clock ≤ (disturbed t p).clock
+clock-disturbed : (s : MachineSettings) (t : ℕ) (p : ProcessorView) → t < 2 ^ 64 → Goes s p → Timed s t p → p.clock ≤ (disturbed t p).clock
 unfolding disturbed
 clock-disturbed s t p fits goes h =
     omega (arith, clock-takes s (stirred t p) (work-stirred s t p goes), clock-stirred s t p fits h)
@@ -593,17 +600,17 @@ time_by upcomings.Ends p t = p.ends
 time_by (Expires timer) p t = timer.at
 
 -- when the last event was
-unfoldable pub now : Settings → List Event → ℕ
+unfoldable pub now : MachineSettings → List MachineEvent → ℕ
 now s [] = 0
 now s (packet moment number ∷ earlier) = moment
 now s (next ∷ earlier) = time_by (upcoming (behind s earlier)) (behind s earlier) (now s earlier)
 
-pub record Rises (s : Settings) (t u : ℕ) (p q : ProcessorView) : Type 0 where
+pub record Rises (s : MachineSettings) (t u : ℕ) (p q : ProcessorView) : Type 0 where
   pub time : t ≤ u
   pub timed : Timed s u q
   pub clock : p.clock ≤ q.clock
 
-pub rises-happens : (s : Settings) (t until : ℕ) (u : Upcoming) (p : ProcessorView) → until < 2 ^ 64 → Goes s p
+pub rises-happens : (s : MachineSettings) (t until : ℕ) (u : Upcoming) (p : ProcessorView) → until < 2 ^ 64 → Goes s p
     → ((n : ℕ) → IsPlain p.settings n p.devices) → Timed s t p → NextBy u p → LateUp t u → is_by until u p ≡ true
     → Rises s t (time_by u p t) p (happens u p) × (time_by u p t ≤ until)
 rises-happens s t until Never p fits goes plain h by late due = cc due
@@ -643,7 +650,7 @@ rises-happens s t until (Expires timer) p fits goes plain h by late due =
       below,
     )
 
-late-arrived : (s : Settings) (moment n m : ℕ) (p : ProcessorView) → moment < 2 ^ 64 → Late moment (timer_in (at m p.devices))
+late-arrived : (s : MachineSettings) (moment n m : ℕ) (p : ProcessorView) → moment < 2 ^ 64 → Late moment (timer_in (at m p.devices))
     → Late moment (timer_in (at m (changed (after_packet moment p.settings) n (with_device p.settings.ring n p.devices))))
 unfolding made_at
 late-arrived s moment n m p fits late =
@@ -653,11 +660,11 @@ late-arrived s moment n m p fits late =
     (late-made moment p.settings.ring (at m p.devices) late))
     (λ other. late)
   where
-    late-made : (t capacity : ℕ) (o : Option DeviceView) → Late t (timer_in o) → Late t (timer_of (made_at capacity o).phase)
+    late-made : (t capacity : ℕ) (o : Option QueueView) → Late t (timer_in o) → Late t (timer_of (made_at capacity o).phase)
     late-made t capacity None before = tt
     late-made t capacity (Some d) before = before
 
-pub rises-arrives : (s : Settings) (t moment n : ℕ) (p : ProcessorView) → moment < 2 ^ 64 → Goes s p → Timed s t p → t ≤ moment
+pub rises-arrives : (s : MachineSettings) (t moment n : ℕ) (p : ProcessorView) → moment < 2 ^ 64 → Goes s p → Timed s t p → t ≤ moment
     → is_due moment p ≡ false → Rises s t moment p (arrives moment n p)
 unfolding arrives
 rises-arrives s t moment n p fits goes h less none =
@@ -710,14 +717,14 @@ rises-arrives s t moment n p fits goes h less none =
     clock-more false low = low refl
 
 -- what holds at the time of the last event
-pub record Since (s : Settings) (until : ℕ) (events : List Event) : Type 0 where
+pub record Since (s : MachineSettings) (until : ℕ) (events : List MachineEvent) : Type 0 where
   pub timed : Timed s (now s events) (behind s events)
   pub within : now s events ≤ until
 
-pub plains : (s : Settings) (events : List Event) → (n : ℕ) → IsPlain (behind s events).settings n (behind s events).devices
+pub plains : (s : MachineSettings) (events : List MachineEvent) → (n : ℕ) → IsPlain (behind s events).settings n (behind s events).devices
 plains s events n = plain-of s n (behind s events) (goes-on s events).rests.settings (plain-on s n events)
 
-opened-timed : (s : Settings) → Timed s 0 (behind s [])
+opened-timed : (s : MachineSettings) → Timed s 0 (behind s [])
 unfolding behind queued
 opened-timed s = record {
   settings = refl;
@@ -733,7 +740,7 @@ opened-timed s = record {
   rest = λ fair rest is. cc is;
 }
 
-pub since : (s : Settings) (until : ℕ) (events : List Event) → until < 2 ^ 64 → InTurn s until events → Since s until events
+pub since : (s : MachineSettings) (until : ℕ) (events : List MachineEvent) → until < 2 ^ 64 → InTurn s until events → Since s until events
 unfolding behind InTurn step now
 since s until [] fits turns = record { timed = opened-timed s; within = omega arith }
 since s until (packet moment n ∷ earlier) fits turns =
@@ -751,7 +758,8 @@ since s until (next ∷ earlier) fits turns =
     (next-late (now s earlier) p before.timed.timers) turns.0 in
     record { timed = r.0.timed; within = r.1 }
 
-pub rises : (s : Settings) (until : ℕ) (event : Event) (earlier : List Event) → until < 2 ^ 64 → InTurn s until (event ∷ earlier)
+pub rises : (s : MachineSettings) (until : ℕ) (event : MachineEvent) (earlier : List MachineEvent) → until < 2 ^ 64
+    → InTurn s until (event ∷ earlier)
     → (behind s earlier).clock ≤ (behind s (event ∷ earlier)).clock
 unfolding behind InTurn step
 rises s until (packet moment n) earlier fits turns =

@@ -3,21 +3,23 @@ use Rattle.std.proofs.Common.{◌≡◌, ℕ, zero, suc, ◌+◌, ◌<◌, ◌�
 use Rattle.std.proofs.Common.{arith}
 use Rattle.std.proofs.lemmas.{Bool.{leb-true, leb-false}}
 use Rattle.std.specs.{Option.{option_map, option_map_or}, Prelude.{◌==◌, ◌&&◌, ◌||◌, if◌then◌else◌, nat_le, not, length}}
-use Rattle.{machine_words.specs.declared.settings.Settings.Settings, device_places.specs.Places.{at, changed}}
+use Rattle.{machine_words.specs.declared.settings.MachineSettings.MachineSettings, device_places.specs.Places.{at, changed}}
 use Rattle.machine_model.specs.declared.devices.Timer.{Timer}
 use Rattle.machine_model.specs.declared.device.Phase.{Phase}
 use Rattle.machine_model.specs.declared.device.Phase.TheVariants.{Quiet, Coalescing, Raised, Scheduled, Deferred, Fired}
 use Rattle.machine_model.specs.declared.processor.Upcoming.{Upcoming, TheVariants.{Never, Ends, Expires}}
-use Rattle.machine_model.specs.Device.{DeviceView, after_packet, coalesced, completed, expired, has_room, interrupted, is_fired, notified}
-use Rattle.machine_model.specs.Device.{polled, raised_again}
-use Rattle.machine_model.specs.{Device.{spliced, timer_of, without_next}, Devices.{Devices, soonest_from, sooner, timer_at}, Waits.held}
+use Rattle.machine_model.specs.Device.{QueueView, after_packet, coalesced, queue_completed, expired, has_room, interrupted, is_fired}
+use Rattle.machine_model.specs.Device.{notified}
+use Rattle.machine_model.specs.Device.{queue_polled, raised_again}
+use Rattle.machine_model.specs.{Device.{spliced, timer_of, without_next}, Devices.{QueueViews, soonest_from, sooner, timer_at}}
+use Rattle.machine_model.specs.{Waits.saturated}
 use Rattle.machine_model.specs.Processor.{ProcessorView, is_busy, is_by, is_due, upcoming}
 use Rattle.machine_laws.proofs.{TableFacts.{at-either, map_at}, FateFacts.packet-by}
 use Rattle.machine_model.specs.Device as device
 
 -- ---- a timer that isn't before a time
 
-abbrev pub timer_in : Option DeviceView → Option ℕ
+abbrev pub timer_in : Option QueueView → Option ℕ
 timer_in None = None
 timer_in (Some d) = timer_of d.phase
 
@@ -25,7 +27,7 @@ abbrev pub Late : ℕ → Option ℕ → Type 0
 Late m None = Unit {0}
 Late m (Some t) = m ≤ t
 
-abbrev pub AllLate : ℕ → Devices → Type 0
+abbrev pub AllLate : ℕ → QueueViews → Type 0
 AllLate m ds = (n : ℕ) → Late m (timer_in (at n ds))
 
 pub late-less : (l m : ℕ) (o : Option ℕ) → l ≤ m → Late m o → Late l o
@@ -61,12 +63,12 @@ soon-own k None (Some u) = tt
 soon-own k (Some t) None = omega arith
 soon-own k (Some t) (Some u) = soon-own-if (nat_le t u.at) (record { at = t; device = k }) u refl
 
-pub timer-same : (k : ℕ) (place : Option DeviceView) → timer_at k place
+pub timer-same : (k : ℕ) (place : Option QueueView) → timer_at k place
     ≡ option_map (λ (at : ℕ). record { at = at; device = k }) (timer_in place)
 timer-same k None = refl
 timer-same k (Some d) = refl
 
-soonest : (k n : ℕ) (ds : Devices) → SoonBy (soonest_from k ds) (timer_in (at n ds))
+soonest : (k n : ℕ) (ds : QueueViews) → SoonBy (soonest_from k ds) (timer_in (at n ds))
 unfolding soonest_from
 soonest k n [] = tt
 soonest k zero (place ∷ more) =
@@ -132,63 +134,63 @@ late-if : (m : ℕ) (b : Bool) (x y : Phase) → Late m (timer_of x) → Late m 
 late-if m true x y first second = first
 late-if m false x y first second = second
 
-late-device : (m : ℕ) (b : Bool) (x y : DeviceView) → Late m (timer_of x.phase) → Late m (timer_of y.phase)
+late-device : (m : ℕ) (b : Bool) (x y : QueueView) → Late m (timer_of x.phase) → Late m (timer_of y.phase)
     → Late m (timer_of (if b then x else y).phase)
 late-device m true x y first second = first
 late-device m false x y first second = second
 
 -- a change of one device
-late-changed : (m : ℕ) (f : DeviceView → DeviceView) (k : ℕ) (ds : Devices)
-    → ((d : DeviceView) → Late m (timer_of d.phase) → Late m (timer_of (f d).phase)) → AllLate m ds → AllLate m (changed f k ds)
+late-changed : (m : ℕ) (f : QueueView → QueueView) (k : ℕ) (ds : QueueViews)
+    → ((d : QueueView) → Late m (timer_of d.phase) → Late m (timer_of (f d).phase)) → AllLate m ds → AllLate m (changed f k ds)
 unfolding map_at
 late-changed m f k ds keeps all n =
     at-either (λ b o. Late m (timer_in o)) f k n ds (λ here. by (at n ds) (all n)) (λ other. all n)
   where
-    by : (o : Option DeviceView) → Late m (timer_in o) → Late m (timer_in (map_at f o))
+    by : (o : Option QueueView) → Late m (timer_in o) → Late m (timer_in (map_at f o))
     by None late = tt
     by (Some d) late = keeps d late
 
-late-interrupted : (m : ℕ) (polling : Bool) (d : DeviceView) → Late m (timer_of (interrupted polling d).phase)
+late-interrupted : (m : ℕ) (polling : Bool) (d : QueueView) → Late m (timer_of (interrupted polling d).phase)
 unfolding interrupted
 late-interrupted m polling d =
-    let counts = record d.counts { interrupts = held (d.counts.interrupts + 1) } in
+    let counts = record d.counts { interrupts = saturated (d.counts.interrupts + 1) } in
     late-device m (is_fired d.phase) (record d { phase = Scheduled })
     (record d { phase = if polling then Scheduled else Quiet; frames = 0; counts = counts }) tt
     (late-if m polling Scheduled Quiet tt tt)
 
-pub lates-interrupted : (m : ℕ) (polling : Bool) (k : ℕ) (ds : Devices) → AllLate m ds → AllLate m (changed (interrupted polling) k ds)
+pub lates-interrupted : (m : ℕ) (polling : Bool) (k : ℕ) (ds : QueueViews) → AllLate m ds → AllLate m (changed (interrupted polling) k ds)
 lates-interrupted m polling k ds all = late-changed m (interrupted polling) k ds (λ d late. late-interrupted m polling d) all
 
-pub lates-raised : (m k : ℕ) (ds : Devices) → AllLate m ds → AllLate m (changed raised_again k ds)
+pub lates-raised : (m k : ℕ) (ds : QueueViews) → AllLate m ds → AllLate m (changed raised_again k ds)
 lates-raised m k ds all = late-changed m raised_again k ds (λ d late. late-if m (length d.ring == 0) d.phase Raised late tt) all
 
-pub lates-delivered : (m now came k : ℕ) (ds : Devices) → AllLate m ds → AllLate m (changed (device.delivered now came) k ds)
-lates-delivered m now came k ds all = late-changed m (device.delivered now came) k ds (λ d late. late) all
+pub lates-delivered : (m now came k : ℕ) (ds : QueueViews) → AllLate m ds → AllLate m (changed (device.queue_delivered now came) k ds)
+lates-delivered m now came k ds all = late-changed m (device.queue_delivered now came) k ds (λ d late. late) all
 
-late-next : (m : ℕ) (backlog : Bool) (d : DeviceView) → Late m (timer_of d.phase) → Late m (timer_of (without_next backlog d).phase)
+late-next : (m : ℕ) (backlog : Bool) (d : QueueView) → Late m (timer_of d.phase) → Late m (timer_of (without_next backlog d).phase)
 late-next m true d late =
     late-device m (length d.taken == 0) (record d { ring = []; taken = d.ring }) d late late
 late-next m false d late = late
 
-pub lates-next : (m : ℕ) (backlog : Bool) (k : ℕ) (ds : Devices) → AllLate m ds → AllLate m (changed (without_next backlog) k ds)
+pub lates-next : (m : ℕ) (backlog : Bool) (k : ℕ) (ds : QueueViews) → AllLate m ds → AllLate m (changed (without_next backlog) k ds)
 lates-next m backlog k ds all = late-changed m (without_next backlog) k ds (late-next m backlog) all
 
-late-polled : (m now given : ℕ) (s : Settings) (d : DeviceView) → m ≤ now → now < 2 ^ 64 → Late m (timer_of d.phase)
-    → Late m (timer_of (polled now given s d).phase)
-unfolding polled completed
+late-polled : (m now given : ℕ) (s : MachineSettings) (d : QueueView) → m ≤ now → now < 2 ^ 64 → Late m (timer_of d.phase)
+    → Late m (timer_of (queue_polled now given s d).phase)
+unfolding queue_polled queue_completed
 late-polled m now given s d less fits late =
-    let e : DeviceView = record d { counts = record d.counts { polls = held (d.counts.polls + 1) } } in
+    let e : QueueView = record d { counts = record d.counts { polls = saturated (d.counts.polls + 1) } } in
     let deferrals = if given == 0 then e.deferrals else s.defer_hard_irqs in
-    late-device m (given == s.weight) e (completed now given s e) late
-    (late-if m (not (deferrals == 0) && not (s.gro_flush_timeout == 0)) (Deferred (held (now + s.gro_flush_timeout))) Quiet
+    late-device m (given == s.weight) e (queue_completed now given s e) late
+    (late-if m (not (deferrals == 0) && not (s.gro_flush_timeout == 0)) (Deferred (saturated (now + s.gro_flush_timeout))) Quiet
     (omega (arith, less, fits)) tt)
 
-pub lates-polled : (m now given : ℕ) (s : Settings) (k : ℕ) (ds : Devices) → m ≤ now → now < 2 ^ 64 → AllLate m ds
-    → AllLate m (changed (polled now given s) k ds)
-lates-polled m now given s k ds less fits all = late-changed m (polled now given s) k ds
+pub lates-polled : (m now given : ℕ) (s : MachineSettings) (k : ℕ) (ds : QueueViews) → m ≤ now → now < 2 ^ 64 → AllLate m ds
+    → AllLate m (changed (queue_polled now given s) k ds)
+lates-polled m now given s k ds less fits all = late-changed m (queue_polled now given s) k ds
     (λ d late. late-polled m now given s d less fits late) all
 
-late-expired : (m : ℕ) (phase : Phase) (d : DeviceView) → d.phase ≡ phase → Late m (timer_of (expired d).phase)
+late-expired : (m : ℕ) (phase : Phase) (d : QueueView) → d.phase ≡ phase → Late m (timer_of (expired d).phase)
 late-expired m Quiet d is = rw is tt
 late-expired m (Coalescing until) d is = rw is tt
 late-expired m Raised d is = rw is tt
@@ -196,7 +198,7 @@ late-expired m Scheduled d is = rw is tt
 late-expired m (Deferred until) d is = rw is tt
 late-expired m Fired d is = rw is tt
 
-pub lates-expired : (m k : ℕ) (ds : Devices) → AllLate m ds → AllLate m (changed expired k ds)
+pub lates-expired : (m k : ℕ) (ds : QueueViews) → AllLate m ds → AllLate m (changed expired k ds)
 lates-expired m k ds all = late-changed m expired k ds (λ d late. late-expired m d.phase d refl) all
 
 late-coalesced : (m until : ℕ) (phase : Phase) → m ≤ until → Late m (timer_of phase) → Late m (timer_of (coalesced until phase))
@@ -207,19 +209,19 @@ late-coalesced m until Scheduled less late = late
 late-coalesced m until (Deferred other) less late = late
 late-coalesced m until Fired less late = late
 
-pub late-packet : (m moment : ℕ) (s : Settings) (d : DeviceView) → m ≤ moment → moment < 2 ^ 64 → Late m (timer_of d.phase)
+pub late-packet : (m moment : ℕ) (s : MachineSettings) (d : QueueView) → m ≤ moment → moment < 2 ^ 64 → Late m (timer_of d.phase)
     → Late m (timer_of (after_packet moment s d).phase)
 unfolding notified
 late-packet m moment s d less fits late =
     packet-by (λ room e. Late m (timer_of e.phase)) moment s d (
       late,
       late,
-      late-if m (s.rx_nsecs == 0 || not (s.rx_frames == 0) && nat_le s.rx_frames (held (d.frames + 1))) Raised
-          (coalesced (held (moment + s.rx_nsecs)) d.phase) tt
-          (late-coalesced m (held (moment + s.rx_nsecs)) d.phase (omega (arith, less, fits)) late),
+      late-if m (s.rx_nsecs == 0 || not (s.rx_frames == 0) && nat_le s.rx_frames (saturated (d.frames + 1))) Raised
+          (coalesced (saturated (moment + s.rx_nsecs)) d.phase) tt
+          (late-coalesced m (saturated (moment + s.rx_nsecs)) d.phase (omega (arith, less, fits)) late),
     )
 
-pub lates-packet : (m moment : ℕ) (s : Settings) (k : ℕ) (ds : Devices) → m ≤ moment → moment < 2 ^ 64 → AllLate m ds
+pub lates-packet : (m moment : ℕ) (s : MachineSettings) (k : ℕ) (ds : QueueViews) → m ≤ moment → moment < 2 ^ 64 → AllLate m ds
     → AllLate m (changed (after_packet moment s) k ds)
 lates-packet m moment s k ds less fits all =
     late-changed m (after_packet moment s) k ds (λ d late. late-packet m moment s d less fits late) all
@@ -243,7 +245,7 @@ late-timer : (t k : ℕ) (o : Option ℕ) → Late t o → LateTimer t (option_m
 late-timer t k None late = tt
 late-timer t k (Some u) late = late
 
-late-soonest : (t k : ℕ) (ds : Devices) → AllLate t ds → LateTimer t (soonest_from k ds)
+late-soonest : (t k : ℕ) (ds : QueueViews) → AllLate t ds → LateTimer t (soonest_from k ds)
 unfolding soonest_from
 late-soonest t k [] all = tt
 late-soonest t k (place ∷ more) all =

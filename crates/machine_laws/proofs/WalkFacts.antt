@@ -2,13 +2,14 @@
 use Rattle.std.specs.Prelude.{◌==◌, ◌&&◌, if◌then◌else◌, is_some, not, position, slice_get}
 use Rattle.std.proofs.Common.{◌≡◌, ◌<◌, ℕ, arith, Bool, true, false, Option, Some, None, List, [], ◌∷◌, length, refl}
 use Rattle.std.{proofs.lemmas.{List.Quantifiers.position-Some, Grind.common_steps}, specs.Option.option_map_or}
-use Rattle.{device_places.{proofs.PlaceFacts.none-of, specs.Places.at}, machine_words.specs.declared.settings.Settings.Settings}
+use Rattle.{device_places.{proofs.PlaceFacts.none-of, specs.Places.at}}
+use Rattle.{machine_words.specs.declared.settings.MachineSettings.MachineSettings}
 use Rattle.machine_model.specs.declared.processor.Work.{Work}
 use Rattle.machine_model.specs.declared.processor.Work.TheVariants.{Nothing, Use}
 use Rattle.machine_model.specs.declared.processor.Rest.{Rest}
-use Rattle.machine_model.specs.declared.tasks.Task.{Task}
-use Rattle.machine_model.specs.declared.tasks.Task.TheVariants.{Application, Thread}
-use Rattle.machine_model.specs.{Devices.asks_at, Softirq.{SoftirqView, asked_in, begun, ended, next_of}, Tasks.{after_first, runnable}}
+use Rattle.machine_model.specs.declared.tasks.RunnableTask.{RunnableTask}
+use Rattle.machine_model.specs.declared.tasks.RunnableTask.TheVariants.{Application, Thread}
+use Rattle.machine_model.specs.{Devices.asks_at, Softirq.{SoftirqView, asked_in, begun, run_ended, run_next}, Tasks.{after_first, runnable}}
 use Rattle.machine_model.specs.Processor.{ProcessorView, begins, begins_run, ends_run, goes_on, interrupts, is_busy, is_late, is_polling}
 use Rattle.machine_model.specs.Processor.{leaves_softirq, polls, rests, runs, runs_first, takes_up, uses}
 
@@ -18,13 +19,13 @@ pub record Free (p : ProcessorView) : Type 0 where
   pub unasked : asked_in p.softirq.run ≡ None
 
 -- no task can run
-abbrev pub NoTask : List Task → List ℕ → Type 0
+abbrev pub NoTask : List RunnableTask → List ℕ → Type 0
 NoTask [] items = Unit {0}
 NoTask (Application ∷ more) items = items ≡ []
 NoTask (Thread number ∷ more) items = ⊥
 
 -- the application is the first task
-abbrev pub IsFirst : List Task → Type 0
+abbrev pub IsFirst : List RunnableTask → Type 0
 IsFirst [] = ⊥
 IsFirst (Application ∷ more) = Unit {0}
 IsFirst (Thread number ∷ more) = ⊥
@@ -39,7 +40,7 @@ pub record Still (p : ProcessorView) : Type 0 where
   pub tasks : p.settings.threaded ≡ true → NoTask p.tasks p.application.socket.items
 
 abbrev pub nexted : ProcessorView → ProcessorView
-nexted p = record p { softirq = next_of p.softirq }
+nexted p = record p { softirq = run_next p.softirq }
 
 abbrev pub started : ProcessorView → ProcessorView
 started p = record p { softirq = begun p.clock p.settings.budget p.settings.weight p.settings.window p.softirq }
@@ -51,20 +52,21 @@ polls_or other asked p = option_map_or (λ number. polls number p) asked other
 -- with threads, an idle application has been removed from the front of the tasks
 abbrev pub IsSettled : (ProcessorView → Type 0) → ProcessorView → Type 0
 IsSettled P p = p.settings.threaded ≡ true
-    → (before : List Task) × (p.tasks ≡ runnable (length p.application.socket.items == 0) before) × P (record p { tasks = before })
+    → (before : List RunnableTask) × (p.tasks ≡ runnable (length p.application.socket.items == 0) before) × P (record p { tasks = before })
 
 pub record Walk (P Q : ProcessorView → Type 0) : Type 0 where
   pub interrupt : (n : ℕ) (p : ProcessorView) → Free p → P p → asks_at (at n p.devices) ≡ true → Q (interrupts n p)
   pub next : (p : ProcessorView) → Free p → P p → P (nexted p)
-  pub asks : (n : ℕ) (p : ProcessorView) → P (nexted p) → asked_in (next_of p.softirq).run ≡ Some n → Q (polls n (nexted p))
+  pub asks : (n : ℕ) (p : ProcessorView) → P (nexted p) → asked_in (run_next p.softirq).run ≡ Some n → Q (polls n (nexted p))
   pub over : (late : Bool) (p : ProcessorView) → Free p → P p → P (ends_run late p)
   pub start : (p : ProcessorView) → P p → p.softirq.run ≡ None → is_polling p.settings ≡ true → not (length p.softirq.list == 0) ≡ true
       → P (started p)
   pub resume : (rest : Rest) (p : ProcessorView) → Free p → P p → p.rest ≡ Some rest
       → position asks_at p.devices ≡ None → Q (begins (Use rest.came) rest.left (record p { rest = None }))
-  pub settle : (tasks : List Task) (p : ProcessorView) → P p → tasks ≡ runnable (length p.application.socket.items == 0) p.tasks
+  pub settle : (tasks : List RunnableTask) (p : ProcessorView) → P p → tasks ≡ runnable (length p.application.socket.items == 0) p.tasks
       → P (record p { tasks = tasks })
-  pub thread : (n : ℕ) (more : List Task) (p : ProcessorView) → Free p → P p → p.settings.threaded ≡ true → p.tasks ≡ Thread n ∷ more
+  pub thread : (n : ℕ) (more : List RunnableTask) (p : ProcessorView) → Free p → P p → p.settings.threaded ≡ true
+      → p.tasks ≡ Thread n ∷ more
       → Q (polls n (record p { tasks = more }))
   pub uses : (came : ℕ) (more : List ℕ) (p : ProcessorView) → Free p → P p → p.rest ≡ None → p.application.socket.items ≡ came ∷ more
       → position asks_at p.devices ≡ None → (p.settings.apart ≡ true → IsFirst p.tasks) → Q (uses (came ∷ more) p)
@@ -75,7 +77,7 @@ either Q true x y first second = first refl
 either Q false x y first second = second refl
 
 pub run-ended : (late : Bool) (p : ProcessorView) → (ends_run late p).softirq.run ≡ None
-unfolding ends_run ended
+unfolding ends_run run_ended
 run-ended late p = refl
 
 -- ---- below the softirq
@@ -94,7 +96,8 @@ walk-uses : (P Q : ProcessorView → Type 0) → Walk P Q → (items : List ℕ)
 walk-uses P Q w [] p is free held none quiet first still settled = w.stays p free held (still is) settled
 walk-uses P Q w (came ∷ more) p is free held none quiet first still settled = w.uses came more p free held none is quiet first
 
-walk-tasks : (P Q : ProcessorView → Type 0) → Walk P Q → (tasks : List Task) (p : ProcessorView) → Out p → P (record p { tasks = tasks })
+walk-tasks : (P Q : ProcessorView → Type 0) → Walk P Q → (tasks : List RunnableTask) (p : ProcessorView) → Out p
+    → P (record p { tasks = tasks })
     → p.settings.threaded ≡ true → P p → tasks ≡ runnable (length p.application.socket.items == 0) p.tasks
     → Q (runs (slice_get tasks 0) (record p { tasks = after_first tasks }))
 walk-tasks P Q w [] p out held threaded before is =
@@ -164,9 +167,9 @@ walk-leaves P Q w None p is free held quiet idle list =
 
 -- ---- the softirq
 
-walk-asked : (P Q : ProcessorView → Type 0) → Walk P Q → (o : Option ℕ) (p other : ProcessorView) → asked_in (next_of p.softirq).run ≡ o
+walk-asked : (P Q : ProcessorView → Type 0) → Walk P Q → (o : Option ℕ) (p other : ProcessorView) → asked_in (run_next p.softirq).run ≡ o
     → P (nexted p)
-    → (asked_in (next_of p.softirq).run ≡ None → Q other) → Q (polls_or other o (nexted p))
+    → (asked_in (run_next p.softirq).run ≡ None → Q other) → Q (polls_or other o (nexted p))
 walk-asked P Q w (Some n) p other asked held rest = w.asks n p held asked
 walk-asked P Q w None p other asked held rest = rest asked
 
@@ -180,14 +183,14 @@ pub positive : (k : ℕ) → not (k == 0) ≡ true → 0 < k
 positive k is = grind (arith, common_steps)
 
 -- a run that begins over a list that isn't empty asks for a number
-begun-asks : (s : Settings) (list : List ℕ) (began clock : ℕ) → is_polling s ≡ true → not (length list == 0) ≡ true
+begun-asks : (s : MachineSettings) (list : List ℕ) (began clock : ℕ) → is_polling s ≡ true → not (length list == 0) ≡ true
     → let q : SoftirqView = record { list = list; run = None; began = began } in
-    asked_in (next_of (begun clock s.budget s.weight s.window q)).run ≡ None → ⊥
-unfolding next_of
+    asked_in (run_next (begun clock s.budget s.weight s.window q)).run ≡ None → ⊥
+unfolding run_next
 begun-asks s list began clock polling some none = grind (arith, common_steps, positive)
 
 asks-one : (p : ProcessorView) → p.softirq.run ≡ None → is_polling p.settings ≡ true → not (length p.softirq.list == 0) ≡ true
-    → asked_in (next_of (started p).softirq).run ≡ None → ⊥
+    → asked_in (run_next (started p).softirq).run ≡ None → ⊥
 asks-one p idle polling some none = begun-asks p.settings p.softirq.list p.softirq.began p.clock polling some none
 
 walk-begins : (P Q : ProcessorView → Type 0) → Walk P Q → (p : ProcessorView) → Free p → P p → p.softirq.run ≡ None
@@ -199,7 +202,7 @@ walk-begins P Q w p free held none polling some =
     let new : Free (started p) = record { nothing = free.nothing; unasked = refl } in
     let q = nexted (started p) in
     let second : P q = w.next (started p) new first in
-    walk-asked P Q w (asked_in (next_of (started p).softirq).run) (started p) q refl second
+    walk-asked P Q w (asked_in (run_next (started p).softirq).run) (started p) q refl second
     (λ asked. absurd (asks-one p none polling some asked))
 
 walk-rests : (P Q : ProcessorView → Type 0) → Walk P Q → (p : ProcessorView) → Free p → P p → p.softirq.run ≡ None
@@ -214,7 +217,7 @@ walk-rests P Q w p free held none quiet =
 
 walk-over : (P Q : ProcessorView → Type 0) → Walk P Q → (late : Bool) (p : ProcessorView) → Free p → P p
     → position asks_at p.devices ≡ None → Q (rests (ends_run late p))
-unfolding ends_run ended
+unfolding ends_run run_ended
 walk-over P Q w late p free held quiet =
     walk-rests P Q w (ends_run late p) (record { nothing = free.nothing; unasked = refl }) (w.over late p free held) refl quiet
 
@@ -223,9 +226,9 @@ walk-goes : (P Q : ProcessorView → Type 0) → Walk P Q → (p : ProcessorView
 unfolding goes_on
 walk-goes P Q w p free held quiet =
     let q = nexted p in
-    either Q (is_late p) (rests (ends_run true p)) (polls_or (rests (ends_run false q)) (asked_in (next_of p.softirq).run) q)
+    either Q (is_late p) (rests (ends_run true p)) (polls_or (rests (ends_run false q)) (asked_in (run_next p.softirq).run) q)
     (λ late. walk-over P Q w true p free held quiet)
-    (λ more. walk-asked P Q w (asked_in (next_of p.softirq).run) p (rests (ends_run false q)) refl (w.next p free held)
+    (λ more. walk-asked P Q w (asked_in (run_next p.softirq).run) p (rests (ends_run false q)) refl (w.next p free held)
     (λ none. walk-over P Q w false q (record { nothing = free.nothing; unasked = none }) (w.next p free held) quiet))
 
 walk-by : (P Q : ProcessorView → Type 0) → Walk P Q → (o : Option ℕ) (p : ProcessorView) → position asks_at p.devices ≡ o → Free p → P p

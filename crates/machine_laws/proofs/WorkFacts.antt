@@ -6,81 +6,82 @@ use Rattle.std.proofs.Common.{◌≡◌, ◌∙◌, ℕ, ◌+◌, ◌<◌, ◌�
 use Rattle.std.proofs.Common.{arith}
 use Rattle.poll_runs.specs.declared.bench.Next.TheVariants.{Gone, Repoll}
 use Rattle.poll_runs.specs.declared.bench.Once.{Once}
-use Rattle.machine_words.specs.declared.settings.Settings.{Settings}
+use Rattle.machine_words.specs.declared.settings.MachineSettings.{MachineSettings}
 use Rattle.device_places.specs.Places.{at, changed}
-use Rattle.machine_laws.specs.Lives.{Event, behind, next, packet}
+use Rattle.machine_laws.specs.Lives.{MachineEvent, behind, next, packet}
 use Rattle.machine_laws.specs.Times.{WorksWithin}
 use Rattle.machine_model.specs.declared.processor.Work.{Work}
 use Rattle.machine_model.specs.declared.processor.Work.TheVariants.{Nothing, Interrupt, Poll, Packet, Use}
-use Rattle.machine_model.specs.declared.tasks.Task.{Task}
-use Rattle.machine_model.specs.declared.tasks.Task.TheVariants.{Application, Thread}
+use Rattle.machine_model.specs.declared.tasks.RunnableTask.{RunnableTask}
+use Rattle.machine_model.specs.declared.tasks.RunnableTask.TheVariants.{Application, Thread}
 use Rattle.machine_model.specs.declared.processor.{Upcoming.{Upcoming, TheVariants.{Never, Ends, Expires}}}
-use Rattle.machine_model.specs.Kept.{given_by, polled_by}
-use Rattle.machine_model.specs.Softirq.{RunView, SoftirqView, asked_in, ended, next_of, polled_once, polled_run, pushed}
+use Rattle.machine_model.specs.Kept.{work_given, polled_by}
+use Rattle.machine_model.specs.Softirq.{RunView, SoftirqView, asked_in, run_ended, run_next, softirq_polled, polled_run, pushed}
 use Rattle.machine_model.specs.Tasks.{is_application, runnable, with_application}
 use Rattle.machine_model.specs.Application.{has_place}
 use Rattle.machine_model.specs.Devices.{next_packet_at, with_device, has_room_at}
 use Rattle.machine_model.specs.Device.{after_packet, expired, without_next}
 use Rattle.machine_model.specs.Processor.{ProcessorView, arrives, begins, delivers, delivers_oldest, disturbed, ends_by, ends_current}
 use Rattle.machine_model.specs.Processor.{ends_interrupt, ends_poll}
-use Rattle.machine_model.specs.Processor.{ends_run, happens, interrupts, is_busy, is_polling, looks, polls, scheduled, set_aside, spent}
+use Rattle.machine_model.specs.Processor.{ends_run, happens, interrupts, is_busy, is_polling, poll_looks, polls, scheduled, set_aside}
+use Rattle.machine_model.specs.Processor.{spent}
 use Rattle.machine_model.specs.Processor.{step, takes_up}
 use Rattle.machine_model.specs.Processor.{upcoming, woken}
-use Rattle.{circular_buffer.specs.Buffer.buffer, machine_model.specs.{Application.used, Waits.held}}
-use Rattle.machine_model.specs.{Device.{interrupted, polled, raised_again}, Devices.{asks_at, is_fired_at}}
+use Rattle.{circular_buffer.specs.Buffer.buffer, machine_model.specs.{Application.used, Waits.saturated}}
+use Rattle.machine_model.specs.{Device.{interrupted, queue_polled, raised_again}, Devices.{asks_at, is_fired_at}}
 use Rattle.std.{specs.{Prelude.position, Option.option_map_or}, proofs.Common.{◌-◌, ap, subst}}
 use Rattle.std.proofs.lemmas.Bool.{ltb-true}
 use Rattle.machine_laws.proofs.WalkFacts.{Free, Walk, either, nexted, started, walk-any}
 
 -- the invariant of a run with these settings
-pub record Runs (s : Settings) (r : RunView) : Type 0 where
+pub record Runs (s : MachineSettings) (r : RunView) : Type 0 where
   pub budget : r.budget ≡ s.budget
   pub work : r.work < s.budget + s.weight
   pub asked : is_some r.asked ≡ true → r.work < s.budget
 
-abbrev pub RunsIn : Settings → Option RunView → Type 0
+abbrev pub RunsIn : MachineSettings → Option RunView → Type 0
 RunsIn s None = Unit {0}
 RunsIn s (Some r) = Runs s r
 
-abbrev pub all_applications : List Task → Type 0
+abbrev pub all_applications : List RunnableTask → Type 0
 all_applications tasks = AllByRecursion (λ task. is_application task ≡ true) tasks
 
 -- the settings stay; only polling without threads fills the poll list, and only polling with threads makes threads runnable
-pub record Rests (s : Settings) (p : ProcessorView) : Type 0 where
+pub record Rests (s : MachineSettings) (p : ProcessorView) : Type 0 where
   pub settings : p.settings ≡ s
   pub run : RunsIn s p.softirq.run
   pub soft : (is_polling s && not s.threaded) ≡ false → (p.softirq.list ≡ []) × (p.softirq.run ≡ None)
   pub threads : (is_polling s && s.threaded) ≡ false → all_applications p.tasks
 
 -- what is polled is asked for by the run, if there are no threads
-pub record Goes (s : Settings) (p : ProcessorView) : Type 0 where
+pub record Goes (s : MachineSettings) (p : ProcessorView) : Type 0 where
   pub rests : Rests s p
   pub asked : asked_in p.softirq.run ≡ (if s.threaded then None else polled_by p.work)
   pub polled : is_polling s ≡ false → polled_by p.work ≡ None
-  pub given : given_by p.work < s.weight
+  pub given : work_given p.work < s.weight
 
 -- ---- the parts
 
-next-runs : (s : Settings) (list : List ℕ) (run : Option RunView) (began : ℕ) → asked_in run ≡ None → RunsIn s run
-    → RunsIn s (next_of (record { list = list; run = run; began = began })).run
-unfolding next_of
+next-runs : (s : MachineSettings) (list : List ℕ) (run : Option RunView) (began : ℕ) → asked_in run ≡ None → RunsIn s run
+    → RunsIn s (run_next (record { list = list; run = run; began = began })).run
+unfolding run_next
 next-runs s list run began none held = grind (arith, common_steps)
 
-runs-next : (s : Settings) (q : SoftirqView) → asked_in q.run ≡ None → RunsIn s q.run → RunsIn s (next_of q).run
-unfolding next_of
+runs-next : (s : MachineSettings) (q : SoftirqView) → asked_in q.run ≡ None → RunsIn s q.run → RunsIn s (run_next q).run
+unfolding run_next
 runs-next s q none held = next-runs s q.list q.run q.began none held
 
 -- with an empty list and no run, there is none after that
-next-none : (q : SoftirqView) → (q.list ≡ []) × (q.run ≡ None) → ((next_of q).list ≡ []) × ((next_of q).run ≡ None)
-unfolding next_of
+next-none : (q : SoftirqView) → (q.list ≡ []) × (q.run ≡ None) → ((run_next q).list ≡ []) × ((run_next q).run ≡ None)
+unfolding run_next
 next-none q none = by q.run none.1
   where
     by : (run : Option RunView) → run ≡ None → let r : SoftirqView = record { list = q.list; run = run; began = q.began } in
-        ((next_of r).list ≡ []) × ((next_of r).run ≡ None)
+        ((run_next r).list ≡ []) × ((run_next r).run ≡ None)
     by None is = (none.0, refl)
     by (Some r) is = cc is
 
-runs-told : (s : Settings) (run : Option RunView) (once : Once) (n : ℕ) → asked_in run ≡ Some n → once.work ≤ s.weight → RunsIn s run
+runs-told : (s : MachineSettings) (run : Option RunView) (once : Once) (n : ℕ) → asked_in run ≡ Some n → once.work ≤ s.weight → RunsIn s run
     → RunsIn s (option_map (polled_run once) run)
 runs-told s run once n asked few held = grind (arith, common_steps)
 
@@ -92,17 +93,17 @@ told-none : (run : Option RunView) (once : Once) → run ≡ None → option_map
 told-none None once is = refl
 told-none (Some r) once is = cc is
 
-all-append : (xs ys : List Task) → all_applications xs → all_applications ys → all_applications (xs ++ ys)
+all-append : (xs ys : List RunnableTask) → all_applications xs → all_applications ys → all_applications (xs ++ ys)
 all-append [] ys first second = second
 all-append (x ∷ xs) ys first second = (first.0, all-append xs ys first.1 second)
 
-all-runnable : (idle : Bool) (tasks : List Task) → all_applications tasks → all_applications (runnable idle tasks)
+all-runnable : (idle : Bool) (tasks : List RunnableTask) → all_applications tasks → all_applications (runnable idle tasks)
 all-runnable true [] all = tt
 all-runnable true (Application ∷ more) all = all.1
 all-runnable true (Thread n ∷ more) all = all
 all-runnable false tasks all = all
 
-pub all-with : (tasks : List Task) → all_applications tasks → all_applications (with_application tasks)
+pub all-with : (tasks : List RunnableTask) → all_applications tasks → all_applications (with_application tasks)
 unfolding with_application
 all-with tasks all = grind (arith, common_steps, all-append)
 
@@ -110,15 +111,15 @@ none-asked : (run : Option RunView) → run ≡ None → asked_in run ≡ None
 none-asked None is = refl
 none-asked (Some r) is = cc is
 
-run-gone : (q : SoftirqView) → (ended q).run ≡ None
-unfolding ended
+run-gone : (q : SoftirqView) → (run_ended q).run ≡ None
+unfolding run_ended
 run-gone q = refl
 
 empty-list : (list : List ℕ) → list ≡ [] → not (length list == 0) ≡ true → ⊥
 empty-list [] is some = cc some
 empty-list (x ∷ xs) is some = cc is
 
-all-if : (b : Bool) (tasks : List Task) → all_applications tasks → all_applications (if b then with_application tasks else tasks)
+all-if : (b : Bool) (tasks : List RunnableTask) → all_applications tasks → all_applications (if b then with_application tasks else tasks)
 all-if true tasks all = all-with tasks all
 all-if false tasks all = all
 
@@ -163,18 +164,18 @@ thread-none : (a b : Bool) → a ≡ false → (a && b) ≡ false
 thread-none false b is = refl
 thread-none true b is = cc is
 
-fits : (s : Settings) → 0 < s.weight
+fits : (s : MachineSettings) → 0 < s.weight
 fits s = omega (arith, s.weight_in.0)
 
-same-threaded : (s : Settings) (p : ProcessorView) → p.settings ≡ s → p.settings.threaded ≡ s.threaded
-same-threaded s p is = ap (λ (x : Settings). x.threaded) is
+same-threaded : (s : MachineSettings) (p : ProcessorView) → p.settings ≡ s → p.settings.threaded ≡ s.threaded
+same-threaded s p is = ap (λ (x : MachineSettings). x.threaded) is
 
-same-polling : (s : Settings) (p : ProcessorView) → p.settings ≡ s → is_polling p.settings ≡ is_polling s
-same-polling s p is = ap (λ (x : Settings). is_polling x) is
+same-polling : (s : MachineSettings) (p : ProcessorView) → p.settings ≡ s → is_polling p.settings ≡ is_polling s
+same-polling s p is = ap (λ (x : MachineSettings). is_polling x) is
 
-goes-begins : (s : Settings) (work : Work) (time : ℕ) (p : ProcessorView) → Rests s p
+goes-begins : (s : MachineSettings) (work : Work) (time : ℕ) (p : ProcessorView) → Rests s p
     → asked_in p.softirq.run ≡ (if s.threaded then None else polled_by work)
-    → (is_polling s ≡ false → polled_by work ≡ None) → given_by work < s.weight → Goes s (begins work time p)
+    → (is_polling s ≡ false → polled_by work ≡ None) → work_given work < s.weight → Goes s (begins work time p)
 goes-begins s work time p h asked polled given = record {
   rests = record { settings = h.settings; run = h.run; soft = h.soft; threads = h.threads };
   asked = asked;
@@ -183,11 +184,11 @@ goes-begins s work time p h asked polled given = record {
 }
 
 -- no work is in progress, and the run asks for nothing
-pub record Clear (s : Settings) (p : ProcessorView) : Type 0 where
+pub record Clear (s : MachineSettings) (p : ProcessorView) : Type 0 where
   pub rests : Rests s p
   pub unasked : asked_in p.softirq.run ≡ None
 
-work-scheduled : (s : Settings) (n : ℕ) (p : ProcessorView) → is_polling s ≡ true → Clear s p → Clear s (scheduled n p)
+work-scheduled : (s : MachineSettings) (n : ℕ) (p : ProcessorView) → is_polling s ≡ true → Clear s p → Clear s (scheduled n p)
 work-scheduled s n p polling c =
     let h = c.rests in
     either (Clear s) p.settings.threaded (record p { tasks = p.tasks ++ Thread n ∷ [] }) (record p { softirq = pushed n p.softirq })
@@ -210,13 +211,13 @@ work-scheduled s n p polling c =
       unasked = c.unasked;
     })
 
-work-interrupt : (s : Settings) (n : ℕ) (p : ProcessorView) → Free p → Rests s p → Goes s (interrupts n p)
+work-interrupt : (s : MachineSettings) (n : ℕ) (p : ProcessorView) → Free p → Rests s p → Goes s (interrupts n p)
 unfolding interrupts
 work-interrupt s n p free h =
     let polling = is_polling p.settings in
     let time = if polling then p.settings.interrupt else p.settings.interrupt + p.settings.packet in
-    let counts = if is_fired_at (at n p.devices) then record p.counts { timers = held (p.counts.timers + 1) }
-    else record p.counts { interrupts = held (p.counts.interrupts + 1) } in
+    let counts = if is_fired_at (at n p.devices) then record p.counts { timers = saturated (p.counts.timers + 1) }
+    else record p.counts { interrupts = saturated (p.counts.interrupts + 1) } in
     let q : ProcessorView = record p { devices = changed (interrupted polling) n p.devices; counts = counts } in
     let clear : Clear s q = record {
       rests = record { settings = h.settings; run = h.run; soft = h.soft; threads = h.threads };
@@ -228,7 +229,7 @@ work-interrupt s n p free h =
     goes-begins s (Interrupt n) time (if polling then scheduled n q else q) c.rests
     (asked-idle s.threaded (asked_in (if polling then scheduled n q else q).softirq.run) c.unasked) (λ no. refl) (fits s)
 
-work-next : (s : Settings) (p : ProcessorView) → Free p → Rests s p → Rests s (nexted p)
+work-next : (s : MachineSettings) (p : ProcessorView) → Free p → Rests s p → Rests s (nexted p)
 work-next s p free h = record {
   settings = h.settings;
   run = runs-next s p.softirq free.unasked h.run;
@@ -236,24 +237,24 @@ work-next s p free h = record {
   threads = h.threads;
 }
 
-work-asks : (s : Settings) (n : ℕ) (p : ProcessorView) → Rests s (nexted p) → asked_in (next_of p.softirq).run ≡ Some n
+work-asks : (s : MachineSettings) (n : ℕ) (p : ProcessorView) → Rests s (nexted p) → asked_in (run_next p.softirq).run ≡ Some n
     → Goes s (polls n (nexted p))
 work-asks s n p h asked =
-    let unasked : (is_polling s && not s.threaded) ≡ false → ⊥ = λ no. cc (none-asked (next_of p.softirq).run (h.soft no).1, asked) in
+    let unasked : (is_polling s && not s.threaded) ≡ false → ⊥ = λ no. cc (none-asked (run_next p.softirq).run (h.soft no).1, asked) in
     goes-begins s (Poll n) p.settings.poll (nexted p) h
-    (asked-soft s.threaded (asked_in (next_of p.softirq).run) (Some n) asked
+    (asked-soft s.threaded (asked_in (run_next p.softirq).run) (Some n) asked
     (λ t. unasked (soft-threads (is_polling s) s.threaded t)))
     (λ no. absurd (unasked (soft-none (is_polling s) s.threaded no))) (fits s)
 
-ended-none : (q : SoftirqView) → (q.list ≡ []) × (q.run ≡ None) → (ended q).list ≡ []
-unfolding ended
+ended-none : (q : SoftirqView) → (q.list ≡ []) × (q.run ≡ None) → (run_ended q).list ≡ []
+unfolding run_ended
 ended-none q none = by q.run none.1
   where
-    by : (run : Option RunView) → run ≡ None → (ended (record { list = q.list; run = run; began = q.began })).list ≡ []
+    by : (run : Option RunView) → run ≡ None → (run_ended (record { list = q.list; run = run; began = q.began })).list ≡ []
     by None is = none.0
     by (Some r) is = cc is
 
-work-over : (s : Settings) (late : Bool) (p : ProcessorView) → Rests s p → Rests s (ends_run late p)
+work-over : (s : MachineSettings) (late : Bool) (p : ProcessorView) → Rests s p → Rests s (ends_run late p)
 unfolding ends_run
 work-over s late p h = record {
   settings = h.settings;
@@ -262,11 +263,11 @@ work-over s late p h = record {
   threads = h.threads;
 }
 
-work-start : (s : Settings) (p : ProcessorView) → Rests s p → not (length p.softirq.list == 0) ≡ true → Rests s (started p)
+work-start : (s : MachineSettings) (p : ProcessorView) → Rests s p → not (length p.softirq.list == 0) ≡ true → Rests s (started p)
 work-start s p h some = record {
   settings = h.settings;
   run = record {
-    budget = ap (λ (x : Settings). x.budget) h.settings;
+    budget = ap (λ (x : MachineSettings). x.budget) h.settings;
     work = omega (arith, s.weight_in.0);
     asked = λ asked. cc asked;
   };
@@ -274,7 +275,8 @@ work-start s p h some = record {
   threads = h.threads;
 }
 
-work-settle : (s : Settings) (tasks : List Task) (idle : Bool) (p : ProcessorView) → Rests s p → tasks ≡ runnable idle p.tasks
+work-settle : (s : MachineSettings) (tasks : List RunnableTask) (idle : Bool) (p : ProcessorView) → Rests s p
+    → tasks ≡ runnable idle p.tasks
     → Rests s (record p { tasks = tasks })
 work-settle s tasks idle p h is = record {
   settings = h.settings;
@@ -283,7 +285,7 @@ work-settle s tasks idle p h is = record {
   threads = λ no. rw is (all-runnable idle p.tasks (h.threads no));
 }
 
-work-thread : (s : Settings) (n : ℕ) (more : List Task) (p : ProcessorView) → Free p → Rests s p → p.settings.threaded ≡ true
+work-thread : (s : MachineSettings) (n : ℕ) (more : List RunnableTask) (p : ProcessorView) → Free p → Rests s p → p.settings.threaded ≡ true
     → p.tasks ≡ Thread n ∷ more → Goes s (polls n (record p { tasks = more }))
 work-thread s n more p free h threaded is =
     let t : s.threaded ≡ true = sym (same-threaded s p h.settings) ∙ threaded in
@@ -293,7 +295,7 @@ work-thread s n more p free h threaded is =
     (asked-thread s.threaded (asked_in p.softirq.run) (Some n) free.unasked t)
     (λ no. cc ((both (thread-none (is_polling s) s.threaded no)).0)) (fits s)
 
-pub work-walk : (s : Settings) → Walk (Rests s) (Goes s)
+pub work-walk : (s : MachineSettings) → Walk (Rests s) (Goes s)
 work-walk s = record {
   interrupt = λ n p free h asks. work-interrupt s n p free h;
   next = λ p free h. work-next s p free h;
@@ -321,7 +323,7 @@ work-walk s = record {
 
 -- ---- what ends
 
-work-delivers : (s : Settings) (n came : ℕ) (p : ProcessorView) → Rests s p → Rests s (delivers n came p)
+work-delivers : (s : MachineSettings) (n came : ℕ) (p : ProcessorView) → Rests s p → Rests s (delivers n came p)
 unfolding delivers
 work-delivers s n came p h = record {
   settings = h.settings;
@@ -331,7 +333,7 @@ work-delivers s n came p h = record {
 }
 
 -- a poll ends
-goes-ended : (s : Settings) (p : ProcessorView) → p.work ≡ Nothing → Clear s p → Goes s p
+goes-ended : (s : MachineSettings) (p : ProcessorView) → p.work ≡ Nothing → Clear s p → Goes s p
 goes-ended s p nothing c = record {
   rests = c.rests;
   asked = rw nothing (asked-idle s.threaded (asked_in p.softirq.run) c.unasked);
@@ -347,17 +349,17 @@ run-asked : (b : Bool) (x : Option ℕ) (n : ℕ) → x ≡ (if b then None else
 run-asked true x n is t = cc t
 run-asked false x n is t = is
 
-work-polled : (s : Settings) (n given : ℕ) (p : ProcessorView) → Rests s p
+work-polled : (s : MachineSettings) (n given : ℕ) (p : ProcessorView) → Rests s p
     → asked_in p.softirq.run ≡ (if s.threaded then None else Some n) → is_polling s ≡ true → given ≤ s.weight
     → p.work ≡ Nothing → Goes s (ends_poll n given p)
-unfolding ends_poll polled_once
+unfolding ends_poll softirq_polled
 work-polled s n given p h asked polling few nothing =
     let full = given == p.settings.weight in
-    let counts = record p.counts { polls = held (p.counts.polls + 1); work = held (p.counts.work + given) } in
-    let q : ProcessorView = record p { devices = changed (polled p.clock given p.settings) n p.devices; counts = counts } in
+    let counts = record p.counts { polls = saturated (p.counts.polls + 1); work = saturated (p.counts.work + given) } in
+    let q : ProcessorView = record p { devices = changed (queue_polled p.clock given p.settings) n p.devices; counts = counts } in
     let once : Once = record { work = given; next = if full then Repoll else Gone } in
     either (Goes s) p.settings.threaded (record q { tasks = if full then Thread n ∷ q.tasks else q.tasks })
-    (record q { softirq = polled_once once q.softirq })
+    (record q { softirq = softirq_polled once q.softirq })
     (λ t.
     let threaded : s.threaded ≡ true = sym (same-threaded s p h.settings) ∙ t in
     goes-ended s (record q { tasks = if full then Thread n ∷ q.tasks else q.tasks }) nothing (record {
@@ -371,7 +373,7 @@ work-polled s n given p h asked polling few nothing =
     }))
     (λ t.
     let single : s.threaded ≡ false = sym (same-threaded s p h.settings) ∙ t in
-    goes-ended s (record q { softirq = polled_once once q.softirq }) nothing (record {
+    goes-ended s (record q { softirq = softirq_polled once q.softirq }) nothing (record {
       rests = record {
         settings = h.settings;
         run = runs-told s p.softirq.run once n (run-asked s.threaded (asked_in p.softirq.run) n asked single) few h.run;
@@ -389,8 +391,8 @@ pub looks-by : (Q : ProcessorView → Type 0) (n given : ℕ) (p : ProcessorView
     → (next_packet_at p.settings.backlog (at n p.devices) ≡ None
     → Q (ends_poll n given (record p { devices = changed (without_next p.settings.backlog) n p.devices })))
     → (nat_lt given p.settings.weight ≡ false → Q (ends_poll n given p))
-    → Q (looks n given p)
-unfolding looks
+    → Q (poll_looks n given p)
+unfolding poll_looks
 looks-by Q n given p some none full =
     let q : ProcessorView = record p { devices = changed (without_next p.settings.backlog) n p.devices } in
     let looked = λ (came : ℕ). begins (Packet (record { device = n; came = came; given = given })) p.settings.packet q in
@@ -407,27 +409,28 @@ looks-by Q n given p some none full =
     by None less is = none is
     by (Some came) less is = some came is less
 
-work-looks : (s : Settings) (n given : ℕ) (p : ProcessorView) → Rests s p
+work-looks : (s : MachineSettings) (n given : ℕ) (p : ProcessorView) → Rests s p
     → asked_in p.softirq.run ≡ (if s.threaded then None else Some n) → is_polling s ≡ true → given ≤ s.weight
-    → p.work ≡ Nothing → Goes s (looks n given p)
+    → p.work ≡ Nothing → Goes s (poll_looks n given p)
 work-looks s n given p h asked polling few nothing =
     let q : ProcessorView = record p { devices = changed (without_next p.settings.backlog) n p.devices } in
     let rests : Rests s q = record { settings = h.settings; run = h.run; soft = h.soft; threads = h.threads } in
-    let weight : p.settings.weight ≡ s.weight = ap (λ (x : Settings). x.weight) h.settings in
+    let weight : p.settings.weight ≡ s.weight = ap (λ (x : MachineSettings). x.weight) h.settings in
     looks-by (Goes s) n given p
     (λ came is less.
     goes-begins s (Packet (record { device = n; came = came; given = given })) p.settings.packet q rests asked
     (λ no. cc (no, polling)) (omega (arith, ltb-true given p.settings.weight less, weight)))
     (λ none. work-polled s n given q rests asked polling few nothing) (λ full. work-polled s n given p h asked polling few nothing)
 
-polls-polling : (s : Settings) (o : Option ℕ) (n : ℕ) → (is_polling s ≡ false → o ≡ None) → o ≡ Some n → is_polling s ≡ true
+polls-polling : (s : MachineSettings) (o : Option ℕ) (n : ℕ) → (is_polling s ≡ false → o ≡ None) → o ≡ Some n → is_polling s ≡ true
 polls-polling s o n not-polled is = by (is_polling s) refl
   where
     by : (b : Bool) → is_polling s ≡ b → is_polling s ≡ true
     by true same = same
     by false same = cc (not-polled same, is)
 
-lone-goes : (s : Settings) (n came : ℕ) (p : ProcessorView) → Rests s (delivers n came p) → p.work ≡ Nothing → asked_in p.softirq.run ≡ None
+lone-goes : (s : MachineSettings) (n came : ℕ) (p : ProcessorView) → Rests s (delivers n came p) → p.work ≡ Nothing
+    → asked_in p.softirq.run ≡ None
     → let q = delivers n came p in Goes s (record q { devices = changed raised_again n q.devices })
 unfolding delivers
 lone-goes s n came p d nothing unasked =
@@ -437,16 +440,16 @@ lone-goes s n came p d nothing unasked =
       unasked = unasked;
     })
 
-packet-goes : (s : Settings) (n given came : ℕ) (p : ProcessorView) → Rests s p → p.work ≡ Nothing
+packet-goes : (s : MachineSettings) (n given came : ℕ) (p : ProcessorView) → Rests s p → p.work ≡ Nothing
     → asked_in p.softirq.run ≡ (if s.threaded then None else Some n) → is_polling s ≡ true → given ≤ s.weight
-    → Goes s (looks n given (delivers n came p))
+    → Goes s (poll_looks n given (delivers n came p))
 unfolding delivers
 packet-goes s n given came p h nothing asked polling few =
     work-looks s n given (delivers n came p) (work-delivers s n came p h) asked polling few nothing
 
-work-ends : (s : Settings) (work : Work) (p : ProcessorView) → Rests s p → p.work ≡ Nothing
+work-ends : (s : MachineSettings) (work : Work) (p : ProcessorView) → Rests s p → p.work ≡ Nothing
     → asked_in p.softirq.run ≡ (if s.threaded then None else polled_by work)
-    → (is_polling s ≡ false → polled_by work ≡ None) → given_by work < s.weight → Goes s (ends_by work p)
+    → (is_polling s ≡ false → polled_by work ≡ None) → work_given work < s.weight → Goes s (ends_by work p)
 unfolding ends_interrupt
 work-ends s Nothing p h nothing asked polled given = goes-ended s p nothing
     (record { rests = h; unasked = idle-asked s.threaded (asked_in p.softirq.run) asked })
@@ -477,7 +480,7 @@ work-ends s (Use came) p h nothing asked polled given =
       unasked = idle-asked s.threaded (asked_in p.softirq.run) asked;
     })
 
-pub work-ended : (s : Settings) (p : ProcessorView) → Goes s p → Goes s (ends_current p)
+pub work-ended : (s : MachineSettings) (p : ProcessorView) → Goes s p → Goes s (ends_current p)
 unfolding ends_current
 work-ended s p g =
     let h = g.rests in
@@ -487,15 +490,15 @@ work-ended s p g =
 idle-polled : (work : Work) → is_busy work ≡ false → polled_by work ≡ None
 idle-polled work idle = grind (arith, common_steps)
 
-pub goes-unasked : (s : Settings) (p : ProcessorView) → Goes s p → is_busy p.work ≡ false → asked_in p.softirq.run ≡ None
+pub goes-unasked : (s : MachineSettings) (p : ProcessorView) → Goes s p → is_busy p.work ≡ false → asked_in p.softirq.run ≡ None
 goes-unasked s p g idle = idle-asked s.threaded (asked_in p.softirq.run) (rw (idle-polled p.work idle) at g.asked)
 
-pub work-takes : (s : Settings) (p : ProcessorView) → Goes s p → Goes s (takes_up p)
+pub work-takes : (s : MachineSettings) (p : ProcessorView) → Goes s p → Goes s (takes_up p)
 work-takes s p g = walk-any (Rests s) (Goes s) (work-walk s) p (goes-unasked s p g) (λ busy. g) (λ idle. g.rests)
 
 -- ---- what disturbs
 
-aside : (s : Settings) (moment : ℕ) (work : Work) (p : ProcessorView) → p.work ≡ work → Goes s p → Goes s (set_aside moment work p)
+aside : (s : MachineSettings) (moment : ℕ) (work : Work) (p : ProcessorView) → p.work ≡ work → Goes s p → Goes s (set_aside moment work p)
 aside s moment Nothing p is g = g
 aside s moment (Interrupt n) p is g = g
 aside s moment (Poll n) p is g = g
@@ -509,7 +512,8 @@ aside s moment (Use came) p is g =
       given = fits s;
     }
 
-pub goes-devices : (s : Settings) (p q : ProcessorView) → Goes s p → q.settings ≡ p.settings → q.softirq ≡ p.softirq → q.tasks ≡ p.tasks
+pub goes-devices : (s : MachineSettings) (p q : ProcessorView) → Goes s p → q.settings ≡ p.settings → q.softirq ≡ p.softirq
+    → q.tasks ≡ p.tasks
     → q.work ≡ p.work → Goes s q
 goes-devices s p q g settings softirq tasks work =
     let h = g.rests in
@@ -531,30 +535,31 @@ stirred moment p =
     let asked = is_some (position asks_at p.devices) in
     if is_busy p.work then (if asked then set_aside moment p.work p else p) else woken moment asked p
 
-pub work-stirred : (s : Settings) (moment : ℕ) (p : ProcessorView) → Goes s p → Goes s (stirred moment p)
+pub work-stirred : (s : MachineSettings) (moment : ℕ) (p : ProcessorView) → Goes s p → Goes s (stirred moment p)
 work-stirred s moment p g =
     let asked = is_some (position asks_at p.devices) in
-    let counts = record p.counts { interrupt_time = held (p.counts.interrupt_time + p.settings.wake) } in
+    let counts = record p.counts { interrupt_time = saturated (p.counts.interrupt_time + p.settings.wake) } in
     either (Goes s) (is_busy p.work) (if asked then set_aside moment p.work p else p) (woken moment asked p)
     (λ busy. either (Goes s) asked (set_aside moment p.work p) p (λ yes. aside s moment p.work p refl g) (λ no. g))
-    (λ idle. either (Goes s) asked (record p { clock = held (moment + p.settings.wake); counts = counts }) (record p { clock = moment })
-    (λ yes. goes-devices s p (record p { clock = held (moment + p.settings.wake); counts = counts }) g refl refl refl refl)
+    (λ idle. either (Goes s) asked (record p { clock = saturated (moment + p.settings.wake); counts = counts })
+    (record p { clock = moment })
+    (λ yes. goes-devices s p (record p { clock = saturated (moment + p.settings.wake); counts = counts }) g refl refl refl refl)
     (λ no. goes-devices s p (record p { clock = moment }) g refl refl refl refl))
 
-pub work-disturbed : (s : Settings) (moment : ℕ) (p : ProcessorView) → Goes s p → Goes s (disturbed moment p)
+pub work-disturbed : (s : MachineSettings) (moment : ℕ) (p : ProcessorView) → Goes s p → Goes s (disturbed moment p)
 unfolding disturbed
 work-disturbed s moment p g = work-takes s (stirred moment p) (work-stirred s moment p g)
 
 -- ---- over a life
 
-pub work-happens : (s : Settings) (u : Upcoming) (p : ProcessorView) → Goes s p → Goes s (happens u p)
+pub work-happens : (s : MachineSettings) (u : Upcoming) (p : ProcessorView) → Goes s p → Goes s (happens u p)
 work-happens s Never p g = g
 work-happens s Ends p g = work-takes s (ends_current p) (work-ended s p g)
 work-happens s (Expires timer) p g =
     let q : ProcessorView = record p { devices = changed expired timer.device p.devices } in
     work-disturbed s timer.at q (goes-devices s p q g refl refl refl refl)
 
-work-arrives : (s : Settings) (moment n : ℕ) (p : ProcessorView) → Goes s p → Goes s (arrives moment n p)
+work-arrives : (s : MachineSettings) (moment n : ℕ) (p : ProcessorView) → Goes s p → Goes s (arrives moment n p)
 unfolding arrives
 work-arrives s moment n p g =
     let devices = with_device p.settings.ring n p.devices in
@@ -563,7 +568,7 @@ work-arrives s moment n p g =
     let h : Goes s q = goes-devices s p q g refl refl refl refl in
     either (Goes s) (has_room_at (at n devices)) (disturbed moment q) q (λ room. work-disturbed s moment q h) (λ full. h)
 
-pub goes-on : (s : Settings) (events : List Event) → Goes s (behind s events)
+pub goes-on : (s : MachineSettings) (events : List MachineEvent) → Goes s (behind s events)
 unfolding behind step
 goes-on s [] = record {
   rests = record { settings = refl; run = tt; soft = λ no. (refl, refl); threads = λ no. tt };
@@ -578,5 +583,5 @@ pub works-within : WorksWithin
 works-within s events = by (behind s events).softirq.run (goes-on s events).rests.run
   where
     by : (run : Option RunView) → RunsIn s run → IfSome run (λ r. r.work < s.budget + s.weight)
-    by None held = tt
-    by (Some r) held = held.work
+    by None saturated = tt
+    by (Some r) saturated = saturated.work

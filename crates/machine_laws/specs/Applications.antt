@@ -1,11 +1,11 @@
 -- An application on its own processor: a second machine, to which packets are delivered.
 use Rattle.std.specs.Prelude.{◌≡◌, ◌≤◌, ◌<◌, ℕ, ◌+◌, ◌-◌, ◌*◌, ◌^◌, Bool, true, false, List, [], ◌∷◌, ◌++◌, length, map, Option, Some, None}
 use Rattle.std.specs.Prelude.{if◌then◌else◌}
-use Rattle.machine_words.specs.declared.settings.Settings.{Settings}
-use Rattle.machine_laws.specs.{Lives.{Event, InTurn, behind, next, packet}, Fates.{counting, delivery}}
+use Rattle.machine_words.specs.declared.settings.MachineSettings.{MachineSettings}
+use Rattle.machine_laws.specs.{Lives.{MachineEvent, InTurn, behind, next, packet}, Fates.{counting, next_delivery}}
 use Rattle.machine_model.specs.declared.application.Activity.{Activity, TheVariants.{Asleep, Using}}
-use Rattle.machine_model.specs.{Waits.{held, no_waits}}
-use Rattle.machine_model.specs.Application.{ApplicationView, fed, goes_on, has_place, is_awake, is_over, opened_application, went_on}
+use Rattle.machine_model.specs.{Waits.{saturated, no_waits}}
+use Rattle.machine_model.specs.Application.{ApplicationView, fed, goes_on, has_place, is_awake, is_use_over, opened_application, went_on}
 
 -- ---- deliveries
 
@@ -14,51 +14,52 @@ with_delivery now None earlier = earlier
 with_delivery now (Some (number, came)) earlier = (now, came) ∷ earlier
 
 -- the deliveries of a processor, the last one first: when each was, and when its packet arrived
-unfoldable pub deliveries : Settings → List Event → List (ℕ × ℕ)
+unfoldable pub deliveries : MachineSettings → List MachineEvent → List (ℕ × ℕ)
 deliveries s [] = []
 deliveries s (packet moment number ∷ earlier) = deliveries s earlier
-deliveries s (next ∷ earlier) = let p = behind s earlier in with_delivery p.ends (delivery p) (deliveries s earlier)
+deliveries s (next ∷ earlier) = let p = behind s earlier in with_delivery p.ends (next_delivery p) (deliveries s earlier)
 
 -- a new application after these deliveries
-unfoldable pub fed_all : Settings → List (ℕ × ℕ) → ApplicationView
+unfoldable pub fed_all : MachineSettings → List (ℕ × ℕ) → ApplicationView
 fed_all s [] = opened_application s
 fed_all s ((now, came) ∷ earlier) = fed now came s (fed_all s earlier)
 
 -- Law: on its own processor the application depends only on the deliveries.
 abbrev pub ApplicationIsFed : Type 0
-ApplicationIsFed = (s : Settings) (events : List Event) → s.apart ≡ true → (behind s events).application ≡ fed_all s (deliveries s events)
+ApplicationIsFed = (s : MachineSettings) (events : List MachineEvent) → s.apart ≡ true
+    → (behind s events).application ≡ fed_all s (deliveries s events)
 
 -- ---- what it uses. Lists are in the order in which things happened.
 
 -- the packet that it is reading
-abbrev pub in_hand : Activity → List ℕ
-in_hand (Using came) = came ∷ []
-in_hand _ = []
+abbrev pub being_read : Activity → List ℕ
+being_read (Using came) = came ∷ []
+being_read _ = []
 
 -- the use under way: when its packet arrived, and when it ends
 abbrev pub use_of : ApplicationView → List (ℕ × ℕ)
-use_of a = map (λ came. (came, a.end)) (in_hand a.activity)
+use_of a = map (λ came. (came, a.end)) (being_read a.activity)
 
 -- the uses that end until a time, with at most these packets of the socket
 unfoldable pub ended_with : List ℕ → ℕ → ℕ → ApplicationView → List (ℕ × ℕ)
-ended_with [] moment use_time a = if is_over moment a then use_of a else []
+ended_with [] moment use_time a = if is_use_over moment a then use_of a else []
 ended_with (came ∷ more) moment use_time a =
-    if is_over moment a then use_of a ++ ended_with more moment use_time (goes_on use_time a) else []
+    if is_use_over moment a then use_of a ++ ended_with more moment use_time (goes_on use_time a) else []
 
 unfoldable pub ended_until : ℕ → ℕ → ApplicationView → List (ℕ × ℕ)
 ended_until moment use_time a = ended_with a.socket.items moment use_time a
 
 -- the uses that ended before the last delivery
-unfoldable pub used_all : Settings → List (ℕ × ℕ) → List (ℕ × ℕ)
+unfoldable pub used_all : MachineSettings → List (ℕ × ℕ) → List (ℕ × ℕ)
 used_all s [] = []
 used_all s ((now, came) ∷ earlier) = used_all s earlier ++ ended_until now s.use_time (fed_all s earlier)
 
 -- whether there is room in the socket for a delivered packet
-abbrev pub finds_place : ℕ → Settings → ApplicationView → Bool
+abbrev pub finds_place : ℕ → MachineSettings → ApplicationView → Bool
 finds_place now s a = has_place (went_on now s.use_time a)
 
 -- the packets for which there was room, and those that were dropped
-unfoldable pub placed_all : Bool → Settings → List (ℕ × ℕ) → List ℕ
+unfoldable pub placed_all : Bool → MachineSettings → List (ℕ × ℕ) → List ℕ
 placed_all room s [] = []
 placed_all true s ((now, came) ∷ earlier) =
     placed_all true s earlier ++ (if finds_place now s (fed_all s earlier) then came ∷ [] else [])
@@ -66,35 +67,35 @@ placed_all false s ((now, came) ∷ earlier) =
     placed_all false s earlier ++ (if finds_place now s (fed_all s earlier) then [] else came ∷ [])
 
 -- each of these uses begins at the end of the one before or later
-unfoldable pub Follows : ℕ → ℕ → List (ℕ × ℕ) → Type 0
-Follows use_time before [] = Unit {0}
-Follows use_time before ((came, end) ∷ more) = (held (before + use_time) ≤ end) × Follows use_time end more
+unfoldable pub UsesFollow : ℕ → ℕ → List (ℕ × ℕ) → Type 0
+UsesFollow use_time before [] = Unit {0}
+UsesFollow use_time before ((came, end) ∷ more) = (saturated (before + use_time) ≤ end) × UsesFollow use_time end more
 
 -- an application that took `placed`, dropped `turned_away` and has used `uses`
-pub record Serves (s : Settings) (placed turned_away : List ℕ) (uses : List (ℕ × ℕ)) (a : ApplicationView) : Type 0 where
+pub record Serves (s : MachineSettings) (placed turned_away : List ℕ) (uses : List (ℕ × ℕ)) (a : ApplicationView) : Type 0 where
   -- each packet for which there was room is used once and in order, or it is in hand or in the socket
-  pub order : placed ≡ map (λ (x : ℕ × ℕ). x.0) uses ++ (in_hand a.activity ++ a.socket.items)
+  pub order : placed ≡ map (λ (x : ℕ × ℕ). x.0) uses ++ (being_read a.activity ++ a.socket.items)
   -- the counts of dropped packets, and of the waits from arrival to the end of the use, are those of these packets
-  pub refused : a.refused ≡ held (length turned_away)
+  pub refused : a.refused ≡ saturated (length turned_away)
   pub waits : a.waits ≡ counting (map (λ (x : ℕ × ℕ). x.1 - x.0) uses) no_waits
   -- uses don't overlap
-  pub follows : Follows s.use_time 0 uses
+  pub follows : UsesFollow s.use_time 0 uses
   -- it sleeps only while the socket is empty
   pub sleeps : a.activity ≡ Asleep → a.socket.items ≡ []
   -- it was woken at most once for each packet that it used
   pub wakes : a.wakes ≤ length uses + (if is_awake a.activity then 1 else 0)
   -- the time of waking and using is at most its time: its idle time isn't negative
-  pub idle : a.end < 2 ^ 64 - 1 → a.wakes * s.app_wake + (length uses + length (in_hand a.activity)) * s.use_time ≤ a.end
+  pub idle : a.end < 2 ^ 64 - 1 → a.wakes * s.app_wake + (length uses + length (being_read a.activity)) * s.use_time ≤ a.end
 
 -- Law: so does the application, at any time.
 abbrev pub ApplicationServes : Type 0
-ApplicationServes = (s : Settings) (until : ℕ) (events : List Event) → until < 2 ^ 64 → InTurn s until events → s.apart ≡ true
+ApplicationServes = (s : MachineSettings) (until : ℕ) (events : List MachineEvent) → until < 2 ^ 64 → InTurn s until events → s.apart ≡ true
     → let ds = deliveries s events in
     Serves s (placed_all true s ds) (placed_all false s ds) (used_all s ds) (behind s events).application
 
 -- Law: after the end it sleeps, and all packets for which there was room were used.
 abbrev pub ApplicationEnds : Type 0
-ApplicationEnds = (s : Settings) (until : ℕ) (events : List Event) → until < 2 ^ 64 → InTurn s until events → s.apart ≡ true
+ApplicationEnds = (s : MachineSettings) (until : ℕ) (events : List MachineEvent) → until < 2 ^ 64 → InTurn s until events → s.apart ≡ true
     → let ds = deliveries s events in
     let a = (behind s events).application in
     let b = went_on (2 ^ 64 - 1) s.use_time a in
@@ -105,7 +106,7 @@ ApplicationEnds = (s : Settings) (until : ℕ) (events : List Event) → until <
 -- ---- the receiving side
 
 -- settings that differ at most in the application: in its socket, its use and the time to wake it
-abbrev pub changed_application : Settings → Settings → Settings
+abbrev pub changed_application : MachineSettings → MachineSettings → MachineSettings
 changed_application s t = record s {
   socket = t.socket;
   socket_in = t.socket_in;
@@ -118,6 +119,6 @@ changed_application s t = record s {
 -- Law: with any other application on its own processor, the rest of the receiving processor and the times of its events are the
 -- same.
 abbrev pub ReceivingIsApart : Type 0
-ReceivingIsApart = (s t : Settings) (events : List Event) → s.apart ≡ true → let u = changed_application s t in
+ReceivingIsApart = (s t : MachineSettings) (events : List MachineEvent) → s.apart ≡ true → let u = changed_application s t in
     (behind u events ≡ record (behind s events) { settings = u; application = (behind u events).application })
     × ((until : ℕ) → InTurn s until events → InTurn u until events)

@@ -1,8 +1,8 @@
 -- Laws of deferral.
 use Rattle.std.specs.Prelude.{◌≡◌, ◌≤◌, ◌<◌, ℕ, ◌+◌, ◌^◌, ◌==◌, ◌&&◌, max, not, is_some, true, false, Some, List, [], ◌∷◌, if◌then◌else◌}
-use Rattle.{machine_words.specs.declared.settings.Settings.Settings, device_places.specs.Places.at}
-use Rattle.machine_laws.specs.{Fates.finds_room, Lives.{Event, InTurn, behind, next, packet}}
-use Rattle.machine_model.specs.{Device.{DeviceView, next_packet}, declared.device.Phase.TheVariants.Deferred}
+use Rattle.{machine_words.specs.declared.settings.MachineSettings.MachineSettings, device_places.specs.Places.at}
+use Rattle.machine_laws.specs.{Fates.finds_room, Lives.{MachineEvent, InTurn, behind, next, packet}}
+use Rattle.machine_model.specs.{Device.{QueueView, next_packet}, declared.device.Phase.TheVariants.Deferred}
 use Rattle.machine_model.specs.{Devices.next_packet_at, Processor.{Advances, ProcessorView, is_polling, step, upcoming}}
 use Rattle.machine_model.specs.declared.processor.{Upcoming.{Upcoming, TheVariants.{Ends, Expires}}, Work.Work}
 use Rattle.machine_model.specs.declared.processor.Work.TheVariants.{Nothing, Packet, Poll}
@@ -19,7 +19,7 @@ emptied n Ends p count = emptied_by n p.work p count
 emptied n _ p count = count
 
 -- the empty polls of a device since its last packet arrived or was delivered
-unfoldable pub empty_polls : ℕ → Settings → List Event → ℕ
+unfoldable pub empty_polls : ℕ → MachineSettings → List MachineEvent → ℕ
 empty_polls n s [] = 0
 empty_polls n s (packet moment number ∷ earlier) =
     if number == n && finds_room n (behind s earlier) then 0 else empty_polls n s earlier
@@ -27,15 +27,15 @@ empty_polls n s (next ∷ earlier) = let p = behind s earlier in emptied n (upco
 
 -- Law: after its last packet at most `defer-hard-irqs` polls of a device are empty, or one if that is 0.
 abbrev pub EmptyPollsAreFew : Type 0
-EmptyPollsAreFew = (s : Settings) (n : ℕ) (events : List Event) → empty_polls n s events ≤ max 1 s.defer_hard_irqs
+EmptyPollsAreFew = (s : MachineSettings) (n : ℕ) (events : List MachineEvent) → empty_polls n s events ≤ max 1 s.defer_hard_irqs
 
 -- Law: with no further packets, the events on a processor end.
 abbrev pub EveryRunEnds : Type 0
-EveryRunEnds = (s : Settings) (until : ℕ) (events : List Event) → (q : ProcessorView) × Advances until (behind s events) q
+EveryRunEnds = (s : MachineSettings) (until : ℕ) (events : List MachineEvent) → (q : ProcessorView) × Advances until (behind s events) q
 
 -- Law: when a packet arrives for a device whose interrupt is deferred, its NAPI timer expires at most `gro-flush-timeout` later.
 abbrev pub TimersAreNear : Type 0
-TimersAreNear = (s : Settings) (moment : ℕ) (events : List Event) (n : ℕ) (d : DeviceView) (until : ℕ) → moment < 2 ^ 64
+TimersAreNear = (s : MachineSettings) (moment : ℕ) (events : List MachineEvent) (n : ℕ) (d : QueueView) (until : ℕ) → moment < 2 ^ 64
     → InTurn s moment events
     → at n (behind s events).devices ≡ Some d → d.phase ≡ Deferred until → until ≤ moment + s.gro_flush_timeout
 
@@ -44,7 +44,7 @@ TimersAreNear = (s : Settings) (moment : ℕ) (events : List Event) (n : ℕ) (d
 -- at most `wake`, `interrupt`, `poll` and `packet` later. With the previous law, it waited no longer than these and
 -- `gro-flush-timeout`.
 abbrev pub DeferralIsBounded : Type 0
-DeferralIsBounded = (s : Settings) (events : List Event) (n until came : ℕ) (d : DeviceView) → let p = behind s events in
+DeferralIsBounded = (s : MachineSettings) (events : List MachineEvent) (n until came : ℕ) (d : QueueView) → let p = behind s events in
     is_polling s ≡ true → s.threaded ≡ false → p.work ≡ Nothing → at n p.devices ≡ Some d → d.phase ≡ Deferred until
     → upcoming p ≡ Expires (record { at = until; device = n }) → next_packet s.backlog d ≡ Some came
     → upcoming (step p) ≡ Ends

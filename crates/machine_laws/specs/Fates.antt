@@ -1,22 +1,22 @@
 -- The fate of packets over a processor's life. Lists are in the order of the events.
 use Rattle.std.specs.Prelude.{◌≡◌, ℕ, ◌+◌, ◌-◌, ◌^◌, ◌==◌, ◌&&◌, not, Bool, true, false, List, [], ◌∷◌, ◌++◌, length, map}
 use Rattle.std.specs.Prelude.{Option, Some, None, if◌then◌else◌, option_map}
-use Rattle.{device_places.specs.Places.at, machine_words.specs.declared.settings.Settings.Settings}
-use Rattle.machine_laws.specs.Lives.{Event, InTurn, behind, next, packet}
-use Rattle.machine_model.specs.{Device.DeviceView, Devices.{has_room_at, next_packet_at, with_device}, Application.has_place}
-use Rattle.machine_model.specs.{Processor.{ProcessorView, is_due, is_polling, upcoming}, Waits.{WaitsView, counted, held, no_waits}}
-use Rattle.machine_model.specs.declared.{device.{DeviceCounts.DeviceCounts, TheConstants.DeviceCounts.NONE}}
+use Rattle.{device_places.specs.Places.at, machine_words.specs.declared.settings.MachineSettings.MachineSettings}
+use Rattle.machine_laws.specs.Lives.{MachineEvent, InTurn, behind, next, packet}
+use Rattle.machine_model.specs.{Device.QueueView, Devices.{has_room_at, next_packet_at, with_device}, Application.has_place}
+use Rattle.machine_model.specs.{Processor.{ProcessorView, is_due, is_polling, upcoming}, Waits.{WaitsView, counted, saturated, no_waits}}
+use Rattle.machine_model.specs.declared.{device.{QueueCounts.QueueCounts, TheConstants.QueueCounts.NONE}}
 use Rattle.machine_model.specs.declared.processor.{Work.Work, Rest.Rest, Upcoming.Upcoming}
 use Rattle.machine_model.specs.declared.processor.Work.TheVariants.{Nothing, Interrupt, Packet, Use}
 use Rattle.machine_model.specs.declared.processor.Upcoming.TheVariants.{Ends}
 
 -- ---- at a device
 
-abbrev pub ring_in : Option DeviceView → List ℕ
-ring_in None = []
-ring_in (Some d) = d.ring
+abbrev pub queue_ring : Option QueueView → List ℕ
+queue_ring None = []
+queue_ring (Some d) = d.ring
 
-abbrev pub taken_in : Option DeviceView → List ℕ
+abbrev pub taken_in : Option QueueView → List ℕ
 taken_in None = []
 taken_in (Some d) = d.taken
 
@@ -25,7 +25,7 @@ abbrev pub finds_room : ℕ → ProcessorView → Bool
 finds_room n p = has_room_at (at n (with_device p.settings.ring n p.devices))
 
 -- the packets of a device for which there was room when they arrived, or for which there was none
-unfoldable pub came : Bool → ℕ → Settings → List Event → List ℕ
+unfoldable pub came : Bool → ℕ → MachineSettings → List MachineEvent → List ℕ
 came room n s [] = []
 came room n s (next ∷ earlier) = came room n s earlier
 came true n s (packet moment number ∷ earlier) =
@@ -45,18 +45,18 @@ abbrev pub delivery_by : Upcoming → ProcessorView → Option (ℕ × ℕ)
 delivery_by Ends p = delivery_of p.work p
 delivery_by _ p = None
 
-unfoldable pub delivery : ProcessorView → Option (ℕ × ℕ)
-delivery p = delivery_by (upcoming p) p
+unfoldable pub next_delivery : ProcessorView → Option (ℕ × ℕ)
+next_delivery p = delivery_by (upcoming p) p
 
 abbrev pub packet_for : ℕ → Option (ℕ × ℕ) → List ℕ
 packet_for n None = []
 packet_for n (Some (number, came)) = if number == n then came ∷ [] else []
 
 -- the packets of a device that were delivered
-unfoldable pub delivered : ℕ → Settings → List Event → List ℕ
-delivered n s [] = []
-delivered n s (packet moment number ∷ earlier) = delivered n s earlier
-delivered n s (next ∷ earlier) = delivered n s earlier ++ packet_for n (delivery (behind s earlier))
+unfoldable pub delivered_packets : ℕ → MachineSettings → List MachineEvent → List ℕ
+delivered_packets n s [] = []
+delivered_packets n s (packet moment number ∷ earlier) = delivered_packets n s earlier
+delivered_packets n s (next ∷ earlier) = delivered_packets n s earlier ++ packet_for n (next_delivery (behind s earlier))
 
 -- the packet of a device that a poll has in hand
 abbrev pub hand_of : ℕ → Work → List ℕ
@@ -66,9 +66,9 @@ hand_of n _ = []
 -- Law: a packet for which there was room is delivered once and in order, or it is held by a poll, in the queue that was
 -- taken, or in the ring.
 abbrev pub DeliversInOrder : Type 0
-DeliversInOrder = (s : Settings) (n : ℕ) (events : List Event)
+DeliversInOrder = (s : MachineSettings) (n : ℕ) (events : List MachineEvent)
     → let p = behind s events in
-    came true n s events ≡ delivered n s events ++ (hand_of n p.work ++ (taken_in (at n p.devices) ++ ring_in (at n p.devices)))
+    came true n s events ≡ delivered_packets n s events ++ (hand_of n p.work ++ (taken_in (at n p.devices) ++ queue_ring (at n p.devices)))
 
 -- ---- the counts of a device
 
@@ -78,29 +78,30 @@ counting [] w = w
 counting (wait ∷ more) w = counting more (counted wait w)
 
 -- the waits of a device's packets, from arrival to delivery
-unfoldable pub waits : ℕ → Settings → List Event → List ℕ
-waits n s [] = []
-waits n s (packet moment number ∷ earlier) = waits n s earlier
-waits n s (next ∷ earlier) = let p = behind s earlier in waits n s earlier ++ map (λ came. p.ends - came) (packet_for n (delivery p))
+unfoldable pub packet_waits : ℕ → MachineSettings → List MachineEvent → List ℕ
+packet_waits n s [] = []
+packet_waits n s (packet moment number ∷ earlier) = packet_waits n s earlier
+packet_waits n s (next ∷ earlier) = let p = behind s earlier in packet_waits n s earlier
+    ++ map (λ came. p.ends - came) (packet_for n (next_delivery p))
 
 -- the counts of a device, zeros for one that doesn't exist
-abbrev pub counts_in : Option DeviceView → DeviceCounts
-counts_in None = NONE
-counts_in (Some d) = d.counts
+abbrev pub queue_counts_in : Option QueueView → QueueCounts
+queue_counts_in None = NONE
+queue_counts_in (Some d) = d.counts
 
-abbrev pub waits_in : Option DeviceView → WaitsView
+abbrev pub waits_in : Option QueueView → WaitsView
 waits_in None = no_waits
 waits_in (Some d) = d.waits
 
-pub record Tells (n : ℕ) (s : Settings) (events : List Event) (device : Option DeviceView) : Type 0 where
-  pub arrived : (counts_in device).arrived ≡ held (length (came true n s events) + length (came false n s events))
-  pub dropped : (counts_in device).dropped ≡ held (length (came false n s events))
-  pub polled : (counts_in device).polled ≡ held (length (delivered n s events))
-  pub counted : waits_in device ≡ counting (waits n s events) no_waits
+pub record CountsFates (n : ℕ) (s : MachineSettings) (events : List MachineEvent) (device : Option QueueView) : Type 0 where
+  pub arrived : (queue_counts_in device).arrived ≡ saturated (length (came true n s events) + length (came false n s events))
+  pub dropped : (queue_counts_in device).dropped ≡ saturated (length (came false n s events))
+  pub polled : (queue_counts_in device).polled ≡ saturated (length (delivered_packets n s events))
+  pub counted : waits_in device ≡ counting (packet_waits n s events) no_waits
 
 -- Law: the counts of a device and its waits are those of these packets.
 abbrev pub TellsOfDevice : Type 0
-TellsOfDevice = (s : Settings) (n : ℕ) (events : List Event) → Tells n s events (at n (behind s events).devices)
+TellsOfDevice = (s : MachineSettings) (n : ℕ) (events : List MachineEvent) → CountsFates n s events (at n (behind s events).devices)
 
 -- ---- at the socket of an application on the same processor
 
@@ -111,15 +112,15 @@ placed true None = []
 placed false gives = []
 
 -- the packets for which there was room when they were delivered, or that were dropped
-unfoldable pub kept : Settings → List Event → List ℕ
+unfoldable pub kept : MachineSettings → List MachineEvent → List ℕ
 kept s [] = []
 kept s (packet moment number ∷ earlier) = kept s earlier
-kept s (next ∷ earlier) = let p = behind s earlier in kept s earlier ++ placed (has_place p.application) (delivery p)
+kept s (next ∷ earlier) = let p = behind s earlier in kept s earlier ++ placed (has_place p.application) (next_delivery p)
 
-unfoldable pub refused : Settings → List Event → List ℕ
+unfoldable pub refused : MachineSettings → List MachineEvent → List ℕ
 refused s [] = []
 refused s (packet moment number ∷ earlier) = refused s earlier
-refused s (next ∷ earlier) = let p = behind s earlier in refused s earlier ++ placed (not (has_place p.application)) (delivery p)
+refused s (next ∷ earlier) = let p = behind s earlier in refused s earlier ++ placed (not (has_place p.application)) (next_delivery p)
 
 -- the packet that is used, and that of an interrupted use
 abbrev pub used_by : Work → List ℕ
@@ -136,19 +137,19 @@ use_by Ends work = used_by work
 use_by _ work = []
 
 -- those that were used
-unfoldable pub used : Settings → List Event → List ℕ
-used s [] = []
-used s (packet moment number ∷ earlier) = used s earlier
-used s (next ∷ earlier) = let p = behind s earlier in used s earlier ++ use_by (upcoming p) p.work
+unfoldable pub used_packets : MachineSettings → List MachineEvent → List ℕ
+used_packets s [] = []
+used_packets s (packet moment number ∷ earlier) = used_packets s earlier
+used_packets s (next ∷ earlier) = let p = behind s earlier in used_packets s earlier ++ use_by (upcoming p) p.work
 
 -- Law: a packet for which there was room in the socket is used once and in order, or its use is in progress or was interrupted,
 -- or it is in the socket.
 abbrev pub UsesInOrder : Type 0
-UsesInOrder = (s : Settings) (events : List Event) → s.apart ≡ false → let p = behind s events in
-    kept s events ≡ used s events ++ (used_by p.work ++ (resting p.rest ++ p.application.socket.items))
+UsesInOrder = (s : MachineSettings) (events : List MachineEvent) → s.apart ≡ false → let p = behind s events in
+    kept s events ≡ used_packets s events ++ (used_by p.work ++ (resting p.rest ++ p.application.socket.items))
 
 -- the waits from arrival to the end of the use
-unfoldable pub use_waits : Settings → List Event → List ℕ
+unfoldable pub use_waits : MachineSettings → List MachineEvent → List ℕ
 use_waits s [] = []
 use_waits s (packet moment number ∷ earlier) = use_waits s earlier
 use_waits s (next ∷ earlier) =
@@ -156,13 +157,13 @@ use_waits s (next ∷ earlier) =
 
 -- Law: the counts of dropped packets and of the waits of those used are those of these packets.
 abbrev pub TellsOfUse : Type 0
-TellsOfUse = (s : Settings) (events : List Event) → s.apart ≡ false → let a = (behind s events).application in
-    (a.refused ≡ held (length (refused s events))) × (a.waits ≡ counting (use_waits s events) no_waits)
+TellsOfUse = (s : MachineSettings) (events : List MachineEvent) → s.apart ≡ false → let a = (behind s events).application in
+    (a.refused ≡ saturated (length (refused s events))) × (a.waits ≡ counting (use_waits s events) no_waits)
 
 -- Law: when nothing is left to happen, no work is in progress or interrupted, and no packet is left in a ring, in a queue that
 -- was taken out of one, or in the socket.
 abbrev pub NothingIsLeft : Type 0
-NothingIsLeft = (s : Settings) (events : List Event) → InTurn s (2 ^ 64 - 1) events → let p = behind s events in
+NothingIsLeft = (s : MachineSettings) (events : List MachineEvent) → InTurn s (2 ^ 64 - 1) events → let p = behind s events in
     is_due (2 ^ 64 - 1) p ≡ false
-    → (p.work ≡ Nothing) × ((n : ℕ) → (taken_in (at n p.devices) ≡ []) × (ring_in (at n p.devices) ≡ [])) × (p.rest ≡ None)
+    → (p.work ≡ Nothing) × ((n : ℕ) → (taken_in (at n p.devices) ≡ []) × (queue_ring (at n p.devices) ≡ [])) × (p.rest ≡ None)
     × (s.apart ≡ false → p.application.socket.items ≡ [])

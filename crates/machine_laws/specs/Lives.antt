@@ -1,7 +1,8 @@
 -- The life of a processor: packets that arrive, and the events between them.
 use Rattle.std.specs.Prelude.{◌≡◌, ◌≤◌, ◌<◌, ℕ, ◌-◌, ◌/◌, ◌%◌, ◌^◌, ◌==◌, true, false, List, [], ◌∷◌, Some, slice_get, if◌then◌else◌}
-use Rattle.{machine_words.specs.declared.settings.Settings.Settings, machine_model.specs.Processor.{ProcessorView, Advances, arrives}}
-use Rattle.machine_model.specs.{Application.went_on, Machine.{Arrives, Finishes, Machine, opened_machine}}
+use Rattle.{machine_words.specs.declared.settings.MachineSettings.MachineSettings}
+use Rattle.{machine_model.specs.Processor.{ProcessorView, Advances, arrives}}
+use Rattle.machine_model.specs.{Application.went_on, Machine.{PacketArrives, Finishes, Machine, opened_machine}}
 use Rattle.machine_model.specs.Processor.{is_due, opened_processor, step}
 
 -- Law: the events on a processor up to a time are determined.
@@ -10,54 +11,55 @@ RunsAsOne = (moment : ℕ) (p q r : ProcessorView) → Advances moment p q → A
 
 -- Law: an arrival turns each machine into exactly one machine.
 abbrev pub ArrivesAsOne : Type 0
-ArrivesAsOne = (moment device : ℕ) (before after other : Machine) → Arrives moment device before after → Arrives moment device before other
+ArrivesAsOne = (moment device : ℕ) (before after other : Machine) → PacketArrives moment device before after
+    → PacketArrives moment device before other
     → after ≡ other
 
 -- ---- the life of a processor
 
 -- a packet arrives at a time for the device with this number, or the next event happens: work ends or a timer expires
-pub data Event : Type 0 where
-  packet : ℕ → ℕ → Event
-  next : Event
+pub data MachineEvent : Type 0 where
+  packet : ℕ → ℕ → MachineEvent
+  next : MachineEvent
 
 -- a new processor after these events, the last of which is the first of the list
-unfoldable pub behind : Settings → List Event → ProcessorView
+unfoldable pub behind : MachineSettings → List MachineEvent → ProcessorView
 behind s [] = opened_processor s
 behind s (packet moment number ∷ earlier) = arrives moment number (behind s earlier)
 behind s (next ∷ earlier) = step (behind s earlier)
 
 -- the events are in order: all that happens up to a time happens before a packet arrives then, and times don't decrease
-unfoldable pub InTurn : Settings → ℕ → List Event → Type 0
+unfoldable pub InTurn : MachineSettings → ℕ → List MachineEvent → Type 0
 InTurn s until [] = Unit {0}
 InTurn s until (packet moment number ∷ earlier) = (moment ≤ until) × (is_due moment (behind s earlier) ≡ false) × InTurn s moment earlier
 InTurn s until (next ∷ earlier) = (is_due until (behind s earlier) ≡ true) × InTurn s until earlier
 
 -- the packets among events, each as its moment and its device's number
-unfoldable pub packets_in : List Event → List (ℕ × ℕ)
+unfoldable pub packets_in : List MachineEvent → List (ℕ × ℕ)
 packets_in [] = []
 packets_in (packet moment number ∷ earlier) = (moment, number) ∷ packets_in earlier
 packets_in (next ∷ earlier) = packets_in earlier
 
-pub record Lived (s : Settings) (until : ℕ) (packets : List (ℕ × ℕ)) (p : ProcessorView) : Type 0 where
-  pub events : List Event
+pub record Lived (s : MachineSettings) (until : ℕ) (packets : List (ℕ × ℕ)) (p : ProcessorView) : Type 0 where
+  pub events : List MachineEvent
   pub behind : p ≡ behind s events
   pub turns : InTurn s until events
   pub came : packets_in events ≡ packets
 
 -- the packets that arrived at a machine, the last one first: when, and for which device; and those of one processor
-unfoldable pub Took : Settings → ℕ → List (ℕ × ℕ) → Machine → Type 0
+unfoldable pub Took : MachineSettings → ℕ → List (ℕ × ℕ) → Machine → Type 0
 Took s until [] m = m ≡ opened_machine s
 Took s until ((moment, device) ∷ earlier) m =
-    (moment ≤ until) × (before : Machine) × Took s moment earlier before × Arrives moment device before m
+    (moment ≤ until) × (before : Machine) × Took s moment earlier before × PacketArrives moment device before m
 
-unfoldable pub own : ℕ → ℕ → List (ℕ × ℕ) → List (ℕ × ℕ)
-own processors processor [] = []
-own processors processor ((moment, device) ∷ earlier) =
-    if (device - 1) % processors == processor then (moment, (device - 1) / processors) ∷ own processors processor earlier
-    else own processors processor earlier
+unfoldable pub own_packets : ℕ → ℕ → List (ℕ × ℕ) → List (ℕ × ℕ)
+own_packets processors processor [] = []
+own_packets processors processor ((moment, device) ∷ earlier) =
+    if (device - 1) % processors == processor then (moment, (device - 1) / processors) ∷ own_packets processors processor earlier
+    else own_packets processors processor earlier
 
 -- a processor with such a life, on which nothing is left to happen, and whose application has advanced to its end
-pub record Ended (s : Settings) (packets : List (ℕ × ℕ)) (p : ProcessorView) : Type 0 where
+pub record Ended (s : MachineSettings) (packets : List (ℕ × ℕ)) (p : ProcessorView) : Type 0 where
   pub ready : ProcessorView
   pub lived : Lived s (2 ^ 64 - 1) packets ready
   pub none : is_due (2 ^ 64 - 1) ready ≡ false
@@ -66,7 +68,7 @@ pub record Ended (s : Settings) (packets : List (ℕ × ℕ)) (p : ProcessorView
 -- Law: each processor of a machine has such a life, with the packets of its own devices; and when the machine has finished
 -- nothing is left.
 abbrev pub EachLives : Type 0
-EachLives = (s : Settings) (until : ℕ) (packets : List (ℕ × ℕ)) (m : Machine) → Took s until packets m
-    → ((number : ℕ) (p : ProcessorView) → slice_get m number ≡ Some p → Lived s until (own s.processors number packets) p)
+EachLives = (s : MachineSettings) (until : ℕ) (packets : List (ℕ × ℕ)) (m : Machine) → Took s until packets m
+    → ((number : ℕ) (p : ProcessorView) → slice_get m number ≡ Some p → Lived s until (own_packets s.processors number packets) p)
     × ((after : Machine) → until < 2 ^ 64 → Finishes m after
-    → (number : ℕ) (p : ProcessorView) → slice_get after number ≡ Some p → Ended s (own s.processors number packets) p)
+    → (number : ℕ) (p : ProcessorView) → slice_get after number ≡ Some p → Ended s (own_packets s.processors number packets) p)

@@ -1,12 +1,12 @@
 -- The invariant of each processor is preserved.
 use Rattle.std.proofs.Common.{◌≡◌, ◌∙◌, ℕ, ◌+◌, ◌<◌, ◌≤◌, Bool, true, false, Option, Some, None, length, refl, sym, arith}
 use Rattle.std.{proofs.lemmas.Grind.common_steps, specs.Prelude.{◌==◌, if◌then◌else◌}}
-use Rattle.machine_words.specs.declared.settings.Settings.{Settings}
+use Rattle.machine_words.specs.declared.settings.MachineSettings.{MachineSettings}
 use Rattle.{poll_runs.specs.declared.bench.Next.TheVariants.{Gone, Repoll}, device_places.specs.Places.{changed}}
 use Rattle.poll_runs.specs.declared.bench.Once.{Once}
-use Rattle.machine_model.specs.{Device.{polled}, Devices.{Devices}, Processor.is_polling, Shown.{held_in, listed}}
-use Rattle.machine_model.specs.Kept.{Kept, all_scheduled, given_by, has_list, polled_by}
-use Rattle.machine_model.specs.Softirq.{RunView, SoftirqView, asked_in, begun, ended, next_of, polled_once, pushed}
+use Rattle.machine_model.specs.{Device.{queue_polled}, Devices.{QueueViews}, Processor.is_polling, Shown.{held_in, listed}}
+use Rattle.machine_model.specs.Kept.{ProcessorKept, all_scheduled, work_given, has_list, polled_by}
+use Rattle.machine_model.specs.Softirq.{RunView, SoftirqView, asked_in, begun, run_ended, run_next, softirq_polled, pushed}
 use Rattle.machine_model.specs.declared.processor.Work.{Work, TheVariants.{Nothing}}
 use Rattle.machine_model.proofs.ListedFacts.{asked-polled, listed-begun, listed-ended, listed-polled, listed-pushed, next-keeps}
 use Rattle.machine_model.proofs.{ListedFacts.weight-polled, PlacesFacts.{scheduled-polled}}
@@ -16,37 +16,40 @@ if-none true o none = refl
 if-none false o none = none
 
 -- devices change, and at least as many are scheduled
-pub kept-devices : (s : Settings) (w : Work) (ds es : Devices) (q : SoftirqView) → Kept s w ds q → all_scheduled ds ≤ all_scheduled es
-    → Kept s w es q
+pub kept-devices : (s : MachineSettings) (w : Work) (ds es : QueueViews) (q : SoftirqView) → ProcessorKept s w ds q
+    → all_scheduled ds ≤ all_scheduled es
+    → ProcessorKept s w es q
 kept-devices s w ds es q k more =
     record { few = omega (arith, k.few, more); unused = k.unused; asked = k.asked; weight = k.weight; within = k.within }
 
 -- other work, of the same device if it is a poll
-pub kept-work : (s : Settings) (w v : Work) (ds : Devices) (q : SoftirqView) → Kept s w ds q → polled_by v ≡ polled_by w
-    → given_by v < s.weight → Kept s v ds q
+pub kept-work : (s : MachineSettings) (w v : Work) (ds : QueueViews) (q : SoftirqView) → ProcessorKept s w ds q → polled_by v ≡ polled_by w
+    → work_given v < s.weight → ProcessorKept s v ds q
 kept-work s w v ds q k same within =
     record { few = k.few; unused = k.unused; asked = rw same k.asked; weight = k.weight; within = within }
 
 -- with threads any device may be polled
-pub kept-thread : (s : Settings) (w v : Work) (ds : Devices) (q : SoftirqView) → Kept s w ds q → s.threaded ≡ true
-    → given_by v < s.weight → Kept s v ds q
+pub kept-thread : (s : MachineSettings) (w v : Work) (ds : QueueViews) (q : SoftirqView) → ProcessorKept s w ds q → s.threaded ≡ true
+    → work_given v < s.weight → ProcessorKept s v ds q
 kept-thread s w v ds q k threaded within =
     record { few = k.few; unused = k.unused; asked = rw threaded (rw threaded at k.asked); weight = k.weight; within = within }
 
-list-is : (s : Settings) → is_polling s ≡ true → s.threaded ≡ false → has_list s ≡ true
+list-is : (s : MachineSettings) → is_polling s ≡ true → s.threaded ≡ false → has_list s ≡ true
 list-is s polling threaded = grind (arith, common_steps)
 
-no-list : (s : Settings) → is_polling s ≡ false → has_list s ≡ false
+no-list : (s : MachineSettings) → is_polling s ≡ false → has_list s ≡ false
 no-list s polling = grind (arith, common_steps)
 
 -- without polling the devices may change as they like
-pub kept-lone : (s : Settings) (w : Work) (ds es : Devices) (q : SoftirqView) → Kept s w ds q → is_polling s ≡ false → Kept s w es q
+pub kept-lone : (s : MachineSettings) (w : Work) (ds es : QueueViews) (q : SoftirqView) → ProcessorKept s w ds q → is_polling s ≡ false
+    → ProcessorKept s w es q
 kept-lone s w ds es q k lone =
     let none : listed q ≡ 0 = k.unused (no-list s lone) in
     record { few = omega (arith, none); unused = k.unused; asked = k.asked; weight = k.weight; within = k.within }
 
-pub kept-pushed : (s : Settings) (w : Work) (ds : Devices) (q : SoftirqView) (n : ℕ) → Kept s w ds q → is_polling s ≡ true
-    → s.threaded ≡ false → listed q < all_scheduled ds → Kept s w ds (pushed n q)
+pub kept-pushed : (s : MachineSettings) (w : Work) (ds : QueueViews) (q : SoftirqView) (n : ℕ) → ProcessorKept s w ds q
+    → is_polling s ≡ true
+    → s.threaded ≡ false → listed q < all_scheduled ds → ProcessorKept s w ds (pushed n q)
 kept-pushed s w ds q n k polling threaded few =
     let list = list-is s polling threaded in
     record {
@@ -58,8 +61,8 @@ kept-pushed s w ds q n k polling threaded few =
     }
 
 -- a run begins
-pub kept-begun : (s : Settings) (w : Work) (ds : Devices) (q : SoftirqView) (moment : ℕ) → Kept s w ds q → q.run ≡ None
-    → polled_by w ≡ None → is_polling s ≡ true → s.threaded ≡ false → Kept s w ds (begun moment s.budget s.weight s.window q)
+pub kept-begun : (s : MachineSettings) (w : Work) (ds : QueueViews) (q : SoftirqView) (moment : ℕ) → ProcessorKept s w ds q → q.run ≡ None
+    → polled_by w ≡ None → is_polling s ≡ true → s.threaded ≡ false → ProcessorKept s w ds (begun moment s.budget s.weight s.window q)
 kept-begun s w ds q moment k none idle polling threaded =
     let list = list-is s polling threaded in
     record {
@@ -71,8 +74,8 @@ kept-begun s w ds q moment k none idle polling threaded =
     }
 
 -- the run asks for a device, or is over
-pub kept-next : (s : Settings) (w v : Work) (ds : Devices) (q : SoftirqView) → Kept s w ds q → asked_in q.run ≡ None
-    → asked_in (next_of q).run ≡ (if s.threaded then None else polled_by v) → given_by v < s.weight → Kept s v ds (next_of q)
+pub kept-next : (s : MachineSettings) (w v : Work) (ds : QueueViews) (q : SoftirqView) → ProcessorKept s w ds q → asked_in q.run ≡ None
+    → asked_in (run_next q).run ≡ (if s.threaded then None else polled_by v) → work_given v < s.weight → ProcessorKept s v ds (run_next q)
 kept-next s w v ds q k none asked within =
     let same = next-keeps q none in
     record {
@@ -83,12 +86,12 @@ kept-next s w v ds q k none asked within =
       within = within;
     }
 
-pub run-ended : (q : SoftirqView) → (ended q).run ≡ None
-unfolding ended
+pub run-ended : (q : SoftirqView) → (run_ended q).run ≡ None
+unfolding run_ended
 run-ended q = refl
 
-pub kept-ended : (s : Settings) (w : Work) (ds : Devices) (q : SoftirqView) → Kept s w ds q → asked_in q.run ≡ None
-    → polled_by w ≡ None → Kept s w ds (ended q)
+pub kept-ended : (s : MachineSettings) (w : Work) (ds : QueueViews) (q : SoftirqView) → ProcessorKept s w ds q → asked_in q.run ≡ None
+    → polled_by w ≡ None → ProcessorKept s w ds (run_ended q)
 kept-ended s w ds q k none idle =
     let same = listed-ended q none in
     record {
@@ -100,10 +103,11 @@ kept-ended s w ds q k none idle =
     }
 
 -- a poll of the run ends
-pub kept-polled : (s : Settings) (w : Work) (ds : Devices) (q : SoftirqView) (now given n : ℕ) → Kept s w ds q → s.threaded ≡ false
+pub kept-polled : (s : MachineSettings) (w : Work) (ds : QueueViews) (q : SoftirqView) (now given n : ℕ) → ProcessorKept s w ds q
+    → s.threaded ≡ false
     → asked_in q.run ≡ Some n → 1 ≤ s.weight
-    → Kept s Nothing (changed (polled now given s) n ds)
-    (polled_once (record { work = given; next = if given == s.weight then Repoll else Gone }) q)
+    → ProcessorKept s Nothing (changed (queue_polled now given s) n ds)
+    (softirq_polled (record { work = given; next = if given == s.weight then Repoll else Gone }) q)
 kept-polled s w ds q now given n k threaded asked least =
     let once : Once = record { work = given; next = if given == s.weight then Repoll else Gone } in
     let count = listed-polled (given == s.weight) given n q asked in
@@ -117,8 +121,9 @@ kept-polled s w ds q now given n k threaded asked least =
     }
 
 -- a poll of a thread ends
-pub kept-alone : (s : Settings) (w : Work) (ds es : Devices) (q : SoftirqView) → Kept s w ds q → s.threaded ≡ true → 1 ≤ s.weight
-    → Kept s Nothing es q
+pub kept-alone : (s : MachineSettings) (w : Work) (ds es : QueueViews) (q : SoftirqView) → ProcessorKept s w ds q → s.threaded ≡ true
+    → 1 ≤ s.weight
+    → ProcessorKept s Nothing es q
 kept-alone s w ds es q k threaded least =
     let none : listed q ≡ 0 = k.unused (threads s threaded) in
     record {
@@ -129,11 +134,11 @@ kept-alone s w ds es q k threaded least =
       within = least;
     }
   where
-    threads : (s : Settings) → s.threaded ≡ true → has_list s ≡ false
+    threads : (s : MachineSettings) → s.threaded ≡ true → has_list s ≡ false
     threads s threaded = grind (arith, common_steps)
 
 -- a list that isn't empty is one of a machine without threads
-pub list-unthreaded : (s : Settings) (w : Work) (ds : Devices) (q : SoftirqView) → Kept s w ds q → 0 < length q.list
+pub list-unthreaded : (s : MachineSettings) (w : Work) (ds : QueueViews) (q : SoftirqView) → ProcessorKept s w ds q → 0 < length q.list
     → s.threaded ≡ false
 list-unthreaded s w ds q k some = by s.threaded refl
   where
@@ -145,12 +150,12 @@ list-unthreaded s w ds q k some = by s.threaded refl
     by false threaded = refl
 
 -- while nothing is polled, the run asks for nothing
-pub kept-idle : (s : Settings) (w : Work) (ds : Devices) (q : SoftirqView) → Kept s w ds q → polled_by w ≡ None
+pub kept-idle : (s : MachineSettings) (w : Work) (ds : QueueViews) (q : SoftirqView) → ProcessorKept s w ds q → polled_by w ≡ None
     → asked_in q.run ≡ None
 kept-idle s w ds q k idle = k.asked ∙ if-none s.threaded (polled_by w) idle
 
 -- the run's device is the one that is polled
-pub kept-asks : (s : Settings) (w : Work) (ds : Devices) (q : SoftirqView) (n : ℕ) → Kept s w ds q → s.threaded ≡ false
+pub kept-asks : (s : MachineSettings) (w : Work) (ds : QueueViews) (q : SoftirqView) (n : ℕ) → ProcessorKept s w ds q → s.threaded ≡ false
     → polled_by w ≡ Some n → asked_in q.run ≡ Some n
 kept-asks s w ds q n k threaded polled = k.asked ∙ rw (threaded, polled) refl
 
@@ -162,13 +167,14 @@ asked-listed q n asked = by q.run asked
     by (Some r) asked = rw asked (omega arith)
 
 -- a run that asks for a device is one of a machine without threads
-pub asks-unthreaded : (s : Settings) (w : Work) (ds : Devices) (q : SoftirqView) (n : ℕ) → Kept s w ds q → asked_in q.run ≡ None
-    → asked_in (next_of q).run ≡ Some n → s.threaded ≡ false
+pub asks-unthreaded : (s : MachineSettings) (w : Work) (ds : QueueViews) (q : SoftirqView) (n : ℕ) → ProcessorKept s w ds q
+    → asked_in q.run ≡ None
+    → asked_in (run_next q).run ≡ Some n → s.threaded ≡ false
 asks-unthreaded s w ds q n k none asked = by s.threaded refl
   where
     threads : s.threaded ≡ true → has_list s ≡ false
     threads threaded = grind (arith, common_steps)
 
     by : (b : Bool) → s.threaded ≡ b → b ≡ false
-    by true threaded = absurd (omega (arith, asked-listed (next_of q) n asked, (next-keeps q none).listed, k.unused (threads threaded)))
+    by true threaded = absurd (omega (arith, asked-listed (run_next q) n asked, (next-keeps q none).listed, k.unused (threads threaded)))
     by false threaded = refl

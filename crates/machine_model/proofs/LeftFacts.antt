@@ -5,23 +5,23 @@ use Rattle.std.proofs.lemmas.{List.Quantifiers.position-Some, Bool.eqb-true, Gri
 use Rattle.std.specs.Prelude.{◌==◌, ◌&&◌, if◌then◌else◌, is_some, nat_le, nat_lt, not, position, slice_get}
 use Rattle.std.specs.Option.{option_map_or}
 use Rattle.{poll_runs.specs.{Turn.asked_for, declared.bench.Once.Once}, device_places.specs.Places.{at, changed}}
-use Rattle.machine_words.specs.declared.settings.Settings.{Settings}
+use Rattle.machine_words.specs.declared.settings.MachineSettings.{MachineSettings}
 use Rattle.machine_model.specs.declared.{device.Phase.{TheVariants.{Raised}}, devices.Timer.Timer}
 use Rattle.machine_model.specs.declared.processor.{InHand.InHand, Rest.Rest, Upcoming.Upcoming}
 use Rattle.machine_model.specs.declared.processor.{Work.{Work, TheVariants.{Nothing, Interrupt, Poll, Packet, Use}}}
 use Rattle.machine_model.specs.declared.{processor.Upcoming.TheVariants.{Ends, Expires, Never}}
-use Rattle.machine_model.specs.declared.{tasks.Task.{Task, TheVariants.{Application, Thread}}}
-use Rattle.machine_model.specs.Device.{DeviceView, delivered, expired, interrupted, polled, raised_again}
+use Rattle.machine_model.specs.declared.{tasks.RunnableTask.{RunnableTask, TheVariants.{Application, Thread}}}
+use Rattle.machine_model.specs.Device.{QueueView, queue_delivered, expired, interrupted, queue_polled, raised_again}
 use Rattle.machine_model.specs.Device.{without_next}
 use Rattle.machine_model.specs.Devices.{asks_at, is_fired_at, next_packet_at, soonest_from}
-use Rattle.machine_model.specs.Softirq.{RunView, SoftirqView, asked_in, begun, next_of, polled_once, pushed}
-use Rattle.machine_model.specs.Waits.{held}
+use Rattle.machine_model.specs.Softirq.{RunView, SoftirqView, asked_in, begun, run_next, softirq_polled, pushed}
+use Rattle.machine_model.specs.Waits.{saturated}
 use Rattle.machine_model.specs.Tasks.{after_first, runnable}
-use Rattle.machine_model.specs.{Application.{has_place, used}, Kept.{IsKept, polled_by}, Processor.ProcessorView}
+use Rattle.machine_model.specs.{Application.{has_place, used}, Kept.{IsProcessorKept, polled_by}, Processor.ProcessorView}
 use Rattle.machine_model.specs.Processor.{begins, begins_run, delivers, delivers_oldest, disturbed, ends_by, ends_current}
 use Rattle.machine_model.specs.Processor.{ends_interrupt, ends_poll}
 use Rattle.machine_model.specs.Processor.{ends_run, goes_on, happens, interrupts, is_busy, is_by, is_due, is_polling}
-use Rattle.machine_model.specs.Processor.{leaves_softirq, looks, polls, rests}
+use Rattle.machine_model.specs.Processor.{leaves_softirq, poll_looks, polls, rests}
 use Rattle.machine_model.specs.Processor.{runs, runs_first, scheduled, set_aside, spent, step, takes_up, upcoming, uses, woken}
 use Rattle.poll_runs.specs.declared.bench.Next.TheVariants.{Gone, Repoll}
 use Rattle.machine_model.proofs.{ApplicationFacts.fed-few, KeptFacts.if-none, ListedFacts.asked-polled, PlacesFacts.{map_at}}
@@ -77,8 +77,8 @@ unfolding base interrupts
 interrupts-less w n p up =
     let polling = is_polling p.settings in
     let time = if polling then p.settings.interrupt else p.settings.interrupt + p.settings.packet in
-    let counts = if is_fired_at (at n p.devices) then record p.counts { timers = held (p.counts.timers + 1) }
-    else record p.counts { interrupts = held (p.counts.interrupts + 1) } in
+    let counts = if is_fired_at (at n p.devices) then record p.counts { timers = saturated (p.counts.timers + 1) }
+    else record p.counts { interrupts = saturated (p.counts.interrupts + 1) } in
     let q = record p { devices = changed (interrupted polling) n p.devices; counts = counts } in
     omega (
       arith,
@@ -96,7 +96,8 @@ polls-left : (w n : ℕ) (p : ProcessorView) → left w (polls n p) ≡ base w p
 unfolding left left_by base
 polls-left w n p = refl
 
-runs-less : (w : ℕ) (first : Option Task) (p : ProcessorView) → p.work ≡ Nothing → left w (runs first p) ≤ base w p + 2 * is_thread first
+runs-less : (w : ℕ) (first : Option RunnableTask) (p : ProcessorView) → p.work ≡ Nothing
+    → left w (runs first p) ≤ base w p + 2 * is_thread first
 runs-less w None p nothing = omega (arith, idle-left w p nothing)
 runs-less w (Some Application) p nothing = omega (arith, uses-less w p.application.socket.items p refl nothing)
 runs-less w (Some (Thread number)) p nothing = omega (arith, polls-left w number p)
@@ -112,7 +113,7 @@ first-less w p nothing =
           (same-runnable (length p.application.socket.items == 0) p.tasks),
     )
   where
-    fewer : (tasks : List Task) → threads tasks ≡ threads p.tasks
+    fewer : (tasks : List RunnableTask) → threads tasks ≡ threads p.tasks
         → base w (record p { tasks = after_first tasks }) + 2 * is_thread (slice_get tasks 0) ≡ base w p
     fewer tasks same = omega (arith, same, after-first tasks)
 
@@ -151,10 +152,10 @@ unfolding begins_run
 begins-less w p nothing =
     let s = p.settings in
     let begun_list = begun p.clock s.budget s.weight s.window p.softirq in
-    let q = record p { softirq = next_of begun_list } in
+    let q = record p { softirq = run_next begun_list } in
     let few = entries-next begun_list (begun-unasked p.clock s.budget s.weight s.window p.softirq) in
     let less = entries-begun p.clock s.budget s.weight s.window p.softirq in
-    let same = softirq-base w p (next_of begun_list) in
+    let same = softirq-base w p (run_next begun_list) in
     asks-less w (base w p) (asked_in q.softirq.run) q q (omega (arith, few, less, same)) (omega
     (arith, few, less, same, idle-left w q nothing))
 
@@ -179,9 +180,9 @@ over-less w late p nothing =
 goes-less : (w : ℕ) (p : ProcessorView) → p.work ≡ Nothing → asked_in p.softirq.run ≡ None → left w (goes_on p) ≤ base w p
 unfolding goes_on
 goes-less w p nothing none =
-    let q = record p { softirq = next_of p.softirq } in
+    let q = record p { softirq = run_next p.softirq } in
     let few = entries-next p.softirq none in
-    let same = softirq-base w p (next_of p.softirq) in
+    let same = softirq-base w p (run_next p.softirq) in
     by-if (λ r. left w r ≤ base w p) (nat_le p.settings.time_limit (p.clock - p.softirq.began)) (rests (ends_run true p))
     (option_map_or (λ number. polls number q) (asked_in q.softirq.run) (rests (ends_run false q)))
     (λ e. over-less w true p nothing)
@@ -215,7 +216,8 @@ takes-less w p none =
 delivers-most : (w n came : ℕ) (p : ProcessorView) → base w (delivers n came p) ≤ base w p + 1
 unfolding base delivers
 delivers-most w n came p =
-    let same = weights-most w 0 (delivered p.clock came) n p.devices (omega (arith, weight-delivered w p.clock came (at n p.devices))) in
+    let same = weights-most w 0 (queue_delivered p.clock came) n p.devices
+    (omega (arith, weight-delivered w p.clock came (at n p.devices))) in
     let wakes = p.settings.threaded && not p.settings.apart && has_place p.application in
     omega (arith, same, fed-few p.clock came p.settings p.application, if-application wakes p.tasks)
 
@@ -230,7 +232,7 @@ oldest-less w n (Some came) p least is =
     taken : base w (record p { devices = changed (without_next false) n p.devices }) + w ≤ base w p
     taken = omega (arith, weights-less w w (without_next false) n p.devices (taken-less w false (at n p.devices) came is))
 
-raised-none : (w : ℕ) (o : Option DeviceView) → next_packet_at false o ≡ None → weight_at w (map_at raised_again o) ≤ weight_at w o + 0
+raised-none : (w : ℕ) (o : Option QueueView) → next_packet_at false o ≡ None → weight_at w (map_at raised_again o) ≤ weight_at w o + 0
 unfolding map_at weight_at weight_of
 raised-none w None none = omega arith
 raised-none w (Some d) none = by d.ring none
@@ -265,17 +267,17 @@ extra given = if given == 0 then 0 else 327677
 after-poll : (w n given : ℕ) (full : Bool) (q : ProcessorView)
     → (let once : Once = record { work = given; next = if full then Repoll else Gone } in
     base w (if q.settings.threaded then record q { tasks = if full then Thread n ∷ q.tasks else q.tasks }
-    else record q { softirq = polled_once once q.softirq })
+    else record q { softirq = softirq_polled once q.softirq })
     ≤ base w q + (if full then 2 else 0))
 unfolding base
 after-poll w n given true q =
     let once : Once = record { work = given; next = Repoll } in
     by-if (λ r. base w r ≤ base w q + 2) q.settings.threaded (record q { tasks = Thread n ∷ q.tasks })
-    (record q { softirq = polled_once once q.softirq }) (λ e. omega arith) (λ e. omega (arith, entries-polled once q.softirq))
+    (record q { softirq = softirq_polled once q.softirq }) (λ e. omega arith) (λ e. omega (arith, entries-polled once q.softirq))
 after-poll w n given false q =
     let once : Once = record { work = given; next = Gone } in
     by-if (λ r. base w r ≤ base w q + 0) q.settings.threaded (record q { tasks = q.tasks })
-    (record q { softirq = polled_once once q.softirq }) (λ e. omega arith) (λ e. omega (arith, entries-polled once q.softirq))
+    (record q { softirq = softirq_polled once q.softirq }) (λ e. omega arith) (λ e. omega (arith, entries-polled once q.softirq))
 
 bound : (defer : ℕ) (full none : Bool) → defer ≤ 65535 → (full ≡ true → none ≡ true → ⊥)
     → (if full then 2 else 0) + (if full then 0 else (if none then 0 else 5 * defer)) ≤ (if none then 0 else 327677)
@@ -289,12 +291,12 @@ unfolding base ends_poll
 poll-less w n given p =
     let s = p.settings in
     let full = given == s.weight in
-    let counts = record p.counts { polls = held (p.counts.polls + 1); work = held (p.counts.work + given) } in
-    let q = record p { devices = changed (polled p.clock given s) n p.devices; counts = counts } in
+    let counts = record p.counts { polls = saturated (p.counts.polls + 1); work = saturated (p.counts.work + given) } in
+    let q = record p { devices = changed (queue_polled p.clock given s) n p.devices; counts = counts } in
     omega (
       arith,
       after-poll w n given full q,
-      weights-most w (if full then 0 else (if given == 0 then 0 else 5 * s.defer_hard_irqs)) (polled p.clock given s) n p.devices
+      weights-most w (if full then 0 else (if given == 0 then 0 else 5 * s.defer_hard_irqs)) (queue_polled p.clock given s) n p.devices
           (weight-polled w p.clock given s (at n p.devices)),
       bound s.defer_hard_irqs full (given == 0) s.defer_hard_irqs_in
           (λ full none. omega (arith, eqb-true given s.weight full, eqb-true given 0 none, s.weight_in.0)),
@@ -321,8 +323,8 @@ unfolding left left_by base
 taken-left w n packet backlog time p is =
     omega (arith, weights-less w w (without_next backlog) n p.devices (taken-less w backlog (at n p.devices) packet.came is))
 
-looks-less : (w n given : ℕ) (p : ProcessorView) → p.work ≡ Nothing → left w (looks n given p) ≤ base w p + extra given
-unfolding looks
+looks-less : (w n given : ℕ) (p : ProcessorView) → p.work ≡ Nothing → left w (poll_looks n given p) ≤ base w p + extra given
+unfolding poll_looks
 looks-less w n given p nothing =
     by-if (λ r. left w r ≤ base w p + extra given) (nat_lt given p.settings.weight)
     (option_map_or (λ came. begins (Packet (record { device = n; came = came; given = given })) p.settings.packet q)
@@ -400,8 +402,8 @@ poll-unasked n given p none =
     by-if (λ q. asked_in q.softirq.run ≡ None) p.settings.threaded _ _ (λ threaded. none threaded) (λ e. asked-polled _ p.softirq)
 
 looks-unasked : (n given : ℕ) (p : ProcessorView) → (p.settings.threaded ≡ true → asked_in p.softirq.run ≡ None)
-    → (looks n given p).work ≡ Nothing → asked_in (looks n given p).softirq.run ≡ None
-unfolding looks
+    → (poll_looks n given p).work ≡ Nothing → asked_in (poll_looks n given p).softirq.run ≡ None
+unfolding poll_looks
 looks-unasked n given p none =
     by-if (λ r. r.work ≡ Nothing → asked_in r.softirq.run ≡ None) (nat_lt given p.settings.weight)
     (option_map_or (λ came. begins (Packet (record { device = n; came = came; given = given })) p.settings.packet q)
@@ -441,7 +443,7 @@ by-unasked (Poll n) p asked idle = looks-unasked n 0 p (λ threaded. rw threaded
 by-unasked (Packet packet) p asked idle =
     let same = delivers-same packet.device packet.came p in
     looks-unasked packet.device (packet.given + 1) (delivers packet.device packet.came p)
-    (λ threaded. rw same.0 (rw (sym (ap (λ (s : Settings). s.threaded) same.1) ∙ threaded) at asked)) idle
+    (λ threaded. rw same.0 (rw (sym (ap (λ (s : MachineSettings). s.threaded) same.1) ∙ threaded) at asked)) idle
 by-unasked (Use came) p asked idle = asked ∙ if-none p.settings.threaded None refl
 
 current-unasked : (p : ProcessorView) → asked_in p.softirq.run ≡ (if p.settings.threaded then None else polled_by p.work)
@@ -538,5 +540,5 @@ step-asked moment p asked due = by (upcoming p) refl due
           expires-less load timer p (expires-soonest (soonest_from 0 p.devices) timer p is),
         )
 
-pub step-less : (moment : ℕ) (p : ProcessorView) → IsKept p → is_due moment p ≡ true → left load (step p) < left load p
+pub step-less : (moment : ℕ) (p : ProcessorView) → IsProcessorKept p → is_due moment p ≡ true → left load (step p) < left load p
 step-less moment p kept due = step-asked moment p kept.asked due

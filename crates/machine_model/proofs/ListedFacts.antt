@@ -5,7 +5,8 @@ use Rattle.std.{proofs.Common.arith, specs.Prelude.{is_some, slice_get, if◌the
 use Rattle.poll_runs.specs.Turn.{asked_for}
 use Rattle.{poll_runs.specs.declared.bench.{Next.TheVariants.{Gone, Repoll}, Once.Once}}
 use Rattle.{machine_model.specs.Softirq.{RunView, SoftirqView}}
-use Rattle.machine_model.specs.Softirq.{asked_in, begun, ended, filled, is_spent, next_from, next_of, pushed, polled_once, polled_run}
+use Rattle.machine_model.specs.Softirq.{asked_in, begun, run_ended, filled, is_run_spent, next_from, run_next, pushed, softirq_polled}
+use Rattle.machine_model.specs.Softirq.{polled_run}
 use Rattle.machine_model.specs.Shown.{weight_in, listed}
 
 pub listed-pushed : (n : ℕ) (q : SoftirqView) → listed (pushed n q) ≡ listed q + 1
@@ -25,10 +26,10 @@ next-moves : (own repoll list : List ℕ)
 next-moves own repoll list = grind (arith, common_steps)
 
 next-same : (list : List ℕ) (run : Option RunView) (began : ℕ) → asked_in run ≡ None
-    → let q : SoftirqView = record { list = list; run = run; began = began } in Same q (next_of q)
-unfolding next_of
+    → let q : SoftirqView = record { list = list; run = run; began = began } in Same q (run_next q)
+unfolding run_next
 next-same list None began none = record { listed = refl; some = refl; weight = refl }
-next-same list (Some r) began none = by (is_spent r)
+next-same list (Some r) began none = by (is_run_spent r)
   where
     before : SoftirqView
     before = record { list = list; run = Some r; began = began }
@@ -37,8 +38,8 @@ next-same list (Some r) began none = by (is_spent r)
     by true = record { listed = refl; some = refl; weight = refl }
     by false = record { listed = rw none (next-moves r.own r.repoll list); some = refl; weight = refl }
 
-pub next-keeps : (q : SoftirqView) → asked_in q.run ≡ None → Same q (next_of q)
-unfolding next_of
+pub next-keeps : (q : SoftirqView) → asked_in q.run ≡ None → Same q (run_next q)
+unfolding run_next
 next-keeps q none = next-same q.list q.run q.began none
 
 begun-same : (list : List ℕ) (run : Option RunView) (began moment budget weight window : ℕ) → run ≡ None
@@ -50,29 +51,29 @@ pub listed-begun : (moment budget weight window : ℕ) (q : SoftirqView) → q.r
 listed-begun moment budget weight window q none = begun-same q.list q.run q.began moment budget weight window none
 
 ended-same : (list : List ℕ) (run : Option RunView) (began : ℕ) → asked_in run ≡ None
-    → let q : SoftirqView = record { list = list; run = run; began = began } in listed (ended q) ≡ listed q
-unfolding ended
+    → let q : SoftirqView = record { list = list; run = run; began = began } in listed (run_ended q) ≡ listed q
+unfolding run_ended
 ended-same list run began none = grind (arith, common_steps)
 
-pub listed-ended : (q : SoftirqView) → asked_in q.run ≡ None → listed (ended q) ≡ listed q
+pub listed-ended : (q : SoftirqView) → asked_in q.run ≡ None → listed (run_ended q) ≡ listed q
 listed-ended q none = ended-same q.list q.run q.began none
 
 -- a poll that used its whole weight puts its number back; any other one releases it
 polled-moves : (full : Bool) (work n : ℕ) (list : List ℕ) (run : Option RunView) (began : ℕ) → asked_in run ≡ Some n
     → let q : SoftirqView = record { list = list; run = run; began = began } in
-    listed (polled_once (record { work = work; next = if full then Repoll else Gone }) q) + (if full then 0 else 1) ≡ listed q
-unfolding polled_once
+    listed (softirq_polled (record { work = work; next = if full then Repoll else Gone }) q) + (if full then 0 else 1) ≡ listed q
+unfolding softirq_polled
 polled-moves full work n list run began asked = grind (arith, common_steps)
 
 pub listed-polled : (full : Bool) (work n : ℕ) (q : SoftirqView) → asked_in q.run ≡ Some n
-    → listed (polled_once (record { work = work; next = if full then Repoll else Gone }) q) + (if full then 0 else 1) ≡ listed q
+    → listed (softirq_polled (record { work = work; next = if full then Repoll else Gone }) q) + (if full then 0 else 1) ≡ listed q
 listed-polled full work n q asked = polled-moves full work n q.list q.run q.began asked
 
 polled-rests : (run : Option RunView) (once : Once) → asked_in (option_map (polled_run once) run) ≡ None
 polled-rests run once = grind (arith, common_steps)
 
-pub asked-polled : (once : Once) (q : SoftirqView) → asked_in (polled_once once q).run ≡ None
-unfolding polled_once
+pub asked-polled : (once : Once) (q : SoftirqView) → asked_in (softirq_polled once q).run ≡ None
+unfolding softirq_polled
 asked-polled once q = polled-rests q.run once
 
 polled-weighs : (run : Option RunView) (once : Once)
@@ -80,8 +81,8 @@ polled-weighs : (run : Option RunView) (once : Once)
 polled-weighs run once = grind (arith, common_steps)
 
 pub weight-polled : (once : Once) (q : SoftirqView)
-    → (weight_in (polled_once once q).run ≡ weight_in q.run) × (is_some (polled_once once q).run ≡ is_some q.run)
-unfolding polled_once
+    → (weight_in (softirq_polled once q).run ≡ weight_in q.run) × (is_some (softirq_polled once q).run ≡ is_some q.run)
+unfolding softirq_polled
 weight-polled once q = polled-weighs q.run once
 
 pub run-some : (n : ℕ) (run : Option RunView) → asked_in run ≡ Some n → is_some run ≡ true

@@ -2,7 +2,7 @@
 use Rattle.std.proofs.Common.{◌≡◌, ◌∙◌, ℕ, zero, suc, ◌+◌, ◌-◌, ◌*◌, ◌/◌, ◌%◌, ◌<◌, ◌≤◌, Some, List, [], ◌∷◌, length, length-set, get_or}
 use Rattle.std.{proofs.{Common.{slice_set, ◌⊎◌, inl, inr, refl, sym, arith}, Math.Nat.{eq-or-lt_of_le, mod-lt}}, specs.Prelude.slice_get}
 use Rattle.circular_buffer.proofs.Places.{slice_get-set_other, slice_get-set_same}
-use Rattle.machine_model.specs.{Machine.{Arrives, ArrivesAt, Finishes, FinishesAt, Machine}, Processor.ProcessorView}
+use Rattle.machine_model.specs.{Machine.{PacketArrives, ArrivesAt, Finishes, FinishesAt, Machine}, Processor.ProcessorView}
 
 pub get-some : {A : Type 0} → (xs : List A) (i : ℕ) (x : A) → i < length xs → get_or xs i x ≡ x → slice_get xs i ≡ Some x
 get-some [] i x below is = absurd (omega (arith, below))
@@ -12,7 +12,7 @@ get-some (y ∷ ys) (suc i) x below is = get-some ys i x (omega (arith, below)) 
 pub arrive-exact : (moment device count : ℕ) (before : Machine) (old new : ProcessorView) → count ≡ length before → 1 ≤ device
     → device ≤ 64 * length before
     → get_or before ((device - 1) % count) old ≡ old → ArrivesAt moment ((device - 1) / count) old new
-    → Arrives moment device before (slice_set before ((device - 1) % count) new)
+    → PacketArrives moment device before (slice_set before ((device - 1) % count) new)
 arrive-exact moment device count before old new is least most value arrives =
     let some : 0 < length before = omega (arith, least, most) in
     rw is (record {

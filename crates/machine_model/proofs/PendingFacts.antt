@@ -4,36 +4,36 @@ use Rattle.std.proofs.Common.{length, replicate, slice_index_or, slice_set, refl
 use Rattle.std.specs.{Prelude.{◌==◌, nat_lt, position, if◌then◌else◌}, List.position_or_len, Option.option_map_or}
 use Rattle.std.proofs.lemmas.{Grind.common_steps, List.{length-set, Folds.position_or_len-set}}
 use Rattle.{device_places.{proofs.PlaceFacts.{at-index, below-some}, specs.Places.{at, changed, changed_from}}}
-use Rattle.machine_words.specs.declared.settings.Settings.{Settings}
-use Rattle.machine_model.specs.Device.{DeviceView, after_packet, is_masked, opened, without_next}
-use Rattle.machine_model.specs.{Devices.{Devices, asks_at, soonest_from, sooner, timer_at}, Shown.{earlier, pending_of}}
+use Rattle.machine_words.specs.declared.settings.MachineSettings.{MachineSettings}
+use Rattle.machine_model.specs.Device.{QueueView, after_packet, is_masked, new_queue, without_next}
+use Rattle.machine_model.specs.{Devices.{QueueViews, asks_at, soonest_from, sooner, timer_at}, Shown.{earlier, pending_of}}
 use Rattle.machine_model.{specs.declared.devices.{Pending.Pending, Timer.Timer}, proofs.WeightFacts.{named, soonest-is}}
 
 -- ---- the entry that changed
 
-set-same : (xs : Devices) (n : ℕ) → slice_set xs n (at n xs) ≡ xs
+set-same : (xs : QueueViews) (n : ℕ) → slice_set xs n (at n xs) ≡ xs
 set-same [] n = grind (arith, common_steps)
 set-same (x ∷ xs) zero = refl
-set-same (x ∷ xs) (suc n) = ap (λ (ys : Devices). x ∷ ys) (set-same xs n)
+set-same (x ∷ xs) (suc n) = ap (λ (ys : QueueViews). x ∷ ys) (set-same xs n)
 
-changed-length : (change : DeviceView → DeviceView) (n : ℕ) (xs : Devices) → length (changed change n xs) ≡ length xs
+changed-length : (change : QueueView → QueueView) (n : ℕ) (xs : QueueViews) → length (changed change n xs) ≡ length xs
 changed-length change n xs = grind (arith, common_steps)
 
-changed-set : (change : DeviceView → DeviceView) (n : ℕ) (xs : Devices)
+changed-set : (change : QueueView → QueueView) (n : ℕ) (xs : QueueViews)
     → changed change n xs ≡ slice_set xs n (at n (changed change n xs))
 changed-set change n xs = by (at n xs) refl
   where
-    by : (o : Option DeviceView) → at n xs ≡ o → changed change n xs ≡ slice_set xs n (at n (changed change n xs))
+    by : (o : Option QueueView) → at n xs ≡ o → changed change n xs ≡ slice_set xs n (at n (changed change n xs))
     by None none = rw none (sym (set-same xs n))
     by (Some d) some = grind (arith, common_steps, below-some)
 
-placed : (change : DeviceView → DeviceView) (n : ℕ) (before after : Devices) → after ≡ changed change n before
+placed : (change : QueueView → QueueView) (n : ℕ) (before after : QueueViews) → after ≡ changed change n before
     → after ≡ slice_set before n (at n after)
 placed change n before after is = rw is (changed-set change n before)
 
-long : (change : DeviceView → DeviceView) (n : ℕ) (before after : Devices) → after ≡ changed change n before → n < length after
+long : (change : QueueView → QueueView) (n : ℕ) (before after : QueueViews) → after ≡ changed change n before → n < length after
     → n < length before
-long change n before after is below = omega (arith, ap (λ (xs : Devices). length xs) is, changed-length change n before, below)
+long change n before after is below = omega (arith, ap (λ (xs : QueueViews). length xs) is, changed-length change n before, below)
 
 -- ---- the lowest that asks
 
@@ -93,7 +93,7 @@ module _ {X : Type 0} (p : X → Bool) where
 abbrev pub is_below : Option ℕ → ℕ → Bool
 is_below lowest n = option_map_or (λ other. nat_lt other n) lowest false
 
-below-at : (lowest : Option ℕ) (n : ℕ) (xs : Devices) → lowest ≡ position asks_at xs → is_below lowest n ≡ true
+below-at : (lowest : Option ℕ) (n : ℕ) (xs : QueueViews) → lowest ≡ position asks_at xs → is_below lowest n ≡ true
     → position_or_len asks_at xs < n
 below-at None n xs was below = cc below
 below-at (Some other) n xs was below =
@@ -103,19 +103,19 @@ not-below : (lowest : Option ℕ) (n k : ℕ) → is_below lowest n ≡ false �
 not-below lowest n k high is = grind (arith, common_steps)
 
 -- it is below the device that changed
-pub lowest-below : (change : DeviceView → DeviceView) (n : ℕ) (before after : Devices) (lowest : Option ℕ)
+pub lowest-below : (change : QueueView → QueueView) (n : ℕ) (before after : QueueViews) (lowest : Option ℕ)
     → is_below lowest n ≡ true
     → after ≡ changed change n before
     → lowest ≡ position asks_at before
     → lowest ≡ position asks_at after
 lowest-below change n before after lowest low is was =
     let y = at n after in
-    was ∙ sym (ap (λ (xs : Devices). position asks_at xs) (placed change n before after is)
+    was ∙ sym (ap (λ (xs : QueueViews). position asks_at xs) (placed change n before after is)
     ∙ position-same asks_at before (slice_set before n y) (first-below asks_at before n y (below-at lowest n before was low))
     (length-set before n y))
 
 -- it isn't, and the device that changed asks
-pub lowest-here : (change : DeviceView → DeviceView) (n : ℕ) (before after : Devices) (lowest : Option ℕ)
+pub lowest-here : (change : QueueView → QueueView) (n : ℕ) (before after : QueueViews) (lowest : Option ℕ)
     → n < length after
     → is_below lowest n ≡ false
     → asks_at (at n after) ≡ true
@@ -126,7 +126,7 @@ lowest-here change n before after lowest below low up is was =
     let y = at n after in
     let inside = long change n before after is below in
     let most = from-here asks_at before n inside (λ k found. not-below lowest n k low (was ∙ found)) in
-    sym (ap (λ (xs : Devices). position asks_at xs) (placed change n before after is)
+    sym (ap (λ (xs : QueueViews). position asks_at xs) (placed change n before after is)
     ∙ position-at asks_at (slice_set before n y) n (first-at asks_at before n y most inside up)
     (omega (arith, length-set before n y, inside)))
 
@@ -134,7 +134,7 @@ pub not-self : (n : ℕ) → (n == n) ≡ false → ⊥
 not-self n other = absurd (grind (arith, common_steps, other))
 
 -- it is another one, and the device that changed doesn't ask
-pub lowest-other : (change : DeviceView → DeviceView) (n : ℕ) (before after : Devices) (lowest : Option ℕ)
+pub lowest-other : (change : QueueView → QueueView) (n : ℕ) (before after : QueueViews) (lowest : Option ℕ)
     → n < length after
     → (lowest ≡ Some n → ⊥)
     → asks_at (at n after) ≡ false
@@ -144,7 +144,7 @@ pub lowest-other : (change : DeviceView → DeviceView) (n : ℕ) (before after 
 lowest-other change n before after lowest below other down is was =
     let y = at n after in
     let inside = long change n before after is below in
-    was ∙ sym (ap (λ (xs : Devices). position asks_at xs) (placed change n before after is)
+    was ∙ sym (ap (λ (xs : QueueViews). position asks_at xs) (placed change n before after is)
     ∙ position-same asks_at before (slice_set before n y)
     (first-not asks_at before n y (λ here. other (was ∙ position-at asks_at before n here inside)) down)
     (length-set before n y))
@@ -181,7 +181,7 @@ behind k (Some t) None (Some o) own later =
 behind k (Some t) (Some r) None own later = earlier-none (sooner (Some t) (Some r))
 behind k (Some t) (Some r) (Some o) own later = behind-some t r o (omega (arith, own t refl, later o refl))
 
-soonest-from : (k : ℕ) (xs : Devices) (n : ℕ) (y : Option DeviceView) → n < length xs
+soonest-from : (k : ℕ) (xs : QueueViews) (n : ℕ) (y : Option QueueView) → n < length xs
     → soonest_from k (slice_set xs n y) ≡ earlier (soonest_from k (slice_set xs n None)) (timer_at (k + n) y)
 unfolding soonest_from
 soonest-from k [] n y below = absurd (omega (arith, below))
@@ -197,7 +197,7 @@ soonest-from k (x ∷ xs) (suc n) y below =
     ∙ ap (λ (m : ℕ). earlier (sooner (timer_at k x) (soonest_from (k + 1) (slice_set xs n None))) (timer_at m y)) same)
 
 -- the soonest of all is that of the others, or that of one device
-soonest-set : (xs : Devices) (n : ℕ) (y : Option DeviceView) → n < length xs
+soonest-set : (xs : QueueViews) (n : ℕ) (y : Option QueueView) → n < length xs
     → soonest_from 0 (slice_set xs n y) ≡ earlier (soonest_from 0 (slice_set xs n None)) (timer_at n y)
 soonest-set xs n y below =
     let same : 0 + n ≡ n = omega arith in
@@ -224,11 +224,11 @@ stays-by None (Some a) = refl
 stays-by (Some r) None = grind (arith, common_steps)
 stays-by (Some r) (Some a) = grind (arith, common_steps)
 
-soonest-before : (xs : Devices) (n : ℕ) → n < length xs
+soonest-before : (xs : QueueViews) (n : ℕ) → n < length xs
     → soonest_from 0 xs ≡ earlier (soonest_from 0 (slice_set xs n None)) (timer_at n (at n xs))
-soonest-before xs n below = ap (λ (ys : Devices). soonest_from 0 ys) (sym (set-same xs n)) ∙ soonest-set xs n (at n xs) below
+soonest-before xs n below = ap (λ (ys : QueueViews). soonest_from 0 ys) (sym (set-same xs n)) ∙ soonest-set xs n (at n xs) below
 
-pub soonest-other : (change : DeviceView → DeviceView) (n : ℕ) (before after : Devices) (old own : Option Timer) → n < length after
+pub soonest-other : (change : QueueView → QueueView) (n : ℕ) (before after : QueueViews) (old own : Option Timer) → n < length after
     → own ≡ timer_at n (at n after)
     → is_of old n ≡ false
     → after ≡ changed change n before
@@ -240,10 +240,10 @@ soonest-other change n before after old own below timer other is was =
     let one = timer_at n (at n before) in
     let same = renewed n old rest one own (was ∙ soonest-before before n inside) (λ a some. named n (at n before) a some) other in
     let now : soonest_from 0 after ≡ earlier rest (timer_at n (at n after)) =
-    ap (λ (xs : Devices). soonest_from 0 xs) (placed change n before after is) ∙ soonest-set before n (at n after) inside in
+    ap (λ (xs : QueueViews). soonest_from 0 xs) (placed change n before after is) ∙ soonest-set before n (at n after) inside in
     sym (now ∙ (ap (λ (t : Option Timer). earlier rest t) (sym timer) ∙ same))
 
-pub soonest-stays : (change : DeviceView → DeviceView) (n : ℕ) (before after : Devices) (old own : Option Timer) → n < length after
+pub soonest-stays : (change : QueueView → QueueView) (n : ℕ) (before after : QueueViews) (old own : Option Timer) → n < length after
     → own ≡ timer_at n (at n after)
     → own ≡ old
     → after ≡ changed change n before
@@ -255,14 +255,14 @@ soonest-stays change n before after old own below timer stays is was =
     let one = timer_at n (at n before) in
     let came : old ≡ earlier rest one = was ∙ soonest-before before n inside in
     let now : soonest_from 0 after ≡ earlier rest (timer_at n (at n after)) =
-    ap (λ (xs : Devices). soonest_from 0 xs) (placed change n before after is) ∙ soonest-set before n (at n after) inside in
+    ap (λ (xs : QueueViews). soonest_from 0 xs) (placed change n before after is) ∙ soonest-set before n (at n after) inside in
     let same : earlier rest old ≡ old = ap (λ (t : Option Timer). earlier rest t) came ∙ (stays-by rest one ∙ sym came) in
     sym (now ∙ (ap (λ (t : Option Timer). earlier rest t) (sym timer ∙ stays) ∙ same))
 
 -- ---- changes after which all stays
 
 -- the entry asks as before, and its timer is the same
-pending-same : (xs : Devices) (n : ℕ) (y : Option DeviceView) → n < length xs → asks_at y ≡ asks_at (at n xs)
+pending-same : (xs : QueueViews) (n : ℕ) (y : Option QueueView) → n < length xs → asks_at y ≡ asks_at (at n xs)
     → timer_at n y ≡ timer_at n (at n xs)
     → pending_of (slice_set xs n y) ≡ pending_of xs
 pending-same xs n y below asks timer =
@@ -273,23 +273,23 @@ pending-same xs n y below asks timer =
     ∙ (ap (λ (t : Option Timer). earlier (soonest_from 0 (slice_set xs n None)) t) timer ∙ sym (soonest-before xs n below)) in
     rw (lowest, soonest) refl
 
-pending-phase : (xs : Devices) (n : ℕ) (d e : DeviceView) → n < length xs → at n xs ≡ Some d → e.phase ≡ d.phase
+pending-phase : (xs : QueueViews) (n : ℕ) (d e : QueueView) → n < length xs → at n xs ≡ Some d → e.phase ≡ d.phase
     → pending_of (slice_set xs n (Some e)) ≡ pending_of xs
 pending-phase xs n d e below here same = pending-same xs n (Some e) below (rw (here, same) refl) (rw (here, same) refl)
 
 -- the value that was read from the entry is the device there
-there : (xs : Devices) (n : ℕ) (x : Option DeviceView) (d : DeviceView) → n < length xs → x ≡ slice_index_or xs n x → x ≡ Some d
+there : (xs : QueueViews) (n : ℕ) (x : Option QueueView) (d : QueueView) → n < length xs → x ≡ slice_index_or xs n x → x ≡ Some d
     → at n xs ≡ Some d
 there xs n x d below found some = at-index xs n x below (sym found) ∙ some
 
 -- what holds for the devices, after the one in this entry changed
-pub changed-kept : (f : DeviceView → DeviceView) (xs : Devices) (n : ℕ) (x : Option DeviceView) (d e : DeviceView)
+pub changed-kept : (f : QueueView → QueueView) (xs : QueueViews) (n : ℕ) (x : Option QueueView) (d e : QueueView)
     → n < length xs
     → x ≡ slice_index_or xs n x
     → x ≡ Some d
     → e ≡ f d
-    → (old new : Pending) (now : Devices)
-    → ((change : DeviceView → DeviceView) (before : Devices) → now ≡ changed change n before → old ≡ pending_of before
+    → (old new : Pending) (now : QueueViews)
+    → ((change : QueueView → QueueView) (before : QueueViews) → now ≡ changed change n before → old ≡ pending_of before
     → new ≡ pending_of now)
     → now ≡ slice_set xs n (Some e)
     → (length xs ≤ 64) × (old ≡ pending_of xs)
@@ -297,13 +297,13 @@ pub changed-kept : (f : DeviceView → DeviceView) (xs : Devices) (n : ℕ) (x :
 changed-kept f xs n x d e below found some is old new now after now_is kept =
     let here = there xs n x d below found some in
     let change : slice_set xs n (Some e) ≡ changed f n xs =
-    ap (λ (v : DeviceView). slice_set xs n (Some v)) is ∙ sym (ap (λ (o : Option DeviceView). changed_from f n o xs) here) in (
+    ap (λ (v : QueueView). slice_set xs n (Some v)) is ∙ sym (ap (λ (o : Option QueueView). changed_from f n o xs) here) in (
       omega (arith, length-set xs n (Some e), kept.0),
-      after f xs (now_is ∙ change) kept.1 ∙ ap (λ (ys : Devices). pending_of ys) now_is,
+      after f xs (now_is ∙ change) kept.1 ∙ ap (λ (ys : QueueViews). pending_of ys) now_is,
     )
 
 -- the same if its phase stays
-pub phase-kept : (xs : Devices) (n : ℕ) (x : Option DeviceView) (d e : DeviceView) (old : Pending)
+pub phase-kept : (xs : QueueViews) (n : ℕ) (x : Option QueueView) (d e : QueueView) (old : Pending)
     → n < length xs
     → x ≡ slice_index_or xs n x
     → x ≡ Some d
@@ -313,18 +313,18 @@ pub phase-kept : (xs : Devices) (n : ℕ) (x : Option DeviceView) (d e : DeviceV
 phase-kept xs n x d e old below found some same kept =
     (omega (arith, length-set xs n (Some e), kept.0), kept.1 ∙ sym (pending-phase xs n d e below (there xs n x d below found some) same))
 
-pub phase-next : (backlog : Bool) (d : DeviceView) → (without_next backlog d).phase ≡ d.phase
+pub phase-next : (backlog : Bool) (d : QueueView) → (without_next backlog d).phase ≡ d.phase
 phase-next backlog d = grind (arith, common_steps)
 
-pub phase-masked : (moment : ℕ) (s : Settings) (d : DeviceView) → is_masked d.phase ≡ true → (after_packet moment s d).phase ≡ d.phase
+pub phase-masked : (moment : ℕ) (s : MachineSettings) (d : QueueView) → is_masked d.phase ≡ true → (after_packet moment s d).phase ≡ d.phase
 unfolding after_packet
 phase-masked moment s d masked = grind (arith, common_steps)
 
 -- a new device asks for nothing
-pub opened-kept : (xs : Devices) (n capacity : ℕ) (e : DeviceView) (old : Pending)
+pub opened-kept : (xs : QueueViews) (n capacity : ℕ) (e : QueueView) (old : Pending)
     → n < length xs
     → at n xs ≡ None
-    → e ≡ opened capacity
+    → e ≡ new_queue capacity
     → length xs ≤ 64
     → old ≡ pending_of xs
     → (length (slice_set xs n (Some e)) ≤ 64) × (old ≡ pending_of (slice_set xs n (Some e)))
@@ -337,7 +337,7 @@ unfolding soonest_from
 no-timer k zero = refl
 no-timer k (suc count) = no-timer (k + 1) count
 
-soonest-more : (k : ℕ) (xs : Devices) (count : ℕ) → soonest_from k (xs ++ replicate count None) ≡ soonest_from k xs
+soonest-more : (k : ℕ) (xs : QueueViews) (count : ℕ) → soonest_from k (xs ++ replicate count None) ≡ soonest_from k xs
 unfolding soonest_from
 soonest-more k [] count = no-timer k count
 soonest-more k (x ∷ xs) count = ap (λ (s : Option Timer). sooner (timer_at k x) s) (soonest-more (k + 1) xs count)
@@ -346,7 +346,7 @@ ends-empty : (count : ℕ) → position_or_len asks_at (replicate count None) �
 ends-empty zero = refl
 ends-empty (suc count) = ap (λ (k : ℕ). 1 + k) (ends-empty count) ∙ omega arith
 
-ends-more : (xs : Devices) (count : ℕ) → position_or_len asks_at (xs ++ replicate count None)
+ends-more : (xs : QueueViews) (count : ℕ) → position_or_len asks_at (xs ++ replicate count None)
     ≡ (if nat_lt (position_or_len asks_at xs) (length xs) then position_or_len asks_at xs else length xs + count)
 ends-more [] count = ends-empty count ∙ omega arith
 ends-more (x ∷ xs) count = by (asks_at x) refl (ends-more xs count)
@@ -359,8 +359,8 @@ ends-more (x ∷ xs) count = by (asks_at x) refl (ends-more xs count)
     by true up more = grind (arith, common_steps)
     by false down more = grind (arith, common_steps)
 
-lowest-more : (xs : Devices) (count : ℕ) → position asks_at (xs ++ replicate count None) ≡ position asks_at xs
+lowest-more : (xs : QueueViews) (count : ℕ) → position asks_at (xs ++ replicate count None) ≡ position asks_at xs
 lowest-more xs count = grind (arith, common_steps, ends-more)
 
-pub pending-more : (xs : Devices) (count : ℕ) → pending_of (xs ++ replicate count None) ≡ pending_of xs
+pub pending-more : (xs : QueueViews) (count : ℕ) → pending_of (xs ++ replicate count None) ≡ pending_of xs
 pending-more xs count = rw (lowest-more xs count, soonest-more 0 xs count) refl

@@ -5,14 +5,15 @@ use Rattle.std.proofs.lemmas.{Bool.eqb-true, Grind.common_steps}
 use Rattle.std.specs.Prelude.{◌==◌, if◌then◌else◌, nat_le, slice_get, sum_by}
 use Rattle.std.specs.Option.{option_map, option_map_or}
 use Rattle.{poll_runs.specs.{Polls.is_repoll, Turn.asked_for, declared.bench.Once.Once}, device_places.specs.Places.{at, changed}}
-use Rattle.machine_words.specs.declared.settings.Settings.{Settings}
+use Rattle.machine_words.specs.declared.settings.MachineSettings.{MachineSettings}
 use Rattle.machine_model.specs.declared.{device.Phase.{Phase, TheVariants.{Coalescing, Raised, Deferred, Fired}}, devices.Timer.Timer}
-use Rattle.machine_model.specs.declared.{tasks.Task.{Task, TheVariants.{Application, Thread}}}
-use Rattle.machine_model.specs.Device.{DeviceView, completed, delivered, expired, interrupted, next_packet, polled, raised_again}
+use Rattle.machine_model.specs.declared.{tasks.RunnableTask.{RunnableTask, TheVariants.{Application, Thread}}}
+use Rattle.machine_model.specs.Device.{QueueView, queue_completed, queue_delivered, expired, interrupted, next_packet, queue_polled}
+use Rattle.machine_model.specs.Device.{raised_again}
 use Rattle.machine_model.specs.Device.{timer_of, without_next}
-use Rattle.machine_model.specs.Devices.{Devices, asks_at, next_packet_at, soonest_from, sooner, timer_at}
-use Rattle.machine_model.specs.Softirq.{RunView, SoftirqView, asked_in, begun, ended, filled, is_spent, next_from, next_of}
-use Rattle.machine_model.specs.Softirq.{polled_once, polled_run, pushed}
+use Rattle.machine_model.specs.Devices.{QueueViews, asks_at, next_packet_at, soonest_from, sooner, timer_at}
+use Rattle.machine_model.specs.Softirq.{RunView, SoftirqView, asked_in, begun, run_ended, filled, is_run_spent, next_from, run_next}
+use Rattle.machine_model.specs.Softirq.{softirq_polled, polled_run, pushed}
 use Rattle.machine_model.specs.Tasks.{after_first, applications, runnable, with_application}
 use Rattle.machine_model.proofs.{PlacesFacts.{map_at, sum-changed}}
 
@@ -25,44 +26,44 @@ phase_weight (Coalescing until) = 4
 phase_weight (Deferred until) = 4
 phase_weight _ = 0
 
-unfoldable pub weight_of : ℕ → DeviceView → ℕ
+unfoldable pub weight_of : ℕ → QueueView → ℕ
 weight_of w d = w * (length d.ring + length d.taken) + 5 * d.deferrals + phase_weight d.phase
 
-unfoldable pub weight_at : ℕ → Option DeviceView → ℕ
+unfoldable pub weight_at : ℕ → Option QueueView → ℕ
 weight_at w None = 0
 weight_at w (Some d) = weight_of w d
 
-abbrev pub weights : ℕ → Devices → ℕ
+abbrev pub weights : ℕ → QueueViews → ℕ
 weights w devices = sum_by (weight_at w) devices
 
-pub changed-weights : (w : ℕ) (f : DeviceView → DeviceView) (n : ℕ) (xs : Devices)
+pub changed-weights : (w : ℕ) (f : QueueView → QueueView) (n : ℕ) (xs : QueueViews)
     → weights w (changed f n xs) + weight_at w (at n xs) ≡ weights w xs + weight_at w (map_at f (at n xs))
 changed-weights w f n xs = sum-changed (weight_at w) f n xs
 
 -- a change that adds at most this much to a device adds at most this much to all
-pub weights-most : (w more : ℕ) (f : DeviceView → DeviceView) (n : ℕ) (xs : Devices)
+pub weights-most : (w more : ℕ) (f : QueueView → QueueView) (n : ℕ) (xs : QueueViews)
     → weight_at w (map_at f (at n xs)) ≤ weight_at w (at n xs) + more → weights w (changed f n xs) ≤ weights w xs + more
 weights-most w more f n xs most = omega (arith, changed-weights w f n xs, most)
 
-pub weights-less : (w less : ℕ) (f : DeviceView → DeviceView) (n : ℕ) (xs : Devices)
+pub weights-less : (w less : ℕ) (f : QueueView → QueueView) (n : ℕ) (xs : QueueViews)
     → weight_at w (map_at f (at n xs)) + less ≤ weight_at w (at n xs) → weights w (changed f n xs) + less ≤ weights w xs
 weights-less w less f n xs most = omega (arith, changed-weights w f n xs, most)
 
-pub asks-three : (phase : Phase) (w : ℕ) (d : DeviceView) → d.phase ≡ phase → asks_at (Some d) ≡ true → phase_weight d.phase ≡ 3
+pub asks-three : (phase : Phase) (w : ℕ) (d : QueueView) → d.phase ≡ phase → asks_at (Some d) ≡ true → phase_weight d.phase ≡ 3
 asks-three phase w d is up = grind (arith, common_steps)
 
-pub weight-interrupted : (w : ℕ) (polling : Bool) (o : Option DeviceView) → asks_at o ≡ true
+pub weight-interrupted : (w : ℕ) (polling : Bool) (o : Option QueueView) → asks_at o ≡ true
     → weight_at w (map_at (interrupted polling) o) + 3 ≤ weight_at w o
 unfolding map_at weight_at weight_of interrupted
 weight-interrupted w polling None up = grind (arith, common_steps)
 weight-interrupted w polling (Some d) up = grind (arith, common_steps)
 
-pub weight-raised : (w : ℕ) (o : Option DeviceView) → weight_at w (map_at raised_again o) ≤ weight_at w o + 3
+pub weight-raised : (w : ℕ) (o : Option QueueView) → weight_at w (map_at raised_again o) ≤ weight_at w o + 3
 unfolding map_at weight_at weight_of
 weight-raised w None = omega arith
 weight-raised w (Some d) = grind (arith, common_steps)
 
-pub weight-delivered : (w now came : ℕ) (o : Option DeviceView) → weight_at w (map_at (delivered now came) o) ≡ weight_at w o
+pub weight-delivered : (w now came : ℕ) (o : Option QueueView) → weight_at w (map_at (queue_delivered now came) o) ≡ weight_at w o
 unfolding map_at weight_at weight_of
 weight-delivered w now came None = refl
 weight-delivered w now came (Some d) = refl
@@ -84,7 +85,7 @@ fewer w a r t most = by (r - a) (omega (arith, most))
     by : (d : ℕ) → a + d ≡ r → w * (a + t) ≤ w * (r + t)
     by d is = rw (← is) (omega arith)
 
-pub weight-next : (w : ℕ) (backlog : Bool) (d : DeviceView) (came : ℕ) → next_packet backlog d ≡ Some came
+pub weight-next : (w : ℕ) (backlog : Bool) (d : QueueView) (came : ℕ) → next_packet backlog d ≡ Some came
     → weight_of w (without_next backlog d) + w ≡ weight_of w d
 unfolding weight_of
 weight-next w true d came is = by (length d.taken == 0) refl is
@@ -107,13 +108,13 @@ weight-next w true d came is = by (length d.taken == 0) refl is
 weight-next w false d came is =
     omega (arith, one-fewer w (length (drop 1 d.ring)) (length d.ring) (length d.taken) (drop-first d.ring came is))
 
-pub taken-less : (w : ℕ) (backlog : Bool) (o : Option DeviceView) (came : ℕ) → next_packet_at backlog o ≡ Some came
+pub taken-less : (w : ℕ) (backlog : Bool) (o : Option QueueView) (came : ℕ) → next_packet_at backlog o ≡ Some came
     → weight_at w (map_at (without_next backlog) o) + w ≤ weight_at w o
 unfolding map_at weight_at
 taken-less w backlog None came is = cc is
 taken-less w backlog (Some d) came is = omega (arith, weight-next w backlog d came is)
 
-pub weight-looked : (w : ℕ) (backlog : Bool) (d : DeviceView) → weight_of w (without_next backlog d) ≤ weight_of w d
+pub weight-looked : (w : ℕ) (backlog : Bool) (d : QueueView) → weight_of w (without_next backlog d) ≤ weight_of w d
 unfolding weight_of
 weight-looked w true d = by (length d.taken == 0) refl
   where
@@ -133,29 +134,29 @@ weight-looked w true d = by (length d.taken == 0) refl
     by false some = omega (arith, fewer w (length (drop 1 d.taken)) (length d.taken) (length d.ring) (drop-none d.taken))
 weight-looked w false d = omega (arith, fewer w (length (drop 1 d.ring)) (length d.ring) (length d.taken) (drop-none d.ring))
 
-pub looked-most : (w : ℕ) (backlog : Bool) (o : Option DeviceView) → weight_at w (map_at (without_next backlog) o) ≤ weight_at w o + 0
+pub looked-most : (w : ℕ) (backlog : Bool) (o : Option QueueView) → weight_at w (map_at (without_next backlog) o) ≤ weight_at w o + 0
 unfolding map_at weight_at
 looked-most w backlog None = omega arith
 looked-most w backlog (Some d) = omega (arith, weight-looked w backlog d)
 
 -- a poll that completes may leave deferrals, if it processed packets
-pub weight-completed : (w now given : ℕ) (s : Settings) (d : DeviceView)
-    → weight_of w (completed now given s d) ≤ weight_of w d + (if given == 0 then 0 else 5 * s.defer_hard_irqs)
-unfolding weight_of completed
+pub weight-completed : (w now given : ℕ) (s : MachineSettings) (d : QueueView)
+    → weight_of w (queue_completed now given s d) ≤ weight_of w d + (if given == 0 then 0 else 5 * s.defer_hard_irqs)
+unfolding weight_of queue_completed
 weight-completed w now given s d = grind (arith, common_steps)
 
-pub weight-polled : (w now given : ℕ) (s : Settings) (o : Option DeviceView)
-    → weight_at w (map_at (polled now given s) o)
+pub weight-polled : (w now given : ℕ) (s : MachineSettings) (o : Option QueueView)
+    → weight_at w (map_at (queue_polled now given s) o)
     ≤ weight_at w o + (if given == s.weight then 0 else (if given == 0 then 0 else 5 * s.defer_hard_irqs))
-unfolding map_at weight_at weight_of polled
+unfolding map_at weight_at weight_of queue_polled
 weight-polled w now given s None = omega arith
 weight-polled w now given s (Some d) = grind (arith, common_steps, weight-completed)
 
-pub weight-expired : (w at : ℕ) (d : DeviceView) → timer_of d.phase ≡ Some at → weight_of w (expired d) + 1 ≡ weight_of w d
+pub weight-expired : (w at : ℕ) (d : QueueView) → timer_of d.phase ≡ Some at → weight_of w (expired d) + 1 ≡ weight_of w d
 unfolding weight_of
 weight-expired w at d is = grind (arith, common_steps)
 
-pub expired-less : (w number : ℕ) (timer : Timer) (o : Option DeviceView) → timer_at number o ≡ Some timer
+pub expired-less : (w number : ℕ) (timer : Timer) (o : Option QueueView) → timer_at number o ≡ Some timer
     → weight_at w (map_at expired o) + 1 ≤ weight_at w o
 unfolding map_at weight_at
 expired-less w number timer None is = cc is
@@ -176,7 +177,7 @@ either (Some x) (Some y) timer is = by (nat_le x.at y.at) is
     by true e = inl e
     by false e = inr e
 
-pub named : (number : ℕ) (o : Option DeviceView) (timer : Timer) → timer_at number o ≡ Some timer → timer.device ≡ number
+pub named : (number : ℕ) (o : Option QueueView) (timer : Timer) → timer_at number o ≡ Some timer → timer.device ≡ number
 named number None timer is = cc is
 named number (Some d) timer is = by (timer_of d.phase) is
   where
@@ -184,7 +185,7 @@ named number (Some d) timer is = by (timer_of d.phase) is
     by None e = cc e
     by (Some at) e = cc e
 
-pub soonest-is : (number : ℕ) (xs : Devices) (timer : Timer) → soonest_from number xs ≡ Some timer
+pub soonest-is : (number : ℕ) (xs : QueueViews) (timer : Timer) → soonest_from number xs ≡ Some timer
     → (number ≤ timer.device) × (timer_at timer.device (at (timer.device - number) xs) ≡ Some timer)
 unfolding soonest_from
 soonest-is number [] timer is = cc is
@@ -224,16 +225,16 @@ pub filled-same : (own repoll list : List ℕ)
 filled-same own repoll list = grind (arith, common_steps)
 
 pub entries-next : (q : SoftirqView) → asked_in q.run ≡ None
-    → entries (next_of q) + length (asked_for (asked_in (next_of q).run)) ≡ entries q
-unfolding entries next_of
+    → entries (run_next q) + length (asked_for (asked_in (run_next q).run)) ≡ entries q
+unfolding entries run_next
 entries-next q none = by q.run none
   where
     by : (run : Option RunView) → asked_in run ≡ None
-        → (let r = option_map_or (λ r. if is_spent r then record q { run = run } else next_from (filled r.own r.repoll q.list) r
+        → (let r = option_map_or (λ r. if is_run_spent r then record q { run = run } else next_from (filled r.own r.repoll q.list) r
         (record q { run = run })) run (record q { run = run }) in
         length r.list + waiting r.run + length (asked_for (asked_in r.run)) ≡ length q.list + waiting run)
     by None none = omega arith
-    by (Some r) none = spent (is_spent r)
+    by (Some r) none = spent (is_run_spent r)
       where
         spent : (b : Bool)
             → (let v = if b then record q { run = Some r } else next_from (filled r.own r.repoll q.list) r (record q { run = Some r }) in
@@ -245,8 +246,8 @@ pub entries-begun : (moment budget weight window : ℕ) (q : SoftirqView) → en
 unfolding entries
 entries-begun moment budget weight window q = omega arith
 
-pub entries-ended : (q : SoftirqView) → entries (ended q) ≤ entries q
-unfolding entries ended
+pub entries-ended : (q : SoftirqView) → entries (run_ended q) ≤ entries q
+unfolding entries run_ended
 entries-ended q = by q.run
   where
     by : (run : Option RunView) → length (option_map_or (λ r. r.own ++ q.list ++ r.repoll) run q.list) + 0 ≤ length q.list + waiting run
@@ -256,8 +257,8 @@ entries-ended q = by q.run
 pub one-asked : (asked : Option ℕ) → length (asked_for asked) ≤ 1
 one-asked asked = grind (arith, common_steps)
 
-pub entries-polled : (once : Once) (q : SoftirqView) → entries (polled_once once q) ≤ entries q + (if is_repoll once.next then 1 else 0)
-unfolding entries polled_once
+pub entries-polled : (once : Once) (q : SoftirqView) → entries (softirq_polled once q) ≤ entries q + (if is_repoll once.next then 1 else 0)
+unfolding entries softirq_polled
 entries-polled once q = by q.run
   where
     by : (run : Option RunView)
@@ -271,22 +272,22 @@ entries-polled once q = by q.run
         again true = omega (arith, length-append r.repoll (asked_for r.asked), one-asked r.asked)
         again false = omega (arith, length-append r.repoll [])
 
-abbrev pub threads : List Task → ℕ
+abbrev pub threads : List RunnableTask → ℕ
 threads [] = 0
 threads (Application ∷ more) = threads more
 threads (Thread number ∷ more) = threads more + 1
 
-pub threads-thread : (xs : List Task) (n : ℕ) → threads (xs ++ Thread n ∷ []) ≡ threads xs + 1
+pub threads-thread : (xs : List RunnableTask) (n : ℕ) → threads (xs ++ Thread n ∷ []) ≡ threads xs + 1
 threads-thread [] n = refl
 threads-thread (Application ∷ more) n = threads-thread more n
 threads-thread (Thread m ∷ more) n = omega (arith, threads-thread more n)
 
-pub threads-application : (xs : List Task) → threads (xs ++ Application ∷ []) ≡ threads xs
+pub threads-application : (xs : List RunnableTask) → threads (xs ++ Application ∷ []) ≡ threads xs
 threads-application [] = refl
 threads-application (Application ∷ more) = threads-application more
 threads-application (Thread m ∷ more) = omega (arith, threads-application more)
 
-pub with-application : (xs : List Task) → threads (with_application xs) ≡ threads xs
+pub with-application : (xs : List RunnableTask) → threads (with_application xs) ≡ threads xs
 unfolding with_application
 with-application xs = by (applications xs == 0)
   where
@@ -294,18 +295,18 @@ with-application xs = by (applications xs == 0)
     by true = threads-application xs
     by false = refl
 
-pub if-application : (b : Bool) (xs : List Task) → threads (if b then with_application xs else xs) ≡ threads xs
+pub if-application : (b : Bool) (xs : List RunnableTask) → threads (if b then with_application xs else xs) ≡ threads xs
 if-application true xs = with-application xs
 if-application false xs = refl
 
-pub same-runnable : (idle : Bool) (xs : List Task) → threads (runnable idle xs) ≡ threads xs
+pub same-runnable : (idle : Bool) (xs : List RunnableTask) → threads (runnable idle xs) ≡ threads xs
 same-runnable idle xs = grind (arith, common_steps)
 
-abbrev pub is_thread : Option Task → ℕ
+abbrev pub is_thread : Option RunnableTask → ℕ
 is_thread (Some (Thread number)) = 1
 is_thread _ = 0
 
-pub after-first : (xs : List Task) → threads (after_first xs) + is_thread (slice_get xs 0) ≡ threads xs
+pub after-first : (xs : List RunnableTask) → threads (after_first xs) + is_thread (slice_get xs 0) ≡ threads xs
 after-first [] = refl
 after-first (Application ∷ more) = omega arith
 after-first (Thread number ∷ more) = omega arith

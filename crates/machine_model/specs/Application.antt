@@ -1,7 +1,7 @@
 -- The application, which uses the packets of a socket: on the processor that receives, or on one of its own.
 use Rattle.std.specs.Prelude.{ℕ, ◌+◌, ◌-◌, ◌&&◌, nat_le, nat_lt, Bool, true, false, List, [], ◌∷◌, ◌++◌, length, if◌then◌else◌}
-use Rattle.{circular_buffer.specs.Buffer.{Buffer, buffer}, machine_words.specs.declared.settings.Settings.Settings}
-use Rattle.machine_model.specs.{declared.application.Activity.Activity, Waits.{WaitsView, counted, held, no_waits}}
+use Rattle.{circular_buffer.specs.Buffer.{Buffer, buffer}, machine_words.specs.declared.settings.MachineSettings.MachineSettings}
+use Rattle.machine_model.specs.{declared.application.Activity.Activity, Waits.{WaitsView, counted, saturated, no_waits}}
 use Rattle.machine_model.specs.declared.application.Activity.TheVariants.{Asleep, Waking, Using}
 
 pub record ApplicationView : Type 0 where
@@ -16,7 +16,7 @@ pub record ApplicationView : Type 0 where
   pub end : ℕ
   pub wakes : ℕ
 
-abbrev pub opened_application : Settings → ApplicationView
+abbrev pub opened_application : MachineSettings → ApplicationView
 opened_application s =
     record { socket = buffer [] s.socket; refused = 0; waits = no_waits; activity = Asleep; end = 0; wakes = 0 }
 
@@ -31,8 +31,8 @@ is_awake Asleep = false
 is_awake _ = true
 
 -- its work ends at or before that time
-abbrev pub is_over : ℕ → ApplicationView → Bool
-is_over moment a = is_awake a.activity && nat_le a.end moment
+abbrev pub is_use_over : ℕ → ApplicationView → Bool
+is_use_over moment a = is_awake a.activity && nat_le a.end moment
 
 -- its work ends: the packet in hand was used
 abbrev pub ended_by : Activity → ApplicationView → ApplicationView
@@ -43,22 +43,22 @@ ended_by _ a = a
 abbrev pub takes_next : ℕ → List ℕ → ApplicationView → ApplicationView
 takes_next use_time [] a = record a { activity = Asleep }
 takes_next use_time (came ∷ more) a =
-    record a { activity = Using came; end = held (a.end + use_time); socket = buffer more a.socket.capacity }
+    record a { activity = Using came; end = saturated (a.end + use_time); socket = buffer more a.socket.capacity }
 
 unfoldable pub goes_on : ℕ → ApplicationView → ApplicationView
 goes_on use_time a = takes_next use_time a.socket.items (ended_by a.activity a)
 
 -- it advances to a time, with at most these packets
 unfoldable pub went_on_with : List ℕ → ℕ → ℕ → ApplicationView → ApplicationView
-went_on_with [] moment use_time a = if is_over moment a then goes_on use_time a else a
+went_on_with [] moment use_time a = if is_use_over moment a then goes_on use_time a else a
 went_on_with (came ∷ more) moment use_time a =
-    if is_over moment a then went_on_with more moment use_time (goes_on use_time a) else a
+    if is_use_over moment a then went_on_with more moment use_time (goes_on use_time a) else a
 
 unfoldable pub went_on : ℕ → ℕ → ApplicationView → ApplicationView
 went_on moment use_time a = went_on_with a.socket.items moment use_time a
 
 abbrev pub woken_by : Activity → ℕ → ApplicationView → ApplicationView
-woken_by Asleep until a = record a { activity = Waking; end = until; wakes = held (a.wakes + 1) }
+woken_by Asleep until a = record a { activity = Waking; end = until; wakes = saturated (a.wakes + 1) }
 woken_by _ until a = a
 
 -- ---- a packet is delivered to it
@@ -70,11 +70,11 @@ abbrev pub put : ℕ → ApplicationView → ApplicationView
 put came a = record a { socket = buffer (a.socket.items ++ came ∷ []) a.socket.capacity }
 
 abbrev pub refuses : ApplicationView → ApplicationView
-refuses a = record a { refused = held (a.refused + 1) }
+refuses a = record a { refused = saturated (a.refused + 1) }
 
 -- on its own processor it has advanced to this time, and is woken if it sleeps
-unfoldable pub fed : ℕ → ℕ → Settings → ApplicationView → ApplicationView
+unfoldable pub fed : ℕ → ℕ → MachineSettings → ApplicationView → ApplicationView
 fed now came s a =
     let b = if s.apart then went_on now s.use_time a else a in
     let c = put came b in
-    if has_place b then (if s.apart then woken_by c.activity (held (now + s.app_wake)) c else c) else refuses b
+    if has_place b then (if s.apart then woken_by c.activity (saturated (now + s.app_wake)) c else c) else refuses b

@@ -1,31 +1,31 @@
 -- The devices of a processor, by their numbers there.
 use Rattle.std.specs.Prelude.{ℕ, ◌+◌, ◌-◌, nat_le, Bool, false, [], ◌∷◌, ◌++◌, length, replicate, Option, Some, None, if◌then◌else◌}
 use Rattle.std.specs.Option.{option_and_then, option_map, option_map_or}
-use Rattle.{device_places.specs.Places.{Places, added}, machine_model.specs.declared.devices.Timer.Timer}
-use Rattle.machine_model.specs.Device.{DeviceView, asks, is_fired, has_room, next_packet, opened, timer_of}
+use Rattle.{device_places.specs.Places.{DeviceTable, added}, machine_model.specs.declared.devices.Timer.Timer}
+use Rattle.machine_model.specs.Device.{QueueView, asks, is_fired, has_room, next_packet, new_queue, timer_of}
 
-abbrev pub Devices : Type 0
-Devices = Places DeviceView
+abbrev pub QueueViews : Type 0
+QueueViews = DeviceTable QueueView
 
 -- a device is made by its first packet
-unfoldable pub with_device : ℕ → ℕ → Devices → Devices
-with_device capacity number devices = added number (opened capacity) (devices ++ replicate (number + 1 - length devices) None)
+unfoldable pub with_device : ℕ → ℕ → QueueViews → QueueViews
+with_device capacity number devices = added number (new_queue capacity) (devices ++ replicate (number + 1 - length devices) None)
 
 -- ---- for the device in an entry, if there is one
 
-abbrev pub asks_at : Option DeviceView → Bool
+abbrev pub asks_at : Option QueueView → Bool
 asks_at place = option_map_or (λ d. asks d.phase) place false
 
-abbrev pub is_fired_at : Option DeviceView → Bool
+abbrev pub is_fired_at : Option QueueView → Bool
 is_fired_at place = option_map_or (λ d. is_fired d.phase) place false
 
-abbrev pub has_room_at : Option DeviceView → Bool
+abbrev pub has_room_at : Option QueueView → Bool
 has_room_at place = option_map_or has_room place false
 
-abbrev pub next_packet_at : Bool → Option DeviceView → Option ℕ
+abbrev pub next_packet_at : Bool → Option QueueView → Option ℕ
 next_packet_at backlog place = option_and_then (next_packet backlog) place
 
-abbrev pub timer_at : ℕ → Option DeviceView → Option Timer
+abbrev pub timer_at : ℕ → Option QueueView → Option Timer
 timer_at number place = option_and_then (λ d. option_map (λ at. record { at = at; device = number }) (timer_of d.phase)) place
 
 -- ---- the soonest timer, of those at one time that of the lowest device
@@ -35,6 +35,6 @@ sooner None other = other
 sooner (Some timer) None = Some timer
 sooner (Some timer) (Some other) = if nat_le timer.at other.at then Some timer else Some other
 
-unfoldable pub soonest_from : ℕ → Devices → Option Timer
+unfoldable pub soonest_from : ℕ → QueueViews → Option Timer
 soonest_from number [] = None
 soonest_from number (place ∷ more) = sooner (timer_at number place) (soonest_from (number + 1) more)

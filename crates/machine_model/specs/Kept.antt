@@ -1,8 +1,8 @@
 -- The invariant of each processor of the program. It isn't part of the machine's definition.
 use Rattle.std.specs.Prelude.{◌≡◌, ◌≤◌, ◌<◌, ◌&&◌, not, Bool, true, false, is_some, ℕ, sum_by, Option, Some, None, if◌then◌else◌}
-use Rattle.{std.specs.Option.option_map_or, machine_words.specs.declared.settings.Settings.Settings}
-use Rattle.{machine_model.specs.Device.DeviceView}
-use Rattle.machine_model.specs.{Devices.Devices, Shown.{listed, weight_in}, Softirq.{SoftirqView, asked_in}}
+use Rattle.{std.specs.Option.option_map_or, machine_words.specs.declared.settings.MachineSettings.MachineSettings}
+use Rattle.{machine_model.specs.Device.QueueView}
+use Rattle.machine_model.specs.{Devices.QueueViews, Shown.{listed, weight_in}, Softirq.{SoftirqView, asked_in}}
 use Rattle.machine_model.specs.{Processor.{ProcessorView, is_polling}}
 use Rattle.machine_model.specs.declared.{device.Phase.{Phase, TheVariants.Scheduled}, processor.Work.{Work, TheVariants.{Poll, Packet}}}
 
@@ -11,10 +11,10 @@ abbrev pub is_scheduled : Phase → Bool
 is_scheduled Scheduled = true
 is_scheduled _ = false
 
-abbrev pub scheduled_at : Option DeviceView → ℕ
+abbrev pub scheduled_at : Option QueueView → ℕ
 scheduled_at place = option_map_or (λ d. if is_scheduled d.phase then 1 else 0) place 0
 
-abbrev pub all_scheduled : Devices → ℕ
+abbrev pub all_scheduled : QueueViews → ℕ
 all_scheduled devices = sum_by scheduled_at devices
 
 -- the device that is polled, and how many packets its poll processed so far
@@ -23,15 +23,15 @@ polled_by (Poll number) = Some number
 polled_by (Packet packet) = Some packet.device
 polled_by _ = None
 
-abbrev pub given_by : Work → ℕ
-given_by (Packet packet) = packet.given
-given_by _ = 0
+abbrev pub work_given : Work → ℕ
+work_given (Packet packet) = packet.given
+work_given _ = 0
 
 -- there is a poll list, and not threads or interrupts only
-abbrev pub has_list : Settings → Bool
+abbrev pub has_list : MachineSettings → Bool
 has_list s = is_polling s && not s.threaded
 
-pub record Kept (settings : Settings) (work : Work) (devices : Devices) (softirq : SoftirqView) : Type 0 where
+pub record ProcessorKept (settings : MachineSettings) (work : Work) (devices : QueueViews) (softirq : SoftirqView) : Type 0 where
   -- each number on the list and in the run is that of a scheduled device
   pub few : listed softirq ≤ all_scheduled devices
   pub unused : has_list settings ≡ false → listed softirq ≡ 0
@@ -39,7 +39,7 @@ pub record Kept (settings : Settings) (work : Work) (devices : Devices) (softirq
   pub asked : asked_in softirq.run ≡ (if settings.threaded then None else polled_by work)
   -- the run's weight is the machine's, and a poll processes no more
   pub weight : is_some softirq.run ≡ true → weight_in softirq.run ≡ settings.weight
-  pub within : given_by work < settings.weight
+  pub within : work_given work < settings.weight
 
-abbrev pub IsKept : ProcessorView → Type 0
-IsKept p = Kept p.settings p.work p.devices p.softirq
+abbrev pub IsProcessorKept : ProcessorView → Type 0
+IsProcessorKept p = ProcessorKept p.settings p.work p.devices p.softirq

@@ -1,36 +1,36 @@
 -- The machine: its processors, the effect of arrivals on them, and the contents of the report.
 use Rattle.std.specs.Prelude.{◌≡◌, ℕ, ◌-◌, ◌/◌, ◌%◌, if◌then◌else◌}
-use Rattle.{device_places.specs.Places.at, machine_words.specs.declared.settings.Settings.Settings}
+use Rattle.{device_places.specs.Places.at, machine_words.specs.declared.settings.MachineSettings.MachineSettings}
 use Rattle.std.specs.Prelude.{◌^◌, List, length, replicate, slice_get, slice_set, Option, Some, None}
 use Rattle.std.specs.Option.{option_and_then, option_map}
-use Rattle.machine_model.specs.declared.{application.ApplicationReport.ApplicationReport, device.DeviceReport.DeviceReport}
-use Rattle.machine_model.specs.{declared.processor.ProcessorReport.ProcessorReport, Application.went_on, Device.DeviceView}
+use Rattle.machine_model.specs.declared.{application.ApplicationReport.ApplicationReport, device.QueueReport.QueueReport}
+use Rattle.machine_model.specs.{declared.processor.ProcessorReport.ProcessorReport, Application.went_on, Device.QueueView}
 use Rattle.machine_model.specs.{Processor.{ProcessorView, Advances, arrives, opened_processor}, Waits.summary_of}
 
 -- the processors, in the order of their numbers
 abbrev pub Machine : Type 0
 Machine = List ProcessorView
 
-abbrev pub opened_machine : Settings → Machine
+abbrev pub opened_machine : MachineSettings → Machine
 opened_machine s = replicate s.processors (opened_processor s)
 
 -- the processor of a device, and its number there
 abbrev pub processor_of : ℕ → Machine → ℕ
 processor_of device m = (device - 1) % length m
 
-abbrev pub number_of : ℕ → Machine → ℕ
-number_of device m = (device - 1) / length m
+abbrev pub local_number : ℕ → Machine → ℕ
+local_number device m = (device - 1) / length m
 
 -- a packet arrives for a device of this processor, which advances to that moment before
 abbrev pub ArrivesAt : ℕ → ℕ → ProcessorView → ProcessorView → Type 0
 ArrivesAt moment number before after = (ready : ProcessorView) × Advances moment before ready × (after ≡ arrives moment number ready)
 
 -- a packet arrives for a device, and only its processor changes
-pub record Arrives (moment device : ℕ) (before after : Machine) : Type 0 where
+pub record PacketArrives (moment device : ℕ) (before after : Machine) : Type 0 where
   pub old : ProcessorView
   pub new : ProcessorView
   pub own : slice_get before (processor_of device before) ≡ Some old
-  pub arrives : ArrivesAt moment (number_of device before) old new
+  pub arrives : ArrivesAt moment (local_number device before) old new
   pub others : after ≡ slice_set before (processor_of device before) new
 
 -- after the last arrival a processor advances until nothing is left, and then the application advances until it sleeps
@@ -45,13 +45,13 @@ pub record Finishes (before after : Machine) : Type 0 where
 
 -- ---- the report
 
-abbrev pub report_of : DeviceView → DeviceReport
-report_of d = record { counts = d.counts; waits = summary_of d.waits }
+abbrev pub queue_report : QueueView → QueueReport
+queue_report d = record { counts = d.counts; waits = summary_of d.waits }
 
 -- for a device for which a packet arrived
-abbrev pub device_report : ℕ → Machine → Option DeviceReport
+abbrev pub device_report : ℕ → Machine → Option QueueReport
 device_report device m =
-    option_and_then (λ p. option_map report_of (at (number_of device m) p.devices)) (slice_get m (processor_of device m))
+    option_and_then (λ p. option_map queue_report (at (local_number device m) p.devices)) (slice_get m (processor_of device m))
 
 abbrev pub processor_report : ProcessorView → ProcessorReport
 processor_report p =

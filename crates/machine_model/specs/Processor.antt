@@ -2,35 +2,36 @@
 use Rattle.std.specs.Prelude.{◌≡◌, ℕ, zero, suc, ◌+◌, ◌-◌, ◌<◌, ◌==◌, ◌||◌, ◌&&◌, not, nat_le, nat_lt, Bool, true, false, List, [], ◌∷◌}
 use Rattle.std.specs.{Prelude.{◌++◌, length, position, slice_get, Option, Some, None, is_some, if◌then◌else◌}, Option.option_map_or}
 use Rattle.{circular_buffer.specs.Buffer.{buffer}, device_places.specs.Places.{at, changed}}
-use Rattle.{machine_words.specs.declared.settings.Settings.Settings, poll_runs.specs.declared.bench.Next.TheVariants.{Gone, Repoll}}
+use Rattle.{machine_words.specs.declared.settings.MachineSettings.MachineSettings}
+use Rattle.{poll_runs.specs.declared.bench.Next.TheVariants.{Gone, Repoll}}
 use Rattle.poll_runs.specs.declared.bench.Once.{Once}
-use Rattle.machine_model.specs.Device.{after_packet, delivered, expired, interrupted, polled, raised_again, without_next}
-use Rattle.machine_model.specs.Devices.{Devices, asks_at, has_room_at, is_fired_at, next_packet_at, soonest_from, with_device}
-use Rattle.machine_model.specs.Softirq.{SoftirqView, begun, asked_in, ended, is_spent, next_of, polled_once, pushed}
-use Rattle.machine_model.specs.{Application.{ApplicationView, fed, has_place, opened_application, used}, Waits.held}
+use Rattle.machine_model.specs.Device.{after_packet, queue_delivered, expired, interrupted, queue_polled, raised_again, without_next}
+use Rattle.machine_model.specs.Devices.{QueueViews, asks_at, has_room_at, is_fired_at, next_packet_at, soonest_from, with_device}
+use Rattle.machine_model.specs.Softirq.{SoftirqView, begun, asked_in, run_ended, is_run_spent, run_next, softirq_polled, pushed}
+use Rattle.machine_model.specs.{Application.{ApplicationView, fed, has_place, opened_application, used}, Waits.saturated}
 use Rattle.machine_model.specs.Tasks.{after_first, runnable, with_application}
-use Rattle.machine_model.specs.declared.{devices.Timer.Timer, tasks.Task.{Task, TheVariants.{Application, Thread}}}
+use Rattle.machine_model.specs.declared.{devices.Timer.Timer, tasks.RunnableTask.{RunnableTask, TheVariants.{Application, Thread}}}
 use Rattle.machine_model.specs.declared.processor.{ProcessorCounts.ProcessorCounts, TheConstants.ProcessorCounts.NONE, Work.Work}
 use Rattle.machine_model.specs.declared.processor.{Rest.Rest}
 use Rattle.machine_model.specs.declared.processor.{Work.TheVariants.{Nothing, Interrupt, Poll, Packet, Use}, Upcoming.Upcoming}
 use Rattle.machine_model.specs.declared.processor.Upcoming.TheVariants.{Never, Ends, Expires}
 
 pub record ProcessorView : Type 0 where
-  pub settings : Settings
+  pub settings : MachineSettings
   -- the work in progress, when it ends, and when it began, or the time of the last event
   pub work : Work
   pub ends : ℕ
   pub clock : ℕ
-  pub devices : Devices
+  pub devices : QueueViews
   -- the poll list and the run; with threads the runnable tasks, except a thread that polls
   pub softirq : SoftirqView
-  pub tasks : List Task
+  pub tasks : List RunnableTask
   -- what is left of a use that was interrupted
   pub rest : Option Rest
   pub application : ApplicationView
   pub counts : ProcessorCounts
 
-abbrev pub is_polling : Settings → Bool
+abbrev pub is_polling : MachineSettings → Bool
 is_polling s = not (s.budget == 0)
 
 abbrev pub is_busy : Work → Bool
@@ -40,7 +41,7 @@ is_busy _ = true
 -- ---- a piece of work begins
 
 abbrev pub begins : Work → ℕ → ProcessorView → ProcessorView
-begins work time p = record p { work = work; ends = held (p.clock + time) }
+begins work time p = record p { work = work; ends = saturated (p.clock + time) }
 
 -- the instance is scheduled (`____napi_schedule`)
 abbrev pub scheduled : ℕ → ProcessorView → ProcessorView
@@ -52,8 +53,8 @@ unfoldable pub interrupts : ℕ → ProcessorView → ProcessorView
 interrupts number p =
     let polling = is_polling p.settings in
     let time = if polling then p.settings.interrupt else p.settings.interrupt + p.settings.packet in
-    let counts = if is_fired_at (at number p.devices) then record p.counts { timers = held (p.counts.timers + 1) }
-    else record p.counts { interrupts = held (p.counts.interrupts + 1) } in
+    let counts = if is_fired_at (at number p.devices) then record p.counts { timers = saturated (p.counts.timers + 1) }
+    else record p.counts { interrupts = saturated (p.counts.interrupts + 1) } in
     let q = record p { devices = changed (interrupted polling) number p.devices; counts = counts } in
     begins (Interrupt number) time (if polling then scheduled number q else q)
 
@@ -70,7 +71,7 @@ uses (came ∷ more) p =
 -- ---- what is taken up: the first that there is
 
 -- a thread makes a poll, the application uses a packet
-abbrev pub runs : Option Task → ProcessorView → ProcessorView
+abbrev pub runs : Option RunnableTask → ProcessorView → ProcessorView
 runs None p = p
 runs (Some Application) p = uses p.application.socket.items p
 runs (Some (Thread number)) p = polls number p
@@ -90,7 +91,7 @@ leaves_softirq None p =
 unfoldable pub begins_run : ProcessorView → ProcessorView
 begins_run p =
     let s = p.settings in
-    let q = record p { softirq = next_of (begun p.clock s.budget s.weight s.window p.softirq) } in
+    let q = record p { softirq = run_next (begun p.clock s.budget s.weight s.window p.softirq) } in
     option_map_or (λ number. polls number q) (asked_in q.softirq.run) q
 
 unfoldable pub rests : ProcessorView → ProcessorView
@@ -100,11 +101,11 @@ rests p =
 -- the run ends, squeezed if it reached its budget or its window, or if it is late
 unfoldable pub ends_run : Bool → ProcessorView → ProcessorView
 ends_run late p =
-    let spent = option_map_or is_spent p.softirq.run false in
-    let squeezed = held (p.counts.squeezed + (if spent || late then 1 else 0)) in
-    let alone = held (p.counts.late + (if late && not spent then 1 else 0)) in
-    let counts = record p.counts { runs = held (p.counts.runs + 1); squeezed = squeezed; late = alone } in
-    record p { softirq = ended p.softirq; counts = counts }
+    let spent = option_map_or is_run_spent p.softirq.run false in
+    let squeezed = saturated (p.counts.squeezed + (if spent || late then 1 else 0)) in
+    let alone = saturated (p.counts.late + (if late && not spent then 1 else 0)) in
+    let counts = record p.counts { runs = saturated (p.counts.runs + 1); squeezed = squeezed; late = alone } in
+    record p { softirq = run_ended p.softirq; counts = counts }
 
 -- the run in progress, which made a poll, has used up its time
 abbrev pub is_late : ProcessorView → Bool
@@ -113,7 +114,7 @@ is_late p = nat_le p.settings.time_limit (p.clock - p.softirq.began)
 -- the run in progress: its end or its next poll
 unfoldable pub goes_on : ProcessorView → ProcessorView
 goes_on p =
-    let q = record p { softirq = next_of p.softirq } in
+    let q = record p { softirq = run_next p.softirq } in
     if is_late p then rests (ends_run true p)
     else option_map_or (λ number. polls number q) (asked_in q.softirq.run) (rests (ends_run false q))
 
@@ -131,7 +132,7 @@ delivers number came p =
     let s = p.settings in
     let wakes = s.threaded && not s.apart && has_place p.application in
     record p {
-      devices = changed (delivered p.clock came) number p.devices;
+      devices = changed (queue_delivered p.clock came) number p.devices;
       application = fed p.clock came s p.application;
       tasks = if wakes then with_application p.tasks else p.tasks;
     }
@@ -151,15 +152,15 @@ ends_interrupt number p =
 unfoldable pub ends_poll : ℕ → ℕ → ProcessorView → ProcessorView
 ends_poll number given p =
     let full = given == p.settings.weight in
-    let counts = record p.counts { polls = held (p.counts.polls + 1); work = held (p.counts.work + given) } in
-    let q = record p { devices = changed (polled p.clock given p.settings) number p.devices; counts = counts } in
+    let counts = record p.counts { polls = saturated (p.counts.polls + 1); work = saturated (p.counts.work + given) } in
+    let q = record p { devices = changed (queue_polled p.clock given p.settings) number p.devices; counts = counts } in
     let once : Once = record { work = given; next = if full then Repoll else Gone } in
     if p.settings.threaded then record q { tasks = if full then Thread number ∷ q.tasks else q.tasks }
-    else record q { softirq = polled_once once q.softirq }
+    else record q { softirq = softirq_polled once q.softirq }
 
 -- a poll that processed this many packets takes the next one
-unfoldable pub looks : ℕ → ℕ → ProcessorView → ProcessorView
-looks number given p =
+unfoldable pub poll_looks : ℕ → ℕ → ProcessorView → ProcessorView
+poll_looks number given p =
     let backlog = p.settings.backlog in
     let q = record p { devices = changed (without_next backlog) number p.devices } in
     if nat_lt given p.settings.weight then
@@ -171,16 +172,16 @@ looks number given p =
 abbrev pub ends_by : Work → ProcessorView → ProcessorView
 ends_by Nothing p = p
 ends_by (Interrupt number) p = if is_polling p.settings then p else ends_interrupt number p
-ends_by (Poll number) p = looks number 0 p
-ends_by (Packet packet) p = looks packet.device (packet.given + 1) (delivers packet.device packet.came p)
+ends_by (Poll number) p = poll_looks number 0 p
+ends_by (Packet packet) p = poll_looks packet.device (packet.given + 1) (delivers packet.device packet.came p)
 ends_by (Use came) p = record p { application = used p.clock came p.application }
 
 -- the time of work is counted
 abbrev pub spent : Work → ℕ → ProcessorCounts → ProcessorCounts
 spent Nothing time counts = counts
-spent (Interrupt number) time counts = record counts { interrupt_time = held (counts.interrupt_time + time) }
-spent (Use came) time counts = record counts { use_time = held (counts.use_time + time) }
-spent _ time counts = record counts { poll_time = held (counts.poll_time + time) }
+spent (Interrupt number) time counts = record counts { interrupt_time = saturated (counts.interrupt_time + time) }
+spent (Use came) time counts = record counts { use_time = saturated (counts.use_time + time) }
+spent _ time counts = record counts { poll_time = saturated (counts.poll_time + time) }
 
 unfoldable pub ends_current : ProcessorView → ProcessorView
 ends_current p = ends_by p.work (record p { clock = p.ends; work = Nothing; counts = spent p.work (p.ends - p.clock) p.counts })
@@ -196,8 +197,8 @@ set_aside moment work p = p
 
 abbrev pub woken : ℕ → Bool → ProcessorView → ProcessorView
 woken moment asked p =
-    let counts = record p.counts { interrupt_time = held (p.counts.interrupt_time + p.settings.wake) } in
-    if asked then record p { clock = held (moment + p.settings.wake); counts = counts } else record p { clock = moment }
+    let counts = record p.counts { interrupt_time = saturated (p.counts.interrupt_time + p.settings.wake) } in
+    if asked then record p { clock = saturated (moment + p.settings.wake); counts = counts } else record p { clock = moment }
 
 unfoldable pub disturbed : ℕ → ProcessorView → ProcessorView
 disturbed moment p =
@@ -228,15 +229,15 @@ is_by moment (Expires timer) p = nat_le timer.at moment
 abbrev pub is_due : ℕ → ProcessorView → Bool
 is_due moment p = is_by moment (upcoming p) p
 
-unfoldable pub after : ℕ → ProcessorView → ProcessorView
-after zero p = p
-after (suc count) p = step (after count p)
+unfoldable pub processor_after : ℕ → ProcessorView → ProcessorView
+processor_after zero p = p
+processor_after (suc count) p = step (processor_after count p)
 
 -- it advances to a time: everything happens that happens at or before that time, in order, and no more
 pub record Advances (moment : ℕ) (p q : ProcessorView) : Type 0 where
   pub count : ℕ
-  pub each : (n : ℕ) → n < count → is_due moment (after n p) ≡ true
-  pub last : q ≡ after count p
+  pub each : (n : ℕ) → n < count → is_due moment (processor_after n p) ≡ true
+  pub last : q ≡ processor_after count p
   pub none : is_due moment q ≡ false
 
 -- a packet arrives for a device of a processor that has advanced to that time
@@ -249,7 +250,7 @@ arrives moment number p =
 
 -- ---- a new processor
 
-abbrev pub opened_processor : Settings → ProcessorView
+abbrev pub opened_processor : MachineSettings → ProcessorView
 opened_processor s = record {
   settings = s;
   work = Nothing;

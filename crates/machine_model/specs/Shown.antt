@@ -3,11 +3,11 @@
 use Rattle.std.specs.{Prelude.{ℕ, ◌+◌, ◌==◌, ◌||◌, ◌&&◌, nat_lt, Bool, true, false, ◌++◌, length, position, Option, Some, None}}
 use Rattle.std.specs.{Prelude.{if◌then◌else◌}, Option.option_map_or}
 use Rattle.{poll_runs.specs.Turn.asked_for, poll_runs.specs.declared.polling_run.PollingRun.PollingRun}
-use Rattle.machine_model.specs.{Devices.{Devices, asks_at, soonest_from}, Softirq.{RunView, SoftirqView}}
+use Rattle.machine_model.specs.{Devices.{QueueViews, asks_at, soonest_from}, Softirq.{RunView, SoftirqView}}
 use Rattle.machine_model.specs.declared.devices.{Pending.Pending, Timer.Timer}
 
-abbrev pub shown : PollingRun → RunView
-shown run = record {
+abbrev pub run_view : PollingRun → RunView
+run_view run = record {
   own = run.own;
   repoll = run.repoll;
   asked = run.asked;
@@ -19,7 +19,7 @@ shown run = record {
 }
 
 abbrev pub run_if : Bool → PollingRun → Option RunView
-run_if true run = Some (shown run)
+run_if true run = Some (run_view run)
 run_if false run = None
 
 -- the most packets that a poll of the run may process
@@ -36,7 +36,7 @@ listed q = length q.list + held_in q.run
 -- ---- of the devices
 
 -- the lowest device that asks, and the soonest timer
-abbrev pub pending_of : Devices → Pending
+abbrev pub pending_of : QueueViews → Pending
 pending_of devices = record { lowest = position asks_at devices; soonest = soonest_from 0 devices }
 
 -- the sooner of two timers, the one of the lower device at one time

@@ -36,8 +36,8 @@ begun moment budget weight window q =
     record { list = []; run = Some r; began = moment }
 
 -- the work reaches the budget, or the number of polls the window
-abbrev pub is_spent : RunView → Bool
-is_spent r = nat_le r.budget r.work || nat_le r.window r.polls
+abbrev pub is_run_spent : RunView → Bool
+is_run_spent r = nat_le r.budget r.work || nat_le r.window r.polls
 
 -- what is left of its own numbers, and the list: if all that it took is polled and no repoll is pending, it takes the whole
 -- list
@@ -49,8 +49,8 @@ filled own repoll list = (own, list)
 abbrev pub next_from : List ℕ × List ℕ → RunView → SoftirqView → SoftirqView
 next_from (own, list) r q = record q { list = list; run = Some (record r { own = drop 1 own; asked = slice_get own 0 }) }
 
-unfoldable pub next_of : SoftirqView → SoftirqView
-next_of q = option_map_or (λ r. if is_spent r then q else next_from (filled r.own r.repoll q.list) r q) q.run q
+unfoldable pub run_next : SoftirqView → SoftirqView
+run_next q = option_map_or (λ r. if is_run_spent r then q else next_from (filled r.own r.repoll q.list) r q) q.run q
 
 -- the outcome of the poll of that number
 abbrev pub polled_run : Once → RunView → RunView
@@ -58,9 +58,9 @@ polled_run once r =
     let repoll = r.repoll ++ (if is_repoll once.next then asked_for r.asked else []) in
     record r { repoll = repoll; asked = None; polls = r.polls + 1; work = r.work + once.work }
 
-unfoldable pub polled_once : Once → SoftirqView → SoftirqView
-polled_once once q = record q { run = option_map (polled_run once) q.run }
+unfoldable pub softirq_polled : Once → SoftirqView → SoftirqView
+softirq_polled once q = record q { run = option_map (polled_run once) q.run }
 
 -- the run ends: what it took and didn't poll, what arrived meanwhile, and the repolls
-unfoldable pub ended : SoftirqView → SoftirqView
-ended q = record q { list = option_map_or (λ r. r.own ++ q.list ++ r.repoll) q.run q.list; run = None }
+unfoldable pub run_ended : SoftirqView → SoftirqView
+run_ended q = record q { list = option_map_or (λ r. r.own ++ q.list ++ r.repoll) q.run q.list; run = None }

@@ -4,8 +4,8 @@ use Rattle.std.specs.{Prelude.{slice_set, if◌then◌else◌}, Int.{leading_zer
 use Rattle.machine_model.specs.declared.waits.WaitCounts.{WaitCounts}
 
 -- a time or a sum, which saturates at 64 bits
-abbrev pub held : ℕ → ℕ
-held sum = min sum (2 ^ 64 - 1)
+abbrev pub saturated : ℕ → ℕ
+saturated sum = min sum (2 ^ 64 - 1)
 
 pub record WaitsView : Type 0 where
   -- how many there are, their sum, and the longest
@@ -32,15 +32,15 @@ abbrev pub up_to : ℕ → List ℕ → List ℕ
 up_to bucket buckets = buckets ++ replicate (bucket + 1 - length buckets) 0
 
 -- one more in this bucket
-abbrev pub one_more : ℕ → List ℕ → List ℕ
-one_more bucket buckets = slice_set buckets bucket (held (slice_index_or buckets bucket 0 + 1))
+abbrev pub bucket_one_more : ℕ → List ℕ → List ℕ
+bucket_one_more bucket buckets = slice_set buckets bucket (saturated (slice_index_or buckets bucket 0 + 1))
 
 unfoldable pub counted : ℕ → WaitsView → WaitsView
 counted wait w = record {
-  count = held (w.count + 1);
+  count = saturated (w.count + 1);
   sum = min (w.sum + wait) (2 ^ 128 - 1);
   most = max w.most wait;
-  buckets = one_more (bucket_of wait) (up_to (bucket_of wait) w.buckets);
+  buckets = bucket_one_more (bucket_of wait) (up_to (bucket_of wait) w.buckets);
 }
 
 -- the first bucket that, with those before it, has this many waits
@@ -55,6 +55,6 @@ wait_at share w = if w.count == 0 then 0 else least_of (first_with ((share * w.c
 -- what the report shows of them
 abbrev pub summary_of : WaitsView → WaitCounts
 summary_of w =
-    let mean = if w.count == 0 then 0 else held (w.sum / w.count) in
+    let mean = if w.count == 0 then 0 else saturated (w.sum / w.count) in
     let wait = λ (share : ℕ). wait_at share w in
     record { count = w.count; mean = mean; wait50 = wait 500; wait90 = wait 900; wait99 = wait 990; wait999 = wait 999; most = w.most }

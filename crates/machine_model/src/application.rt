@@ -2,7 +2,7 @@
 
 use crate::waits::{WaitCounts, Waits};
 use circular_buffer::HeapCircularBuffer;
-use machine_words::Settings;
+use machine_words::MachineSettings;
 use std::alloc::{AllocError, Global};
 use std::marker::Model;
 
@@ -56,10 +56,10 @@ impl Application {
     ghost use Rattle.std.specs.Prelude.{◌≡◌, ◌==◌, IfOk, OnOk, length, slice_get, drop};
     ghost use Rattle.circular_buffer.specs.Buffer.{buffer};
     ghost use Rattle.machine_model.specs.Waits.{summary_of};
-    ghost use Rattle.machine_model.specs.Application.{fed, goes_on, has_place, is_awake, is_over, opened_application, used, went_on, woken_by};
+    ghost use Rattle.machine_model.specs.Application.{fed, goes_on, has_place, is_awake, is_use_over, opened_application, used, went_on, woken_by};
 
     /// Returns an application with an empty socket.
-    pub(crate) fn new(alloc: Global, settings: &Settings) -> Result<Application, AllocError>
+    pub(crate) fn new(alloc: Global, settings: &MachineSettings) -> Result<Application, AllocError>
         ensures { IfOk result (λ a. a ≡ opened_application settings.now) }
     {
         let socket = HeapCircularBuffer::with_capacity(alloc, settings.socket as usize)?;
@@ -108,7 +108,7 @@ impl Application {
 
     // Returns whether its work ends at or before that time.
     fn is_over(&self, moment: u64) -> bool
-        ensures { result ≡ is_over moment self.now }
+        ensures { result ≡ is_use_over moment self.now }
     {
         self.activity != Activity::Asleep && self.end <= moment
     }
@@ -159,7 +159,7 @@ impl Application {
         &mut self,
         now: u64,
         came: u64,
-        settings: &Settings,
+        settings: &MachineSettings,
     ) -> Result<(), AllocError>
         ensures { OnOk result (self.new ≡ fed now came settings.now self.old) }
     {

@@ -1,19 +1,19 @@
 //! One device: a queue of a card with its NAPI instance, and its counts.
 
 ghost use Rattle.std.specs.Prelude.{◌≡◌, ◌≤◌, Some, IfOk, OnOk};
-ghost use Rattle.machine_model.specs.Machine.{report_of};
-ghost use Rattle.machine_model.specs.Device.{after_packet, asks, completed, delivered, expired, expired_phase, has_room, interrupted, is_fired, is_masked, next_packet, notified, opened, polled, raised_again, timer_of, without_next};
+ghost use Rattle.machine_model.specs.Machine.{queue_report};
+ghost use Rattle.machine_model.specs.Device.{after_packet, asks, queue_completed, queue_delivered, expired, expired_phase, has_room, interrupted, is_fired, is_masked, next_packet, notified, new_queue, queue_polled, raised_again, timer_of, without_next};
 
 use crate::waits::{WaitCounts, Waits};
 use circular_buffer::HeapCircularBuffer;
-use machine_words::Settings;
+use machine_words::MachineSettings;
 use std::alloc::{AllocError, Global};
 use std::marker::Model;
 use std::mem;
 
 /// The counts of a device.
 #[derive(Clone, Copy, Debug, PartialEq, Eq)]
-pub struct DeviceCounts {
+pub struct QueueCounts {
     /// Packets that arrived.
     pub arrived: u64,
     /// Packets that a full ring dropped.
@@ -26,9 +26,9 @@ pub struct DeviceCounts {
     pub polls: u64,
 }
 
-impl DeviceCounts {
+impl QueueCounts {
     /// Zero counts.
-    pub const NONE: DeviceCounts = DeviceCounts {
+    pub const NONE: QueueCounts = QueueCounts {
         arrived: 0,
         dropped: 0,
         polled: 0,
@@ -39,9 +39,9 @@ impl DeviceCounts {
 
 /// What is reported of a device.
 #[derive(Clone, Copy, Debug, PartialEq, Eq)]
-pub struct DeviceReport {
+pub struct QueueReport {
     /// The counts.
-    pub counts: DeviceCounts,
+    pub counts: QueueCounts,
     /// The waits of its packets, from arrival to delivery.
     pub waits: WaitCounts,
 }
@@ -65,21 +65,21 @@ pub enum Phase {
 
 /// A device.
 #[derive(Drop)]
-pub(crate) struct Device {
+pub(crate) struct ReceiveQueue {
     ring: HeapCircularBuffer<u64>,
     taken: HeapCircularBuffer<u64>,
     phase: Phase,
     frames: u64,
     deferrals: u32,
-    counts: DeviceCounts,
+    counts: QueueCounts,
     waits: Waits,
 }
 
-impl Model for Device {
+impl Model for ReceiveQueue {
     ghost use Rattle.std.specs.Prelude.{◌≡◌};
-    ghost use Rattle.machine_model.specs.Device.{DeviceView};
+    ghost use Rattle.machine_model.specs.Device.{QueueView};
 
-    ghost Value = { DeviceView };
+    ghost Value = { QueueView };
 
     ghost view = { λ d. record {
       ring = d.ring.items;
@@ -132,20 +132,20 @@ impl Phase {
     }
 }
 
-impl Device {
+impl ReceiveQueue {
     /// Returns a device with an empty ring of this capacity.
-    pub(crate) fn new(alloc: Global, capacity: u32) -> Result<Device, AllocError>
-        ensures { IfOk result (λ d. d ≡ opened capacity) }
+    pub(crate) fn new(alloc: Global, capacity: u32) -> Result<ReceiveQueue, AllocError>
+        ensures { IfOk result (λ d. d ≡ new_queue capacity) }
     {
         let ring = HeapCircularBuffer::with_capacity(alloc, capacity as usize)?;
         let taken = HeapCircularBuffer::with_capacity(alloc, capacity as usize)?;
-        Ok(Device {
+        Ok(ReceiveQueue {
             ring,
             taken,
             phase: Phase::Quiet,
             frames: 0,
             deferrals: 0,
-            counts: DeviceCounts::NONE,
+            counts: QueueCounts::NONE,
             waits: Waits::new(alloc),
         })
     }
@@ -187,7 +187,7 @@ impl Device {
 
     // Counts one more frame for the card, which asks for an interrupt now or some time later.
     #[tactic(auto, unfolding(crate::specs::Device::notified))]
-    fn notify(&mut self, moment: u64, settings: &Settings)
+    fn notify(&mut self, moment: u64, settings: &MachineSettings)
         ensures { self.new ≡ notified moment settings.now self.old }
     {
         self.frames = self.frames.saturating_add(1);
@@ -202,7 +202,7 @@ impl Device {
     /// Handles the arrival of a packet: a full ring drops it; otherwise a card that isn't masked notifies of it. Returns
     /// whether the ring took it.
     #[tactic(auto, unfolding(crate::specs::Device::after_packet))]
-    pub(crate) fn arrive(&mut self, moment: u64, settings: &Settings) -> bool
+    pub(crate) fn arrive(&mut self, moment: u64, settings: &MachineSettings) -> bool
         ensures device { self.new ≡ after_packet moment settings.now self.old }
         ensures room { result ≡ has_room self.old }
     {
@@ -261,7 +261,7 @@ impl Device {
 
     /// Delivers a packet that arrived at `came`. Fails if the allocation for counting its wait fails; then nothing is counted.
     pub(crate) fn deliver(&mut self, now: u64, came: u64) -> Result<(), AllocError>
-        ensures device { OnOk result (self.new ≡ delivered now came self.old) }
+        ensures device { OnOk result (self.new ≡ queue_delivered now came self.old) }
         ensures phase { self.new.phase ≡ self.old.phase }
     {
         self.waits.count(now.saturating_sub(came))?;
@@ -270,9 +270,9 @@ impl Device {
     }
 
     // Unmasks it, unless its interrupt is deferred (`napi_complete_done`).
-    #[tactic(auto, unfolding(crate::specs::Device::completed))]
-    fn complete(&mut self, now: u64, given: u32, settings: &Settings)
-        ensures { self.new ≡ completed now given settings.now self.old }
+    #[tactic(auto, unfolding(crate::specs::Device::queue_completed))]
+    fn complete(&mut self, now: u64, given: u32, settings: &MachineSettings)
+        ensures { self.new ≡ queue_completed now given settings.now self.old }
     {
         if given != 0 {
             self.deferrals = settings.defer_hard_irqs;
@@ -289,9 +289,9 @@ impl Device {
 
     /// Ends a poll that processed this many packets. After one of the whole weight the device is polled again; otherwise it
     /// completes.
-    #[tactic(auto, unfolding(crate::specs::Device::polled))]
-    pub(crate) fn end_poll(&mut self, now: u64, given: u32, settings: &Settings)
-        ensures { self.new ≡ polled now given settings.now self.old }
+    #[tactic(auto, unfolding(crate::specs::Device::queue_polled))]
+    pub(crate) fn end_poll(&mut self, now: u64, given: u32, settings: &MachineSettings)
+        ensures { self.new ≡ queue_polled now given settings.now self.old }
     {
         self.counts.polls = self.counts.polls.saturating_add(1);
         if given != settings.weight {
@@ -300,10 +300,10 @@ impl Device {
     }
 
     /// What is reported of it.
-    pub(crate) fn report(&self) -> DeviceReport
-        ensures { result ≡ report_of self.now }
+    pub(crate) fn report(&self) -> QueueReport
+        ensures { result ≡ queue_report self.now }
     {
-        DeviceReport {
+        QueueReport {
             counts: self.counts,
             waits: self.waits.summary(),
         }

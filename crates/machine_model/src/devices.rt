@@ -3,13 +3,13 @@
 ghost use Rattle.std.specs.Prelude.{◌≡◌, ◌≤◌, ◌<◌, ◌+◌, ◌-◌, ◌++◌, ◌==◌, IfSome, OnOk, length, nat_lt, position, replicate, None, false, true};
 ghost use Rattle.std.specs.Option.{option_map_or};
 ghost use Rattle.device_places.specs.Places.{changed};
-ghost use Rattle.machine_model.specs.Device.{DeviceView};
-ghost use Rattle.machine_model.specs.Devices.{Devices, asks_at, soonest_from, sooner, timer_at};
+ghost use Rattle.machine_model.specs.Device.{QueueView};
+ghost use Rattle.machine_model.specs.Devices.{QueueViews, asks_at, soonest_from, sooner, timer_at};
 ghost use Rattle.machine_model.specs.Kept.{all_scheduled};
 ghost use Rattle.machine_model.specs.Shown.{earlier, pending_of};
 
-use crate::device::{Device, DeviceReport};
-use machine_words::Settings;
+use crate::device::{QueueReport, ReceiveQueue};
+use machine_words::MachineSettings;
 use std::alloc::{AllocError, Global};
 use std::marker::Model;
 
@@ -34,17 +34,17 @@ pub(crate) struct Pending {
 
 /// The devices of a processor, each at its number there; each is made when its first packet arrives.
 #[derive(Drop)]
-pub(crate) struct Devices {
-    places: Vec<Option<Device>>,
+pub(crate) struct QueueTable {
+    places: Vec<Option<ReceiveQueue>>,
     pending: Pending,
 }
 
-impl Model for Devices {
+impl Model for QueueTable {
     ghost use Rattle.std.specs.Prelude.{◌≡◌, ◌≤◌, length};
     ghost use Rattle.machine_model.specs.Devices as devices;
     ghost use Rattle.machine_model.specs.Shown.{pending_of};
 
-    ghost Value = { devices.Devices };
+    ghost Value = { devices.QueueViews };
 
     ghost view = { λ d. d.places.items };
 
@@ -53,7 +53,7 @@ impl Model for Devices {
 }
 
 // Returns whether the device in this entry, if there is one, asks for an interrupt.
-fn asks(place: &Option<Device>) -> bool
+fn asks(place: &Option<ReceiveQueue>) -> bool
     ensures { result ≡ asks_at place.now }
 {
     match place {
@@ -63,7 +63,7 @@ fn asks(place: &Option<Device>) -> bool
 }
 
 // Returns the timer of the device in this entry, if there is one and one is set.
-fn timer_in(place: &Option<Device>, device: u32) -> Option<Timer>
+fn timer_in(place: &Option<ReceiveQueue>, device: u32) -> Option<Timer>
     ensures { result ≡ timer_at device place.now }
 {
     let at = place.as_ref()?.timer()?;
@@ -82,7 +82,7 @@ fn sooner(first: Option<Timer>, second: Option<Timer>) -> Option<Timer>
 }
 
 // Returns the soonest timer of the devices in these entries.
-fn soonest_in(places: &[Option<Device>]) -> Option<Timer>
+fn soonest_in(places: &[Option<ReceiveQueue>]) -> Option<Timer>
     requires { length places.now ≤ 64 }
     ensures { result ≡ soonest_from 0 places.now }
 {
@@ -110,7 +110,7 @@ fn earlier(first: Option<Timer>, second: Option<Timer>) -> Option<Timer>
 }
 
 // Returns the lowest device that asks for an interrupt.
-fn lowest_in(places: &[Option<Device>]) -> Option<usize>
+fn lowest_in(places: &[Option<ReceiveQueue>]) -> Option<usize>
     ensures { result ≡ position asks_at places.now }
 {
     places.iter().position(|place| asks(place))
@@ -147,9 +147,13 @@ fn is_same(first: Option<Timer>, second: Option<Timer>) -> bool
 }
 
 // Returns the lowest device that asks, after this one changed.
-fn lowest_after(lowest: Option<usize>, number: usize, places: &[Option<Device>]) -> Option<usize>
+fn lowest_after(
+    lowest: Option<usize>,
+    number: usize,
+    places: &[Option<ReceiveQueue>],
+) -> Option<usize>
     requires { number < length places.now }
-    ensures { (change : DeviceView → DeviceView) (before : Devices)
+    ensures { (change : QueueView → QueueView) (before : QueueViews)
         → places.now ≡ changed change number before
         → lowest ≡ position asks_at before
         → result ≡ position asks_at places.now }
@@ -167,10 +171,14 @@ fn lowest_after(lowest: Option<usize>, number: usize, places: &[Option<Device>])
 }
 
 // Returns the soonest timer, after this device changed.
-fn soonest_after(soonest: Option<Timer>, number: usize, places: &[Option<Device>]) -> Option<Timer>
+fn soonest_after(
+    soonest: Option<Timer>,
+    number: usize,
+    places: &[Option<ReceiveQueue>],
+) -> Option<Timer>
     requires number { number < length places.now }
     requires few { length places.now ≤ 64 }
-    ensures { (change : DeviceView → DeviceView) (before : Devices)
+    ensures { (change : QueueView → QueueView) (before : QueueViews)
         → places.now ≡ changed change number before
         → soonest ≡ soonest_from 0 before
         → result ≡ soonest_from 0 places.now }
@@ -186,10 +194,10 @@ fn soonest_after(soonest: Option<Timer>, number: usize, places: &[Option<Device>
 }
 
 // Returns the cached requests, after this device changed.
-fn pending_after(pending: Pending, number: usize, places: &[Option<Device>]) -> Pending
+fn pending_after(pending: Pending, number: usize, places: &[Option<ReceiveQueue>]) -> Pending
     requires number { number < length places.now }
     requires few { length places.now ≤ 64 }
-    ensures { (change : DeviceView → DeviceView) (before : Devices)
+    ensures { (change : QueueView → QueueView) (before : QueueViews)
         → places.now ≡ changed change number before
         → pending ≡ pending_of before
         → result ≡ pending_of places.now }
@@ -201,7 +209,7 @@ fn pending_after(pending: Pending, number: usize, places: &[Option<Device>]) -> 
 }
 
 // Adds empty entries up to a number.
-fn make_place(places: &mut Vec<Option<Device>>, number: usize) -> Result<(), AllocError>
+fn make_place(places: &mut Vec<Option<ReceiveQueue>>, number: usize) -> Result<(), AllocError>
     requires number { number < 64 }
     requires few { length places.old.items ≤ 64 }
     ensures places { OnOk result (places.new.items
@@ -216,20 +224,20 @@ fn make_place(places: &mut Vec<Option<Device>>, number: usize) -> Result<(), All
     Ok(())
 }
 
-impl Devices {
+impl QueueTable {
     ghost use Rattle.std.specs.Prelude.{◌≡◌, ◌≤◌, ◌<◌, [], IfSome, OnOk, length, position};
     ghost use Rattle.std.specs.Option.{option_map};
-    ghost use Rattle.machine_model.specs.Machine.{report_of};
+    ghost use Rattle.machine_model.specs.Machine.{queue_report};
     ghost use Rattle.device_places.specs.Places.{at, changed};
-    ghost use Rattle.machine_model.specs.Device.{after_packet, delivered, expired, interrupted, polled, raised_again, without_next};
+    ghost use Rattle.machine_model.specs.Device.{after_packet, queue_delivered, expired, interrupted, queue_polled, raised_again, without_next};
     ghost use Rattle.machine_model.specs.Devices.{asks_at, has_room_at, is_fired_at, next_packet_at, soonest_from, with_device};
     ghost use Rattle.machine_model.specs.Kept.{all_scheduled};
 
     /// Returns an empty table.
-    pub(crate) fn new(alloc: Global) -> Devices
+    pub(crate) fn new(alloc: Global) -> QueueTable
         ensures { result ≡ [] }
     {
-        Devices {
+        QueueTable {
             places: Vec::new(alloc),
             pending: Pending {
                 lowest: None,
@@ -267,13 +275,13 @@ impl Devices {
     {
         make_place(&mut self.places, number)?;
         if number < self.places.len() && self.places[number].is_none() {
-            self.places[number] = Some(Device::new(alloc, capacity)?);
+            self.places[number] = Some(ReceiveQueue::new(alloc, capacity)?);
         }
         Ok(())
     }
 
     /// Handles the arrival of a packet for a device. Returns whether its ring took it.
-    pub(crate) fn arrive(&mut self, number: usize, moment: u64, settings: &Settings) -> bool
+    pub(crate) fn arrive(&mut self, number: usize, moment: u64, settings: &MachineSettings) -> bool
         ensures devices { self.new ≡ changed (after_packet moment settings.now) number self.old }
         ensures room { result ≡ has_room_at (at number self.old) }
     {
@@ -354,7 +362,8 @@ impl Devices {
 
     /// Delivers a packet of a device that arrived at `came`. Fails if the allocation for counting its wait fails.
     pub(crate) fn deliver(&mut self, number: usize, now: u64, came: u64) -> Result<(), AllocError>
-        ensures devices { OnOk result (self.new ≡ changed (delivered now came) number self.old) }
+        ensures devices { OnOk result (self.new
+            ≡ changed (queue_delivered now came) number self.old) }
         ensures scheduled { all_scheduled self.new ≡ all_scheduled self.old }
     {
         if number < self.places.len() {
@@ -366,8 +375,14 @@ impl Devices {
     }
 
     /// Ends a poll of a device that processed this many packets.
-    pub(crate) fn end_poll(&mut self, number: usize, now: u64, given: u32, settings: &Settings)
-        ensures { self.new ≡ changed (polled now given settings.now) number self.old }
+    pub(crate) fn end_poll(
+        &mut self,
+        number: usize,
+        now: u64,
+        given: u32,
+        settings: &MachineSettings,
+    )
+        ensures { self.new ≡ changed (queue_polled now given settings.now) number self.old }
     {
         if number < self.places.len() {
             if let Some(device) = &mut self.places[number] {
@@ -378,8 +393,8 @@ impl Devices {
     }
 
     /// What is reported of a device, if there is one.
-    pub(crate) fn report(&self, number: usize) -> Option<DeviceReport>
-        ensures { result ≡ option_map report_of (at number self.now) }
+    pub(crate) fn report(&self, number: usize) -> Option<QueueReport>
+        ensures { result ≡ option_map queue_report (at number self.now) }
     {
         if number < self.places.len() {
             if let Some(device) = &self.places[number] {

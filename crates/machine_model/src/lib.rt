@@ -16,9 +16,9 @@ mod tasks;
 mod waits;
 
 pub use application::{Activity, ApplicationReport};
-pub use device::{DeviceCounts, DeviceReport, Phase};
+pub use device::{Phase, QueueCounts, QueueReport};
 pub use devices::Timer;
 pub use machine::Machine;
 pub use processor::{InHand, ProcessorCounts, ProcessorReport, Rest, Upcoming, Work};
-pub use tasks::Task;
+pub use tasks::RunnableTask;
 pub use waits::{WaitCounts, Waits};

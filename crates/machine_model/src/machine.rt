@@ -2,11 +2,11 @@
 
 ghost use Rattle.std.specs.Prelude.{◌≡◌, ◌≤◌, ◌<◌, ◌*◌, Some, IfOk, OnOk, length, slice_get};
 ghost use Rattle.std.specs.Option.{option_map};
-ghost use Rattle.machine_model.specs.Machine.{Arrives, Finishes, device_report, opened_machine, processor_report};
+ghost use Rattle.machine_model.specs.Machine.{PacketArrives, Finishes, device_report, opened_machine, processor_report};
 
-use crate::device::DeviceReport;
+use crate::device::QueueReport;
 use crate::processor::{Processor, ProcessorReport};
-use machine_words::Settings;
+use machine_words::MachineSettings;
 use std::alloc::{AllocError, Global};
 use std::marker::Model;
 
@@ -28,7 +28,7 @@ impl Machine {
     ghost use Rattle.std.specs.Prelude.{◌≡◌, ◌≤◌, ◌<◌, ◌*◌, Some, IfOk, OnOk, length, slice_get};
 
     /// Returns a machine at which no packet arrived yet. Fails if an allocation fails.
-    pub fn new(alloc: Global, settings: &Settings) -> Result<Machine, AllocError>
+    pub fn new(alloc: Global, settings: &MachineSettings) -> Result<Machine, AllocError>
         ensures machine { IfOk result (λ m. m ≡ opened_machine settings.now) }
         ensures processors { IfOk result (λ m. length m ≡ settings.now.processors) }
     {
@@ -44,7 +44,7 @@ impl Machine {
     /// after that.
     pub fn arrive(&mut self, alloc: Global, moment: u64, device: u32) -> Result<(), AllocError>
         requires { (1 ≤ device) × (device ≤ 64 * length self.old) }
-        ensures arrives { OnOk result (Arrives moment device self.old self.new) }
+        ensures arrives { OnOk result (PacketArrives moment device self.old self.new) }
         ensures processors { length self.new ≡ length self.old }
     {
         let count = self.processors.len();
@@ -66,7 +66,7 @@ impl Machine {
     }
 
     /// Returns what is reported of a device; `None` if no packet arrived for it.
-    pub fn device(&self, device: u32) -> Option<DeviceReport>
+    pub fn device(&self, device: u32) -> Option<QueueReport>
         requires { (1 ≤ device) × (device ≤ 64 * length self.now) }
         ensures { result ≡ device_report device self.now }
     {

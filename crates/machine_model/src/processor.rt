@@ -5,20 +5,20 @@ ghost use Rattle.std.specs.Option.{option_map};
 ghost use Rattle.poll_runs.specs.declared.bench.Next.TheVariants.{Gone, Repoll};
 ghost use Rattle.device_places.specs.Places.{at};
 ghost use Rattle.machine_model.specs.Devices.{asks_at};
-ghost use Rattle.machine_model.specs.Kept.{IsKept, all_scheduled, polled_by};
-ghost use Rattle.machine_model.specs.Machine.{ArrivesAt, FinishesAt, processor_report, report_of};
-ghost use Rattle.machine_model.specs.Processor.{Advances, arrives, begins_run, delivers, disturbed, ends_current, ends_interrupt, ends_poll, ends_run, goes_on, interrupts, is_due, is_polling, leaves_softirq, looks, opened_processor, rests, runs_first, scheduled, set_aside, spent, step, takes_up, upcoming, uses, woken};
+ghost use Rattle.machine_model.specs.Kept.{IsProcessorKept, all_scheduled, polled_by};
+ghost use Rattle.machine_model.specs.Machine.{ArrivesAt, FinishesAt, processor_report, queue_report};
+ghost use Rattle.machine_model.specs.Processor.{Advances, arrives, begins_run, delivers, disturbed, ends_current, ends_interrupt, ends_poll, ends_run, goes_on, interrupts, is_due, is_polling, leaves_softirq, poll_looks, opened_processor, rests, runs_first, scheduled, set_aside, spent, step, takes_up, upcoming, uses, woken};
 ghost use Rattle.machine_model.specs.Shown.{listed};
-ghost use Rattle.machine_model.specs.Waits.{held};
+ghost use Rattle.machine_model.specs.Waits.{saturated};
 ghost use Rattle.machine_model.specs.declared.processor.Work.TheVariants.{Nothing};
 
 use crate::application::{Application, ApplicationReport};
-use crate::device::DeviceReport;
-use crate::devices::{Devices, Timer};
+use crate::device::QueueReport;
+use crate::devices::{QueueTable, Timer};
 use crate::softirq::Softirq;
-use crate::tasks::{Task, Tasks};
+use crate::tasks::{RunQueue, RunnableTask};
 use crate::waits::WaitCounts;
-use machine_words::Settings;
+use machine_words::MachineSettings;
 use poll_runs::{Next, Once};
 use std::alloc::{AllocError, Global};
 use std::marker::Model;
@@ -141,20 +141,20 @@ impl ProcessorCounts {
 /// A processor.
 #[derive(Drop)]
 pub(crate) struct Processor {
-    settings: Settings,
+    settings: MachineSettings,
     work: Work,
     ends: u64,
     clock: u64,
-    devices: Devices,
+    devices: QueueTable,
     softirq: Softirq,
-    tasks: Tasks,
+    tasks: RunQueue,
     rest: Option<Rest>,
     application: Application,
     counts: ProcessorCounts,
 }
 
 impl Model for Processor {
-    ghost use Rattle.machine_model.specs.Kept.{Kept};
+    ghost use Rattle.machine_model.specs.Kept.{ProcessorKept};
     ghost use Rattle.machine_model.specs.Processor.{ProcessorView};
 
     ghost Value = { ProcessorView };
@@ -172,11 +172,11 @@ impl Model for Processor {
       counts = p.counts;
     } };
 
-    ghost invariant = { λ p. Kept p.settings p.work p.devices p.softirq };
+    ghost invariant = { λ p. ProcessorKept p.settings p.work p.devices p.softirq };
 }
 
 // Returns whether there is polling, and not only interrupts.
-fn is_polling(settings: &Settings) -> bool
+fn is_polling(settings: &MachineSettings) -> bool
     ensures { result ≡ is_polling settings.now }
 {
     settings.budget != 0
@@ -191,7 +191,7 @@ fn next_after(full: bool) -> Next
 
 // Returns when work ends that begins at this time and takes this long.
 fn end_after(clock: u64, time: u32) -> u64
-    ensures { result ≡ held (clock + time) }
+    ensures { result ≡ saturated (clock + time) }
 {
     clock.saturating_add(u64::from(time))
 }
@@ -258,11 +258,11 @@ impl Processor {
         ensures { self.new ≡ runs_first self.old }
     {
         match self.tasks.next(self.application.is_idle()) {
-            Some(Task::Thread(number)) => {
+            Some(RunnableTask::Thread(number)) => {
                 self.work = Work::Poll(number);
                 self.ends = end_after(self.clock, self.settings.poll);
             }
-            Some(Task::Application) => self.use_first(),
+            Some(RunnableTask::Application) => self.use_first(),
             None => {}
         }
     }
@@ -291,7 +291,7 @@ impl Processor {
         requires threaded { self.old.settings.threaded ≡ false }
         ensures { self.new ≡ begins_run self.old }
     {
-        let Settings {
+        let MachineSettings {
             budget,
             weight,
             window,
@@ -383,7 +383,7 @@ impl Processor {
     fn deliver(&mut self, number: u32, came: u64) -> Result<(), AllocError>
         ensures { OnOk result (self.new ≡ delivers number came self.old) }
     {
-        let Settings {
+        let MachineSettings {
             threaded,
             apart,
             ..
@@ -434,11 +434,12 @@ impl Processor {
     }
 
     // Takes the next packet for a poll that processed this many packets.
-    #[tactic(auto, unfolding(crate::specs::Processor::looks))]
+    #[tactic(auto, unfolding(crate::specs::Processor::poll_looks))]
     fn look(&mut self, number: u32, given: u32) -> Result<(), AllocError>
         requires polled { polled_by self.old.work ≡ Some number }
         requires given { given ≤ self.old.settings.weight }
-        ensures { OnOk result (self.new ≡ looks number given (record self.old { work = Nothing })) }
+        ensures { OnOk result (self.new ≡ poll_looks number given
+            (record self.old { work = Nothing })) }
     {
         if given < self.settings.weight {
             let backlog = self.settings.backlog;
@@ -528,7 +529,7 @@ impl Processor {
     // What happens next if no packet arrives.
     fn upcoming(&self) -> Upcoming
         ensures upcoming { result ≡ upcoming self.now }
-        ensures kept { IsKept self.now }
+        ensures kept { IsProcessorKept self.now }
     {
         let is_busy = self.work != Work::Nothing;
         match self.devices.soonest() {
@@ -559,7 +560,7 @@ impl Processor {
     // Returns whether anything happens at or before that time if no packet arrives.
     fn is_due(&self, moment: u64) -> bool
         ensures due { result ≡ is_due moment self.now }
-        ensures kept { IsKept self.now }
+        ensures kept { IsProcessorKept self.now }
     {
         match self.upcoming() {
             Upcoming::Never => false,
@@ -571,7 +572,7 @@ impl Processor {
 
 impl Processor {
     /// Returns a processor at which nothing happened yet.
-    pub(crate) fn new(alloc: Global, settings: &Settings) -> Result<Processor, AllocError>
+    pub(crate) fn new(alloc: Global, settings: &MachineSettings) -> Result<Processor, AllocError>
         ensures { IfOk result (λ p. p ≡ opened_processor settings.now) }
     {
         let application = Application::new(alloc, settings)?;
@@ -580,9 +581,9 @@ impl Processor {
             work: Work::Nothing,
             ends: 0,
             clock: 0,
-            devices: Devices::new(alloc),
+            devices: QueueTable::new(alloc),
             softirq: Softirq::new(),
-            tasks: Tasks::new(alloc),
+            tasks: RunQueue::new(alloc),
             rest: None,
             application,
             counts: ProcessorCounts::NONE,
@@ -644,8 +645,8 @@ impl Processor {
     }
 
     /// Returns what is reported of a device, if a packet arrived for it.
-    pub(crate) fn device(&self, number: usize) -> Option<DeviceReport>
-        ensures { result ≡ option_map report_of (at number self.now.devices) }
+    pub(crate) fn device(&self, number: usize) -> Option<QueueReport>
+        ensures { result ≡ option_map queue_report (at number self.now.devices) }
     {
         self.devices.report(number)
     }

@@ -2,7 +2,7 @@
 
 ghost use Rattle.std.specs.Prelude.{◌≡◌, ◌<◌, ◌≤◌, None, true, false, is_some, length};
 ghost use Rattle.machine_model.specs.Shown.{listed, weight_in};
-ghost use Rattle.machine_model.specs.Softirq.{asked_in, begun, ended, is_spent, next_of, polled_once, pushed};
+ghost use Rattle.machine_model.specs.Softirq.{asked_in, begun, run_ended, is_run_spent, run_next, softirq_polled, pushed};
 ghost use Rattle.std.specs.Option.{option_map_or};
 ghost use Rattle.poll_runs.specs.Polls.{is_arrival};
 
@@ -35,7 +35,7 @@ impl Model for Softirq {
 impl Softirq {
     ghost use Rattle.std.specs.Prelude.{◌≡◌, ◌<◌, ◌≤◌, None, Some, [], ◌==◌, true, false, is_some, length};
     ghost use Rattle.machine_model.specs.Shown.{listed, weight_in};
-    ghost use Rattle.machine_model.specs.Softirq.{asked_in, begun, ended, is_spent, next_of, polled_once, pushed};
+    ghost use Rattle.machine_model.specs.Softirq.{asked_in, begun, run_ended, is_run_spent, run_next, softirq_polled, pushed};
     ghost use Rattle.std.specs.Option.{option_map_or};
     ghost use Rattle.poll_runs.specs.Polls.{is_arrival};
 
@@ -94,10 +94,10 @@ impl Softirq {
     }
 
     /// Returns the number that the run polls next; `None` if the run is over.
-    #[tactic(auto, unfolding(crate::specs::Softirq::next_of))]
+    #[tactic(auto, unfolding(crate::specs::Softirq::run_next))]
     pub(crate) fn next(&mut self) -> Option<u32>
         requires { asked_in self.old.run ≡ None }
-        ensures softirq { self.new ≡ next_of self.old }
+        ensures softirq { self.new ≡ run_next self.old }
         ensures answer { result ≡ asked_in self.new.run }
     {
         if !self.is_running {
@@ -107,12 +107,12 @@ impl Softirq {
     }
 
     /// Reports the outcome of the poll of that number.
-    #[tactic(auto, unfolding(crate::specs::Softirq::polled_once))]
+    #[tactic(auto, unfolding(crate::specs::Softirq::softirq_polled))]
     pub(crate) fn polled(&mut self, once: Once)
         requires asked { is_some (asked_in self.old.run) ≡ true }
         requires work { once.work ≤ weight_in self.old.run }
         requires next { is_arrival once.next ≡ false }
-        ensures { self.new ≡ polled_once once self.old }
+        ensures { self.new ≡ softirq_polled once self.old }
     {
         if self.is_running {
             self.run.polled(&mut self.list, once);
@@ -120,11 +120,11 @@ impl Softirq {
     }
 
     /// Ends the run. Returns whether it reached its budget or its window.
-    #[tactic(auto, unfolding(crate::specs::Softirq::ended))]
+    #[tactic(auto, unfolding(crate::specs::Softirq::run_ended))]
     pub(crate) fn end(&mut self) -> bool
         requires { asked_in self.old.run ≡ None }
-        ensures softirq { self.new ≡ ended self.old }
-        ensures spent { result ≡ option_map_or is_spent self.old.run false }
+        ensures softirq { self.new ≡ run_ended self.old }
+        ensures spent { result ≡ option_map_or is_run_spent self.old.run false }
     {
         if !self.is_running {
             return false;

@@ -6,7 +6,7 @@ use std::marker::Model;
 
 /// A task that is runnable.
 #[derive(Clone, Copy, Debug, PartialEq, Eq)]
-pub enum Task {
+pub enum RunnableTask {
     /// The application.
     Application,
     /// The thread that polls a device (`napi_threaded_poll`).
@@ -15,33 +15,33 @@ pub enum Task {
 
 /// The runnable tasks, the first of which runs next. A thread that polls isn't among them.
 #[derive(Drop)]
-pub(crate) struct Tasks {
-    queue: VecDeque<Task>,
+pub(crate) struct RunQueue {
+    queue: VecDeque<RunnableTask>,
     has_application: bool,
 }
 
-impl Model for Tasks {
+impl Model for RunQueue {
     ghost use Rattle.std.specs.Prelude.{◌≡◌, List, if◌then◌else◌};
-    ghost use Rattle.machine_model.specs.declared.tasks.Task.{Task};
+    ghost use Rattle.machine_model.specs.declared.tasks.RunnableTask.{RunnableTask};
     ghost use Rattle.machine_model.specs.Tasks.{applications};
 
-    ghost Value = { List Task };
+    ghost Value = { List RunnableTask };
 
     ghost view = { λ t. t.queue.items };
 
     ghost invariant = { λ t. applications t.queue.items ≡ (if t.has_application then 1 else 0) };
 }
 
-impl Tasks {
+impl RunQueue {
     ghost use Rattle.std.specs.Prelude.{◌≡◌, ◌∷◌, ◌++◌, [], OnOk, slice_get};
-    ghost use Rattle.machine_model.specs.declared.tasks.Task.TheVariants.{Thread};
+    ghost use Rattle.machine_model.specs.declared.tasks.RunnableTask.TheVariants.{Thread};
     ghost use Rattle.machine_model.specs.Tasks.{after_first, runnable, with_application};
 
     /// Returns an empty list.
-    pub(crate) fn new(alloc: Global) -> Tasks
+    pub(crate) fn new(alloc: Global) -> RunQueue
         ensures { result ≡ [] }
     {
-        Tasks {
+        RunQueue {
             queue: VecDeque::new(alloc),
             has_application: false,
         }
@@ -51,7 +51,7 @@ impl Tasks {
     pub(crate) fn push_thread(&mut self, number: u32) -> Result<(), AllocError>
         ensures { OnOk result (self.new ≡ self.old ++ Thread number ∷ []) }
     {
-        self.queue.push_back(Task::Thread(number))?;
+        self.queue.push_back(RunnableTask::Thread(number))?;
         Ok(())
     }
 
@@ -59,7 +59,7 @@ impl Tasks {
     pub(crate) fn push_first(&mut self, number: u32) -> Result<(), AllocError>
         ensures { OnOk result (self.new ≡ Thread number ∷ self.old) }
     {
-        self.queue.push_front(Task::Thread(number))?;
+        self.queue.push_front(RunnableTask::Thread(number))?;
         Ok(())
     }
 
@@ -69,7 +69,7 @@ impl Tasks {
         ensures { OnOk result (self.new ≡ with_application self.old) }
     {
         if !self.has_application {
-            self.queue.push_back(Task::Application)?;
+            self.queue.push_back(RunnableTask::Application)?;
             self.has_application = true;
         }
         Ok(())
@@ -77,18 +77,18 @@ impl Tasks {
 
     /// Returns the task that runs next. An idle application is removed if it is first; a thread is removed, and the application
     /// isn't.
-    pub(crate) fn next(&mut self, idle: bool) -> Option<Task>
+    pub(crate) fn next(&mut self, idle: bool) -> Option<RunnableTask>
         ensures first { result ≡ slice_get (runnable idle self.old) 0 }
         ensures tasks { self.new ≡ after_first (runnable idle self.old) }
     {
         self.remove_idle(idle);
         match self.queue.front() {
-            Some(Task::Thread(number)) => {
-                let thread = Task::Thread(*number);
+            Some(RunnableTask::Thread(number)) => {
+                let thread = RunnableTask::Thread(*number);
                 self.queue.pop_front();
                 Some(thread)
             }
-            Some(Task::Application) => Some(Task::Application),
+            Some(RunnableTask::Application) => Some(RunnableTask::Application),
             None => None,
         }
     }
@@ -100,7 +100,7 @@ impl Tasks {
         if !idle {
             return;
         }
-        if let Some(Task::Application) = self.queue.front() {
+        if let Some(RunnableTask::Application) = self.queue.front() {
             self.queue.pop_front();
             self.has_application = false;
         }

@@ -4,14 +4,15 @@ use Rattle.std.specs.Prelude.{◌==◌}
 use Rattle.csv.specs.{Machine.next_record, Reading.strip_bom, Records.field_at}
 use Rattle.device_rows.specs.Plain.{StartsWithNumber}
 use Rattle.device_rows.proofs.PlainFacts.{begins-first, begins-next, numeral-plain, record-ends, title-starts}
-use Rattle.machine_report.specs.{Arrivals.{four_of, is_title, of_four}, Plain.{StartsWithHeader, StartsWithNumbers}}
+use Rattle.machine_report.specs.{Arrivals.{arrival_fields, is_arrivals_title, arrival_of_fields}}
+use Rattle.machine_report.specs.{Plain.{StartsWithHeader, StartsWithNumbers}}
 
 module _ (queues : ℕ) (text behind-m behind-d behind-b rest : List ℕ) (moment device bytes flow : ℕ)
     (m : StartsWithNumber text 44 moment behind-m) (d : StartsWithNumber behind-m 44 device behind-d) where
   -- with one queue
   pub three-numbers : (queues == 1) ≡ true → StartsWithNumber behind-d 10 bytes rest
       → StartsWithNumbers queues text (record { moment = moment; device = device; bytes = bytes; flow = 0 }) rest
-  unfolding four_of of_four field_at
+  unfolding arrival_fields arrival_of_fields field_at
   three-numbers one b =
       let begun = begins-first text behind-m moment m in
       let two = begins-next text behind-m d.field behind-d _ begun (numeral-plain d.field d.is_one) d.splits in
@@ -24,7 +25,7 @@ module _ (queues : ℕ) (text behind-m behind-d behind-b rest : List ℕ) (momen
   -- with several
   pub four-numbers : (queues == 1) ≡ false → StartsWithNumber behind-d 44 bytes behind-b → StartsWithNumber behind-b 10 flow rest
       → StartsWithNumbers queues text (record { moment = moment; device = device; bytes = bytes; flow = flow }) rest
-  unfolding four_of of_four field_at
+  unfolding arrival_fields arrival_of_fields field_at
   four-numbers several b f =
       let begun = begins-first text behind-m moment m in
       let two = begins-next text behind-m d.field behind-d _ begun (numeral-plain d.field d.is_one) d.splits in
@@ -56,23 +57,23 @@ header-of end = 109 ∷ 111 ∷ 109 ∷ 101 ∷ 110 ∷ 116 ∷ 44 ∷ 100 ∷ 1
 -- `moment,device,bytes`
 pub three-titles : (queues : ℕ) (text rest : List ℕ) → (queues == 1) ≡ true → text ≡ header-of (10 ∷ []) ++ rest
     → StartsWithHeader queues text rest
-unfolding next_record strip_bom four_of field_at
+unfolding next_record strip_bom arrival_fields field_at
 three-titles queues text rest one splits = record {
   fields = titles;
   title = title-starts (header-of (10 ∷ [])) titles text rest (λ rest. refl) (λ rest. refl) splits;
   tells = titled;
 }
   where
-    four : four_of queues titles ≡ Some (moment-title, device-title, bytes-title, 48 ∷ [])
+    four : arrival_fields queues titles ≡ Some (moment-title, device-title, bytes-title, 48 ∷ [])
     four = rw one refl
 
-    titled : is_title queues (four_of queues titles) ≡ true
+    titled : is_arrivals_title queues (arrival_fields queues titles) ≡ true
     titled = rw (four, one) refl
 
 -- `moment,device,bytes,flow`
 pub four-titles : (queues : ℕ) (text rest : List ℕ) → (queues == 1) ≡ false
     → text ≡ header-of (44 ∷ 102 ∷ 108 ∷ 111 ∷ 119 ∷ 10 ∷ []) ++ rest → StartsWithHeader queues text rest
-unfolding next_record strip_bom four_of field_at
+unfolding next_record strip_bom arrival_fields field_at
 four-titles queues text rest several splits =
     record {
       fields = titles ++ flow-title ∷ [];
@@ -81,8 +82,8 @@ four-titles queues text rest several splits =
       tells = titled;
     }
   where
-    four : four_of queues (titles ++ flow-title ∷ []) ≡ Some (moment-title, device-title, bytes-title, flow-title)
+    four : arrival_fields queues (titles ++ flow-title ∷ []) ≡ Some (moment-title, device-title, bytes-title, flow-title)
     four = rw several refl
 
-    titled : is_title queues (four_of queues (titles ++ flow-title ∷ [])) ≡ true
+    titled : is_arrivals_title queues (arrival_fields queues (titles ++ flow-title ∷ [])) ≡ true
     titled = rw (four, several) refl

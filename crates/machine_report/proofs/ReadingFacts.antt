@@ -4,16 +4,16 @@ use Rattle.std.proofs.Common.{◌≡◌, ◌∙◌, ℕ, ◌+◌, ◌-◌, ◌<�
 use Rattle.std.{proofs.Common.{Vec, arith, length-append, Some, None, Option}, specs.Prelude.{Result, Ok, Err, fold}}
 use Rattle.csv.specs.Machine.{Read, ends_at_end}
 use Rattle.csv.specs.{Machine.next_record, Reading.{default_config, reader_state, records_from, records_next, strip_bom}}
-use Rattle.{csv.specs.declared.{reader.Reader.Reader, parser.State.State}, device_rows.specs.Source.{StandsAt, TakesNext}}
+use Rattle.{csv.specs.declared.{reader.Reader.Reader, parser.State.State}, device_rows.specs.Source.{StandsAt, ReadsNext}}
 use Rattle.std.specs.{Global.Global, declared.io.{impls.Cursor.Cursor, traits.Chain.Chain}}
 use Rattle.device_rows.{specs.Trace.records_of, proofs.{RecordsFacts.{next-end, next-short, records-all}, RowsFacts.records-next}}
 use Rattle.device_rows.specs.{Block.{Holds, left_remaining, unread}, declared.{block.Block.Block, fused.Fused.Fused}}
 use Rattle.device_rows.proofs.{BlockFacts.used-up, RowsFacts.records-none}
-use Rattle.machine_report.specs.Arrivals.{arrival_of, arrivals_after, arrivals_of, four_of, is_title, of_four}
-use Rattle.machine_words.specs.declared.settings.Settings.{Settings}
+use Rattle.machine_report.specs.Arrivals.{arrival_of, arrivals_after, arrivals_of, arrival_fields, is_arrivals_title, arrival_of_fields}
+use Rattle.machine_words.specs.declared.settings.MachineSettings.{MachineSettings}
 use Rattle.machine_report.specs.{Plain.{StartsWithArrival, StartsWithHeader}, declared.arrival.Arrival.Arrival}
 use Rattle.machine_report.specs.Reading.{HasGiven, IsTitled, LeavesSame, LeftAt, TakesPlain, records_in}
-use Rattle.machine_report.specs.declared.{arrivals.{Arrivals.Arrivals, Rows.Rows}, fault.MachineFault.MachineFault}
+use Rattle.machine_report.specs.declared.{arrivals.{Arrivals.Arrivals, ArrivalRows.ArrivalRows}, fault.MachineFault.MachineFault}
 
 abbrev RecordsLeft : Type 0 → Type 0
 RecordsLeft R = Reader (Chain (Cursor (Vec ℕ Global)) (Fused R))
@@ -38,12 +38,12 @@ one-in state p left between reads =
 -- the same, after the reader has read a record
 more-in : {R : Type 0} (remaining : R → Option (List ℕ)) (reader after : Reader R) (fields : List (List ℕ)) (left : List ℕ)
     → ends_at_end (reader_state reader) ≡ false
-    → TakesNext remaining (next_record default_config (reader_state reader) [] [] left) true fields after
+    → ReadsNext remaining (next_record default_config (reader_state reader) [] [] left) true fields after
     → (rest : List ℕ) × StandsAt remaining after rest × (ends_at_end (reader_state after) ≡ false)
     × (records_in (reader_state reader) left ≡ fields ∷ records_in (reader_state after) rest)
 more-in {R} remaining reader after fields left between h = by (next_record default_config (reader_state reader) [] [] left) refl h
   where
-    by : (o : Option Read) → next_record default_config (reader_state reader) [] [] left ≡ o → TakesNext remaining o true fields after
+    by : (o : Option Read) → next_record default_config (reader_state reader) [] [] left ≡ o → ReadsNext remaining o true fields after
         → (rest : List ℕ) × StandsAt remaining after rest × (ends_at_end (reader_state after) ≡ false)
         × (records_in (reader_state reader) left ≡ fields ∷ records_in (reader_state after) rest)
     by None e h = cc h
@@ -53,7 +53,7 @@ more-in {R} remaining reader after fields left between h = by (next_record defau
 
 -- no record remains
 none-in : {R : Type 0} (remaining : R → Option (List ℕ)) (reader after : Reader R) (fields : List (List ℕ)) (left : List ℕ)
-    → TakesNext remaining (next_record default_config (reader_state reader) [] [] left) false fields after
+    → ReadsNext remaining (next_record default_config (reader_state reader) [] [] left) false fields after
     → records_in (reader_state reader) left ≡ []
 none-in remaining reader after fields left h =
     records-none remaining reader after fields (length left + 1) (length left) left (omega arith) h
@@ -75,19 +75,19 @@ pub all-in : (bytes : List ℕ) → records_of bytes ≡ records_in State.StartR
 unfolding records_of
 all-in bytes = refl
 
-module _ (s : Settings) where
+module _ (s : MachineSettings) where
   arrivals-none : (records : List (List (List ℕ))) → records ≡ [] → arrivals_of s records ≡ Err MachineFault.BadHeader
   unfolding arrivals_of
   arrivals-none records e = rw e refl
 
   arrivals-other : (records rest : List (List (List ℕ))) (fields : List (List ℕ)) → records ≡ fields ∷ rest
-      → is_title s.queues (four_of s.queues fields) ≡ false
+      → is_arrivals_title s.queues (arrival_fields s.queues fields) ≡ false
       → arrivals_of s records ≡ Err MachineFault.BadHeader
   unfolding arrivals_of
   arrivals-other records rest fields e h = rw (e, h) refl
 
   arrivals-behind : (records rest : List (List (List ℕ))) (fields : List (List ℕ)) → records ≡ fields ∷ rest
-      → is_title s.queues (four_of s.queues fields) ≡ true
+      → is_arrivals_title s.queues (arrival_fields s.queues fields) ≡ true
       → arrivals_of s records ≡ arrivals_after s [] rest
   unfolding arrivals_of
   arrivals-behind records rest fields e h = rw (e, h) refl
@@ -116,24 +116,24 @@ between-start : (state : State) → state ≡ State.StartRecord → ends_at_end 
 between-start state e = ap ends_at_end e
 
 -- what follows for the first record
-module _ {R : Type 0} (remaining : R → Option (List ℕ)) (reader after : Reader R) (fields : List (List ℕ)) (s : Settings)
+module _ {R : Type 0} (remaining : R → Option (List ℕ)) (reader after : Reader R) (fields : List (List ℕ)) (s : MachineSettings)
     (bytes : List ℕ) (at : reader_state reader ≡ State.StartRecord) where
   -- if there is none
-  pub refused-start : TakesNext remaining (next_record default_config (reader_state reader) [] [] bytes) false fields after
+  pub refused-start : ReadsNext remaining (next_record default_config (reader_state reader) [] [] bytes) false fields after
       → arrivals_of s (records_in State.StartRecord bytes) ≡ Err MachineFault.BadHeader
   refused-start h = arrivals-none s _ (sym (ap (λ t. records_in t bytes) at) ∙ none-in remaining reader after fields bytes h)
 
   -- if it isn't the header
-  pub refused-title : TakesNext remaining (next_record default_config (reader_state reader) [] [] bytes) true fields after
-      → is_title s.queues (four_of s.queues fields) ≡ false
+  pub refused-title : ReadsNext remaining (next_record default_config (reader_state reader) [] [] bytes) true fields after
+      → is_arrivals_title s.queues (arrival_fields s.queues fields) ≡ false
       → arrivals_of s (records_in State.StartRecord bytes) ≡ Err MachineFault.BadHeader
   refused-title h other =
       let (rest, stands, between, one) = more-in remaining reader after fields bytes (between-start _ at) h in
       arrivals-other s _ _ fields (sym (ap (λ t. records_in t bytes) at) ∙ one) other
 
   -- if it is the header
-  pub behind-title : TakesNext remaining (next_record default_config (reader_state reader) [] [] bytes) true fields after
-      → is_title s.queues (four_of s.queues fields) ≡ true
+  pub behind-title : ReadsNext remaining (next_record default_config (reader_state reader) [] [] bytes) true fields after
+      → is_arrivals_title s.queues (arrival_fields s.queues fields) ≡ true
       → (rest : List ℕ) × StandsAt remaining after rest × (ends_at_end (reader_state after) ≡ false)
       × (arrivals_of s (records_in State.StartRecord bytes) ≡ arrivals_after s [] (records_in (reader_state after) rest))
   behind-title h titled =
@@ -141,10 +141,10 @@ module _ {R : Type 0} (remaining : R → Option (List ℕ)) (reader after : Read
       (rest, stands, between, arrivals-behind s _ _ fields (sym (ap (λ t. records_in t bytes) at) ∙ one) titled)
 
 -- if the header is plain
-pub behind-header : {R : Type 0} (remaining : R → Option (List ℕ)) (old new : Block R) (s : Settings) (text rest bytes : List ℕ)
+pub behind-header : {R : Type 0} (remaining : R → Option (List ℕ)) (old new : Block R) (s : MachineSettings) (text rest bytes : List ℕ)
     (count : ℕ) → text ≡ unread old → StartsWithHeader s.queues text rest → count ≡ length text - length rest
     → unread new ≡ drop count (unread old) → new.source ≡ old.source → Holds remaining old bytes
-    → IsTitled remaining s (Rows.Plain new) (arrivals_of s (records_of bytes))
+    → IsTitled remaining s (ArrivalRows.Plain new) (arrivals_of s (records_of bytes))
 behind-header remaining old new s text rest bytes count is header size behind same holds =
     let starts = header.title.starts in
     let (more, all, stands) = used-up remaining old new text starts.used rest bytes count is starts.splits size behind same holds in
@@ -162,7 +162,7 @@ behind-header remaining old new s text rest bytes count is header size behind sa
     }
 
 -- a plain row of a block was taken
-pub plain-taken : {R : Type 0} (remaining : R → Option (List ℕ)) (old new : Block R) (s : Settings) (row last : ℕ)
+pub plain-taken : {R : Type 0} (remaining : R → Option (List ℕ)) (old new : Block R) (s : MachineSettings) (row last : ℕ)
     (text rest bytes : List ℕ) (arrival : Arrival) (count : ℕ) → text ≡ unread old → StartsWithArrival s row last text arrival rest
     → count ≡ length text - length rest
     → unread new ≡ drop count (unread old) → new.source ≡ old.source → Holds remaining old bytes
@@ -181,7 +181,7 @@ plain-taken remaining old new s row last text rest bytes arrival count is found 
 module _ {R : Type 0} (remaining : R → Option (List ℕ)) (old : Arrivals R) (earlier : List Arrival)
     (all : Result (List Arrival) MachineFault) (given : HasGiven remaining old earlier all) where
   told-as : (row : ℕ) (fields : List (List ℕ)) → row ≡ old.rows + 1
-      → arrival_of old.settings earlier fields ≡ of_four old.settings row old.last (four_of old.settings.queues fields)
+      → arrival_of old.settings earlier fields ≡ arrival_of_fields old.settings row old.last (arrival_fields old.settings.queues fields)
   told-as row fields rows = grind (arith, common_steps, given.rows, given.last)
 
   -- one more arrival: that of the next record
@@ -189,7 +189,7 @@ module _ {R : Type 0} (remaining : R → Option (List ℕ)) (old : Arrivals R) (
       → LeftAt remaining new.source state rest → ends_at_end state ≡ false
       → records_in given.state given.left ≡ fields ∷ records_in state rest
       → new.settings ≡ old.settings → new.rows ≡ old.rows + 1 → new.last ≡ arrival.moment
-      → of_four old.settings new.rows old.last (four_of old.settings.queues fields) ≡ Ok arrival
+      → arrival_of_fields old.settings new.rows old.last (arrival_fields old.settings.queues fields) ≡ Ok arrival
       → HasGiven remaining new (earlier ++ arrival ∷ []) all
   given-one new fields state rest arrival stands between one settings rows last told = record {
     state = state;
@@ -205,19 +205,19 @@ module _ {R : Type 0} (remaining : R → Option (List ℕ)) (old : Arrivals R) (
 
   -- one more arrival: that of a plain row
   pub given-plain : (new : Arrivals R) (before after : Block R) (row : ℕ) (arrival : Arrival)
-      → old.source ≡ Rows.Plain before → new.source ≡ Rows.Plain after
+      → old.source ≡ ArrivalRows.Plain before → new.source ≡ ArrivalRows.Plain after
       → ((bytes : List ℕ) → Holds remaining before bytes → TakesPlain remaining old.settings row old.last bytes arrival after)
       → new.settings ≡ old.settings → row ≡ old.rows + 1 → new.rows ≡ row → new.last ≡ arrival.moment
       → HasGiven remaining new (earlier ++ arrival ∷ []) all
   given-plain new before after row arrival was is takes settings next rows last =
-      let (at, holds) : LeftAt remaining (Rows.Plain before) given.state given.left = rw was at given.stands in
+      let (at, holds) : LeftAt remaining (ArrivalRows.Plain before) given.state given.left = rw was at given.stands in
       let taken = takes given.left holds in
       let reads : next_record default_config given.state [] [] given.left ≡ Some (taken.fields, State.StartRecord, taken.rest) =
       ap (λ s. next_record default_config s [] [] given.left) at ∙ taken.reads in
       let (between, one) = one-in given.state (taken.fields, State.StartRecord, taken.rest) given.left given.between reads in
-      let stands : LeftAt remaining (Rows.Plain after) State.StartRecord taken.rest = (refl, taken.holds) in
+      let stands : LeftAt remaining (ArrivalRows.Plain after) State.StartRecord taken.rest = (refl, taken.holds) in
       given-one new taken.fields State.StartRecord taken.rest arrival (rw is stands) between one settings (rows ∙ next) last
-      (ap (λ n. of_four old.settings n old.last (four_of old.settings.queues taken.fields)) rows ∙ taken.tells)
+      (ap (λ n. arrival_of_fields old.settings n old.last (arrival_fields old.settings.queues taken.fields)) rows ∙ taken.tells)
 
   -- the same records remain, in another form
   pub given-same : (new : Arrivals R) → new.settings ≡ old.settings → new.rows ≡ old.rows → new.last ≡ old.last
@@ -237,12 +237,12 @@ module _ {R : Type 0} (remaining : R → Option (List ℕ)) (old : Arrivals R) (
       }
 
   -- what csv read
-  module _ (reader after : RecordsLeft R) (fields : List (List ℕ)) (was : old.source ≡ Rows.Records reader) where
+  module _ (reader after : RecordsLeft R) (fields : List (List ℕ)) (was : old.source ≡ ArrivalRows.Records reader) where
     abbrev Takes : Bool → Type 0
     Takes found = (bytes : List ℕ) → StandsAt (left_remaining remaining) reader bytes
-        → TakesNext (left_remaining remaining) (next_record default_config (reader_state reader) [] [] bytes) found fields after
+        → ReadsNext (left_remaining remaining) (next_record default_config (reader_state reader) [] [] bytes) found fields after
 
-    at-reader : LeftAt remaining (Rows.Records reader) given.state given.left
+    at-reader : LeftAt remaining (ArrivalRows.Records reader) given.state given.left
     at-reader = rw was at given.stands
 
     -- at the end of the text
@@ -263,19 +263,19 @@ module _ {R : Type 0} (remaining : R → Option (List ℕ)) (old : Arrivals R) (
 
     -- at a row with an error
     pub given-fault : (row : ℕ) (fault : MachineFault) → Takes true → row ≡ old.rows + 1
-        → of_four old.settings row old.last (four_of old.settings.queues fields) ≡ Err fault → all ≡ Err fault
+        → arrival_of_fields old.settings row old.last (arrival_fields old.settings.queues fields) ≡ Err fault → all ≡ Err fault
     given-fault row fault h rows told =
         let (rest, stands, between, one) = taken h in
         given.gives ∙ ap (arrivals_after old.settings earlier) one
         ∙ after-bad old.settings earlier fields _ fault (told-as row fields rows ∙ told)
 
     -- one more arrival
-    pub given-next : (new : Arrivals R) (row : ℕ) (arrival : Arrival) → Takes true → new.source ≡ Rows.Records after
+    pub given-next : (new : Arrivals R) (row : ℕ) (arrival : Arrival) → Takes true → new.source ≡ ArrivalRows.Records after
         → new.settings ≡ old.settings → row ≡ old.rows + 1 → new.rows ≡ row → new.last ≡ arrival.moment
-        → of_four old.settings row old.last (four_of old.settings.queues fields) ≡ Ok arrival
+        → arrival_of_fields old.settings row old.last (arrival_fields old.settings.queues fields) ≡ Ok arrival
         → HasGiven remaining new (earlier ++ arrival ∷ []) all
     given-next new row arrival h is settings next rows last told =
         let (rest, stands, between, one) = taken h in
-        let left : LeftAt remaining (Rows.Records after) (reader_state after) rest = (refl, stands) in
+        let left : LeftAt remaining (ArrivalRows.Records after) (reader_state after) rest = (refl, stands) in
         given-one new fields (reader_state after) rest arrival (rw is left) between one settings (rows ∙ next) last
-        (ap (λ n. of_four old.settings n old.last (four_of old.settings.queues fields)) rows ∙ told)
+        (ap (λ n. arrival_of_fields old.settings n old.last (arrival_fields old.settings.queues fields)) rows ∙ told)

@@ -1,10 +1,10 @@
 -- The machine takes one more arrival.
 use Rattle.std.proofs.Common.{rules}
 use Rattle.std.proofs.Common.{List, [], ◌∷◌, ◌++◌, refl}
-use Rattle.machine_model.specs.Machine.{Arrives, Machine}
-use Rattle.machine_report.specs.{Answer.Takes, declared.arrival.Arrival.Arrival}
+use Rattle.machine_model.specs.Machine.{PacketArrives, Machine}
+use Rattle.machine_report.specs.{Answer.TakesArrivals, declared.arrival.Arrival.Arrival}
 
-pub takes-push : (earlier : List Arrival) (arrival : Arrival) (before middle after : Machine) → Takes earlier before middle
-    → Arrives arrival.moment arrival.device middle after → Takes (earlier ++ arrival ∷ []) before after
+pub takes-push : (earlier : List Arrival) (arrival : Arrival) (before middle after : Machine) → TakesArrivals earlier before middle
+    → PacketArrives arrival.moment arrival.device middle after → TakesArrivals (earlier ++ arrival ∷ []) before after
 takes-push [] arrival before middle after taken one = (after, rw taken at one, refl)
 takes-push (a ∷ earlier) arrival before middle after taken one = search (rules, takes-push earlier arrival taken.0 middle after taken.2 one)

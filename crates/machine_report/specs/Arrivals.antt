@@ -2,7 +2,8 @@
 use Rattle.std.specs.Prelude.{ℕ, ◌+◌, ◌-◌, ◌*◌, ◌%◌, ◌^◌, ◌<◌, ◌≤◌, ◌==◌, ◌&&◌, ◌||◌, Bool, false, nat_le, nat_lt, List, [], ◌∷◌, ◌++◌}
 use Rattle.std.specs.{Prelude.{length, fold, Option, Some, None, if◌then◌else◌, Result, Ok, Err, codes}, Str.bytes_eq}
 use Rattle.csv.specs.Records.{field_at}
-use Rattle.{device_rows.specs.{Record.{is_numeral, numeral}, Row.is_within}, machine_words.specs.declared.settings.Settings.Settings}
+use Rattle.{device_rows.specs.{Record.{is_numeral, numeral}, Row.is_within}}
+use Rattle.{machine_words.specs.declared.settings.MachineSettings.MachineSettings}
 use Rattle.machine_report.specs.declared.arrival.{Arrival.Arrival, Numbers.Numbers}
 use Rattle.machine_report.specs.declared.fault.MachineFault.{MachineFault, TheVariants.{BadHeader, BadFields, BadNumber, OutOfRange, Falls}}
 
@@ -21,23 +22,23 @@ abbrev pub flow_of : ℕ → List (List ℕ) → Option (List ℕ)
 flow_of queues fields = if queues == 1 then Some (codes "0") else field_at fields 3
 
 -- moment, device, bytes and flow
-abbrev pub Four : Type 0
-Four = List ℕ × List ℕ × List ℕ × List ℕ
+abbrev pub ArrivalFields : Type 0
+ArrivalFields = List ℕ × List ℕ × List ℕ × List ℕ
 
-abbrev pub four_from : Option (List ℕ) → Option (List ℕ) → Option (List ℕ) → Option (List ℕ) → Option Four
+abbrev pub four_from : Option (List ℕ) → Option (List ℕ) → Option (List ℕ) → Option (List ℕ) → Option ArrivalFields
 four_from (Some moment) (Some device) (Some bytes) (Some flow) = Some (moment, device, bytes, flow)
 four_from _ _ _ _ = None
 
-unfoldable pub four_of : ℕ → List (List ℕ) → Option Four
-four_of queues fields =
+unfoldable pub arrival_fields : ℕ → List (List ℕ) → Option ArrivalFields
+arrival_fields queues fields =
     if length fields == width queues
     then four_from (field_at fields 0) (field_at fields 1) (field_at fields 2) (flow_of queues fields)
     else None
 
 -- the header `moment,device,bytes`, and with several queues `moment,device,bytes,flow`
-abbrev pub is_title : ℕ → Option Four → Bool
-is_title queues None = false
-is_title queues (Some four) =
+abbrev pub is_arrivals_title : ℕ → Option ArrivalFields → Bool
+is_arrivals_title queues None = false
+is_arrivals_title queues (Some four) =
     bytes_eq four.0 (codes "moment")
     && (bytes_eq four.1 (codes "device") && (bytes_eq four.2 (codes "bytes") && (queues == 1 || bytes_eq four.3 (codes "flow"))))
 
@@ -47,8 +48,8 @@ queue_of queues device flow = (device - 1) * queues + flow % queues + 1
 
 -- the arrival of row n with these numbers, after a row at `last`: a moment below 2^62 that doesn't decrease, a device and a
 -- queue of the processors, which have 64 each, and 1 to 65535 bytes
-unfoldable pub ranged : Settings → ℕ → ℕ → Numbers → Result Arrival MachineFault
-ranged s n last row =
+unfoldable pub arrival_in_range : MachineSettings → ℕ → ℕ → Numbers → Result Arrival MachineFault
+arrival_in_range s n last row =
     let most = 64 * s.processors in
     let queue = queue_of s.queues row.device row.flow in
     if nat_lt row.moment (2 ^ 62) && (is_within 1 most row.device && (is_within 1 65535 row.bytes && nat_le queue most))
@@ -56,11 +57,11 @@ ranged s n last row =
     else Err (OutOfRange n)
 
 -- if its fields are numbers
-unfoldable pub of_four : Settings → ℕ → ℕ → Option Four → Result Arrival MachineFault
-of_four s n last None = Err (BadFields n)
-of_four s n last (Some four) =
+unfoldable pub arrival_of_fields : MachineSettings → ℕ → ℕ → Option ArrivalFields → Result Arrival MachineFault
+arrival_of_fields s n last None = Err (BadFields n)
+arrival_of_fields s n last (Some four) =
     if is_numeral four.0 && (is_numeral four.1 && (is_numeral four.2 && is_numeral four.3))
-    then ranged s n last (record {
+    then arrival_in_range s n last (record {
       moment = numeral four.0;
       device = numeral four.1;
       bytes = numeral four.2;
@@ -73,19 +74,20 @@ abbrev pub last_moment : List Arrival → ℕ
 last_moment earlier = fold (λ _ arrival. arrival.moment) 0 earlier
 
 -- the arrival of a record after these earlier ones, or its first error
-abbrev pub arrival_of : Settings → List Arrival → List (List ℕ) → Result Arrival MachineFault
-arrival_of s earlier fields = of_four s (length earlier + 1) (last_moment earlier) (four_of s.queues fields)
+abbrev pub arrival_of : MachineSettings → List Arrival → List (List ℕ) → Result Arrival MachineFault
+arrival_of s earlier fields = arrival_of_fields s (length earlier + 1) (last_moment earlier) (arrival_fields s.queues fields)
 
 -- the earlier arrivals and those of the records, or the first error among these
-unfoldable pub arrivals_after : Settings → List Arrival → List (List (List ℕ)) → Result (List Arrival) MachineFault
+unfoldable pub arrivals_after : MachineSettings → List Arrival → List (List (List ℕ)) → Result (List Arrival) MachineFault
 arrivals_after s earlier [] = Ok earlier
 arrivals_after s earlier (fields ∷ records) =
     arrival_of s earlier fields >>= (λ arrival. arrivals_after s (earlier ++ arrival ∷ []) records)
 
 -- the arrivals of all records of a text, or the first error
-unfoldable pub arrivals_of : Settings → List (List (List ℕ)) → Result (List Arrival) MachineFault
+unfoldable pub arrivals_of : MachineSettings → List (List (List ℕ)) → Result (List Arrival) MachineFault
 arrivals_of s [] = Err BadHeader
-arrivals_of s (header ∷ records) = if is_title s.queues (four_of s.queues header) then arrivals_after s [] records else Err BadHeader
+arrivals_of s (header ∷ records) = if is_arrivals_title s.queues (arrival_fields s.queues header) then arrivals_after s [] records else Err
+    BadHeader
 
 -- its queue is one of the processors', and its moment is small
 pub record IsInRange (processors : ℕ) (arrival : Arrival) : Type 0 where

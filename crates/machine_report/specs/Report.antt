@@ -1,10 +1,10 @@
 -- The report's text, word by word. See docs/FORMATS.md, "The machine's report".
 use Rattle.std.specs.Prelude.{ℕ, zero, suc, ◌+◌, ◌-◌, ◌*◌, List, [], ◌∷◌, ◌++◌, Option, Some, None, codes, decimal, option_map, slice_get}
-use Rattle.machine_model.specs.declared.{application.ApplicationReport.ApplicationReport, device.DeviceReport.DeviceReport}
-use Rattle.{machine_model.specs.declared.waits.WaitCounts.WaitCounts, machine_words.specs.declared.settings.Settings.Settings}
+use Rattle.machine_model.specs.declared.{application.ApplicationReport.ApplicationReport, device.QueueReport.QueueReport}
+use Rattle.{machine_model.specs.declared.waits.WaitCounts.WaitCounts, machine_words.specs.declared.settings.MachineSettings.MachineSettings}
 use Rattle.machine_model.specs.{declared.processor.ProcessorReport.ProcessorReport, Machine.{Machine, device_report, processor_report}}
-use Rattle.{machine_model.specs.Waits.held, replay_text.specs.Lines.{ended, words}}
-use Rattle.machine_report.specs.declared.report.{ApplicationLine.ApplicationLine, Totals.Totals}
+use Rattle.{machine_model.specs.Waits.saturated, replay_text.specs.Lines.{with_newline, words}}
+use Rattle.machine_report.specs.declared.report.{ApplicationLine.ApplicationLine, MachineTotals.MachineTotals}
 
 -- what is shown of waits
 unfoldable pub waits_text : WaitCounts → List ℕ
@@ -13,21 +13,21 @@ waits_text w = words (codes "mean" ∷ decimal w.mean ∷ codes "wait50" ∷ dec
 
 -- ---- a device
 
-unfoldable pub polls_text : DeviceReport → List ℕ
+unfoldable pub polls_text : QueueReport → List ℕ
 polls_text d =
     words (codes "polled" ∷ decimal d.counts.polled ∷ codes "interrupts" ∷ decimal d.counts.interrupts
     ∷ codes "polls" ∷ decimal d.counts.polls
     ∷ waits_text d.waits ∷ [])
 
-abbrev pub device_line : ℕ → DeviceReport → List ℕ
-device_line number d =
+abbrev pub machine_device_line : ℕ → QueueReport → List ℕ
+machine_device_line number d =
     words (codes "device" ∷ decimal number ∷ codes "arrived" ∷ decimal d.counts.arrived
     ∷ codes "dropped" ∷ decimal d.counts.dropped ∷ polls_text d ∷ [])
 
 -- only if a packet arrived for it
-abbrev pub device_lines : ℕ → Option DeviceReport → List ℕ
-device_lines number None = []
-device_lines number (Some d) = ended (device_line number d)
+abbrev pub machine_device_lines : ℕ → Option QueueReport → List ℕ
+machine_device_lines number None = []
+machine_device_lines number (Some d) = with_newline (machine_device_line number d)
 
 -- ---- a processor
 
@@ -52,67 +52,67 @@ time_line number p =
 -- ---- the application on its own processor
 
 -- the time of its uses, and the rest of the time up to its last end, without waking and uses
-unfoldable pub application_of : Settings → ℕ → ProcessorReport → ApplicationReport → ApplicationLine
+unfoldable pub application_of : MachineSettings → ℕ → ProcessorReport → ApplicationReport → ApplicationLine
 application_of s number p a =
-    let used = held (p.waits.count * s.use_time) in
-    record { number = number; end = a.end; wakes = a.wakes; used = used; idle = a.end - held (a.wakes * s.app_wake) - used }
+    let used = saturated (p.waits.count * s.use_time) in
+    record { number = number; end = a.end; wakes = a.wakes; used = used; idle = a.end - saturated (a.wakes * s.app_wake) - used }
 
 abbrev pub application_line : ApplicationLine → List ℕ
 application_line a =
     words (codes "application" ∷ decimal a.number ∷ codes "end" ∷ decimal a.end ∷ codes "wakes" ∷ decimal a.wakes
     ∷ codes "use" ∷ decimal a.used ∷ codes "idle" ∷ decimal a.idle ∷ [])
 
-abbrev pub application_lines : Settings → ℕ → ProcessorReport → Option ApplicationReport → List ℕ
+abbrev pub application_lines : MachineSettings → ℕ → ProcessorReport → Option ApplicationReport → List ℕ
 application_lines s number p None = []
-application_lines s number p (Some a) = ended (application_line (application_of s number p a))
+application_lines s number p (Some a) = with_newline (application_line (application_of s number p a))
 
 -- ---- all lines of a processor
 
-abbrev pub processor_lines : Settings → ℕ → Option ProcessorReport → List ℕ
+abbrev pub processor_lines : MachineSettings → ℕ → Option ProcessorReport → List ℕ
 processor_lines s number None = []
 processor_lines s number (Some p) =
-    ended (processor_line number p) ++ (ended (time_line number p) ++ application_lines s number p p.application)
+    with_newline (processor_line number p) ++ (with_newline (time_line number p) ++ application_lines s number p p.application)
 
 -- ---- the total
 
-abbrev pub none_counted : Totals
+abbrev pub none_counted : MachineTotals
 none_counted = record { devices = 0; arrived = 0; dropped = 0; polled = 0; refused = 0; used = 0 }
 
-abbrev pub with_device : Option DeviceReport → Totals → Totals
-with_device None t = t
-with_device (Some d) t = record t {
-  devices = held (t.devices + 1);
-  arrived = held (t.arrived + d.counts.arrived);
-  dropped = held (t.dropped + d.counts.dropped);
-  polled = held (t.polled + d.counts.polled);
+abbrev pub plus_device : Option QueueReport → MachineTotals → MachineTotals
+plus_device None t = t
+plus_device (Some d) t = record t {
+  devices = saturated (t.devices + 1);
+  arrived = saturated (t.arrived + d.counts.arrived);
+  dropped = saturated (t.dropped + d.counts.dropped);
+  polled = saturated (t.polled + d.counts.polled);
 }
 
-abbrev pub with_processor : Option ProcessorReport → Totals → Totals
+abbrev pub with_processor : Option ProcessorReport → MachineTotals → MachineTotals
 with_processor None t = t
-with_processor (Some p) t = record t { refused = held (t.refused + p.counts.refused); used = held (t.used + p.waits.count) }
+with_processor (Some p) t = record t { refused = saturated (t.refused + p.counts.refused); used = saturated (t.used + p.waits.count) }
 
-abbrev pub total_line : Totals → List ℕ
-total_line t =
+abbrev pub machine_total_line : MachineTotals → List ℕ
+machine_total_line t =
     words (codes "total" ∷ codes "devices" ∷ decimal t.devices ∷ codes "arrived" ∷ decimal t.arrived ∷ codes "dropped" ∷ decimal t.dropped
     ∷ codes "polled" ∷ decimal t.polled ∷ codes "refused" ∷ decimal t.refused ∷ codes "used" ∷ decimal t.used ∷ [])
 
 -- ---- the text
 
 -- the lines and the sums of devices 1 to n
-unfoldable pub lines_of_devices : (ℕ → Option DeviceReport) → ℕ → List ℕ
+unfoldable pub lines_of_devices : (ℕ → Option QueueReport) → ℕ → List ℕ
 lines_of_devices device zero = []
-lines_of_devices device (suc n) = lines_of_devices device n ++ device_lines (suc n) (device (suc n))
+lines_of_devices device (suc n) = lines_of_devices device n ++ machine_device_lines (suc n) (device (suc n))
 
-unfoldable pub sums_of_devices : (ℕ → Option DeviceReport) → ℕ → Totals
+unfoldable pub sums_of_devices : (ℕ → Option QueueReport) → ℕ → MachineTotals
 sums_of_devices device zero = none_counted
-sums_of_devices device (suc n) = with_device (device (suc n)) (sums_of_devices device n)
+sums_of_devices device (suc n) = plus_device (device (suc n)) (sums_of_devices device n)
 
 -- the lines of processors 0 to n - 1, and the sums with theirs
-unfoldable pub lines_of_processors : Settings → (ℕ → Option ProcessorReport) → ℕ → List ℕ
+unfoldable pub lines_of_processors : MachineSettings → (ℕ → Option ProcessorReport) → ℕ → List ℕ
 lines_of_processors s processor zero = []
 lines_of_processors s processor (suc n) = lines_of_processors s processor n ++ processor_lines s n (processor n)
 
-unfoldable pub sums_of_processors : (ℕ → Option ProcessorReport) → Totals → ℕ → Totals
+unfoldable pub sums_of_processors : (ℕ → Option ProcessorReport) → MachineTotals → ℕ → MachineTotals
 sums_of_processors processor t zero = t
 sums_of_processors processor t (suc n) = with_processor (processor n) (sums_of_processors processor t n)
 
@@ -121,8 +121,9 @@ abbrev pub processor_in : Machine → ℕ → Option ProcessorReport
 processor_in machine number = option_map processor_report (slice_get machine number)
 
 -- the lines of the devices for which a packet arrived, by increasing number, those of the processors, and the total
-abbrev pub text_of : Settings → Machine → List ℕ
-text_of s machine =
-    let device : ℕ → Option DeviceReport = λ n. device_report n machine in
+abbrev pub machine_text : MachineSettings → Machine → List ℕ
+machine_text s machine =
+    let device : ℕ → Option QueueReport = λ n. device_report n machine in
     lines_of_devices device (64 * s.processors) ++ (lines_of_processors s (processor_in machine) s.processors
-    ++ ended (total_line (sums_of_processors (processor_in machine) (sums_of_devices device (64 * s.processors)) s.processors)))
+    ++ with_newline (machine_total_line (sums_of_processors (processor_in machine) (sums_of_devices device (64 * s.processors))
+    s.processors)))

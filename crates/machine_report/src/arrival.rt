@@ -2,12 +2,12 @@
 
 ghost use Rattle.std.specs.Prelude.{◌≡◌, ◌≤◌, ◌*◌, ◌%◌, IfOk, option_map};
 ghost use Rattle.csv.specs.Records.{fields_of};
-ghost use Rattle.machine_report.specs.Arrivals.{IsInRange, flow_of, four_of, is_title, of_four, queue_of, ranged, width};
+ghost use Rattle.machine_report.specs.Arrivals.{IsInRange, flow_of, arrival_fields, is_arrivals_title, arrival_of_fields, queue_of, arrival_in_range, width};
 
 use crate::fault::MachineFault;
 use csv::ByteRecord;
 use device_rows::number_below_21;
-use machine_words::Settings;
+use machine_words::MachineSettings;
 
 /// A packet arrives for a queue.
 #[derive(Clone, Copy, Debug, PartialEq, Eq)]
@@ -46,10 +46,10 @@ fn flow_of(queues: u32, fields: &ByteRecord) -> Option<&[u8]>
 }
 
 // Returns the fields of a record that has the right number of fields.
-#[tactic(auto, unfolding(crate::specs::Arrivals::four_of))]
+#[tactic(auto, unfolding(crate::specs::Arrivals::arrival_fields))]
 fn four_of(queues: u32, fields: &ByteRecord) -> Option<(&[u8], &[u8], &[u8], &[u8])>
     ensures { option_map (λ four. (four.0.now, four.1.now, four.2.now, four.3.now)) result
-        ≡ four_of queues (fields_of fields.now) }
+        ≡ arrival_fields queues (fields_of fields.now) }
 {
     if fields.len() != width(queues) {
         return None;
@@ -63,7 +63,7 @@ fn four_of(queues: u32, fields: &ByteRecord) -> Option<(&[u8], &[u8], &[u8], &[u
 
 /// Returns whether a record is the header: `moment,device,bytes`, and `flow` with several queues.
 pub(crate) fn is_title(queues: u32, fields: &ByteRecord) -> bool
-    ensures { result ≡ is_title queues (four_of queues (fields_of fields.now)) }
+    ensures { result ≡ is_arrivals_title queues (arrival_fields queues (fields_of fields.now)) }
 {
     let Some((moment, device, bytes, flow)) = four_of(queues, fields) else {
         return false;
@@ -95,15 +95,15 @@ fn queue_of(queues: u32, device: u32, flow: u128) -> u32
 }
 
 /// Returns the arrival of row `row` with these numbers, after a row at `last`.
-#[tactic(auto, unfolding(crate::specs::Arrivals::ranged))]
+#[tactic(auto, unfolding(crate::specs::Arrivals::arrival_in_range))]
 #[inline]
 pub(crate) fn ranged(
-    settings: &Settings,
+    settings: &MachineSettings,
     row: u64,
     last: u64,
     numbers: &Numbers,
 ) -> Result<Arrival, MachineFault>
-    ensures arrival { result ≡ ranged settings.now row last numbers.now }
+    ensures arrival { result ≡ arrival_in_range settings.now row last numbers.now }
     ensures range { IfOk result (IsInRange settings.now.processors) }
 {
     let most = 64 * settings.processors;
@@ -125,15 +125,16 @@ pub(crate) fn ranged(
 }
 
 /// Returns the arrival of a record in row `row`, after a row at `last`, or its first error.
-#[tactic(auto, unfolding(crate::specs::Arrivals::of_four))]
+#[tactic(auto, unfolding(crate::specs::Arrivals::arrival_of_fields))]
 pub(crate) fn arrival_of(
-    settings: &Settings,
+    settings: &MachineSettings,
     row: u64,
     last: u64,
     fields: &ByteRecord,
 ) -> Result<Arrival, MachineFault>
     ensures arrival { result
-        ≡ of_four settings.now row last (four_of settings.now.queues (fields_of fields.now)) }
+        ≡ arrival_of_fields settings.now row last
+        (arrival_fields settings.now.queues (fields_of fields.now)) }
     ensures range { IfOk result (IsInRange settings.now.processors) }
 {
     let Some((moment, device, bytes, flow)) = four_of(settings.queues, fields) else {

@@ -9,15 +9,15 @@ ghost use Rattle.device_rows.specs.Block.{Holds, left_remaining};
 ghost use Rattle.device_rows.specs.Source.{HasCause, IsOpen, StandsAt};
 ghost use Rattle.device_rows.specs.Trace.{records_of};
 ghost use Rattle.machine_report.specs.Arrivals.{IsInRange, arrivals_of};
-ghost use Rattle.machine_report.specs.Fault.{IsFaultBy, IsReadFailure};
+ghost use Rattle.machine_report.specs.Fault.{IsMachineFaultBy, IsArrivalReadFailure};
 ghost use Rattle.machine_report.specs.Reading.{IsByRecords, IsOpenAt, IsTitled, LeavesSame, LeftAt, TakesPlain, records_in};
 
 use crate::arrival::{Arrival, arrival_of, is_title};
 use crate::fault::MachineFault;
 use crate::plain::{after_header, plain_arrival};
 use csv::ByteRecord;
-use device_rows::{Block, Next, ReadError, RecordsLeft, next_record};
-use machine_words::Settings;
+use device_rows::{Block, NextRecord, ReadError, RecordsLeft, next_record};
+use machine_words::MachineSettings;
 use std::alloc::{AllocError, Global};
 use std::io::Read;
 use std::mem;
@@ -27,7 +27,7 @@ const RECORD_BYTES: usize = 96;
 
 // Where the next rows are read from.
 #[derive(Drop)]
-enum Rows<R> {
+enum ArrivalRows<R> {
     // A block of bytes that were read ahead: all rows so far were plain.
     Plain(Block<R>),
     // `csv`, from the first row that isn't plain or has an error.
@@ -39,10 +39,10 @@ enum Rows<R> {
 /// The arrivals of a text, read one row at a time.
 #[derive(Drop)]
 pub struct Arrivals<R> {
-    source: Rows<R>,
+    source: ArrivalRows<R>,
     alloc: Global,
     fields: ByteRecord,
-    settings: Settings,
+    settings: MachineSettings,
     rows: u64,
     last: u64,
 }
@@ -51,8 +51,8 @@ pub struct Arrivals<R> {
 fn titled<R: Read + Drop>(
     mut reader: RecordsLeft<R>,
     fields: &mut ByteRecord,
-    settings: &Settings,
-) -> Result<Rows<R>, MachineFault>
+    settings: &MachineSettings,
+) -> Result<ArrivalRows<R>, MachineFault>
     requires opened { IsOpen reader }
     requires state { reader_state reader ≡ state.StartRecord }
     ensures opened { IfOk result IsOpenAt }
@@ -61,19 +61,19 @@ fn titled<R: Read + Drop>(
         → IsTitled R.remaining settings.now rows
         (arrivals_of settings.now (records_in state.StartRecord bytes))) }
     ensures fault { IfErr result (λ fault. (bytes : List ℕ)
-        → StandsAt (left_remaining R.remaining) reader bytes → IsReadFailure fault
+        → StandsAt (left_remaining R.remaining) reader bytes → IsArrivalReadFailure fault
         ⊎ (arrivals_of settings.now (records_in state.StartRecord bytes) ≡ Err fault)) }
 {
     match next_record(&mut reader, fields) {
-        Next::Record => {}
-        Next::End => return Err(MachineFault::BadHeader),
-        Next::ReadFailed => return Err(MachineFault::ReadFailed),
-        Next::OutOfMemory => return Err(MachineFault::OutOfMemory),
+        NextRecord::Record => {}
+        NextRecord::End => return Err(MachineFault::BadHeader),
+        NextRecord::ReadFailed => return Err(MachineFault::ReadFailed),
+        NextRecord::OutOfMemory => return Err(MachineFault::OutOfMemory),
     }
     if !is_title(settings.queues, fields) {
         return Err(MachineFault::BadHeader);
     }
-    Ok(Rows::Records(reader))
+    Ok(ArrivalRows::Records(reader))
 }
 
 // Returns the rows after the header of a text.
@@ -81,12 +81,12 @@ fn rows_of<R: Read + Drop>(
     alloc: Global,
     source: R,
     fields: &mut ByteRecord,
-    settings: &Settings,
-) -> Result<Rows<R>, MachineFault>
+    settings: &MachineSettings,
+) -> Result<ArrivalRows<R>, MachineFault>
     ensures opened { IfOk result IsOpenAt }
     ensures title { IfOk result (λ rows. (bytes : List ℕ) → R.remaining source ≡ Some bytes
         → IsTitled R.remaining settings.now rows (arrivals_of settings.now (records_of bytes))) }
-    ensures fault { IfErr result (IsFaultBy IsReadFailure
+    ensures fault { IfErr result (IsMachineFaultBy IsArrivalReadFailure
         (λ bytes fault. arrivals_of settings.now (records_of bytes) ≡ Err fault)
         (R.remaining source)) }
 {
@@ -97,14 +97,14 @@ fn rows_of<R: Read + Drop>(
     };
     let used = block.text().len() - rest.len();
     block.advance(used);
-    Ok(Rows::Plain(block))
+    Ok(ArrivalRows::Plain(block))
 }
 
 // Returns the plain row at the start of the unread bytes of a block, if there is one.
 #[inline(always)]
 fn take_plain<R: Read>(
     block: &mut Block<R>,
-    settings: &Settings,
+    settings: &MachineSettings,
     row: u64,
     last: u64,
 ) -> Option<Arrival>
@@ -125,7 +125,7 @@ fn take_plain<R: Read>(
 fn next_plain<R: Read>(
     alloc: Global,
     block: &mut Block<R>,
-    settings: &Settings,
+    settings: &MachineSettings,
     row: u64,
     last: u64,
 ) -> Result<Option<Arrival>, ReadError>
@@ -145,7 +145,10 @@ fn next_plain<R: Read>(
 }
 
 // Returns the same rows, read by `csv`.
-fn by_records<R: Read + Drop>(alloc: Global, rows: Rows<R>) -> Result<Rows<R>, AllocError>
+fn by_records<R: Read + Drop>(
+    alloc: Global,
+    rows: ArrivalRows<R>,
+) -> Result<ArrivalRows<R>, AllocError>
     requires { IsOpenAt rows }
     ensures opened { IfOk result IsByRecords }
     ensures same { IfOk result (λ after. (state : State) (bytes : List ℕ)
@@ -153,7 +156,7 @@ fn by_records<R: Read + Drop>(alloc: Global, rows: Rows<R>) -> Result<Rows<R>, A
         → LeavesSame R.remaining after state bytes) }
 {
     match rows {
-        Rows::Plain(block) => Ok(Rows::Records(block.records_left(alloc)?)),
+        ArrivalRows::Plain(block) => Ok(ArrivalRows::Records(block.records_left(alloc)?)),
         left => Ok(left),
     }
 }
@@ -162,8 +165,8 @@ impl<R: Read + Drop> Arrivals<R> {
     ghost use Rattle.std.specs.Prelude.{◌≡◌, ◌≤◌, ◌+◌, ◌∷◌, ◌++◌, ◌⊎◌, [], ℕ, List, None, Some, Err, IfErr, IfOk, IfSome, OnOk, Result};
     ghost use Rattle.device_rows.specs.Trace.{records_of};
     ghost use Rattle.machine_report.specs.Arrivals.{IsInRange, arrivals_of};
-    ghost use Rattle.machine_report.specs.Fault.{IsFaultBy, IsReadFailure};
-    ghost use Rattle.machine_report.specs.Reading.{GivesNext, HasGiven, IsByRecords, IsOpenAt};
+    ghost use Rattle.machine_report.specs.Fault.{IsMachineFaultBy, IsArrivalReadFailure};
+    ghost use Rattle.machine_report.specs.Reading.{GivesNextArrival, HasGiven, IsByRecords, IsOpenAt};
     ghost use Rattle.machine_report.specs.declared.arrival.Arrival.{Arrival};
     ghost use Rattle.machine_report.specs.declared.fault.MachineFault.{MachineFault};
 
@@ -173,12 +176,16 @@ impl<R: Read + Drop> Arrivals<R> {
     ///
     /// `BadHeader` if the first record isn't `moment,device,bytes`, or with several queues `moment,device,bytes,flow`;
     /// `ReadFailed`, `OutOfMemory`.
-    pub fn new(alloc: Global, source: R, settings: &Settings) -> Result<Arrivals<R>, MachineFault>
+    pub fn new(
+        alloc: Global,
+        source: R,
+        settings: &MachineSettings,
+    ) -> Result<Arrivals<R>, MachineFault>
         ensures opened { IfOk result (λ arrivals. IsOpenAt arrivals.source) }
         ensures settings { IfOk result (λ arrivals. arrivals.settings ≡ settings.now) }
         ensures start { IfOk result (λ arrivals. (bytes : List ℕ) → R.remaining source ≡ Some bytes
             → HasGiven R.remaining arrivals [] (arrivals_of settings.now (records_of bytes))) }
-        ensures fault { IfErr result (IsFaultBy IsReadFailure
+        ensures fault { IfErr result (IsMachineFaultBy IsArrivalReadFailure
             (λ bytes fault. arrivals_of settings.now (records_of bytes) ≡ Err fault)
             (R.remaining source)) }
     {
@@ -213,7 +220,7 @@ impl<R: Read + Drop> Arrivals<R> {
         ensures rows { self.new.rows ≡ self.old.rows }
         ensures settings { self.new.settings ≡ self.old.settings }
     {
-        let rows = mem::replace(&mut self.source, Rows::Failed);
+        let rows = mem::replace(&mut self.source, ArrivalRows::Failed);
         self.source = by_records(self.alloc, rows)?;
         Ok(())
     }
@@ -235,9 +242,9 @@ impl<R: Read + Drop> Arrivals<R> {
         ensures range { IfOk result (λ found.
             IfSome found (IsInRange self.old.settings.processors)) }
         ensures settings { self.new.settings ≡ self.old.settings }
-        ensures fault { IfErr result IsReadFailure }
+        ensures fault { IfErr result IsArrivalReadFailure }
     {
-        let Rows::Plain(block) = &mut self.source else {
+        let ArrivalRows::Plain(block) = &mut self.source else {
             return Ok(None);
         };
         let found = next_plain(self.alloc, block, &self.settings, row, self.last)?;
@@ -256,21 +263,21 @@ impl<R: Read + Drop> Arrivals<R> {
         ensures opened { IfOk result (λ next. IfSome next (λ _. IsOpenAt self.new.source)) }
         ensures arrival { IfOk result (λ next. (earlier : List Arrival)
             (all : Result (List Arrival) MachineFault) → HasGiven R.remaining self.old earlier all
-            → GivesNext R.remaining self.new earlier all next) }
+            → GivesNextArrival R.remaining self.new earlier all next) }
         ensures range { IfOk result (λ next. IfSome next (IsInRange self.old.settings.processors)) }
         ensures settings { self.new.settings ≡ self.old.settings }
         ensures fault { IfErr result (λ fault. (earlier : List Arrival)
             (all : Result (List Arrival) MachineFault) → HasGiven R.remaining self.old earlier all
-            → IsReadFailure fault ⊎ (all ≡ Err fault)) }
+            → IsArrivalReadFailure fault ⊎ (all ≡ Err fault)) }
     {
-        let Rows::Records(reader) = &mut self.source else {
+        let ArrivalRows::Records(reader) = &mut self.source else {
             unreachable!()
         };
         match next_record(reader, &mut self.fields) {
-            Next::Record => {}
-            Next::End => return Ok(None),
-            Next::ReadFailed => return Err(MachineFault::ReadFailed),
-            Next::OutOfMemory => return Err(MachineFault::OutOfMemory),
+            NextRecord::Record => {}
+            NextRecord::End => return Ok(None),
+            NextRecord::ReadFailed => return Err(MachineFault::ReadFailed),
+            NextRecord::OutOfMemory => return Err(MachineFault::OutOfMemory),
         }
         let arrival = arrival_of(&self.settings, row, self.last, &self.fields)?;
         self.count(row, arrival);
@@ -287,12 +294,12 @@ impl<R: Read + Drop> Arrivals<R> {
         ensures opened { IfOk result (λ next. IfSome next (λ _. IsOpenAt self.new.source)) }
         ensures arrival { IfOk result (λ next. (earlier : List Arrival)
             (all : Result (List Arrival) MachineFault) → HasGiven R.remaining self.old earlier all
-            → GivesNext R.remaining self.new earlier all next) }
+            → GivesNextArrival R.remaining self.new earlier all next) }
         ensures range { IfOk result (λ next. IfSome next (IsInRange self.old.settings.processors)) }
         ensures settings { self.new.settings ≡ self.old.settings }
         ensures fault { IfErr result (λ fault. (earlier : List Arrival)
             (all : Result (List Arrival) MachineFault) → HasGiven R.remaining self.old earlier all
-            → IsReadFailure fault ⊎ (all ≡ Err fault)) }
+            → IsArrivalReadFailure fault ⊎ (all ≡ Err fault)) }
     {
         // No text has this many rows.
         let Some(row) = self.rows.checked_add(1) else {

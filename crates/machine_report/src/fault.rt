@@ -1,7 +1,7 @@
 //! Why arrivals have no report.
 
 ghost use Rattle.std.specs.Prelude.{◌≡◌, ◌++◌, IfOk, codes, string_bytes};
-ghost use Rattle.machine_report.specs.Fault.{line_of, number_of, status_of};
+ghost use Rattle.machine_report.specs.Fault.{machine_fault_line, machine_fault_number, machine_fault_status};
 
 use device_rows::ReadError;
 use replay_text::Fault;
@@ -40,9 +40,9 @@ pub enum MachineFault {
 }
 
 impl From<AllocError> for MachineFault {
-    ghost use Rattle.machine_report.specs.Fault.{IsWantOfMemory};
+    ghost use Rattle.machine_report.specs.Fault.{IsMachineOutOfMemory};
 
-    ghost from_gives = { λ _ fault. IsWantOfMemory fault };
+    ghost from_gives = { λ _ fault. IsMachineOutOfMemory fault };
 
     fn from(_: AllocError) -> MachineFault {
         MachineFault::OutOfMemory
@@ -51,9 +51,9 @@ impl From<AllocError> for MachineFault {
 
 impl From<ReadError> for MachineFault {
     ghost use Rattle.device_rows.specs.Source.{HasCause};
-    ghost use Rattle.machine_report.specs.Fault.{IsReadFailure};
+    ghost use Rattle.machine_report.specs.Fault.{IsArrivalReadFailure};
 
-    ghost from_gives = { λ error fault. HasCause error → IsReadFailure fault };
+    ghost from_gives = { λ error fault. HasCause error → IsArrivalReadFailure fault };
 
     fn from(error: ReadError) -> MachineFault {
         match error {
@@ -66,7 +66,7 @@ impl From<ReadError> for MachineFault {
 impl MachineFault {
     /// Returns the number of this error.
     pub fn number(self) -> u8
-        ensures { result ≡ number_of self }
+        ensures { result ≡ machine_fault_number self }
     {
         match self {
             MachineFault::BadHeader => 1,
@@ -83,13 +83,13 @@ impl MachineFault {
 
 // The message for an error.
 #[derive(Drop)]
-struct FaultLine<'a>(&'a MachineFault);
+struct MachineFaultLine<'a>(&'a MachineFault);
 
-impl fmt::Display for FaultLine<'_> {
+impl fmt::Display for MachineFaultLine<'_> {
     ghost use Rattle.std.specs.Prelude.{Some};
-    ghost use Rattle.machine_report.specs.Fault.{line_of};
+    ghost use Rattle.machine_report.specs.Fault.{machine_fault_line};
 
-    ghost output = { λ line. Some (line_of line.0.now) };
+    ghost output = { λ line. Some (machine_fault_line line.0.now) };
 
     fn fmt<W: fmt::Write>(&self, f: &mut fmt::Formatter<W>) -> fmt::Result {
         match self.0 {
@@ -107,14 +107,14 @@ impl fmt::Display for FaultLine<'_> {
 
 /// Returns the message of an error for standard error, including the line feed. Fails only if an allocation fails.
 pub fn fault_line(alloc: Global, fault: &MachineFault) -> Result<String, AllocError>
-    ensures { IfOk result (λ line. string_bytes line ≡ line_of fault.now ++ codes "\n") }
+    ensures { IfOk result (λ line. string_bytes line ≡ machine_fault_line fault.now ++ codes "\n") }
 {
-    format!(in alloc; "{}\n", FaultLine(fault))
+    format!(in alloc; "{}\n", MachineFaultLine(fault))
 }
 
 /// Returns the exit status of an error: 4 if an allocation or the output failed, otherwise 2.
 pub fn status(fault: &MachineFault) -> u8
-    ensures { result ≡ status_of fault.now }
+    ensures { result ≡ machine_fault_status fault.now }
 {
     match fault {
         MachineFault::OutOfMemory | MachineFault::OutputFailed => 4,
@@ -123,11 +123,11 @@ pub fn status(fault: &MachineFault) -> u8
 }
 
 impl Fault for MachineFault {
-    ghost use Rattle.machine_report.specs.Fault.{line_of, status_of};
+    ghost use Rattle.machine_report.specs.Fault.{machine_fault_line, machine_fault_status};
 
-    ghost line = { line_of };
+    ghost line = { machine_fault_line };
 
-    ghost status = { status_of };
+    ghost status = { machine_fault_status };
 
     fn line(&self, alloc: Global) -> Result<String, AllocError> {
         fault_line(alloc, self)

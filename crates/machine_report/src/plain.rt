@@ -6,7 +6,7 @@ ghost use Rattle.machine_report.specs.Plain.{StartsWithArrival, StartsWithHeader
 
 use crate::arrival::{Arrival, Numbers, ranged};
 use device_rows::number;
-use machine_words::Settings;
+use machine_words::MachineSettings;
 
 // Returns the numbers of the row at the start of a text, and the text after it.
 #[inline(always)]
@@ -40,7 +40,7 @@ fn plain_numbers(queues: u32, text: &[u8]) -> Option<(Numbers, &[u8])>
 /// that there is no such row, only that it isn't plain or has an error.
 #[inline(always)]
 pub(crate) fn plain_arrival<'t>(
-    settings: &Settings,
+    settings: &MachineSettings,
     row: u64,
     last: u64,
     text: &'t [u8],

@@ -2,17 +2,17 @@
 
 ghost use Rattle.std.specs.Prelude.{◌≡◌, ◌*◌, ◌≤◌, ◌++◌, Some, IfOk, OnOk, length, string_bytes};
 ghost use Rattle.machine_model.specs.Machine.{device_report};
-ghost use Rattle.machine_report.specs.Report.{application_line, application_of, device_line, device_lines, lines_of_devices, lines_of_processors, processor_in, processor_line, processor_lines, sums_of_devices, sums_of_processors, text_of, time_line, total_line, with_device};
-ghost use Rattle.replay_text.specs.Lines.{ended};
+ghost use Rattle.machine_report.specs.Report.{application_line, application_of, machine_device_line, machine_device_lines, lines_of_devices, lines_of_processors, processor_in, processor_line, processor_lines, sums_of_devices, sums_of_processors, machine_text, time_line, machine_total_line, plus_device};
+ghost use Rattle.replay_text.specs.Lines.{with_newline};
 
-use machine_model::{ApplicationReport, DeviceReport, Machine, ProcessorReport, WaitCounts};
-use machine_words::Settings;
+use machine_model::{ApplicationReport, Machine, ProcessorReport, QueueReport, WaitCounts};
+use machine_words::MachineSettings;
 use std::alloc::{AllocError, Global};
 use std::fmt;
 
 /// The sums of the last line.
 #[derive(Clone, Copy, Debug, PartialEq, Eq)]
-pub(crate) struct Totals {
+pub(crate) struct MachineTotals {
     /// Devices for which a packet arrived.
     pub devices: u64,
     /// Their packets.
@@ -27,11 +27,11 @@ pub(crate) struct Totals {
     pub used: u64,
 }
 
-impl fmt::Display for Totals {
+impl fmt::Display for MachineTotals {
     ghost use Rattle.std.specs.Prelude.{Some};
-    ghost use Rattle.machine_report.specs.Report.{total_line};
+    ghost use Rattle.machine_report.specs.Report.{machine_total_line};
 
-    ghost output = { λ totals. Some (total_line totals) };
+    ghost output = { λ totals. Some (machine_total_line totals) };
 
     fn fmt<W: fmt::Write>(&self, f: &mut fmt::Formatter<W>) -> fmt::Result {
         write!(
@@ -89,7 +89,7 @@ impl fmt::Display for WaitsText<'_> {
 
 // What is shown of a device's polls.
 #[derive(Drop)]
-struct PollsText<'a>(&'a DeviceReport);
+struct PollsText<'a>(&'a QueueReport);
 
 impl fmt::Display for PollsText<'_> {
     ghost use Rattle.std.specs.Prelude.{Some};
@@ -112,9 +112,9 @@ impl fmt::Display for PollsText<'_> {
 }
 
 // Appends the line of a device.
-fn add_device(text: &mut String, number: u32, device: &DeviceReport) -> Result<(), AllocError>
+fn add_device(text: &mut String, number: u32, device: &QueueReport) -> Result<(), AllocError>
     ensures { OnOk result (string_bytes text.new
-        ≡ string_bytes text.old ++ ended (device_line number device.now)) }
+        ≡ string_bytes text.old ++ with_newline (machine_device_line number device.now)) }
 {
     writeln!(
         text,
@@ -130,7 +130,7 @@ fn add_device(text: &mut String, number: u32, device: &DeviceReport) -> Result<(
 // Appends the line of what a processor did.
 fn add_work(text: &mut String, number: u32, processor: &ProcessorReport) -> Result<(), AllocError>
     ensures { OnOk result (string_bytes text.new
-        ≡ string_bytes text.old ++ ended (processor_line number processor.now)) }
+        ≡ string_bytes text.old ++ with_newline (processor_line number processor.now)) }
 {
     writeln!(
         text,
@@ -153,7 +153,7 @@ fn add_work(text: &mut String, number: u32, processor: &ProcessorReport) -> Resu
 // Appends the line of how a processor's time was spent.
 fn add_time(text: &mut String, number: u32, processor: &ProcessorReport) -> Result<(), AllocError>
     ensures { OnOk result (string_bytes text.new
-        ≡ string_bytes text.old ++ ended (time_line number processor.now)) }
+        ≡ string_bytes text.old ++ with_newline (time_line number processor.now)) }
 {
     let behind_interrupts = processor
         .end
@@ -176,7 +176,7 @@ fn add_time(text: &mut String, number: u32, processor: &ProcessorReport) -> Resu
 // The numbers in the line of an application on its own processor.
 #[tactic(auto, unfolding(crate::specs::Report::application_of))]
 fn application_of(
-    settings: &Settings,
+    settings: &MachineSettings,
     number: u32,
     processor: &ProcessorReport,
     application: &ApplicationReport,
@@ -202,7 +202,7 @@ fn application_of(
 // Appends the line of an application on its own processor.
 fn add_application(text: &mut String, application: &ApplicationLine) -> Result<(), AllocError>
     ensures { OnOk result (string_bytes text.new
-        ≡ string_bytes text.old ++ ended (application_line application.now)) }
+        ≡ string_bytes text.old ++ with_newline (application_line application.now)) }
 {
     writeln!(text, "{application}")?;
     Ok(())
@@ -211,7 +211,7 @@ fn add_application(text: &mut String, application: &ApplicationLine) -> Result<(
 // Appends the lines of a processor.
 fn add_processor(
     text: &mut String,
-    settings: &Settings,
+    settings: &MachineSettings,
     number: u32,
     processor: &ProcessorReport,
 ) -> Result<(), AllocError>
@@ -228,23 +228,24 @@ fn add_processor(
 }
 
 // Appends the last line.
-fn add_totals(text: &mut String, totals: &Totals) -> Result<(), AllocError>
+fn add_totals(text: &mut String, totals: &MachineTotals) -> Result<(), AllocError>
     ensures { OnOk result
-        (string_bytes text.new ≡ string_bytes text.old ++ ended (total_line totals.now)) }
+        (string_bytes text.new ≡ string_bytes text.old
+        ++ with_newline (machine_total_line totals.now)) }
 {
     writeln!(text, "{totals}")?;
     Ok(())
 }
 
-impl Totals {
+impl MachineTotals {
     ghost use Rattle.std.specs.Prelude.{◌≡◌, Some};
-    ghost use Rattle.machine_report.specs.Report.{none_counted, with_device, with_processor};
+    ghost use Rattle.machine_report.specs.Report.{none_counted, plus_device, with_processor};
 
     // Returns zero sums.
-    fn none() -> Totals
+    fn none() -> MachineTotals
         ensures { result ≡ none_counted }
     {
-        Totals {
+        MachineTotals {
             devices: 0,
             arrived: 0,
             dropped: 0,
@@ -255,8 +256,8 @@ impl Totals {
     }
 
     // Adds one more device.
-    fn count_device(&mut self, device: &DeviceReport)
-        ensures { self.new ≡ with_device (Some device.now) self.old }
+    fn count_device(&mut self, device: &QueueReport)
+        ensures { self.new ≡ plus_device (Some device.now) self.old }
     {
         self.devices = self.devices.saturating_add(1);
         self.arrived = self.arrived.saturating_add(device.counts.arrived);
@@ -276,13 +277,13 @@ impl Totals {
 // Appends the line of a device, and adds its numbers to the sums, if a packet arrived for it.
 fn add_place(
     text: &mut String,
-    totals: &mut Totals,
+    totals: &mut MachineTotals,
     number: u32,
-    device: &Option<DeviceReport>,
+    device: &Option<QueueReport>,
 ) -> Result<(), AllocError>
     ensures text { OnOk result (string_bytes text.new
-        ≡ string_bytes text.old ++ device_lines number device.now) }
-    ensures totals { OnOk result (totals.new ≡ with_device device.now totals.old) }
+        ≡ string_bytes text.old ++ machine_device_lines number device.now) }
+    ensures totals { OnOk result (totals.new ≡ plus_device device.now totals.old) }
 {
     if let Some(device) = device {
         add_device(text, number, device)?;
@@ -292,14 +293,18 @@ fn add_place(
 }
 
 // Appends the lines of devices 1 to `devices`, and returns their sums.
-fn add_devices(text: &mut String, machine: &Machine, devices: u32) -> Result<Totals, AllocError>
+fn add_devices(
+    text: &mut String,
+    machine: &Machine,
+    devices: u32,
+) -> Result<MachineTotals, AllocError>
     requires { devices ≤ 64 * length machine.now }
     ensures text { OnOk result (string_bytes text.new
         ≡ string_bytes text.old ++ lines_of_devices (λ n. device_report n machine.now) devices) }
     ensures totals { IfOk result
         (λ totals. totals ≡ sums_of_devices (λ n. device_report n machine.now) devices) }
 {
-    let mut totals = Totals::none();
+    let mut totals = MachineTotals::none();
     for before in 0..devices {
         let device = machine.device(before + 1);
         add_place(text, &mut totals, before + 1, &device)?;
@@ -311,8 +316,8 @@ fn add_devices(text: &mut String, machine: &Machine, devices: u32) -> Result<Tot
 fn add_processors(
     text: &mut String,
     machine: &Machine,
-    settings: &Settings,
-    totals: &mut Totals,
+    settings: &MachineSettings,
+    totals: &mut MachineTotals,
 ) -> Result<(), AllocError>
     requires { settings.now.processors ≡ length machine.now }
     ensures text { OnOk result (string_bytes text.new ≡ string_bytes text.old
@@ -332,10 +337,10 @@ fn add_processors(
 pub(crate) fn report_of(
     alloc: Global,
     machine: &Machine,
-    settings: &Settings,
+    settings: &MachineSettings,
 ) -> Result<String, AllocError>
     requires { settings.now.processors ≡ length machine.now }
-    ensures { IfOk result (λ text. string_bytes text ≡ text_of settings.now machine.now) }
+    ensures { IfOk result (λ text. string_bytes text ≡ machine_text settings.now machine.now) }
 {
     let mut text = String::new(alloc);
     let mut totals = add_devices(&mut text, machine, 64 * settings.processors)?;

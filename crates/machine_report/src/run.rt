@@ -1,8 +1,8 @@
 //! A whole run of the machine: from the bytes of arrivals to the bytes of its report.
 
 ghost use Rattle.std.specs.Prelude.{◌≡◌, ◌≤◌, ◌⊎◌, ℕ, [], List, Some, Ok, Err, IfErr, IfOk, OnOk, Result, length, string_bytes};
-ghost use Rattle.machine_report.specs.Answer.{IsFaultOf, IsReportOf, Takes};
-ghost use Rattle.machine_report.specs.Fault.{IsFaultBy, IsOutside, IsReadFailure, LeavesAsItWas};
+ghost use Rattle.machine_report.specs.Answer.{IsArrivalsFault, IsReportOf, TakesArrivals};
+ghost use Rattle.machine_report.specs.Fault.{IsMachineFaultBy, IsMachineOutside, IsArrivalReadFailure, LeavesAsItWas};
 ghost use Rattle.machine_report.specs.Reading.{HasGiven, IsOpenAt};
 ghost use Rattle.machine_report.specs.declared.arrival.Arrival.{Arrival};
 ghost use Rattle.machine_report.specs.declared.fault.MachineFault.{MachineFault};
@@ -13,7 +13,7 @@ use crate::arrivals::Arrivals;
 use crate::fault::MachineFault;
 use crate::report::report_of;
 use machine_model::Machine;
-use machine_words::Settings;
+use machine_words::MachineSettings;
 use replay_text::write_text;
 use std::alloc::Global;
 use std::io::{Read, Write};
@@ -28,10 +28,11 @@ fn take_all<R: Read + Drop>(
     requires processors { arrivals.old.settings.processors ≡ length machine.old }
     ensures taken { OnOk result ((all : Result (List Arrival) MachineFault)
         → HasGiven R.remaining arrivals.old [] all
-        → (given : List Arrival) × (all ≡ Ok given) × Takes given machine.old machine.new) }
+        → (given : List Arrival) × (all ≡ Ok given) × TakesArrivals given machine.old machine.new) }
     ensures processors { OnOk result (length machine.new ≡ length machine.old) }
     ensures fault { IfErr result (λ fault. (all : Result (List Arrival) MachineFault)
-        → HasGiven R.remaining arrivals.old [] all → IsReadFailure fault ⊎ (all ≡ Err fault)) }
+        → HasGiven R.remaining arrivals.old [] all
+        → IsArrivalReadFailure fault ⊎ (all ≡ Err fault)) }
 {
     'rows: for _ in 0..u64::MAX {
         let next = arrivals.next()?;
@@ -48,12 +49,13 @@ fn take_all<R: Read + Drop>(
 fn text_of_all<R: Read + Drop>(
     alloc: Global,
     reader: R,
-    settings: &Settings,
+    settings: &MachineSettings,
 ) -> Result<String, MachineFault>
     ensures text { IfOk result (λ text. (bytes : List ℕ) → R.remaining reader ≡ Some bytes
         → IsReportOf settings.now bytes (string_bytes text)) }
     ensures fault { IfErr result
-        (IsFaultBy IsReadFailure (IsFaultOf settings.now) (R.remaining reader)) }
+        (IsMachineFaultBy IsArrivalReadFailure (IsArrivalsFault settings.now)
+        (R.remaining reader)) }
 {
     let mut machine = Machine::new(alloc, settings)?;
     let mut arrivals = Arrivals::new(alloc, reader, settings)?;
@@ -72,7 +74,7 @@ pub fn run_machine<R: Read + Drop, W: Write>(
     alloc: Global,
     reader: R,
     writer: &mut W,
-    settings: &Settings,
+    settings: &MachineSettings,
 ) -> Result<(), MachineFault>
     // What is written is the report of the bytes read, and nothing else.
     ensures written { OnOk result (Writes (IsReportOf settings.now)
@@ -84,7 +86,7 @@ pub fn run_machine<R: Read + Drop, W: Write>(
 
     // An error is the first one in the bytes read, unless the reader, an allocation or the writer failed.
     ensures fault { IfErr result
-        (IsFaultBy IsOutside (IsFaultOf settings.now) (R.remaining reader)) }
+        (IsMachineFaultBy IsMachineOutside (IsArrivalsFault settings.now) (R.remaining reader)) }
     ensures untouched { IfErr result
         (LeavesAsItWas (W.contents writer.old) (W.contents writer.new)) }
 {

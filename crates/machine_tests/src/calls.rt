@@ -1,7 +1,7 @@
 //! The options, arrivals one by one, a machine by its calls, and a run without arrivals.
 
 use machine::{
-    Arrival, Arrivals, Machine, MachineFault, Settings, WordFault, fault_line, parse_words,
+    Arrival, Arrivals, Machine, MachineFault, MachineSettings, WordFault, fault_line, parse_words,
     run_machine, status, word_line,
 };
 use std::alloc::Global;
@@ -100,7 +100,7 @@ const REFUSED: [&str; 35] = [
 ];
 
 // What these arguments ask for.
-fn parse(alloc: Global, words: &[&str]) -> Result<Result<Settings, WordFault>, Fail> {
+fn parse(alloc: Global, words: &[&str]) -> Result<Result<MachineSettings, WordFault>, Fail> {
     let mut given = Vec::new(alloc);
     for word in words {
         given.push(String::from_str(alloc, *word)?)?;
@@ -127,7 +127,7 @@ fn what_is_beyond_is_refused(rt: HostRuntime) -> Result<(), Fail> {
 
 #[test]
 fn a_machine_runs(rt: HostRuntime) -> Result<(), Fail> {
-    let mut machine = Machine::new(rt.alloc(), &Settings::default())?;
+    let mut machine = Machine::new(rt.alloc(), &MachineSettings::default())?;
     machine.arrive(rt.alloc(), 5, 1)?;
     machine.finish()?;
     let device = machine.device(1).ok_or("no packet")?;
@@ -160,7 +160,7 @@ fn an_application_apart_is_reported(rt: HostRuntime) -> Result<(), Fail> {
 
 #[test]
 fn arrivals_are_read(rt: HostRuntime) -> Result<(), Fail> {
-    let settings = Settings::default();
+    let settings = MachineSettings::default();
     let mut arrivals = Arrivals::new(rt.alloc(), ARRIVALS.as_bytes(), &settings)?;
     let first = Arrival {
         moment: 5,

@@ -1,6 +1,6 @@
 //! Whole runs, and each error of arrivals.
 
-use machine::{MachineFault, Settings, fault_line, parse_words, run_machine, status};
+use machine::{MachineFault, MachineSettings, fault_line, parse_words, run_machine, status};
 use std::alloc::Global;
 use std::test::Fail;
 use test_ends::{FailingReader, FailingWriter};
@@ -72,7 +72,7 @@ total devices 3 arrived 4 dropped 0 polled 4 refused 0 used 4
 ";
 
 // Returns the machine that these arguments ask for.
-fn machine_of(alloc: Global, words: &[&str]) -> Result<Settings, Fail> {
+fn machine_of(alloc: Global, words: &[&str]) -> Result<MachineSettings, Fail> {
     let mut given = Vec::new(alloc);
     for word in words {
         given.push(String::from_str(alloc, *word)?)?;
@@ -156,7 +156,7 @@ fn writes_fail_in_turn(rt: HostRuntime) -> Result<(), Fail> {
 }
 
 // Returns the message and the exit status of the error of these bytes.
-fn fault_of(alloc: Global, text: &str, settings: &Settings) -> Result<(String, u8), Fail> {
+fn fault_of(alloc: Global, text: &str, settings: &MachineSettings) -> Result<(String, u8), Fail> {
     let mut report = Vec::new(alloc);
     let answer = run_machine(alloc, text.as_bytes(), &mut report, settings);
     let fault = answer.err().ok_or("taken")?;
@@ -199,7 +199,7 @@ fn faults_are_told(rt: HostRuntime) -> Result<(), Fail> {
         ),
     ];
     for (text, line) in cases {
-        let (told, ends) = fault_of(rt.alloc(), text, &Settings::default())?;
+        let (told, ends) = fault_of(rt.alloc(), text, &MachineSettings::default())?;
         assert_eq!(rt; (told.as_str(), ends), (line, 2));
     }
     Ok(())

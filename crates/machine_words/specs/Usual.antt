@@ -1,8 +1,8 @@
 -- The default machine: that of a program that is run without options.
 use Rattle.std.specs.Prelude.{◌≡◌, false}
-use Rattle.machine_words.specs.declared.settings.Settings.{Settings}
+use Rattle.machine_words.specs.declared.settings.MachineSettings.{MachineSettings}
 
-pub record IsUsual (s : Settings) : Type 0 where
+pub record IsUsual (s : MachineSettings) : Type 0 where
   pub processors : s.processors ≡ 1
   pub queues : s.queues ≡ 1
   pub ring : s.ring ≡ 256

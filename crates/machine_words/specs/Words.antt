@@ -1,11 +1,13 @@
 -- Which machine the program's arguments ask for.
 use Rattle.std.specs.Prelude.{ℕ, [], ◌∷◌, Bool, nat_eq, List, Option, Some, codes, option_map}
 use Rattle.replay_words.specs.Given.{◌>>=◌, Text, given_by, number_within, or_usual, value_of}
-use Rattle.machine_words.specs.declared.{settings.Settings.Settings, words.{Coalescing.Coalescing, Costs.Costs, Polling.Polling}}
-use Rattle.machine_words.specs.declared.words.{Sizes.Sizes, Tasks.Tasks}
+use Rattle.machine_words.specs.declared.{settings.MachineSettings.MachineSettings}
+use Rattle.machine_words.specs.declared.{words.{Coalescing.Coalescing, Costs.Costs, PollingOptions.PollingOptions}}
+use Rattle.machine_words.specs.declared.words.{Sizes.Sizes, TaskOptions.TaskOptions}
 
-abbrev pub option_names : List Text
-option_names = codes "processors" ∷ codes "queues" ∷ codes "ring" ∷ codes "socket" ∷ codes "backlog" ∷ codes "budget" ∷ codes "weight"
+abbrev pub machine_option_names : List Text
+machine_option_names = codes "processors" ∷ codes "queues" ∷ codes "ring" ∷ codes "socket" ∷ codes "backlog" ∷ codes "budget"
+    ∷ codes "weight"
     ∷ codes "window" ∷ codes "time-limit" ∷ codes "rx-nsecs" ∷ codes "rx-frames" ∷ codes "defer-hard-irqs" ∷ codes "gro-flush-timeout"
     ∷ codes "threaded" ∷ codes "apart" ∷ codes "app-wake" ∷ codes "interrupt" ∷ codes "poll" ∷ codes "packet" ∷ codes "use"
     ∷ codes "wake" ∷ []
@@ -15,8 +17,8 @@ abbrev pub number : ℕ → ℕ → ℕ → Option Text → Option ℕ
 number usual low high given = or_usual usual (number_within 10 low high) given
 
 -- 0 or 1, with the default 0
-abbrev pub flag : Option Text → Option Bool
-flag given = option_map (λ n. nat_eq n 1) (number 0 0 1 given)
+abbrev pub flag_value : Option Text → Option Bool
+flag_value given = option_map (λ n. nat_eq n 1) (number 0 0 1 given)
 
 -- a time is at most a second
 abbrev pub time : ℕ → Option Text → Option ℕ
@@ -30,10 +32,10 @@ sizes_with value = do
   queues ← number 1 1 64 (value (codes "queues"))
   ring ← number 256 1 65536 (value (codes "ring"))
   socket ← number 512 1 65536 (value (codes "socket"))
-  backlog ← flag (value (codes "backlog"))
+  backlog ← flag_value (value (codes "backlog"))
   Some (record { processors = processors; queues = queues; ring = ring; socket = socket; backlog = backlog })
 
-abbrev pub polling_with : (Text → Option Text) → Option Polling
+abbrev pub polling_with : (Text → Option Text) → Option PollingOptions
 polling_with value = do
   budget ← number 300 0 65535 (value (codes "budget"))
   weight ← number 64 1 64 (value (codes "weight"))
@@ -54,10 +56,10 @@ coalescing_with value = do
     gro_flush_timeout = gro_flush_timeout;
   })
 
-abbrev pub tasks_with : (Text → Option Text) → Option Tasks
+abbrev pub tasks_with : (Text → Option Text) → Option TaskOptions
 tasks_with value = do
-  threaded ← flag (value (codes "threaded"))
-  apart ← flag (value (codes "apart"))
+  threaded ← flag_value (value (codes "threaded"))
+  apart ← flag_value (value (codes "apart"))
   app_wake ← time 0 (value (codes "app-wake"))
   Some (record { threaded = threaded; apart = apart; app_wake = app_wake })
 
@@ -72,15 +74,15 @@ costs_with value = do
 
 -- ---- the machine
 
-pub record Asked : Type 0 where
+pub record MachineArgs : Type 0 where
   pub sizes : Sizes
-  pub polling : Polling
+  pub polling : PollingOptions
   pub coalescing : Coalescing
-  pub tasks : Tasks
+  pub tasks : TaskOptions
   pub costs : Costs
 
-abbrev pub asked_of : Settings → Asked
-asked_of s = record {
+abbrev pub machine_args_of : MachineSettings → MachineArgs
+machine_args_of s = record {
   sizes = record { processors = s.processors; queues = s.queues; ring = s.ring; socket = s.socket; backlog = s.backlog };
   polling = record { budget = s.budget; weight = s.weight; window = s.window; time_limit = s.time_limit };
   coalescing = record {
@@ -94,8 +96,8 @@ asked_of s = record {
 }
 
 -- what the values of the options ask for
-abbrev pub asked_with : (Text → Option Text) → Option Asked
-asked_with value = do
+abbrev pub machine_args_with : (Text → Option Text) → Option MachineArgs
+machine_args_with value = do
   sizes ← sizes_with value
   polling ← polling_with value
   coalescing ← coalescing_with value
@@ -104,5 +106,5 @@ asked_with value = do
   Some (record { sizes = sizes; polling = polling; coalescing = coalescing; tasks = tasks; costs = costs })
 
 -- what the arguments ask for, or None if they are an error
-abbrev pub asked_for : List Text → Option Asked
-asked_for words = given_by option_names words >>= (λ given. asked_with (λ name. value_of name given))
+abbrev pub machine_asked_for : List Text → Option MachineArgs
+machine_asked_for words = given_by machine_option_names words >>= (λ given. machine_args_with (λ name. value_of name given))

@@ -6,6 +6,6 @@ mod words;
 
 pub use settings::{
     MOST_BUDGET, MOST_DEFERRALS, MOST_FRAMES, MOST_PLACES, MOST_PROCESSORS, MOST_QUEUES, MOST_TIME,
-    MOST_WEIGHT, MOST_WINDOW, Settings,
+    MOST_WEIGHT, MOST_WINDOW, MachineSettings,
 };
 pub use words::parse_words;

@@ -29,7 +29,7 @@ pub const MOST_TIME: u32 = 1000000000;
 
 /// A receiving machine. Times are in nanoseconds.
 #[derive(Clone, Copy, Debug, PartialEq, Eq)]
-pub struct Settings {
+pub struct MachineSettings {
     /// Processors, 1 to 64. Queue q belongs to processor (q - 1) mod `processors`.
     pub processors: u32,
     /// Queues of each device, 1 to 64, each with its own instance (`ethtool -L`, RSS). With one, a device is a queue.
@@ -97,15 +97,15 @@ pub struct Settings {
 
 ghost use Rattle.std.specs.Prelude.{◌≤◌};
 
-impl Default for Settings {
+impl Default for MachineSettings {
     ghost use Rattle.machine_words.specs.Usual.{IsUsual};
 
     ghost is_default = { IsUsual };
 
     /// One processor with the kernel's budget, weight and time limit, a ring of 256 packets, a socket of 512, costs of a few
     /// microseconds, and no coalescing, deferral, threads or second processor for the application.
-    fn default() -> Settings {
-        Settings {
+    fn default() -> MachineSettings {
+        MachineSettings {
             processors: 1,
             queues: 1,
             ring: 256,

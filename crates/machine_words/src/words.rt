@@ -1,15 +1,15 @@
 //! The program's arguments.
 
 ghost use Rattle.std.specs.Prelude.{◌≡◌, ◌≤◌, Some, None, Err, IfOk, IfSome, option_map, map, string_bytes};
-ghost use Rattle.machine_words.specs.Words.{asked_for, asked_of, asked_with, coalescing_with, costs_with, flag, polling_with, sizes_with, tasks_with};
+ghost use Rattle.machine_words.specs.Words.{machine_asked_for, machine_args_of, machine_args_with, coalescing_with, costs_with, flag_value, polling_with, sizes_with, tasks_with};
 ghost use Rattle.replay_words.specs.Given.{number_within, or_usual};
 ghost use Rattle.replay_words.specs.Options.{value_in};
-ghost use Rattle.replay_words.specs.Refusals.{IsRefused};
+ghost use Rattle.replay_words.specs.Refusals.{IsArgsOutOfMemory};
 ghost use Rattle.replay_words.specs.declared.words.WordFault.TheVariants.{OutOfMemory, Usage};
 
 use crate::settings::{
     MOST_BUDGET, MOST_DEFERRALS, MOST_FRAMES, MOST_PLACES, MOST_PROCESSORS, MOST_QUEUES, MOST_TIME,
-    MOST_WEIGHT, MOST_WINDOW, Settings,
+    MOST_WEIGHT, MOST_WINDOW, MachineSettings,
 };
 use clap::ArgMatches;
 use replay_words::{WordFault, option_number, read_options, with_name};
@@ -52,7 +52,7 @@ pub(crate) struct Sizes {
 
 /// When a poll and a run end.
 #[derive(Clone, Copy)]
-pub(crate) struct Polling {
+pub(crate) struct PollingOptions {
     budget: u32,
     weight: u32,
     window: u32,
@@ -70,7 +70,7 @@ pub(crate) struct Coalescing {
 
 /// Where devices are polled and where the application runs.
 #[derive(Clone, Copy)]
-pub(crate) struct Tasks {
+pub(crate) struct TaskOptions {
     threaded: bool,
     apart: bool,
     app_wake: u32,
@@ -106,7 +106,7 @@ fn time_in(matches: &ArgMatches<'_>, name: &str, usual: u32) -> Option<u32>
 
 // Returns the 0 or 1 given for an option, or the default 0.
 fn flag_in(matches: &ArgMatches<'_>, name: &str) -> Option<bool>
-    ensures { result ≡ flag (value_in matches.now name.now) }
+    ensures { result ≡ flag_value (value_in matches.now name.now) }
 {
     let number = number_in(matches, name, 0, 0, 1)?;
     Some(number == 1)
@@ -119,7 +119,7 @@ fn sizes_in(matches: &ArgMatches<'_>) -> Option<Sizes>
     ensures ring { IfSome result (λ s. (1 ≤ s.ring) × (s.ring ≤ 65536)) }
     ensures socket { IfSome result (λ s. (1 ≤ s.socket) × (s.socket ≤ 65536)) }
 {
-    let usual = Settings::default();
+    let usual = MachineSettings::default();
     let processors = number_in(matches, "processors", usual.processors, 1, MOST_PROCESSORS)?;
     let queues = number_in(matches, "queues", usual.queues, 1, MOST_QUEUES)?;
     let ring = number_in(matches, "ring", usual.ring, 1, MOST_PLACES)?;
@@ -134,19 +134,19 @@ fn sizes_in(matches: &ArgMatches<'_>) -> Option<Sizes>
     })
 }
 
-fn polling_in(matches: &ArgMatches<'_>) -> Option<Polling>
+fn polling_in(matches: &ArgMatches<'_>) -> Option<PollingOptions>
     ensures polling { result ≡ polling_with (value_in matches.now) }
     ensures budget { IfSome result (λ p. p.budget ≤ 65535) }
     ensures weight { IfSome result (λ p. (1 ≤ p.weight) × (p.weight ≤ 64)) }
     ensures window { IfSome result (λ p. (1 ≤ p.window) × (p.window ≤ 65535)) }
     ensures time_limit { IfSome result (λ p. (1 ≤ p.time_limit) × (p.time_limit ≤ 1000000000)) }
 {
-    let usual = Settings::default();
+    let usual = MachineSettings::default();
     let budget = number_in(matches, "budget", usual.budget, 0, MOST_BUDGET)?;
     let weight = number_in(matches, "weight", usual.weight, 1, MOST_WEIGHT)?;
     let window = number_in(matches, "window", usual.window, 1, MOST_WINDOW)?;
     let time_limit = number_in(matches, "time-limit", usual.time_limit, 1, MOST_TIME)?;
-    Some(Polling {
+    Some(PollingOptions {
         budget,
         weight,
         window,
@@ -161,7 +161,7 @@ fn coalescing_in(matches: &ArgMatches<'_>) -> Option<Coalescing>
     ensures defer_hard_irqs { IfSome result (λ c. c.defer_hard_irqs ≤ 65535) }
     ensures gro_flush_timeout { IfSome result (λ c. c.gro_flush_timeout ≤ 1000000000) }
 {
-    let usual = Settings::default();
+    let usual = MachineSettings::default();
     let rx_nsecs = time_in(matches, "rx-nsecs", usual.rx_nsecs)?;
     let rx_frames = number_in(matches, "rx-frames", usual.rx_frames, 0, MOST_FRAMES)?;
     let defer_hard_irqs = number_in(
@@ -180,15 +180,15 @@ fn coalescing_in(matches: &ArgMatches<'_>) -> Option<Coalescing>
     })
 }
 
-fn tasks_in(matches: &ArgMatches<'_>) -> Option<Tasks>
+fn tasks_in(matches: &ArgMatches<'_>) -> Option<TaskOptions>
     ensures tasks { result ≡ tasks_with (value_in matches.now) }
     ensures app_wake { IfSome result (λ t. t.app_wake ≤ 1000000000) }
 {
-    let usual = Settings::default();
+    let usual = MachineSettings::default();
     let threaded = flag_in(matches, "threaded")?;
     let apart = flag_in(matches, "apart")?;
     let app_wake = time_in(matches, "app-wake", usual.app_wake)?;
-    Some(Tasks {
+    Some(TaskOptions {
         threaded,
         apart,
         app_wake,
@@ -203,7 +203,7 @@ fn costs_in(matches: &ArgMatches<'_>) -> Option<Costs>
     ensures use_time { IfSome result (λ c. c.use_time ≤ 1000000000) }
     ensures wake { IfSome result (λ c. c.wake ≤ 1000000000) }
 {
-    let usual = Settings::default();
+    let usual = MachineSettings::default();
     let interrupt = time_in(matches, "interrupt", usual.interrupt)?;
     let poll = time_in(matches, "poll", usual.poll)?;
     let packet = time_in(matches, "packet", usual.packet)?;
@@ -219,15 +219,15 @@ fn costs_in(matches: &ArgMatches<'_>) -> Option<Costs>
 }
 
 // Returns the machine that the values of the options ask for.
-fn asked_by(matches: &ArgMatches<'_>) -> Option<Settings>
-    ensures { option_map asked_of result ≡ asked_with (value_in matches.now) }
+fn asked_by(matches: &ArgMatches<'_>) -> Option<MachineSettings>
+    ensures { option_map machine_args_of result ≡ machine_args_with (value_in matches.now) }
 {
     let sizes = sizes_in(matches)?;
     let polling = polling_in(matches)?;
     let coalescing = coalescing_in(matches)?;
     let tasks = tasks_in(matches)?;
     let costs = costs_in(matches)?;
-    Some(Settings {
+    Some(MachineSettings {
         processors: sizes.processors,
         queues: sizes.queues,
         ring: sizes.ring,
@@ -252,23 +252,24 @@ fn asked_by(matches: &ArgMatches<'_>) -> Option<Settings>
     })
 }
 
-/// Returns the machine that the program's arguments ask for, with the defaults of [`Settings::default`] for the rest.
+/// Returns the machine that the program's arguments ask for, with the defaults of [`MachineSettings::default`] for the rest.
 ///
 /// An option is `--processors`, `--queues`, `--ring`, `--socket`, `--backlog`, `--budget`, `--weight`, `--window`,
 /// `--time-limit`, `--rx-nsecs`, `--rx-frames`, `--defer-hard-irqs`, `--gro-flush-timeout`, `--threaded`, `--apart`,
 /// `--app-wake`, `--interrupt`, `--poll`, `--packet`, `--use` or `--wake`, each at most once. Its value follows `=` in the same
-/// argument, or is the next argument. A value is one to ten ASCII digits, in the range of its field of [`Settings`]; for a flag
+/// argument, or is the next argument. A value is one to ten ASCII digits, in the range of its field of [`MachineSettings`]; for a
+/// flag
 /// it is 0 or 1.
 ///
 /// # Errors
 ///
 /// [`WordFault::Usage`] if the arguments are invalid, which includes `--help`. [`WordFault::OutOfMemory`] if an allocation
 /// fails, whatever the arguments are.
-pub fn parse_words(alloc: Global, words: &[String]) -> Result<Settings, WordFault>
+pub fn parse_words(alloc: Global, words: &[String]) -> Result<MachineSettings, WordFault>
     ensures asked { IfOk result
-        (λ asked. asked_for (map string_bytes words.now) ≡ Some (asked_of asked)) }
-    ensures usage { result ≡ Err Usage → asked_for (map string_bytes words.now) ≡ None }
-    ensures memory { result ≡ Err OutOfMemory → IsRefused }
+        (λ asked. machine_asked_for (map string_bytes words.now) ≡ Some (machine_args_of asked)) }
+    ensures usage { result ≡ Err Usage → machine_asked_for (map string_bytes words.now) ≡ None }
+    ensures memory { result ≡ Err OutOfMemory → IsArgsOutOfMemory }
 {
     let words = with_name(alloc, words)?;
     let matches = read_options(alloc, &OPTIONS, words.as_slice())?;

@@ -44,11 +44,11 @@ impl Device for Counting<'_> {
 
 /// Delays the first act of device 1 until device 2 reaches its own, but not forever.
 #[derive(Drop)]
-struct HoldsFirst {
+struct HoldsFirstThread {
     came: AtomicU32,
 }
 
-impl Gate for HoldsFirst {
+impl Gate for HoldsFirstThread {
     fn pass(&self, worker: u32, act: u32) -> bool {
         if worker == 2 {
             self.came.store(1, Ordering::SeqCst);
@@ -86,7 +86,7 @@ fn try_stations<'a>(
 // Returns how many acts device 1 made in a run of two devices with a poller each, and the error of the run, if there is one.
 fn count<R: Threads + Wait + Sync>(rt: &R, alloc: Global) -> Result<(u32, Option<WorkFault>)> {
     let made = [AtomicU32::new(0), AtomicU32::new(0)];
-    let gate = HoldsFirst {
+    let gate = HoldsFirstThread {
         came: AtomicU32::new(0),
     };
     let Ok(stations) = try_stations(alloc, &made) else {

@@ -4,8 +4,8 @@ use Rattle.rx_ring.specs.declared.packet.Totals.{Totals}
 use Rattle.napi_c.specs.declared.counts.FqCounts.{FqCounts}
 use Rattle.napi_c.specs.declared.counts.FqTotals.{FqTotals}
 
-abbrev pub counted : RxCounts → FqCounts
-counted c = record { polls = c.polls; packets = c.packets; bytes = c.bytes }
+abbrev pub counts_for_c : RxCounts → FqCounts
+counts_for_c c = record { polls = c.polls; packets = c.packets; bytes = c.bytes }
 
 abbrev pub totalled : Totals → FqTotals
 totalled t = record { put = t.put; polled = t.polled; left = t.left; bytes = t.bytes }

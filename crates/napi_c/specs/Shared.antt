@@ -1,7 +1,7 @@
 -- A new shared instance, by its handles.
 use Rattle.std.specs.{Prelude.{◌≡◌, true, List, Option, Some, None}, Arc.arc_value, List.All}
-use Rattle.c_handles.specs.{Freeing.is_off, Handles.{IsSeatWith, LeadsToController}, Seats.IsResting}
-use Rattle.c_handles.specs.declared.{body.Body.Body, handle.FqHandle.FqHandle}
+use Rattle.c_handles.specs.{Freeing.is_control_off, Handles.{IsCallerWith, LeadsToController}, Seats.IsResting}
+use Rattle.c_handles.specs.declared.{body.Object.Object, handle.FqHandle.FqHandle}
 use Rattle.napi_calls.specs.{Instance.first_of_instance, declared.types.Napi.Napi}
 use Rattle.rx_ring.specs.declared.ends.RxCtx.{RxCtx}
 
@@ -12,9 +12,9 @@ IsFree handle = handle.held.body ≡ None
 abbrev pub AreFree : List FqHandle → Type 0
 AreFree handles = All IsFree handles
 
-abbrev pub LeadsToRestingBody : Napi → Option Body → Type 0
+abbrev pub LeadsToRestingBody : Napi → Option Object → Type 0
 LeadsToRestingBody n None = ⊥
-LeadsToRestingBody n (Some x) = IsSeatWith (λ s. ((arc_value s.napi).napi ≡ n) × IsResting s.hold) x
+LeadsToRestingBody n (Some x) = IsCallerWith (λ s. ((arc_value s.napi).napi ≡ n) × IsResting s.hold) x
 
 -- it has a caller of this instance, which owns nothing and isn't within a call
 abbrev pub LeadsToRestingSeat : Napi → FqHandle → Type 0
@@ -23,9 +23,9 @@ LeadsToRestingSeat n handle = LeadsToRestingBody n handle.held.body
 -- the one has the controller of a disabled instance, and each other one a caller of it
 abbrev pub AreOfOne : FqHandle → List FqHandle → Type 0
 AreOfOne control seats = (n : Napi)
-    × LeadsToController (λ c. ((arc_value c.napi).napi ≡ n) × (is_off c.power ≡ true)) control.held.body
+    × LeadsToController (λ c. ((arc_value c.napi).napi ≡ n) × (is_control_off c.power ≡ true)) control.held.body
     × All (LeadsToRestingSeat n) seats
 
 -- the instance is over this poll context
-abbrev pub IsOver : RxCtx → FqHandle → Type 0
-IsOver ctx control = LeadsToController (λ c. first_of_instance (arc_value c.napi).napi ≡ ctx) control.held.body
+abbrev pub IsInstanceOver : RxCtx → FqHandle → Type 0
+IsInstanceOver ctx control = LeadsToController (λ c. first_of_instance (arc_value c.napi).napi ≡ ctx) control.held.body

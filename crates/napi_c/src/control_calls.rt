@@ -2,14 +2,14 @@
 ghost use Rattle.c_handles.specs.declared.power.ControlCall.TheVariants as control_call;
 ghost use Rattle.c_handles.specs.Handles.{ControlMakes, ControlMakesIn};
 
-use c_handles::{Body, ControlCall, FqHandle, status};
+use c_handles::{ControlCall, FqHandle, Object, status};
 use std::alloc::Global;
 
-fn step_in(at: &mut Body, call: ControlCall) -> u32
+fn step_in(at: &mut Object, call: ControlCall) -> u32
     ensures { ControlMakesIn call at.old result at.new }
 {
     match at {
-        Body::Controller(control) => control.step(call),
+        Object::Controller(control) => control.step(call),
         _ => status::BAD_HANDLE,
     }
 }

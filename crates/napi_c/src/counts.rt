@@ -1,6 +1,6 @@
 //! Counts, as C has them.
 ghost use Rattle.std.specs.Prelude.{◌≡◌};
-ghost use Rattle.napi_c.specs.Counts.{counted, totalled};
+ghost use Rattle.napi_c.specs.Counts.{counts_for_c, totalled};
 
 use rx_ring::{RxCounts, Totals};
 
@@ -19,7 +19,7 @@ pub struct FqCounts {
 impl FqCounts {
     /// Returns the counts for C.
     pub(crate) fn of(counts: RxCounts) -> FqCounts
-        ensures { result ≡ counted counts }
+        ensures { result ≡ counts_for_c counts }
     {
         FqCounts {
             polls: counts.polls,

@@ -4,19 +4,19 @@ ghost use Rattle.c_handles.specs.Drivers.{IsDone, IsInterrupt, IsNewDriver, IsNe
 ghost use Rattle.c_handles.specs.Handles.{DriverMakes, DriverMakesIn, LeadsToDriver};
 ghost use Rattle.c_handles.specs.Status.{OK, IN_USE, OUT_OF_MEMORY, BAD_HANDLE};
 
-use c_handles::{Body, FqDeviceShown, FqHandle, FqTodo, drive, status};
+use c_handles::{FqDeviceShown, FqHandle, FqTodo, Object, drive, status};
 use driver_core::{Driver, Limits};
 use std::alloc::{AllocError, Global};
 
 // A driver as the object of a handle.
-fn boxed(alloc: Global, devices: u32, limits: Limits) -> Result<Box<Body, Global>, AllocError>
+fn boxed(alloc: Global, devices: u32, limits: Limits) -> Result<Box<Object, Global>, AllocError>
     requires { devices ≤ 64 }
     ensures { IfOk result (λ b. IsDriverWith
         (IsNewDriver devices limits.budget limits.weight limits.window) b.value) }
 {
     let driver = Driver::new(alloc, devices, limits)?;
     let driver = Box::new(alloc, driver)?;
-    Box::new(alloc, Body::Driver(driver))
+    Box::new(alloc, Object::Driver(driver))
 }
 
 /// Makes a driver of so many devices, all closed.
@@ -62,11 +62,11 @@ pub extern "C" fn fq_driver_new(
     }
 }
 
-fn open_in(at: &mut Body, device: u32) -> u32
+fn open_in(at: &mut Object, device: u32) -> u32
     ensures { DriverMakesIn (IsOpen device) at.old result at.new }
 {
     match at {
-        Body::Driver(driver) => drive::open(driver, device),
+        Object::Driver(driver) => drive::open(driver, device),
         _ => status::BAD_HANDLE,
     }
 }
@@ -84,11 +84,11 @@ pub extern "C" fn fq_driver_open(alloc: Global, handle: &mut FqHandle, device: u
     status
 }
 
-fn stop_in(at: &mut Body, device: u32) -> u32
+fn stop_in(at: &mut Object, device: u32) -> u32
     ensures { DriverMakesIn (IsStop device) at.old result at.new }
 {
     match at {
-        Body::Driver(driver) => drive::stop(driver, device),
+        Object::Driver(driver) => drive::stop(driver, device),
         _ => status::BAD_HANDLE,
     }
 }
@@ -106,11 +106,11 @@ pub extern "C" fn fq_driver_stop(alloc: Global, handle: &mut FqHandle, device: u
     status
 }
 
-fn interrupt_in(at: &mut Body, device: u32) -> u32
+fn interrupt_in(at: &mut Object, device: u32) -> u32
     ensures { DriverMakesIn (IsInterrupt device) at.old result at.new }
 {
     match at {
-        Body::Driver(driver) => drive::interrupt(driver, device),
+        Object::Driver(driver) => drive::interrupt(driver, device),
         _ => status::BAD_HANDLE,
     }
 }
@@ -138,12 +138,12 @@ fn sleeps(todo: &mut FqTodo) -> u32
     status::BAD_HANDLE
 }
 
-fn next_in(at: &mut Body, todo: &mut FqTodo) -> u32
+fn next_in(at: &mut Object, todo: &mut FqTodo) -> u32
     ensures makes { DriverMakesIn (IsNext todo.old todo.new) at.old result at.new }
     ensures none { result ≡ BAD_HANDLE → todo.new ≡ record todo.old { number = 0; what = 0 } }
 {
     match at {
-        Body::Driver(driver) => drive::next(driver, todo),
+        Object::Driver(driver) => drive::next(driver, todo),
         _ => sleeps(todo),
     }
 }
@@ -162,11 +162,11 @@ pub extern "C" fn fq_driver_next(alloc: Global, handle: &mut FqHandle, todo: &mu
     status
 }
 
-fn done_in(at: &mut Body, todo: &FqTodo) -> u32
+fn done_in(at: &mut Object, todo: &FqTodo) -> u32
     ensures { DriverMakesIn (IsDone todo.now) at.old result at.new }
 {
     match at {
-        Body::Driver(driver) => drive::done(driver, todo),
+        Object::Driver(driver) => drive::done(driver, todo),
         _ => status::BAD_HANDLE,
     }
 }
@@ -184,12 +184,12 @@ pub extern "C" fn fq_driver_done(alloc: Global, handle: &mut FqHandle, todo: &Fq
     status
 }
 
-fn show_in(at: &Body, device: u32, shown: &mut FqDeviceShown) -> u32
+fn show_in(at: &Object, device: u32, shown: &mut FqDeviceShown) -> u32
     ensures makes { DriverMakesIn (IsShow shown.old shown.new device) at.now result at.now }
     ensures none { result ≢ OK → shown.new ≡ shown.old }
 {
     match at {
-        Body::Driver(driver) => drive::show(driver, device, shown),
+        Object::Driver(driver) => drive::show(driver, device, shown),
         _ => status::BAD_HANDLE,
     }
 }

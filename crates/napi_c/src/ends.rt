@@ -4,15 +4,15 @@ ghost use Rattle.rx_ring.specs.declared.packet.RxCounts.{RxCounts};
 ghost use Rattle.rx_ring.specs.ReceiveRing.{IsInOrder, totals_of};
 ghost use Rattle.rx_ring.specs.Ends.{ring_of};
 ghost use Rattle.c_handles.specs.declared.body.Ring.{Ring};
-ghost use Rattle.c_handles.specs.declared.body.Body.TheVariants as variant;
-ghost use Rattle.c_handles.specs.declared.input.Input.{Input};
+ghost use Rattle.c_handles.specs.declared.body.Object.TheVariants as variant;
+ghost use Rattle.c_handles.specs.declared.input.RingInput.{RingInput};
 ghost use Rattle.c_handles.specs.Inputs.{shown_of};
-ghost use Rattle.c_handles.specs.Rings.{LeadsTo, HasInput, LeadsToItsInput, CountsAre, counts_in};
+ghost use Rattle.c_handles.specs.Rings.{LeadsTo, HasInput, LeadsToItsInput, CountsAre, ring_counts_in};
 ghost use Rattle.c_handles.specs.Status.{OK, NOT_ALLOWED, BAD_HANDLE, IN_USE, OUT_OF_MEMORY};
-ghost use Rattle.napi_c.specs.Counts.{counted, totalled};
+ghost use Rattle.napi_c.specs.Counts.{counts_for_c, totalled};
 
 use crate::counts::{FqCounts, FqTotals};
-use c_handles::{Body, FqHandle, FqRingShown, Ring, status};
+use c_handles::{FqHandle, FqRingShown, Object, Ring, status};
 use rx_ring::{RxCounts, finish};
 use std::alloc::Global;
 use std::mem;
@@ -36,20 +36,20 @@ pub extern "C" fn fq_ring_split(alloc: Global, ring: &mut FqHandle, ctx: &mut Fq
         return status::BAD_HANDLE;
     };
     // before it allocates
-    if !matches!(&*first, Body::Ring(_)) {
+    if !matches!(&*first, Object::Ring(_)) {
         ring.put(first);
         return status::BAD_HANDLE;
     }
-    let Ok(mut second) = Box::new(alloc, Body::Gone) else {
+    let Ok(mut second) = Box::new(alloc, Object::Gone) else {
         ring.put(first);
         return status::OUT_OF_MEMORY;
     };
-    let Body::Ring(whole) = mem::replace(&mut *first, Body::Gone) else {
+    let Object::Ring(whole) = mem::replace(&mut *first, Object::Gone) else {
         unreachable!()
     };
     let Ring { input, ctx: other } = whole;
-    *first = Body::In(input);
-    *second = Body::Ctx(other);
+    *first = Object::In(input);
+    *second = Object::Ctx(other);
     ring.put(first);
     ctx.put(second);
     status::OK
@@ -68,8 +68,8 @@ pub extern "C" fn fq_ring_finish(alloc: Global, ring: &mut FqHandle, totals: &mu
     let Some(mut first) = ring.take(alloc) else {
         return status::BAD_HANDLE;
     };
-    match mem::replace(&mut *first, Body::Gone) {
-        Body::Ring(whole) => {
+    match mem::replace(&mut *first, Object::Gone) {
+        Object::Ring(whole) => {
             let Ring { input, ctx } = whole;
             *totals = FqTotals::of(finish(input.into_end(), ctx));
             status::OK
@@ -82,14 +82,14 @@ pub extern "C" fn fq_ring_finish(alloc: Global, ring: &mut FqHandle, totals: &mu
     }
 }
 
-fn counts_of(at: &Body) -> Option<RxCounts>
-    ensures { result ≡ counts_in at.now }
+fn counts_of(at: &Object) -> Option<RxCounts>
+    ensures { result ≡ ring_counts_in at.now }
 {
     match at {
-        Body::Ring(ring) => Some(ring.ctx.counts()),
-        Body::Ctx(ctx) => Some(ctx.counts()),
-        Body::Seat(seat) => seat.counts(),
-        Body::Controller(control) => control.counts(),
+        Object::Ring(ring) => Some(ring.ctx.counts()),
+        Object::Ctx(ctx) => Some(ctx.counts()),
+        Object::Seat(seat) => seat.counts(),
+        Object::Controller(control) => control.counts(),
         _ => None,
     }
 }
@@ -99,7 +99,7 @@ fn counts_of(at: &Body) -> Option<RxCounts>
 #[unsafe(no_mangle)]
 pub extern "C" fn fq_count(alloc: Global, handle: &mut FqHandle, counts: &mut FqCounts) -> u32
     ensures counts { (c : RxCounts) → CountsAre c handle.old.held.body → (result ≡ OK)
-        × (counts.new ≡ counted c) }
+        × (counts.new ≡ counts_for_c c) }
     ensures kept { result ≢ OK → counts.new ≡ counts.old }
     ensures bad { (result ≡ BAD_HANDLE) ↔ IsNone handle.old.held.body }
     ensures refused { result ≢ OK → result ≢ BAD_HANDLE → result ≡ NOT_ALLOWED }
@@ -119,14 +119,14 @@ pub extern "C" fn fq_count(alloc: Global, handle: &mut FqHandle, counts: &mut Fq
     }
 }
 
-fn shown_in(at: &Body, shown: &mut FqRingShown) -> u32
-    ensures shown { (i : Input) → HasInput i at.now → (result ≡ OK)
+fn shown_in(at: &Object, shown: &mut FqRingShown) -> u32
+    ensures shown { (i : RingInput) → HasInput i at.now → (result ≡ OK)
         × (shown.new ≡ shown_of i.end) }
     ensures kept { result ≢ OK → (shown.new ≡ shown.old) × (result ≡ BAD_HANDLE) }
 {
     match at {
-        Body::Ring(ring) => *shown = ring.input.shown(),
-        Body::In(input) => *shown = input.shown(),
+        Object::Ring(ring) => *shown = ring.input.shown(),
+        Object::In(input) => *shown = input.shown(),
         _ => return status::BAD_HANDLE,
     }
     status::OK
@@ -135,7 +135,7 @@ fn shown_in(at: &Body, shown: &mut FqRingShown) -> u32
 /// Sets the state of a ring's input, for a ring or its input: its capacity, and how many packets were put.
 #[unsafe(no_mangle)]
 pub extern "C" fn fq_ring_show(alloc: Global, handle: &mut FqHandle, shown: &mut FqRingShown) -> u32
-    ensures shown { (i : Input) → LeadsToItsInput i handle.old.held.body → (result ≡ OK)
+    ensures shown { (i : RingInput) → LeadsToItsInput i handle.old.held.body → (result ≡ OK)
         × (shown.new ≡ shown_of i.end) }
     ensures kept { result ≢ OK → (shown.new ≡ shown.old) × (result ≡ BAD_HANDLE) }
     ensures same { handle.new.held.body ≡ handle.old.held.body }

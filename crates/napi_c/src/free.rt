@@ -3,17 +3,17 @@ ghost use Rattle.std.specs.Prelude.{◌≡◌, ◌≢◌, None};
 ghost use Rattle.c_handles.specs.Freeing.{is_freeable, free_status, abandon_status, move_status};
 ghost use Rattle.c_handles.specs.Status.{OK};
 
-use c_handles::{Body, FqHandle, Hold, Power, status};
+use c_handles::{CallerState, ControlState, FqHandle, Object, status};
 use std::alloc::Global;
 
 // Returns whether no other object depends on it.
-fn is_freeable(body: &Body) -> bool
+fn is_freeable(body: &Object) -> bool
     ensures { result ≡ is_freeable body.now }
 {
     match body {
-        Body::Seat(seat) => matches!(seat.hold, Hold::Rests(_)),
-        Body::Controller(control) => matches!(control.power, Power::Off(_)),
-        Body::List(list) => !list.is_running(),
+        Object::Seat(seat) => matches!(seat.hold, CallerState::Rests(_)),
+        Object::Controller(control) => matches!(control.power, ControlState::Off(_)),
+        Object::List(list) => !list.is_running(),
         _ => true,
     }
 }

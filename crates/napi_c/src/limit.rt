@@ -3,7 +3,7 @@
 ghost use Rattle.std.specs.Prelude.{◌≡◌, ◌≢◌, ◌<◌, ◌⊎◌, ◌↔◌, Some};
 ghost use Rattle.dql_core.specs.Bounds.{DQL_MAX_LIMIT};
 ghost use Rattle.dql_core.specs.Dql.{Shows};
-ghost use Rattle.dql_core.specs.Limit.{opening, in_flight_of, avail_of, after_reset, after_queued, after_completed, queued_fault, completed_fault};
+ghost use Rattle.dql_core.specs.Limit.{new_limit, in_flight_of, avail_of, after_reset, after_queued, after_completed, queued_fault, completed_fault};
 ghost use Rattle.dql_core.specs.declared.event.DqlFault.TheVariants.{BadBounds};
 ghost use Rattle.dql_core.specs.declared.whole.Limit.{Limit};
 ghost use Rattle.c_handles.specs.Status.{OK, dql_status};
@@ -32,10 +32,10 @@ pub struct FqDqlNew {
 /// Returns a new limit, like `Dql::new`.
 #[unsafe(no_mangle)]
 pub extern "C" fn fq_dql_new(min: u32, max: u32, hold: u64, now: u64) -> FqDqlNew
-    ensures ok { result.status ≡ OK → Shows result.dql.dql (opening min max hold now) }
+    ensures ok { result.status ≡ OK → Shows result.dql.dql (new_limit min max hold now) }
     ensures refused { (result.status ≢ OK) ↔ ((max < min) ⊎ (DQL_MAX_LIMIT < max)) }
     ensures status { result.status ≢ OK → result.status ≡ dql_status (Some BadBounds) }
-    ensures none { result.status ≢ OK → Shows result.dql.dql (opening 0 0 0 0) }
+    ensures none { result.status ≢ OK → Shows result.dql.dql (new_limit 0 0 0 0) }
 {
     match Dql::new(min, max, hold, now) {
         Ok(dql) => FqDqlNew {
@@ -57,7 +57,7 @@ pub extern "C" fn fq_dql_new(min: u32, max: u32, hold: u64, now: u64) -> FqDqlNe
 /// The same, in place of an existing limit, which is unchanged if the call fails.
 #[unsafe(no_mangle)]
 pub extern "C" fn fq_dql_renew(dql: &mut FqDql, min: u32, max: u32, hold: u64, now: u64) -> u32
-    ensures ok { result ≡ OK → Shows dql.new.dql (opening min max hold now) }
+    ensures ok { result ≡ OK → Shows dql.new.dql (new_limit min max hold now) }
     ensures refused { (result ≢ OK) ↔ ((max < min) ⊎ (DQL_MAX_LIMIT < max)) }
     ensures status { result ≢ OK → result ≡ dql_status (Some BadBounds) }
     ensures kept { result ≢ OK → dql.new ≡ dql.old }

@@ -1,16 +1,16 @@
 //! Poll lists and runs for C.
 ghost use Rattle.std.specs.Prelude.{◌≡◌, ◌≢◌, ◌↔◌, IsSome};
 ghost use Rattle.c_handles.specs.Handles.{LeadsToList, ListMakes, ListMakesIn};
-ghost use Rattle.c_handles.specs.Runs.{IsNewList, IsLength, IsPush, IsBegin, IsNext, IsPolled, IsEnd};
+ghost use Rattle.c_handles.specs.Runs.{IsNewListObject, IsLength, IsPush, IsBeginCall, IsNext, IsPolledCall, IsEnd};
 ghost use Rattle.c_handles.specs.Status.{OK, IN_USE, OUT_OF_MEMORY};
 
-use c_handles::{Body, FqHandle, FqRunReport, Lister, status};
+use c_handles::{FqHandle, FqRunReport, ListObject, Object, status};
 use std::alloc::Global;
 
 /// Makes a poll list of one thread.
 #[unsafe(no_mangle)]
 pub extern "C" fn fq_list_new(alloc: Global, handle: &mut FqHandle) -> u32
-    ensures made { result ≡ OK → LeadsToList IsNewList handle.new.held.body }
+    ensures made { result ≡ OK → LeadsToList IsNewListObject handle.new.held.body }
     ensures kept { result ≢ OK → handle.new ≡ handle.old }
     ensures in_use { (result ≡ IN_USE) ↔ IsSome handle.old.held.body }
     ensures memory { result ≢ OK → result ≢ IN_USE → result ≡ OUT_OF_MEMORY }
@@ -18,10 +18,10 @@ pub extern "C" fn fq_list_new(alloc: Global, handle: &mut FqHandle) -> u32
     if handle.is_set() {
         return status::IN_USE;
     }
-    let Ok(list) = Box::new(alloc, Lister::new()) else {
+    let Ok(list) = Box::new(alloc, ListObject::new()) else {
         return status::OUT_OF_MEMORY;
     };
-    match Box::new(alloc, Body::List(list)) {
+    match Box::new(alloc, Object::List(list)) {
         Ok(body) => {
             handle.put(body);
             status::OK
@@ -30,11 +30,11 @@ pub extern "C" fn fq_list_new(alloc: Global, handle: &mut FqHandle) -> u32
     }
 }
 
-fn push_in(at: &mut Body, id: u32) -> u32
+fn push_in(at: &mut Object, id: u32) -> u32
     ensures { ListMakesIn (IsPush id) at.old result at.new }
 {
     match at {
-        Body::List(list) => list.push(id),
+        Object::List(list) => list.push(id),
         _ => status::BAD_HANDLE,
     }
 }
@@ -52,12 +52,12 @@ pub extern "C" fn fq_list_push(alloc: Global, handle: &mut FqHandle, id: u32) ->
     status
 }
 
-fn len_in(at: &Body, len: &mut u32) -> u32
+fn len_in(at: &Object, len: &mut u32) -> u32
     ensures makes { ListMakesIn (IsLength len.old len.new) at.now result at.now }
     ensures none { result ≢ OK → len.new ≡ len.old }
 {
     match at {
-        Body::List(list) => {
+        Object::List(list) => {
             *len = list.len() as u32;
             status::OK
         }
@@ -79,11 +79,11 @@ pub extern "C" fn fq_list_len(alloc: Global, handle: &mut FqHandle, len: &mut u3
     status
 }
 
-fn begin_in(at: &mut Body, budget: u32, weight: u32, window: u32) -> u32
-    ensures { ListMakesIn (IsBegin budget weight window) at.old result at.new }
+fn begin_in(at: &mut Object, budget: u32, weight: u32, window: u32) -> u32
+    ensures { ListMakesIn (IsBeginCall budget weight window) at.old result at.new }
 {
     match at {
-        Body::List(list) => list.begin(budget, weight, window),
+        Object::List(list) => list.begin(budget, weight, window),
         _ => status::BAD_HANDLE,
     }
 }
@@ -97,7 +97,7 @@ pub extern "C" fn fq_run_begin(
     weight: u32,
     window: u32,
 ) -> u32
-    ensures { ListMakes (IsBegin budget weight window) handle.old result handle.new }
+    ensures { ListMakes (IsBeginCall budget weight window) handle.old result handle.new }
 {
     let Some(mut boxed) = handle.take(alloc) else {
         return status::BAD_HANDLE;
@@ -107,12 +107,12 @@ pub extern "C" fn fq_run_begin(
     status
 }
 
-fn next_in(at: &mut Body, id: &mut u32) -> u32
+fn next_in(at: &mut Object, id: &mut u32) -> u32
     ensures makes { ListMakesIn (IsNext id.old id.new) at.old result at.new }
     ensures none { result ≢ OK → id.new ≡ id.old }
 {
     match at {
-        Body::List(list) => list.next(id),
+        Object::List(list) => list.next(id),
         _ => status::BAD_HANDLE,
     }
 }
@@ -131,11 +131,11 @@ pub extern "C" fn fq_run_next(alloc: Global, handle: &mut FqHandle, id: &mut u32
     status
 }
 
-fn polled_in(at: &mut Body, work: u32, next: u32) -> u32
-    ensures { ListMakesIn (IsPolled work next) at.old result at.new }
+fn polled_in(at: &mut Object, work: u32, next: u32) -> u32
+    ensures { ListMakesIn (IsPolledCall work next) at.old result at.new }
 {
     match at {
-        Body::List(list) => list.polled(work, next),
+        Object::List(list) => list.polled(work, next),
         _ => status::BAD_HANDLE,
     }
 }
@@ -144,7 +144,7 @@ fn polled_in(at: &mut Body, work: u32, next: u32) -> u32
 /// already.
 #[unsafe(no_mangle)]
 pub extern "C" fn fq_run_polled(alloc: Global, handle: &mut FqHandle, work: u32, next: u32) -> u32
-    ensures { ListMakes (IsPolled work next) handle.old result handle.new }
+    ensures { ListMakes (IsPolledCall work next) handle.old result handle.new }
 {
     let Some(mut boxed) = handle.take(alloc) else {
         return status::BAD_HANDLE;
@@ -154,12 +154,12 @@ pub extern "C" fn fq_run_polled(alloc: Global, handle: &mut FqHandle, work: u32,
     status
 }
 
-fn end_in(at: &mut Body, report: &mut FqRunReport) -> u32
+fn end_in(at: &mut Object, report: &mut FqRunReport) -> u32
     ensures makes { ListMakesIn (IsEnd report.old report.new) at.old result at.new }
     ensures none { result ≢ OK → report.new ≡ report.old }
 {
     match at {
-        Body::List(list) => list.end(report),
+        Object::List(list) => list.end(report),
         _ => status::BAD_HANDLE,
     }
 }

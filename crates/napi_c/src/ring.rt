@@ -1,15 +1,15 @@
 //! Receive rings for C, both ends in one handle.
 ghost use Rattle.std.specs.Prelude.{◌≡◌, ◌≢◌, ◌<◌, ◌≤◌, ◌-◌, ◌⊎◌, ◌↔◌, [], ◌∷◌, length, take, min, Some, IsNone, IsSome};
-ghost use Rattle.rx_ring.specs.ReceiveRing.{most_places};
+ghost use Rattle.rx_ring.specs.ReceiveRing.{most_rx_places};
 ghost use Rattle.rx_ring.specs.Ends.{put_list, capacity_of, GivesNext};
 ghost use Rattle.rx_ring.specs.declared.ends.RxCtx.{RxCtx};
 ghost use Rattle.c_handles.specs.declared.body.Ring.{Ring};
-ghost use Rattle.c_handles.specs.declared.input.Input.{Input};
-ghost use Rattle.c_handles.specs.declared.body.Body.TheVariants as variant;
+ghost use Rattle.c_handles.specs.declared.input.RingInput.{RingInput};
+ghost use Rattle.c_handles.specs.declared.body.Object.TheVariants as variant;
 ghost use Rattle.c_handles.specs.Status.{OK, BAD_HANDLE, IN_USE, OUT_OF_MEMORY, BAD_CAPACITY, BAD_WEIGHT, NO_ROOM};
 ghost use Rattle.c_handles.specs.Rings.{HasInput, LeadsTo, LeadsToItsInput, LeadsToRing, IsRingWith, IsInputWith, LeadsToInput, IsCtxWith, LeadsToCtx, IsNewRing, IsAfterPut, IsAfterInput, IsAfterPoll, burst_in, burst_status};
 
-use c_handles::{Body, FqHandle, Input, Ring, status};
+use c_handles::{FqHandle, Object, Ring, RingInput, status};
 use rx_ring::{Batch, MAX_WEIGHT, Packet, ring};
 use std::alloc::Global;
 
@@ -20,7 +20,7 @@ pub extern "C" fn fq_ring_new(alloc: Global, handle: &mut FqHandle, capacity: us
     ensures kept { result ≢ OK → handle.new ≡ handle.old }
     ensures in_use { (result ≡ IN_USE) ↔ IsSome handle.old.held.body }
     ensures capacity { (result ≡ BAD_CAPACITY) ↔ (IsNone handle.old.held.body
-        × ((capacity ≡ 0) ⊎ (most_places < capacity))) }
+        × ((capacity ≡ 0) ⊎ (most_rx_places < capacity))) }
     ensures memory { result ≢ OK → result ≢ IN_USE → result ≢ BAD_CAPACITY
         → result ≡ OUT_OF_MEMORY }
 {
@@ -29,8 +29,8 @@ pub extern "C" fn fq_ring_new(alloc: Global, handle: &mut FqHandle, capacity: us
     }
     match ring(alloc, capacity) {
         Ok((end, ctx)) => {
-            let input = Input::new(end, capacity);
-            match Box::new(alloc, Body::Ring(Ring { input, ctx })) {
+            let input = RingInput::new(end, capacity);
+            match Box::new(alloc, Object::Ring(Ring { input, ctx })) {
                 Ok(body) => {
                     handle.put(body);
                     status::OK
@@ -53,10 +53,10 @@ pub extern "C" fn fq_ring_put(alloc: Global, handle: &mut FqHandle, number: u64,
         (IsAfterPut r (record { number = number; bytes = bytes } ∷ [])) handle.new.held.body }
     ensures first { (r : Ring) → LeadsTo handle.old r
         → length (put_list r.input.end) < capacity_of r.input.end → result ≡ OK }
-    ensures input { (i : Input) → handle.old.held.body ≡ Some (variant.In i) → result ≡ OK
+    ensures input { (i : RingInput) → handle.old.held.body ≡ Some (variant.In i) → result ≡ OK
         → LeadsToInput
         (IsAfterInput i (record { number = number; bytes = bytes } ∷ [])) handle.new.held.body }
-    ensures other { ((i : Input) → ¬ LeadsToItsInput i handle.old.held.body)
+    ensures other { ((i : RingInput) → ¬ LeadsToItsInput i handle.old.held.body)
         → (result ≡ BAD_HANDLE) × (handle.new.held.body ≡ handle.old.held.body) }
 {
     let Some(mut body) = handle.take(alloc) else {
@@ -67,19 +67,19 @@ pub extern "C" fn fq_ring_put(alloc: Global, handle: &mut FqHandle, number: u64,
     status
 }
 
-fn put_into(body: &mut Body, packet: Packet) -> u32
+fn put_into(body: &mut Object, packet: Packet) -> u32
     ensures ok { (r : Ring) → body.old ≡ variant.Ring r → result ≡ OK
         → IsRingWith (IsAfterPut r (packet ∷ [])) body.new }
     ensures first { (r : Ring) → body.old ≡ variant.Ring r
         → length (put_list r.input.end) < capacity_of r.input.end → result ≡ OK }
-    ensures input { (i : Input) → body.old ≡ variant.In i → result ≡ OK
+    ensures input { (i : RingInput) → body.old ≡ variant.In i → result ≡ OK
         → IsInputWith (IsAfterInput i (packet ∷ [])) body.new }
-    ensures other { ((i : Input) → ¬ HasInput i body.old)
+    ensures other { ((i : RingInput) → ¬ HasInput i body.old)
         → (result ≡ BAD_HANDLE) × (body.new ≡ body.old) }
 {
     match body {
-        Body::Ring(ring) => ring.input.put(packet),
-        Body::In(input) => input.put(packet),
+        Object::Ring(ring) => ring.input.put(packet),
+        Object::In(input) => input.put(packet),
         _ => status::BAD_HANDLE,
     }
 }
@@ -94,7 +94,7 @@ pub extern "C" fn fq_ring_put_all(
 ) -> u32
     ensures put { (r : Ring) → LeadsTo handle.old r
         → LeadsToRing (IsAfterPut r (take count.new packets.now)) handle.new.held.body }
-    ensures input { (i : Input) → handle.old.held.body ≡ Some (variant.In i)
+    ensures input { (i : RingInput) → handle.old.held.body ≡ Some (variant.In i)
         → LeadsToInput (IsAfterInput i (take count.new packets.now)) handle.new.held.body }
     ensures first { (r : Ring) → LeadsTo handle.old r
         → min (length packets.now)
@@ -113,11 +113,11 @@ pub extern "C" fn fq_ring_put_all(
     status
 }
 
-fn put_all_into(body: &mut Body, packets: &[Packet], count: &mut usize) -> u32
+fn put_all_into(body: &mut Object, packets: &[Packet], count: &mut usize) -> u32
     requires none { count.old ≡ 0 }
     ensures put { (r : Ring) → body.old ≡ variant.Ring r
         → IsRingWith (IsAfterPut r (take count.new packets.now)) body.new }
-    ensures input { (i : Input) → body.old ≡ variant.In i
+    ensures input { (i : RingInput) → body.old ≡ variant.In i
         → IsInputWith (IsAfterInput i (take count.new packets.now)) body.new }
     ensures first { (r : Ring) → body.old ≡ variant.Ring r
         → min (length packets.now)
@@ -127,8 +127,8 @@ fn put_all_into(body: &mut Body, packets: &[Packet], count: &mut usize) -> u32
     ensures kept { result ≡ BAD_HANDLE → (body.new ≡ body.old) × (count.new ≡ 0) }
 {
     *count = match body {
-        Body::Ring(ring) => ring.input.put_all(packets),
-        Body::In(input) => input.put_all(packets),
+        Object::Ring(ring) => ring.input.put_all(packets),
+        Object::In(input) => input.put_all(packets),
         _ => return status::BAD_HANDLE,
     };
     if *count == packets.len() {
@@ -180,7 +180,7 @@ pub extern "C" fn fq_ring_poll(
     status
 }
 
-fn poll_into(body: &mut Body, weight: usize, batch: &mut Batch) -> u32
+fn poll_into(body: &mut Object, weight: usize, batch: &mut Batch) -> u32
     requires { (1 ≤ weight) × (weight ≤ 64) }
     ensures ok { (r : Ring) → body.old ≡ variant.Ring r → result ≡ OK
         → IsRingWith (IsAfterPoll weight r batch.new.items) body.new }
@@ -190,11 +190,11 @@ fn poll_into(body: &mut Body, weight: usize, batch: &mut Batch) -> u32
     ensures only { result ≢ OK → (result ≡ BAD_HANDLE) × (body.new ≡ body.old) }
 {
     match body {
-        Body::Ring(ring) => {
+        Object::Ring(ring) => {
             ring.ctx.poll(weight, batch);
             status::OK
         }
-        Body::Ctx(ctx) => {
+        Object::Ctx(ctx) => {
             ctx.poll(weight, batch);
             status::OK
         }

@@ -7,22 +7,22 @@ ghost use Rattle.c_handles.specs.declared.hold.SeatCall.TheVariants as seat_call
 ghost use Rattle.c_handles.specs.Kinds.{kind_in};
 ghost use Rattle.c_handles.specs.Status.{OK, RELEASED, AGAIN, BAD_KIND, BAD_HANDLE, BAD_WEIGHT, NO_ROOM};
 ghost use Rattle.c_handles.specs.SeatCalls.{RestsWith, GrantedWith};
-ghost use Rattle.c_handles.specs.Endings.{EndsBy, LeadsToSeat};
-ghost use Rattle.c_handles.specs.declared.seat.Seat.{Seat};
-ghost use Rattle.c_handles.specs.declared.body.Body.TheVariants as variant;
+ghost use Rattle.c_handles.specs.Endings.{EndsByReply, LeadsToSeat};
+ghost use Rattle.c_handles.specs.declared.seat.CallerObject.{CallerObject};
+ghost use Rattle.c_handles.specs.declared.body.Object.TheVariants as variant;
 ghost use Rattle.c_handles.specs.Handles.{SeatMakes, SeatMakesIn, SeatGives, SeatGivesIn, SeatShows, SeatShowsIn};
 
-use c_handles::{Body, FqAnswers, FqHandle, SeatCall, kind_of, status};
+use c_handles::{FqAnswers, FqHandle, Object, SeatCall, kind_of, status};
 use napi_model::encode;
 use rx_ring::{Batch, MAX_WEIGHT, Packet};
 use std::alloc::Global;
 
 #[inline(always)]
-fn step_in(at: &mut Body, call: SeatCall) -> u32
+fn step_in(at: &mut Object, call: SeatCall) -> u32
     ensures { SeatMakesIn call at.old result at.new }
 {
     match at {
-        Body::Seat(seat) => seat.step(call),
+        Object::Seat(seat) => seat.step(call),
         _ => status::BAD_HANDLE,
     }
 }
@@ -40,12 +40,12 @@ fn on_seat(alloc: Global, handle: &mut FqHandle, call: SeatCall) -> u32
     status
 }
 
-fn look_in(at: &mut Body, word: &mut u64) -> u32
+fn look_in(at: &mut Object, word: &mut u64) -> u32
     ensures shows { SeatShowsIn word.old word.new at.old result at.new }
     ensures none { result ≢ OK → word.new ≡ word.old }
 {
     match at {
-        Body::Seat(seat) => match seat.look() {
+        Object::Seat(seat) => match seat.look() {
             Some(seen) => {
                 *word = encode(seen);
                 status::OK
@@ -119,10 +119,10 @@ pub extern "C" fn fq_seat_complete(alloc: Global, handle: &mut FqHandle) -> u32
     ensures makes { SeatMakes seat_call.Complete handle.old result handle.new }
     ensures released { result ≡ RELEASED
         → LeadsToSeat
-        (λ s. RestsWith (EndsBy done.Released false) s.hold) handle.new.held.body }
+        (λ s. RestsWith (EndsByReply done.Released false) s.hold) handle.new.held.body }
     ensures again { result ≡ AGAIN
         → LeadsToSeat
-        (λ s. GrantedWith (EndsBy done.Again true) s.hold) handle.new.held.body }
+        (λ s. GrantedWith (EndsByReply done.Again true) s.hold) handle.new.held.body }
 {
     on_seat(alloc, handle, SeatCall::Complete)
 }
@@ -151,13 +151,13 @@ pub extern "C" fn fq_seat_set_threaded(alloc: Global, handle: &mut FqHandle, thr
     on_seat(alloc, handle, SeatCall::SetThreaded(threaded))
 }
 
-fn poll_in(at: &mut Body, weight: usize, batch: &mut Batch) -> u32
+fn poll_in(at: &mut Object, weight: usize, batch: &mut Batch) -> u32
     requires { (1 ≤ weight) × (weight ≤ 64) }
     ensures polls { SeatGivesIn weight batch.new.items at.old result at.new }
     ensures room { result ≡ OK → length batch.new.items ≤ weight }
 {
     match at {
-        Body::Seat(seat) => seat.poll(weight, batch),
+        Object::Seat(seat) => seat.poll(weight, batch),
         _ => status::BAD_HANDLE,
     }
 }
@@ -202,13 +202,13 @@ pub extern "C" fn fq_seat_poll(
     status
 }
 
-fn answers_in(at: &Body, answers: &mut FqAnswers) -> u32
-    ensures shown { (s : Seat) → at.now ≡ variant.Seat s → (result ≡ OK)
+fn answers_in(at: &Object, answers: &mut FqAnswers) -> u32
+    ensures shown { (s : CallerObject) → at.now ≡ variant.Seat s → (result ≡ OK)
         × (answers.new ≡ s.answers) }
     ensures kept { result ≢ OK → (answers.new ≡ answers.old) × (result ≡ BAD_HANDLE) }
 {
     match at {
-        Body::Seat(seat) => {
+        Object::Seat(seat) => {
             *answers = seat.answers;
             status::OK
         }
@@ -223,7 +223,8 @@ pub extern "C" fn fq_seat_count(
     handle: &mut FqHandle,
     answers: &mut FqAnswers,
 ) -> u32
-    ensures shown { (s : Seat) → handle.old.held.body ≡ Some (variant.Seat s) → (result ≡ OK)
+    ensures shown { (s : CallerObject) → handle.old.held.body ≡ Some (variant.Seat s)
+        → (result ≡ OK)
         × (answers.new ≡ s.answers) }
     ensures kept { result ≢ OK → (answers.new ≡ answers.old) × (result ≡ BAD_HANDLE) }
     ensures same { handle.new.held.body ≡ handle.old.held.body }

@@ -1,8 +1,8 @@
 //! The instance of one thread, in the caller's memory.
 ghost use Rattle.std.specs.Prelude.{◌≡◌, ◌↔◌, IsNone, IfSome};
-ghost use Rattle.napi_model.specs.Step.{opening, MayCall, answer_of, seen_of};
+ghost use Rattle.napi_model.specs.Step.{opening, MayCall, reply_of, seen_of};
 ghost use Rattle.napi_model.specs.Word.{word_of};
-ghost use Rattle.napi_c.specs.Serial.{is_set, place_in, state_in, Steps};
+ghost use Rattle.napi_c.specs.Serial.{is_set, fq_place, fq_state, FqSteps};
 
 use napi_model::{Call, Event, Flags, Operation, Place, State, encode};
 
@@ -33,7 +33,7 @@ pub struct FqNapi {
 }
 
 fn place_of(place: u8, owner: u32) -> Place
-    ensures { result ≡ place_in place owner }
+    ensures { result ≡ fq_place place owner }
 {
     match place {
         0 => Place::Nobody,
@@ -47,7 +47,7 @@ fn place_of(place: u8, owner: u32) -> Place
 
 // Returns the number and the owner of a place.
 fn numbers_of(place: Place) -> (u8, u32)
-    ensures { place_in result.0 result.1 ≡ place }
+    ensures { fq_place result.0 result.1 ≡ place }
 {
     match place {
         Place::Nobody => (0, 0),
@@ -61,7 +61,7 @@ fn numbers_of(place: Place) -> (u8, u32)
 
 /// The state that the struct's bytes are.
 pub fn state_of(napi: &FqNapi) -> State
-    ensures { result ≡ state_in napi.now }
+    ensures { result ≡ fq_state napi.now }
 {
     State {
         flags: Flags {
@@ -84,7 +84,7 @@ fn byte_of(flag: bool) -> u8
 }
 
 fn napi_of(state: State, controller: u32) -> FqNapi
-    ensures state { state_in result ≡ state }
+    ensures state { fq_state result ≡ state }
     ensures controller { result.controller ≡ controller }
 {
     let (place, owner) = numbers_of(state.place);
@@ -105,9 +105,9 @@ fn napi_of(state: State, controller: u32) -> FqNapi
 
 /// Makes the call if it is allowed, and returns its reply.
 pub fn step(napi: &mut FqNapi, caller: u32, call: Call) -> Option<Operation>
-    ensures refused { IsNone result ↔ ¬ MayCall caller call (state_in napi.old) }
-    ensures answer { IfSome result (λ o. o ≡ answer_of call (state_in napi.old)) }
-    ensures step { IfSome result (λ o. Steps napi.old caller o napi.new) }
+    ensures refused { IsNone result ↔ ¬ MayCall caller call (fq_state napi.old) }
+    ensures answer { IfSome result (λ o. o ≡ reply_of call (fq_state napi.old)) }
+    ensures step { IfSome result (λ o. FqSteps napi.old caller o napi.new) }
     ensures kept { IsNone result → napi.new ≡ napi.old }
 {
     let state = state_of(napi);
@@ -122,7 +122,7 @@ pub fn step(napi: &mut FqNapi, caller: u32, call: Call) -> Option<Operation>
 /// Like `SerialNapi::new`.
 #[unsafe(no_mangle)]
 pub extern "C" fn fq_napi_new(controller: u32) -> FqNapi
-    ensures state { state_in result ≡ opening controller }
+    ensures state { fq_state result ≡ opening controller }
     ensures controller { result.controller ≡ controller }
 {
     napi_of(State::opening(controller), controller)
@@ -131,7 +131,7 @@ pub extern "C" fn fq_napi_new(controller: u32) -> FqNapi
 /// The same, in the caller's memory, which may hold anything.
 #[unsafe(no_mangle)]
 pub extern "C" fn fq_napi_init(napi: &mut FqNapi, controller: u32)
-    ensures state { state_in napi.new ≡ opening controller }
+    ensures state { fq_state napi.new ≡ opening controller }
     ensures controller { napi.new.controller ≡ controller }
 {
     *napi = fq_napi_new(controller);
@@ -140,7 +140,7 @@ pub extern "C" fn fq_napi_init(napi: &mut FqNapi, controller: u32)
 /// The state word, like `encode`.
 #[unsafe(no_mangle)]
 pub extern "C" fn fq_napi_word(napi: &FqNapi) -> u64
-    ensures { result ≡ word_of (seen_of (state_in napi.now)) }
+    ensures { result ≡ word_of (seen_of (fq_state napi.now)) }
 {
     encode(state_of(napi).seen())
 }

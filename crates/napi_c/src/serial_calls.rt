@@ -6,7 +6,7 @@ ghost use Rattle.napi_model.specs.declared.event.Done.TheVariants as done;
 ghost use Rattle.napi_model.specs.declared.event.Call.TheVariants as call;
 ghost use Rattle.napi_model.specs.declared.state.Kind.{Kind};
 ghost use Rattle.napi_model.specs.Step.{MayCall};
-ghost use Rattle.napi_c.specs.Serial.{state_in, Steps};
+ghost use Rattle.napi_c.specs.Serial.{fq_state, FqSteps};
 ghost use Rattle.c_handles.specs.Kinds.{kind_in};
 ghost use Rattle.c_handles.specs.Status.{OK, GRANTED, MISSED, DISABLED, TAKEN, NOT_THERE, RELEASED, AGAIN, HELD, BUSY, NOT_ALLOWED, BAD_KIND};
 
@@ -18,11 +18,11 @@ use napi_model::{Call, Done, Operation, Prep};
 #[unsafe(no_mangle)]
 pub extern "C" fn fq_napi_schedule(napi: &mut FqNapi, who: u32) -> u32
     ensures granted { result ≡ GRANTED
-        → Steps napi.old who (operation.Schedule prep.Granted) napi.new }
+        → FqSteps napi.old who (operation.Schedule prep.Granted) napi.new }
     ensures missed { result ≡ MISSED
-        → Steps napi.old who (operation.Schedule prep.Missed) napi.new }
+        → FqSteps napi.old who (operation.Schedule prep.Missed) napi.new }
     ensures disabled { result ≡ DISABLED
-        → Steps napi.old who (operation.Schedule prep.Disabled) napi.new }
+        → FqSteps napi.old who (operation.Schedule prep.Disabled) napi.new }
     ensures only { (result ≡ GRANTED) ⊎ (result ≡ MISSED) ⊎ (result ≡ DISABLED) }
 {
     let Some(Operation::Schedule(reply)) = step(napi, who, Call::Schedule) else {
@@ -39,9 +39,9 @@ pub extern "C" fn fq_napi_schedule(napi: &mut FqNapi, who: u32) -> u32
 #[unsafe(no_mangle)]
 pub extern "C" fn fq_napi_hand(napi: &mut FqNapi, who: u32, kind: u32) -> u32
     ensures made { result ≡ OK → (k : Kind) → kind_in kind ≡ Some k
-        → Steps napi.old who (operation.Hand k) napi.new }
+        → FqSteps napi.old who (operation.Hand k) napi.new }
     ensures refused { (k : Kind) → kind_in kind ≡ Some k
-        → (result ≡ NOT_ALLOWED ↔ ¬ MayCall who (call.Hand k) (state_in napi.old)) }
+        → (result ≡ NOT_ALLOWED ↔ ¬ MayCall who (call.Hand k) (fq_state napi.old)) }
     ensures bad { (result ≡ BAD_KIND) ↔ (kind_in kind ≡ None) }
     ensures kept { result ≢ OK → napi.new ≡ napi.old }
     ensures only { (result ≡ OK) ⊎ (result ≡ NOT_ALLOWED) ⊎ (result ≡ BAD_KIND) }
@@ -59,9 +59,9 @@ pub extern "C" fn fq_napi_hand(napi: &mut FqNapi, who: u32, kind: u32) -> u32
 #[unsafe(no_mangle)]
 pub extern "C" fn fq_napi_take(napi: &mut FqNapi, who: u32, kind: u32) -> u32
     ensures taken { result ≡ TAKEN → (k : Kind) → kind_in kind ≡ Some k
-        → Steps napi.old who (operation.Take k true) napi.new }
+        → FqSteps napi.old who (operation.Take k true) napi.new }
     ensures absent { result ≡ NOT_THERE → (k : Kind) → kind_in kind ≡ Some k
-        → Steps napi.old who (operation.Take k false) napi.new }
+        → FqSteps napi.old who (operation.Take k false) napi.new }
     ensures bad { (result ≡ BAD_KIND) ↔ (kind_in kind ≡ None) }
     ensures kept { result ≡ BAD_KIND → napi.new ≡ napi.old }
     ensures only { (result ≡ TAKEN) ⊎ (result ≡ NOT_THERE) ⊎ (result ≡ BAD_KIND) }
@@ -83,10 +83,10 @@ pub extern "C" fn fq_napi_take(napi: &mut FqNapi, who: u32, kind: u32) -> u32
 #[unsafe(no_mangle)]
 pub extern "C" fn fq_napi_complete(napi: &mut FqNapi, who: u32) -> u32
     ensures released { result ≡ RELEASED
-        → Steps napi.old who (operation.Complete done.Released) napi.new }
-    ensures again { result ≡ AGAIN → Steps napi.old who (operation.Complete done.Again) napi.new }
-    ensures held { result ≡ HELD → Steps napi.old who (operation.Complete done.Held) napi.new }
-    ensures refused { result ≡ NOT_ALLOWED ↔ ¬ MayCall who call.Complete (state_in napi.old) }
+        → FqSteps napi.old who (operation.Complete done.Released) napi.new }
+    ensures again { result ≡ AGAIN → FqSteps napi.old who (operation.Complete done.Again) napi.new }
+    ensures held { result ≡ HELD → FqSteps napi.old who (operation.Complete done.Held) napi.new }
+    ensures refused { result ≡ NOT_ALLOWED ↔ ¬ MayCall who call.Complete (fq_state napi.old) }
     ensures kept { result ≡ NOT_ALLOWED → napi.new ≡ napi.old }
     ensures only { (result ≡ RELEASED) ⊎ (result ≡ AGAIN) ⊎ (result ≡ HELD)
         ⊎ (result ≡ NOT_ALLOWED) }
@@ -103,8 +103,8 @@ pub extern "C" fn fq_napi_complete(napi: &mut FqNapi, who: u32) -> u32
 /// Like `SerialNapi::busy_take`: returns taken, or busy if the instance isn't idle.
 #[unsafe(no_mangle)]
 pub extern "C" fn fq_napi_busy_take(napi: &mut FqNapi, who: u32) -> u32
-    ensures taken { result ≡ TAKEN → Steps napi.old who operation.BusyTake napi.new }
-    ensures busy { result ≡ BUSY ↔ ¬ MayCall who call.BusyTake (state_in napi.old) }
+    ensures taken { result ≡ TAKEN → FqSteps napi.old who operation.BusyTake napi.new }
+    ensures busy { result ≡ BUSY ↔ ¬ MayCall who call.BusyTake (fq_state napi.old) }
     ensures kept { result ≡ BUSY → napi.new ≡ napi.old }
     ensures only { (result ≡ TAKEN) ⊎ (result ≡ BUSY) }
 {
@@ -117,8 +117,8 @@ pub extern "C" fn fq_napi_busy_take(napi: &mut FqNapi, who: u32) -> u32
 /// Like `SerialNapi::busy_stop`: returns ok, or not allowed if the caller doesn't busy poll it.
 #[unsafe(no_mangle)]
 pub extern "C" fn fq_napi_busy_stop(napi: &mut FqNapi, who: u32) -> u32
-    ensures made { result ≡ OK → Steps napi.old who operation.BusyStop napi.new }
-    ensures refused { result ≡ NOT_ALLOWED ↔ ¬ MayCall who call.BusyStop (state_in napi.old) }
+    ensures made { result ≡ OK → FqSteps napi.old who operation.BusyStop napi.new }
+    ensures refused { result ≡ NOT_ALLOWED ↔ ¬ MayCall who call.BusyStop (fq_state napi.old) }
     ensures kept { result ≡ NOT_ALLOWED → napi.new ≡ napi.old }
     ensures only { (result ≡ OK) ⊎ (result ≡ NOT_ALLOWED) }
 {
@@ -131,7 +131,7 @@ pub extern "C" fn fq_napi_busy_stop(napi: &mut FqNapi, who: u32) -> u32
 /// Like `SerialNapi::set_threaded`, by any caller.
 #[unsafe(no_mangle)]
 pub extern "C" fn fq_napi_set_threaded(napi: &mut FqNapi, who: u32, threaded: bool)
-    ensures { Steps napi.old who (operation.SetThreaded threaded) napi.new }
+    ensures { FqSteps napi.old who (operation.SetThreaded threaded) napi.new }
 {
     let Some(_) = step(napi, who, Call::SetThreaded(threaded)) else {
         unreachable!()

@@ -2,8 +2,8 @@
 ghost use Rattle.std.specs.Prelude.{◌≡◌, ◌↔◌, ◌⊎◌, IsNone, IfSome, true, false};
 ghost use Rattle.napi_model.specs.declared.event.Operation.TheVariants as operation;
 ghost use Rattle.napi_model.specs.declared.event.Call.TheVariants as call;
-ghost use Rattle.napi_model.specs.Step.{MayCall, answer_of};
-ghost use Rattle.napi_c.specs.Serial.{state_in, Steps};
+ghost use Rattle.napi_model.specs.Step.{MayCall, reply_of};
+ghost use Rattle.napi_c.specs.Serial.{fq_state, FqSteps};
 ghost use Rattle.c_handles.specs.Status.{OK, TAKEN, BUSY, NOT_ALLOWED};
 
 use crate::serial::{FqNapi, step};
@@ -13,9 +13,9 @@ use napi_model::{Call, Operation};
 // Makes a call of the controller.
 fn control(napi: &mut FqNapi, who: u32, call: Call) -> Option<Operation>
     ensures refused { IsNone result
-        ↔ ¬ ((who ≡ napi.old.controller) × MayCall who call (state_in napi.old)) }
-    ensures answer { IfSome result (λ o. o ≡ answer_of call (state_in napi.old)) }
-    ensures step { IfSome result (λ o. Steps napi.old who o napi.new) }
+        ↔ ¬ ((who ≡ napi.old.controller) × MayCall who call (fq_state napi.old)) }
+    ensures answer { IfSome result (λ o. o ≡ reply_of call (fq_state napi.old)) }
+    ensures step { IfSome result (λ o. FqSteps napi.old who o napi.new) }
     ensures kept { IsNone result → napi.new ≡ napi.old }
 {
     if who != napi.controller {
@@ -27,9 +27,9 @@ fn control(napi: &mut FqNapi, who: u32, call: Call) -> Option<Operation>
 /// Like `SerialNapi::mark_disable`: returns ok, or not allowed.
 #[unsafe(no_mangle)]
 pub extern "C" fn fq_napi_mark_disable(napi: &mut FqNapi, who: u32) -> u32
-    ensures made { result ≡ OK → Steps napi.old who operation.MarkDisable napi.new }
+    ensures made { result ≡ OK → FqSteps napi.old who operation.MarkDisable napi.new }
     ensures refused { result ≡ NOT_ALLOWED
-        ↔ ¬ ((who ≡ napi.old.controller) × MayCall who call.MarkDisable (state_in napi.old)) }
+        ↔ ¬ ((who ≡ napi.old.controller) × MayCall who call.MarkDisable (fq_state napi.old)) }
     ensures kept { result ≡ NOT_ALLOWED → napi.new ≡ napi.old }
     ensures only { (result ≡ OK) ⊎ (result ≡ NOT_ALLOWED) }
 {
@@ -42,10 +42,10 @@ pub extern "C" fn fq_napi_mark_disable(napi: &mut FqNapi, who: u32) -> u32
 /// Like `SerialNapi::take_disable`: returns taken, busy, or not allowed.
 #[unsafe(no_mangle)]
 pub extern "C" fn fq_napi_take_disable(napi: &mut FqNapi, who: u32) -> u32
-    ensures taken { result ≡ TAKEN → Steps napi.old who (operation.TakeDisable true) napi.new }
-    ensures busy { result ≡ BUSY → Steps napi.old who (operation.TakeDisable false) napi.new }
+    ensures taken { result ≡ TAKEN → FqSteps napi.old who (operation.TakeDisable true) napi.new }
+    ensures busy { result ≡ BUSY → FqSteps napi.old who (operation.TakeDisable false) napi.new }
     ensures refused { result ≡ NOT_ALLOWED
-        ↔ ¬ ((who ≡ napi.old.controller) × MayCall who call.TakeDisable (state_in napi.old)) }
+        ↔ ¬ ((who ≡ napi.old.controller) × MayCall who call.TakeDisable (fq_state napi.old)) }
     ensures kept { result ≡ NOT_ALLOWED → napi.new ≡ napi.old }
     ensures only { (result ≡ TAKEN) ⊎ (result ≡ BUSY) ⊎ (result ≡ NOT_ALLOWED) }
 {
@@ -59,9 +59,9 @@ pub extern "C" fn fq_napi_take_disable(napi: &mut FqNapi, who: u32) -> u32
 /// Like `SerialNapi::unmark`: returns ok, or not allowed.
 #[unsafe(no_mangle)]
 pub extern "C" fn fq_napi_unmark(napi: &mut FqNapi, who: u32) -> u32
-    ensures made { result ≡ OK → Steps napi.old who operation.Unmark napi.new }
+    ensures made { result ≡ OK → FqSteps napi.old who operation.Unmark napi.new }
     ensures refused { result ≡ NOT_ALLOWED
-        ↔ ¬ ((who ≡ napi.old.controller) × MayCall who call.Unmark (state_in napi.old)) }
+        ↔ ¬ ((who ≡ napi.old.controller) × MayCall who call.Unmark (fq_state napi.old)) }
     ensures kept { result ≡ NOT_ALLOWED → napi.new ≡ napi.old }
     ensures only { (result ≡ OK) ⊎ (result ≡ NOT_ALLOWED) }
 {
@@ -74,9 +74,9 @@ pub extern "C" fn fq_napi_unmark(napi: &mut FqNapi, who: u32) -> u32
 /// Like `SerialNapi::enable`: returns ok, or not allowed.
 #[unsafe(no_mangle)]
 pub extern "C" fn fq_napi_enable(napi: &mut FqNapi, who: u32, threaded: bool) -> u32
-    ensures made { result ≡ OK → Steps napi.old who (operation.Enable threaded) napi.new }
+    ensures made { result ≡ OK → FqSteps napi.old who (operation.Enable threaded) napi.new }
     ensures refused { result ≡ NOT_ALLOWED
-        ↔ ¬ ((who ≡ napi.old.controller) × MayCall who (call.Enable threaded) (state_in napi.old)) }
+        ↔ ¬ ((who ≡ napi.old.controller) × MayCall who (call.Enable threaded) (fq_state napi.old)) }
     ensures kept { result ≡ NOT_ALLOWED → napi.new ≡ napi.old }
     ensures only { (result ≡ OK) ⊎ (result ≡ NOT_ALLOWED) }
 {

@@ -4,7 +4,7 @@ ghost use Rattle.napi_model.specs.declared.event.Operation.TheVariants as operat
 ghost use Rattle.napi_model.specs.declared.event.Call.TheVariants as call;
 ghost use Rattle.napi_model.specs.declared.state.Kind.TheVariants as kind;
 ghost use Rattle.napi_model.specs.Step.{MayCall, complete_reply};
-ghost use Rattle.napi_c.specs.Serial.{state_in, Steps, Completes, stays_scheduled, NEXT_GONE, NEXT_REPOLL};
+ghost use Rattle.napi_c.specs.Serial.{fq_state, FqSteps, SerialCompletes, stays_scheduled, NEXT_GONE, NEXT_REPOLL};
 ghost use Rattle.c_handles.specs.Status.{OK, HELD, NOT_ALLOWED};
 
 use crate::serial::{FqNapi, state_of, step};
@@ -23,19 +23,20 @@ const REPOLL: u32 = 3;
 /// unless a disable is pending; any other is completed, and handed over again where a request was missed.
 #[unsafe(no_mangle)]
 pub extern "C" fn fq_napi_end(napi: &mut FqNapi, who: u32, full: bool, next: &mut u32) -> u32
-    ensures list { MayCall who call.Complete (state_in napi.old)
-        → stays_scheduled full (state_in napi.old).flags ≡ true
-        → (state_in napi.old).flags.sched_threaded ≡ false
+    ensures list { MayCall who call.Complete (fq_state napi.old)
+        → stays_scheduled full (fq_state napi.old).flags ≡ true
+        → (fq_state napi.old).flags.sched_threaded ≡ false
         → (result ≡ OK) × (next.new ≡ NEXT_REPOLL)
-        × Steps napi.old who (operation.Hand kind.List) napi.new }
-    ensures thread { MayCall who call.Complete (state_in napi.old)
-        → stays_scheduled full (state_in napi.old).flags ≡ true
-        → (state_in napi.old).flags.sched_threaded ≡ true
+        × FqSteps napi.old who (operation.Hand kind.List) napi.new }
+    ensures thread { MayCall who call.Complete (fq_state napi.old)
+        → stays_scheduled full (fq_state napi.old).flags ≡ true
+        → (fq_state napi.old).flags.sched_threaded ≡ true
         → (result ≡ HELD) × (next.new ≡ NEXT_GONE) × (napi.new ≡ napi.old) }
-    ensures completed { MayCall who call.Complete (state_in napi.old)
-        → stays_scheduled full (state_in napi.old).flags ≡ false
-        → Completes (complete_reply (state_in napi.old)) napi.old who result next.new napi.new }
-    ensures refused { (result ≡ NOT_ALLOWED) ↔ ¬ MayCall who call.Complete (state_in napi.old) }
+    ensures completed { MayCall who call.Complete (fq_state napi.old)
+        → stays_scheduled full (fq_state napi.old).flags ≡ false
+        → SerialCompletes (complete_reply (fq_state napi.old)) napi.old who result next.new
+        napi.new }
+    ensures refused { (result ≡ NOT_ALLOWED) ↔ ¬ MayCall who call.Complete (fq_state napi.old) }
     ensures kept { result ≡ NOT_ALLOWED → (napi.new ≡ napi.old) × (next.new ≡ NEXT_GONE) }
 {
     *next = GONE;
@@ -59,9 +60,10 @@ pub extern "C" fn fq_napi_end(napi: &mut FqNapi, who: u32, full: bool, next: &mu
 
 // Completes, and hands over again what was granted again.
 fn completed(napi: &mut FqNapi, who: u32, next: &mut u32) -> u32
-    requires polls { MayCall who call.Complete (state_in napi.old) }
+    requires polls { MayCall who call.Complete (fq_state napi.old) }
     requires gone { next.old ≡ NEXT_GONE }
-    ensures { Completes (complete_reply (state_in napi.old)) napi.old who result next.new napi.new }
+    ensures { SerialCompletes (complete_reply (fq_state napi.old)) napi.old who result next.new
+        napi.new }
 {
     let is_threaded = napi.threaded != 0;
     match step(napi, who, Call::Complete) {

@@ -4,14 +4,15 @@ ghost use Rattle.std.specs.List.{All};
 ghost use Rattle.std.specs.Arc.{arc_value};
 ghost use Rattle.napi_calls.specs.declared.types.Caller.{Caller};
 ghost use Rattle.napi_calls.specs.Instance.{IsSeatOf, first_of_instance};
-ghost use Rattle.c_handles.specs.declared.body.Body.TheVariants as variant;
+ghost use Rattle.c_handles.specs.declared.body.Object.TheVariants as variant;
 ghost use Rattle.c_handles.specs.declared.body.Ring.{Ring};
 ghost use Rattle.c_handles.specs.Rings.{LeadsTo};
-ghost use Rattle.napi_c.specs.Shared.{AreFree, AreOfOne, IsFree, IsOver, LeadsToRestingSeat};
+ghost use Rattle.napi_c.specs.Shared.{AreFree, AreOfOne, IsFree, IsInstanceOver, LeadsToRestingSeat};
 ghost use Rattle.c_handles.specs.Status.{OK, IN_USE, BAD_COUNT, OUT_OF_MEMORY};
 
 use c_handles::{
-    Body, Controller, FqAnswers, FqHandle, Hold, Input, Power, Ring, Seat, Shared, status,
+    CallerObject, CallerState, ControlState, Controller, FqAnswers, FqHandle, Object, Ring,
+    RingInput, Shared, status,
 };
 use napi_calls::{Caller, Control, Napi, NewBack, Off, close};
 use rx_ring::{names_tell_rings, ring};
@@ -35,7 +36,7 @@ struct Opened {
 }
 
 // Makes an instance with the ring's context. Returns the ring if an allocation fails.
-fn open(alloc: Global, ring: Ring, callers: u32) -> Result<(Input, Opened), Ring>
+fn open(alloc: Global, ring: Ring, callers: u32) -> Result<(RingInput, Opened), Ring>
     requires { (2 ≤ callers) × (callers ≤ 8) }
     ensures input { IfOk result (λ r. r.0 ≡ ring.input) }
     ensures over { IfOk result
@@ -62,7 +63,7 @@ fn open(alloc: Global, ring: Ring, callers: u32) -> Result<(Input, Opened), Ring
 
 // Allocates the memory for a handle's object.
 fn reserve(alloc: Global, handle: &mut FqHandle) -> bool {
-    match Box::new(alloc, Body::Gone) {
+    match Box::new(alloc, Object::Gone) {
         Ok(body) => {
             handle.put(body);
             true
@@ -97,7 +98,7 @@ fn clear(alloc: Global, control: &mut FqHandle, seats: &mut [FqHandle])
 }
 
 // Sets the object of a handle, in the memory that it has.
-fn fill(alloc: Global, handle: &mut FqHandle, body: Body) -> bool
+fn fill(alloc: Global, handle: &mut FqHandle, body: Object) -> bool
     ensures { result ≡ true → handle.new.held.body ≡ Some body }
 {
     let Some(mut boxed) = handle.take(alloc) else {
@@ -121,12 +122,12 @@ fn give_seat(
         caller.abandon();
         return false;
     };
-    let seat = Seat {
+    let seat = CallerObject {
         napi,
-        hold: Hold::Rests(caller),
+        hold: CallerState::Rests(caller),
         answers: FqAnswers::none(),
     };
-    fill(alloc, handle, Body::Seat(seat))
+    fill(alloc, handle, Object::Seat(seat))
 }
 
 fn abandon_all(mut callers: Vec<Caller>) {
@@ -160,7 +161,7 @@ fn give_seats(
 fn give(alloc: Global, opened: Opened, control: &mut FqHandle, seats: &mut [FqHandle]) -> u32
     ensures made { result ≡ OK → AreOfOne control.new seats.new }
     ensures over { result ≡ OK
-        → IsOver (first_of_instance (arc_value opened.napi).napi) control.new }
+        → IsInstanceOver (first_of_instance (arc_value opened.napi).napi) control.new }
     ensures memory { result ≡ OUT_OF_MEMORY → IsFree control.new × AreFree seats.new }
     ensures only { result ≢ OK → result ≡ OUT_OF_MEMORY }
 {
@@ -168,9 +169,9 @@ fn give(alloc: Global, opened: Opened, control: &mut FqHandle, seats: &mut [FqHa
     let given = give_seats(alloc, &napi, callers, seats);
     let controller = Controller {
         napi,
-        power: Power::Off(off),
+        power: ControlState::Off(off),
     };
-    if fill(alloc, control, Body::Controller(controller)) && given {
+    if fill(alloc, control, Object::Controller(controller)) && given {
         return status::OK;
     }
     clear(alloc, control, seats);
@@ -178,7 +179,7 @@ fn give(alloc: Global, opened: Opened, control: &mut FqHandle, seats: &mut [FqHa
 }
 
 // Makes an instance over a handle's ring, whose input stays in the handle.
-fn share(alloc: Global, body: &mut Body, control: &mut FqHandle, seats: &mut [FqHandle]) -> u32
+fn share(alloc: Global, body: &mut Object, control: &mut FqHandle, seats: &mut [FqHandle]) -> u32
     requires { (2 ≤ length seats.old) × (length seats.old ≤ 8) }
     ensures made { result ≡ OK → AreOfOne control.new seats.new }
     ensures memory { result ≡ OUT_OF_MEMORY → IsFree control.new × AreFree seats.new }
@@ -186,27 +187,27 @@ fn share(alloc: Global, body: &mut Body, control: &mut FqHandle, seats: &mut [Fq
     ensures input { (r : Ring) → body.old ≡ variant.Ring r → result ≡ OK
         → body.new ≡ variant.In r.input }
     ensures over { (r : Ring) → body.old ≡ variant.Ring r → result ≡ OK
-        → IsOver r.ctx control.new }
+        → IsInstanceOver r.ctx control.new }
     ensures kept { result ≢ OK → result ≢ OUT_OF_MEMORY → (control.new ≡ control.old)
         × (seats.new ≡ seats.old) × (body.new ≡ body.old) }
 {
     // before it allocates
-    if !matches!(&*body, Body::Ring(_)) {
+    if !matches!(&*body, Object::Ring(_)) {
         return status::BAD_HANDLE;
     }
     if !reserve_all(alloc, control, seats) {
         return status::OUT_OF_MEMORY;
     }
-    let Body::Ring(ring) = mem::replace(body, Body::Gone) else {
+    let Object::Ring(ring) = mem::replace(body, Object::Gone) else {
         unreachable!()
     };
     match open(alloc, ring, seats.len() as u32) {
         Ok((input, opened)) => {
-            *body = Body::In(input);
+            *body = Object::In(input);
             give(alloc, opened, control, seats)
         }
         Err(ring) => {
-            *body = Body::Ring(ring);
+            *body = Object::Ring(ring);
             clear(alloc, control, seats);
             status::OUT_OF_MEMORY
         }
@@ -225,7 +226,8 @@ pub extern "C" fn fq_shared_new(
     ensures made { result ≡ OK → AreOfOne control.new seats.new }
     ensures input { (r : Ring) → LeadsTo input.old r → result ≡ OK
         → input.new.held.body ≡ Some (variant.In r.input) }
-    ensures over { (r : Ring) → LeadsTo input.old r → result ≡ OK → IsOver r.ctx control.new }
+    ensures over { (r : Ring) → LeadsTo input.old r → result ≡ OK
+        → IsInstanceOver r.ctx control.new }
     ensures kept { result ≢ OK → result ≢ OUT_OF_MEMORY → (control.new ≡ control.old)
         × (seats.new ≡ seats.old) × (input.new.held.body ≡ input.old.held.body) }
     ensures memory { result ≡ OUT_OF_MEMORY → IsFree control.new × AreFree seats.new }
@@ -278,6 +280,11 @@ pub extern "C" fn fq_shared_bare(
     let Ok((end, ctx)) = ring(alloc, 1) else {
         return status::OUT_OF_MEMORY;
     };
-    let input = Input::new(end, 1);
-    share(alloc, &mut Body::Ring(Ring { input, ctx }), control, seats)
+    let input = RingInput::new(end, 1);
+    share(
+        alloc,
+        &mut Object::Ring(Ring { input, ctx }),
+        control,
+        seats,
+    )
 }

@@ -1,15 +1,15 @@
 //! Transmit rings for C, under a byte queue limit each.
 ghost use Rattle.std.specs.Prelude.{◌≡◌, ◌≢◌, ◌<◌, ◌≤◌, ◌⊎◌, ◌↔◌, None, Some, IsNone, IsSome};
 ghost use Rattle.dql_core.specs.Bounds.{DQL_MAX_LIMIT};
-ghost use Rattle.dql_core.specs.Limit.{opening};
+ghost use Rattle.dql_core.specs.Limit.{new_limit};
 ghost use Rattle.dql_core.specs.declared.event.DqlFault.TheVariants.{BadBounds};
-ghost use Rattle.tx_ring.specs.Queue.{TransmitQueue, most_places, opening_queue, state_of, after_send, after_done, send_fault, done_fault};
+ghost use Rattle.tx_ring.specs.Queue.{TransmitQueue, most_tx_places, opening_queue, tx_state, after_send, after_done, send_fault, done_fault};
 ghost use Rattle.tx_ring.specs.Ring.{ShowsQueue};
 ghost use Rattle.tx_ring.specs.declared.event.TxFault.{TxFault};
 ghost use Rattle.c_handles.specs.Status.{OK, IN_USE, BAD_CAPACITY, BAD_HANDLE, OUT_OF_MEMORY, dql_status};
 ghost use Rattle.c_handles.specs.Transmits.{IsTxWith, TxShows, tx_status};
 
-use c_handles::{Body, FqHandle, status};
+use c_handles::{FqHandle, Object, status};
 use dql_core::{Dql, DqlFault};
 use std::alloc::Global;
 use tx_ring::{TxFault, TxRing, TxState};
@@ -40,14 +40,14 @@ pub extern "C" fn fq_tx_new(
     now: u64,
 ) -> u32
     ensures made { result ≡ OK
-        → TxShows handle.new (opening_queue capacity (opening min max hold now)) }
+        → TxShows handle.new (opening_queue capacity (new_limit min max hold now)) }
     ensures kept { result ≢ OK → handle.new ≡ handle.old }
     ensures bounds { IsNone handle.old.held.body
         → (max < min) ⊎ (DQL_MAX_LIMIT < max) → result ≡ dql_status (Some BadBounds) }
     ensures capacity { IsNone handle.old.held.body → (min ≤ max) × (max ≤ DQL_MAX_LIMIT)
-        → (capacity ≡ 0) ⊎ (most_places < capacity) → result ≡ BAD_CAPACITY }
+        → (capacity ≡ 0) ⊎ (most_tx_places < capacity) → result ≡ BAD_CAPACITY }
     ensures only { IsNone handle.old.held.body → (min ≤ max) × (max ≤ DQL_MAX_LIMIT)
-        → (1 ≤ capacity) × (capacity ≤ most_places)
+        → (1 ≤ capacity) × (capacity ≤ most_tx_places)
         → (result ≡ OK) ⊎ (result ≡ OUT_OF_MEMORY) }
     ensures in_use { IsSome handle.old.held.body → result ≡ IN_USE }
 {
@@ -59,7 +59,7 @@ pub extern "C" fn fq_tx_new(
         Err(fault) => return u32::from(fault.number()),
     };
     match TxRing::new(alloc, capacity, limit) {
-        Ok(ring) => match Box::new(alloc, Body::Tx(ring)) {
+        Ok(ring) => match Box::new(alloc, Object::Tx(ring)) {
             Ok(body) => {
                 handle.put(body);
                 status::OK
@@ -87,7 +87,7 @@ pub extern "C" fn fq_tx_send(alloc: Global, handle: &mut FqHandle, bytes: u32) -
     status
 }
 
-fn send_in(body: &mut Body, bytes: u32) -> u32
+fn send_in(body: &mut Object, bytes: u32) -> u32
     ensures ok { (t : TransmitQueue) → IsTxWith (λ r. ShowsQueue r t) body.old → result ≡ OK
         → IsTxWith (λ r. ShowsQueue r (after_send t bytes)) body.new }
     ensures status { (t : TransmitQueue) → IsTxWith (λ r. ShowsQueue r t) body.old
@@ -95,7 +95,7 @@ fn send_in(body: &mut Body, bytes: u32) -> u32
     ensures kept { result ≢ OK → body.new ≡ body.old }
 {
     match body {
-        Body::Tx(ring) => match ring.send(bytes) {
+        Object::Tx(ring) => match ring.send(bytes) {
             Ok(()) => status::OK,
             Err(fault) => status_of(fault),
         },
@@ -120,7 +120,7 @@ pub extern "C" fn fq_tx_done(alloc: Global, handle: &mut FqHandle, count: u32, n
     status
 }
 
-fn done_in(body: &mut Body, count: u32, now: u64) -> u32
+fn done_in(body: &mut Object, count: u32, now: u64) -> u32
     ensures ok { (t : TransmitQueue) → IsTxWith (λ r. ShowsQueue r t) body.old → result ≡ OK
         → IsTxWith (λ r. ShowsQueue r (after_done t count now)) body.new }
     ensures status { (t : TransmitQueue) → IsTxWith (λ r. ShowsQueue r t) body.old
@@ -128,7 +128,7 @@ fn done_in(body: &mut Body, count: u32, now: u64) -> u32
     ensures kept { result ≢ OK → body.new ≡ body.old }
 {
     match body {
-        Body::Tx(ring) => match ring.done(count, now) {
+        Object::Tx(ring) => match ring.done(count, now) {
             Ok(()) => status::OK,
             Err(fault) => status_of(fault),
         },
@@ -140,7 +140,7 @@ fn done_in(body: &mut Body, count: u32, now: u64) -> u32
 #[unsafe(no_mangle)]
 pub extern "C" fn fq_tx_state(alloc: Global, handle: &mut FqHandle, state: &mut TxState) -> u32
     ensures shown { (t : TransmitQueue) → TxShows handle.old t → (result ≡ OK)
-        × (state.new ≡ state_of t) }
+        × (state.new ≡ tx_state t) }
     ensures kept { result ≢ OK → (state.new ≡ state.old) × (result ≡ BAD_HANDLE) }
     ensures same { handle.new.held.body ≡ handle.old.held.body }
 {
@@ -152,13 +152,13 @@ pub extern "C" fn fq_tx_state(alloc: Global, handle: &mut FqHandle, state: &mut 
     status
 }
 
-fn state_in(body: &Body, state: &mut TxState) -> u32
+fn state_in(body: &Object, state: &mut TxState) -> u32
     ensures shown { (t : TransmitQueue) → IsTxWith (λ r. ShowsQueue r t) body.now → (result ≡ OK)
-        × (state.new ≡ state_of t) }
+        × (state.new ≡ tx_state t) }
     ensures kept { result ≢ OK → (state.new ≡ state.old) × (result ≡ BAD_HANDLE) }
 {
     match body {
-        Body::Tx(ring) => {
+        Object::Tx(ring) => {
             *state = ring.state();
             status::OK
         }

@@ -7,8 +7,8 @@ use Rattle.napi_model.{specs.{Step.{opening, seen_of}, History.{LegalHistory, ow
 use Rattle.{napi_model.proofs.Histories.{legal_front, own-append, state_after-append}, napi_word.specs.declared.table.Pass.Pass}
 use Rattle.napi_word.specs.{declared.view.Delivery.Delivery, View.{own_deliveries, packets_of}, Surveys.{IsSurveyed, Surveys}}
 use Rattle.napi_word.proofs.{CatchingUp.state_looked, Deliveries.{own_both, own_deliveries_none}, Whole.front_none}
-use Rattle.napi_calls.specs.{Dealt.Delivers, Packets.delivered, Made.{Made, events}, Seats.{controller_of, number_of, own_list, shown}}
-use Rattle.napi_calls.{specs.Alone.{AllShow, GrewBy, MakesAlone, NoneIsLost, OneActsAlone, Shows}, proofs.Steps.prefix_trans}
+use Rattle.napi_calls.specs.{Dealt.Delivers, Packets.delivered, Made.{Made, events}, Seats.{controller_of, pass_number, own_list, shown}}
+use Rattle.napi_calls.{specs.Alone.{AllShow, GrewBy, MakesAlone, NoneIsLost, OneActsAlone, ShowsAlone}, proofs.Steps.prefix_trans}
 use Rattle.rx_ring.specs.declared.packet.Packet.{Packet}
 use mathlib.Core.List.{
   IsPrefix,
@@ -52,10 +52,10 @@ grown_by c h h' es p others mine =
 
 -- a seat made these operations, or none
 pub record Grows (p : Pass) (os : List Operation) (q : Pass) : Type 0 where
-  pub number : number_of q ≡ number_of p
+  pub number : pass_number q ≡ pass_number p
   pub controller : controller_of q ≡ controller_of p
   pub begins : IsPrefix (shown p) (shown q)
-  pub grown : own_list q ≡ own_list p ++ events (number_of p) os
+  pub grown : own_list q ≡ own_list p ++ events (pass_number p) os
 
 pub grows_by : {p q : Pass} {os : List Operation} → Made p os q → Grows p os q
 grows_by m = record { number = m.seat.number; controller = m.seat.controller; begins = m.begins; grown = m.grown }
@@ -64,7 +64,7 @@ pub grows_nothing : (p : Pass) → Grows p [] p
 grows_nothing p = record { number = refl; controller = refl; begins = ([], append-nil (shown p)); grown = sym (append-nil (own_list p)) }
 
 module _ (h h' : List Event) (ds : List Delivery) (c : ℕ) (p q r : Pass) (os : List Operation) (old : List Delivery) (look : Event)
-    (s : Shows h old c p) (g : Grows p os q) (u : IsSurveyed h' look ds q r) where
+    (s : ShowsAlone h old c p) (g : Grows p os q) (u : IsSurveyed h' look ds q r) where
   pub own_then : own c h' ≡ own c h ++ events c os
   own_then =
       ap (λ (n : ℕ). own n h') (sym (g.number ∙ s.number)) ∙ u.view.knew ∙ g.grown
@@ -73,7 +73,7 @@ module _ (h h' : List Event) (ds : List Delivery) (c : ℕ) (p q r : Pass) (os :
   pub begins_then : IsPrefix h h'
   begins_then = subst (λ (l : List Event). IsPrefix l h') s.shows (prefix_trans (shown p) (shown q) h' g.begins u.view.begins)
 
-  pub shows_then : Shows (h' ++ look ∷ []) ds c r
+  pub shows_then : ShowsAlone (h' ++ look ∷ []) ds c r
   shows_then = record {
     number = u.view.number ∙ g.number ∙ s.number;
     controller = u.view.controller ∙ g.controller ∙ s.controller;
@@ -153,12 +153,13 @@ none_but c h h' a0 a1 a2 a3 few few' (suc (suc (suc (suc n)))) =
 
 module _ (c : ℕ) (os : List Operation) (packets : List Packet) (h h' : List Event) (look : Event) (old ds : List Delivery) where
   -- a caller that made no call has the same own list
-  still : (n : ℕ) (p q r : Pass) → Shows h old n p → MakesAlone c os packets n p q → IsSurveyed h' look ds q r → n ≢ c → own n h' ≡ own n h
+  still : (n : ℕ) (p q r : Pass) → ShowsAlone h old n p → MakesAlone c os packets n p q → IsSurveyed h' look ds q r → n ≢ c
+      → own n h' ≡ own n h
   still n p q r s m u apart =
       let e : q ≡ p = rw (ne_eqb n c apart) at m in
       own_then h h' ds n p p r [] old look s (grows_nothing p) (subst (λ (x : Pass). IsSurveyed h' look ds x r) e u) ∙ append-nil (own n h)
 
-  quiet : (n : ℕ) (p q r : Pass) → Shows h old n p → MakesAlone c os packets n p q → IsSurveyed h' look ds q r → n ≢ c
+  quiet : (n : ℕ) (p q r : Pass) → ShowsAlone h old n p → MakesAlone c os packets n p q → IsSurveyed h' look ds q r → n ≢ c
       → own_deliveries n ds ≡ own_deliveries n old
   quiet n p q r s m u apart =
       let e : q ≡ p = rw (ne_eqb n c apart) at m in
@@ -166,7 +167,7 @@ module _ (c : ℕ) (os : List Operation) (packets : List Packet) (h h' : List Ev
       ap (λ (k : ℕ). own_deliveries k ds) (sym s.number) ∙ v.view.delivered_exact ∙ (λ i. own_deliveries (s.number i) (s.delivers i))
 
   -- the caller that made the calls
-  dealt_then : (n : ℕ) (p q r : Pass) → Shows h old n p → Made p os q × Delivers p packets q → IsSurveyed h' look ds q r
+  dealt_then : (n : ℕ) (p q r : Pass) → ShowsAlone h old n p → Made p os q × Delivers p packets q → IsSurveyed h' look ds q r
       → packets_of (own_deliveries n ds) ≡ packets_of (own_deliveries n old) ++ packets
   dealt_then n p q r s m u =
       ap (λ (k : ℕ). packets_of (own_deliveries k ds)) (sym (m.0.seat.number ∙ s.number)) ∙ ap packets_of u.view.delivered_exact ∙ m.1
@@ -176,11 +177,11 @@ module _ (c : ℕ) (os : List Operation) (packets : List Packet) (h h' : List Ev
   grows_either true p q m = (os, grows_by m.0)
   grows_either false p q e = ([], subst (Grows p []) (sym e) (grows_nothing p))
 
-  begins_either : (n : ℕ) (p q r : Pass) → Shows h old n p → MakesAlone c os packets n p q → IsSurveyed h' look ds q r → IsPrefix h h'
+  begins_either : (n : ℕ) (p q r : Pass) → ShowsAlone h old n p → MakesAlone c os packets n p q → IsSurveyed h' look ds q r → IsPrefix h h'
   begins_either n p q r s m u = let g = grows_either (nat_eq n c) p q m in begins_then h h' ds n p q r g.0 old look s g.1 u
 
-  shows_either : (n : ℕ) (p q r : Pass) → Shows h old n p → MakesAlone c os packets n p q → IsSurveyed h' look ds q r
-      → Shows (h' ++ look ∷ []) ds n r
+  shows_either : (n : ℕ) (p q r : Pass) → ShowsAlone h old n p → MakesAlone c os packets n p q → IsSurveyed h' look ds q r
+      → ShowsAlone (h' ++ look ∷ []) ds n r
   shows_either n p q r s m u = let g = grows_either (nat_eq n c) p q m in shows_then h h' ds n p q r g.0 old look s g.1 u
 
 module _ (os : List Operation) (packets : List Packet) (h : List Event) (old : List Delivery) (p0 p1 p2 p3 q0 q1 q2 q3 r0 r1 r2 r3 : Pass)
@@ -229,7 +230,7 @@ module _ (os : List Operation) (packets : List Packet) (h : List Event) (old : L
   dealt_at (suc (suc (suc (suc n)))) low m0 m1 m2 m3 = absurd (omega (arith, low))
 
   -- a caller that made no call had seen all deliveries
-  seen_by : (n : ℕ) (p q r : Pass) → Shows h old n p → q ≡ p → IsSurveyed s.found by s.deliveries q r → IsPrefix old s.deliveries
+  seen_by : (n : ℕ) (p q r : Pass) → ShowsAlone h old n p → q ≡ p → IsSurveyed s.found by s.deliveries q r → IsPrefix old s.deliveries
   seen_by n p q r sh e u = subst (λ (l : List Delivery). IsPrefix l s.deliveries) (ap delivered e ∙ sh.delivers) u.view.delivered_begins
 
   delivered_begins : (c : ℕ) → MakesAlone c os packets 0 p0 q0 → MakesAlone c os packets 1 p1 q1 → IsPrefix old s.deliveries

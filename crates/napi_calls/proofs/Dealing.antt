@@ -4,7 +4,7 @@ use Rattle.rx_ring.specs.declared.{packet.Packet.Packet, ends.{RxCtx.RxCtx, RxIn
 use Rattle.rx_ring.specs.Ends.{RingName, ring_name, received_list, IsOneRing, SameIn}
 use Rattle.napi_word.specs.{declared.{table.Pass.Pass, view.Delivery.Delivery}, View.{delivery, own_deliveries, packets_of}}
 use Rattle.napi_word.proofs.Deliveries.{packets_snoc, own_both, own_one_yes, own_deliveries_none, drop_front}
-use Rattle.napi_calls.specs.{declared.types.Napi.Napi, Seats.{number_of, IsInputOf}, Instance.IsNewSeat}
+use Rattle.napi_calls.specs.{declared.types.Napi.Napi, Seats.{pass_number, PutsIntoRingOf}, Instance.IsNewSeat}
 use Rattle.napi_calls.specs.{Packets.{delivered, own_delivered, received_before, polled, Quiet, GivesBack}, Dealt.Delivers}
 
 pub delivers_none : (p q : Pass) → Quiet p q → Delivers p [] q
@@ -17,9 +17,9 @@ delivers_behind a p q r h k = k ∙ ap (λ (l : List Delivery). packets_of l ++ 
 pub delivers_before : (a : List Packet) (p q r : Pass) → Delivers p a q → Quiet q r → Delivers p a r
 delivers_before a p q r k h = ap packets_of h ∙ k
 
-pub delivers_back : (p q : Pass) (x : RxCtx) → GivesBack p x q → number_of q ≡ number_of p → Delivers p (polled p x) q
+pub delivers_back : (p q : Pass) (x : RxCtx) → GivesBack p x q → pass_number q ≡ pass_number p → Delivers p (polled p x) q
 delivers_back p q x g num =
-    let n = number_of p in
+    let n = pass_number p in
     let d = delivery n (polled p x) g.laid in
     ap packets_of
     ((λ i. own_deliveries (num i) (g.deliveries i)) ∙ own_both n (delivered p) (d ∷ [])
@@ -33,26 +33,26 @@ polled_none p x e =
     ap (drop (length (received_before p))) all ∙ drop_front (received_before p) []
 
 -- the deliveries of a seat that was new
-pub delivered_all : (n : Napi) (c : ℕ) (p q : Pass) (a : List Packet) (ds : List Delivery) → IsNewSeat n c p → number_of q ≡ number_of p
-    → Delivers p a q → own_deliveries (number_of q) ds ≡ own_delivered q → packets_of (own_deliveries c ds) ≡ a
+pub delivered_all : (n : Napi) (c : ℕ) (p q : Pass) (a : List Packet) (ds : List Delivery) → IsNewSeat n c p → pass_number q ≡ pass_number p
+    → Delivers p a q → own_deliveries (pass_number q) ds ≡ own_delivered q → packets_of (own_deliveries c ds) ≡ a
 delivered_all n c p q a ds new num h exact =
     ap (λ (k : ℕ). packets_of (own_deliveries k ds)) (sym (num ∙ new.number_is)) ∙ ap packets_of exact ∙ h
-    ∙ ap (λ (l : List Delivery). packets_of (own_deliveries (number_of p) l) ++ a) new.nothing_delivered
-    ∙ ap (λ (l : List Delivery). packets_of l ++ a) (own_deliveries_none (number_of p))
+    ∙ ap (λ (l : List Delivery). packets_of (own_deliveries (pass_number p) l) ++ a) new.nothing_delivered
+    ∙ ap (λ (l : List Delivery). packets_of l ++ a) (own_deliveries_none (pass_number p))
 
 pub delivers_last : (a : List Packet) (p q r : Pass) → Delivers p a q → Delivers q [] r → Delivers p a r
 delivers_last a p q r h k = k ∙ append-nil (packets_of (own_delivered q)) ∙ h
 
 -- the context was taken, polled once, and given back
 pub turn_delivers : (p r s t : Pass) (x y : RxCtx) (batch : List Packet) → Quiet p r → received_list x ≡ received_before r → s ≡ r
-    → polled s y ≡ polled r x ++ batch → GivesBack s y t → number_of t ≡ number_of s → Delivers p batch t
+    → polled s y ≡ polled r x ++ batch → GivesBack s y t → pass_number t ≡ pass_number s → Delivers p batch t
 turn_delivers p r s t x y batch quiet fresh same more g num =
     delivers_behind batch p s t (subst (λ (z : Pass). Quiet p z) (sym same) quiet)
     (subst (λ (l : List Packet). Delivers s l t) (more ∙ ap (λ (l : List Packet). l ++ batch) (polled_none r x fresh))
     (delivers_back s t y g num))
 
 -- given back without a poll
-pub back_unpolled : (p q : Pass) (x : RxCtx) → received_list x ≡ received_before p → GivesBack p x q → number_of q ≡ number_of p
+pub back_unpolled : (p q : Pass) (x : RxCtx) → received_list x ≡ received_before p → GivesBack p x q → pass_number q ≡ pass_number p
     → Delivers p [] q
 back_unpolled p q x fresh g num = subst (λ (l : List Packet). Delivers p l q) (polled_none p x fresh) (delivers_back p q x g num)
 
@@ -73,6 +73,6 @@ named_ring input x y one same = (
 )
 
 -- after packets were put, an end still belongs to the same ring
-pub same_input : (before after : RxIn) (p : Pass) → SameIn before after → IsInputOf before p → IsInputOf after p
+pub same_input : (before after : RxIn) (p : Pass) → SameIn before after → PutsIntoRingOf before p → PutsIntoRingOf after p
 same_input before after p same fed =
     (fed.0, fed.1, (fed.2.0 ∙ sym same.0.0, fed.2.1 ∙ sym same.0.1, fed.2.2 ∙ sym same.0.2, fed.2.3 ∙ sym same.0.3))

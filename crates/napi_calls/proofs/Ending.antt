@@ -5,10 +5,11 @@ use Rattle.rx_ring.specs.{declared.ends.RxCtx.RxCtx, Ends.{RingName, ring_name, 
 use Rattle.std.proofs.Common.{suc, ◌+◌, ◌<◌, List, [], ◌∷◌, ◌++◌, length, slice_get, Option, Some, false, unwrap_or, eq-eqb, refl, sym, ap}
 use Rattle.std.proofs.Common.{◌∙◌, subst, length-append, arith}
 use Rattle.napi_word.specs.{Passes.{controller_of_table, view_of}, Slot.givers}
-use Rattle.napi_word.specs.{Ends.IsEnded, declared.{view.Holds.TheVariants.{Nothing, Out}, table.Pass.Pass}, View.deliverers}
+use Rattle.napi_word.specs.{Ends.IsClosedTable, declared.{view.Holds.TheVariants.{Nothing, Out}, table.Pass.Pass}, View.deliverers}
 use Rattle.napi_word.{specs.View.{own_deliveries, received_in}, proofs.{Deliveries.received_is, Closing.get_mid}}
 use Rattle.napi_calls.{proofs.{Serving.served, Standing.is_control}, specs.Closed.{seats_of, IsHistoryOf, IsClosed}}
-use Rattle.napi_calls.specs.{declared.types.{Caller.Caller, Napi.Napi}, Seats.number_of, Knows.{Controls, Has}, Instance.first_of_instance}
+use Rattle.napi_calls.specs.{declared.types.{Caller.Caller, Napi.Napi}, Seats.pass_number, Knows.{ControllerKnows, Has}}
+use Rattle.napi_calls.specs.{Instance.first_of_instance}
 use Rattle.napi_model.specs.declared.state.Place.TheVariants as place
 
 pub seats_length : (cs : List Caller) → length (seats_of cs) ≡ length cs
@@ -40,8 +41,8 @@ next_seat cs all rest p n e is =
 pub all_count : (cs : List Caller) (p : Pass) → length (seats_of cs ++ p ∷ []) ≡ length cs + 1
 all_count cs p = length-append (seats_of cs) (p ∷ []) ∙ ap (λ (n : ℕ). n + 1) (seats_length cs)
 
-module _ (n : Napi) (cs : List Caller) (p : Pass) (left : Option RxCtx) (k : Controls place.Control false p)
-    (e : IsEnded n.table (seats_of cs ++ p ∷ []) left) where
+module _ (n : Napi) (cs : List Caller) (p : Pass) (left : Option RxCtx) (k : ControllerKnows place.Control false p)
+    (e : IsClosedTable n.table (seats_of cs ++ p ∷ []) left) where
   at : slice_get (seats_of cs ++ p ∷ []) (length (seats_of cs)) ≡ Some p
   at = get_mid (seats_of cs) [] p
 
@@ -49,7 +50,7 @@ module _ (n : Napi) (cs : List Caller) (p : Pass) (left : Option RxCtx) (k : Con
   ends =
       let i = length (seats_of cs) in
       let held = is_control k.stands in
-      e.places i p at (ap (is_owner (number_of p)) held ∙ eq-eqb (number_of p) (number_of p) refl) ∙ held
+      e.places i p at (ap (is_owner (pass_number p)) held ∙ eq-eqb (pass_number p) (pass_number p) refl) ∙ held
       ∙ ap place.Control (k.stands.number ∙ e.controllers i p at)
 
   one_history : IsHistoryOf (controller_of_table n.table) (seats_of cs ++ p ∷ []) e.history

@@ -4,8 +4,8 @@ use Rattle.std.proofs.Common.{cond, false, ne_eqb, refl, sym, ap, ◌∙◌, sub
 use Rattle.rx_ring.specs.declared.ends.RxCtx.{RxCtx}
 use Rattle.{rx_ring.specs.Ends.{ring_name, received_list}, napi_model.specs.{declared.state.Place.Place, Step.opening}}
 use Rattle.{napi_model.specs.History.{LegalHistory, own, state_after}, napi_word.specs.declared.table.{Pass.Pass, StateTable.StateTable}}
-use Rattle.napi_word.{specs.{View.View, Rule.strand, Passes.{view_of, ctx_of, IsNew, IsPassOf, ring_of_table}}, proofs.Closing.get_mid}
-use Rattle.napi_calls.specs.{declared.types.Napi.Napi, Knows.{own_place, Free, Stands, Controls}, Instance.IsNewSeat}
+use Rattle.napi_word.{specs.{View.View, Rule.strand, Passes.{view_of, ctx_of, IsNewPass, IsPassOf, ring_of_table}}, proofs.Closing.get_mid}
+use Rattle.napi_calls.specs.{declared.types.Napi.Napi, Knows.{own_place, Free, Stands, ControllerKnows}, Instance.IsNewSeat}
 use Rattle.napi_calls.proofs.Standing.{own_self}
 use Rattle.napi_word.specs.View as view
 
@@ -24,26 +24,27 @@ blank : (role : ℕ → Place) (last : ℕ) (of : RxCtx) (c : ℕ) (p : Pass) �
     → own_place c (Place.Control last) ≡ role c → Stands role c p
 unfolding LegalHistory own
 blank role last of c p e is = record {
-  number = ap view.number_of e;
-  legal = subst (λ (v : View). ∥ LegalHistory (view.controller_of v) (opening (view.controller_of v)) (view.shown v) ∥₁) (sym e) ∣ tt ∣₁;
-  exact = subst (λ (v : View). own c (view.shown v) ≡ view.mine v) (sym e) refl;
+  number = ap view.view_number e;
+  legal = subst (λ (v : View). ∥ LegalHistory (view.view_controller v) (opening (view.view_controller v)) (view.view_shown v) ∥₁) (sym e) ∣
+      tt ∣₁;
+  exact = subst (λ (v : View). own c (view.view_shown v) ≡ view.mine v) (sym e) refl;
   place = ap (λ (v : View). own_place c (view.place_in v)) e ∙ ap (own_place c) (opens last of c) ∙ is;
 }
 
-pub new_stands : {t : StateTable} {last : ℕ} {of : RxCtx} {c : ℕ} (p : Pass) → IsNew t last of c p → c < last → Stands Free c p
+pub new_stands : {t : StateTable} {last : ℕ} {of : RxCtx} {c : ℕ} (p : Pass) → IsNewPass t last of c p → c < last → Stands Free c p
 new_stands {t} {last} {of} {c} p new low =
     blank Free last of c p new.view
     (ap (λ (b : Bool). cond b (Place.Control last) Place.Nobody) (ne_eqb last c (λ e. omega (arith, low, e))))
 
-pub new_controls : {t : StateTable} {last : ℕ} {of : RxCtx} (p : Pass) → IsNew t last of last p → Controls Place.Control false p
+pub new_controls : {t : StateTable} {last : ℕ} {of : RxCtx} (p : Pass) → IsNewPass t last of last p → ControllerKnows Place.Control false p
 new_controls {t} {last} {of} p new =
-    let controller : view.controller_of (view_of p) ≡ last = ap view.controller_of new.view in record {
+    let controller : view.view_controller (view_of p) ≡ last = ap view.view_controller new.view in record {
       stands = subst (λ (n : ℕ). Stands Place.Control n p) (sym controller) (blank Place.Control last of last p new.view (own_self last));
       flag = ap view.disable_in new.view ∙ unflagged last of last;
     }
 
 -- the controller's seat has the first context of the instance
-pub new_exact : {t : StateTable} {last : ℕ} {of : RxCtx} (p q : Pass) (x : RxCtx) → IsNew t last of last p → ctx_of p ≡ Some x
+pub new_exact : {t : StateTable} {last : ℕ} {of : RxCtx} (p q : Pass) (x : RxCtx) → IsNewPass t last of last p → ctx_of p ≡ Some x
     → view_of q ≡ view_of p → received_list x ≡ view.received_in (view_of q)
 new_exact {t} {last} {of} p q x new is same =
     let l = new.laid refl in
@@ -55,12 +56,12 @@ pub new_seat : (n : Napi) {last : ℕ} {of : RxCtx} {c : ℕ} (p : Pass) → IsP
     → last ≡ n.callers → ring_of_table n.table ≡ ring_name of → IsNewSeat n c p
 new_seat n {last} {of} {c} p table e count ring = record {
   instance = table;
-  number_is = ap view.number_of e;
-  controller = ap view.controller_of e ∙ count;
-  ring = ap view.ring_of e ∙ ap Some (sym ring);
-  nothing_shown = ap view.shown e;
+  number_is = ap view.view_number e;
+  controller = ap view.view_controller e ∙ count;
+  ring = ap view.view_ring e ∙ ap Some (sym ring);
+  nothing_shown = ap view.view_shown e;
   nothing_done = ap view.mine e;
-  nothing_delivered = ap view.delivered e;
+  nothing_delivered = ap view.view_delivered e;
 }
 
 -- the position of the element at which a list is split

@@ -4,14 +4,14 @@ use Rattle.std.proofs.Common.{eqb-true, true≢false, refl, sym, ap, ◌∙◌, 
 use Rattle.napi_model.specs.declared.event.Event.{Event}
 use Rattle.{napi_model.specs.{declared.event.Operation.Operation, History.own}, napi_word.specs.declared.table.Pass.Pass}
 use Rattle.napi_calls.proofs.Alone.{own_at, own_off}
-use Rattle.napi_calls.specs.{declared.types.Napi.Napi, Seats.{number_of, own_list}, Instance.IsNewSeat, Made.{Made, events}}
+use Rattle.napi_calls.specs.{declared.types.Napi.Napi, Seats.{pass_number, own_list}, Instance.IsNewSeat, Made.{Made, events}}
 
 -- the events of a number whose seat was new, and which then made these
 pub own_of : (n : Napi) (c : ℕ) (p q : Pass) (os : List Operation) (h : List Event) → IsNewSeat n c p → Made p os q
-    → own (number_of q) h ≡ own_list q → own c h ≡ events c os
+    → own (pass_number q) h ≡ own_list q → own c h ≡ events c os
 own_of n c p q os h new m exact =
     ap (λ (k : ℕ). own k h) (sym (m.seat.number ∙ new.number_is)) ∙ exact ∙ m.grown
-    ∙ ap (λ (l : List Event). l ++ events (number_of p) os) new.nothing_done ∙ ap (λ (k : ℕ). events k os) new.number_is
+    ∙ ap (λ (l : List Event). l ++ events (pass_number p) os) new.nothing_done ∙ ap (λ (k : ℕ). events k os) new.number_is
 
 abbrev Few : List Event → Type 0
 Few h = (c : ℕ) → 2 < c → own c h ≡ []

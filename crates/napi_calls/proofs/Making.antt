@@ -4,8 +4,9 @@ use Rattle.{std.proofs.{Common.append_assoc, lemmas.List.{map-append, Concat.fla
 use Rattle.napi_model.specs.declared.event.{Call.Call, Operation.{Operation, TheVariants.{Look, MarkDisable, TakeDisable}}}
 use Rattle.napi_model.specs.{declared.state.{Seen.Seen, Place.Place}, Step.{event, opening}, History.{LegalHistory, own}}
 use Rattle.napi_word.specs.{declared.table.Pass.Pass, View.View, Events.Steps, Passes.{view_of, SameTable}}
-use Rattle.napi_calls.specs.{Seats.{SameSeat, number_of, shown, own_list}, Knows.Stands, Made.{EndsWith, Made, GoesOn, Lost, WasLost}}
-use Rattle.napi_calls.{specs.Made.{looks, waits, events}, proofs.{Steps.{shows_more, shows_legal, prefix_trans}, Standing.shows_of}}
+use Rattle.napi_calls.specs.{Seats.{SameSeat, pass_number, shown, own_list}, Knows.Stands}
+use Rattle.napi_calls.specs.{Made.{EndsWith, Made, ContinuesCall, Lost, WasLost}}
+use Rattle.napi_calls.{specs.Made.{looks, take_attempt, events}, proofs.{Steps.{shows_more, shows_legal, prefix_trans}, Standing.shows_of}}
 use mathlib.Core.List.{IsPrefix}
 use Rattle.napi_word.specs.View as view
 
@@ -35,13 +36,14 @@ nothing {r} {c} {p} st = record {
 pub still : {p q : Pass} {os : List Operation} (r : Pass) → Made p os q → SameTable q r → view_of r ≡ view_of q → Made p os r
 still {p} {q} {os} r m t e = record {
   seat = seat_same m.seat
-      (record { table = t; number = ap view.number_of e; controller = ap view.controller_of e; ring = ap view.ring_of e });
-  begins = subst (λ (v : View). IsPrefix (shown p) (view.shown v)) (sym e) m.begins;
+      (record { table = t; number = ap view.view_number e; controller = ap view.view_controller e; ring = ap view.view_ring e });
+  begins = subst (λ (v : View). IsPrefix (shown p) (view.view_shown v)) (sym e) m.begins;
   grown = ap view.mine e ∙ m.grown;
-  ends = subst (λ (v : View). EndsWith (events (number_of p) os) (view.shown v)) (sym e) m.ends;
+  ends = subst (λ (v : View). EndsWith (events (pass_number p) os) (view.view_shown v)) (sym e) m.ends;
   shows = record {
-    legal = subst (λ (v : View). LegalHistory (view.controller_of v) (opening (view.controller_of v)) (view.shown v)) (sym e) m.shows.legal;
-    exact = subst (λ (v : View). own (view.number_of v) (view.shown v) ≡ view.mine v) (sym e) m.shows.exact;
+    legal = subst (λ (v : View). LegalHistory (view.view_controller v) (opening (view.view_controller v)) (view.view_shown v)) (sym e)
+        m.shows.legal;
+    exact = subst (λ (v : View). own (view.view_number v) (view.view_shown v) ≡ view.mine v) (sym e) m.shows.exact;
   };
 }
 
@@ -49,8 +51,8 @@ still {p} {q} {os} r m t e = record {
 pub step : {p q : Pass} {os : List Operation} {o : Operation} (r : Pass) → Made p os q → SameTable q r → Steps (view_of q) o (view_of r)
     → Made p (os ++ o ∷ []) r
 step {p} {q} {os} {o} r m t g =
-    let c = number_of p in
-    let num : number_of q ≡ c = m.seat.number in record {
+    let c = pass_number p in
+    let num : pass_number q ≡ c = m.seat.number in record {
       seat = seat_same m.seat (record { table = t; number = g.number; controller = g.controller; ring = g.ring });
       begins = prefix_trans (shown p) (shown q) (shown r) m.begins (shows_more q o r g);
       grown = g.grows ∙ ap (λ (n : ℕ). own_list q ++ event n o ∷ []) num ∙ ap (λ (l : List Event). l ++ event c o ∷ []) m.grown
@@ -65,8 +67,8 @@ step {p} {q} {os} {o} r m t g =
 pub more : {p q r : Pass} {os : List Operation} (o : Operation) (ps : List Operation) → Made p os q → Made q (o ∷ ps) r
     → Made p (os ++ o ∷ ps) r
 more {p} {q} {r} {os} o ps m n =
-    let c = number_of p in
-    let num : number_of q ≡ c = m.seat.number in record {
+    let c = pass_number p in
+    let num : pass_number q ≡ c = m.seat.number in record {
       seat = seat_same m.seat n.seat;
       begins = prefix_trans (shown p) (shown q) (shown r) m.begins n.begins;
       grown = n.grown ∙ ap (λ (k : ℕ). own_list q ++ events k (o ∷ ps)) num ∙ ap (λ (l : List Event). l ++ events c (o ∷ ps)) m.grown
@@ -78,7 +80,7 @@ more {p} {q} {r} {os} o ps m n =
 
 -- ---- failed attempts
 
-pub lost : {p q : Pass} (c : Call) (x y : Seen) → GoesOn c x.flags → y ≢ x → Made p (Look x ∷ Look y ∷ []) q → WasLost c p q
+pub lost : {p q : Pass} (c : Call) (x y : Seen) → ContinuesCall c x.flags → y ≢ x → Made p (Look x ∷ Look y ∷ []) q → WasLost c p q
 lost c x y on differ m = (record { first = x; goes_on = on; second = y; differ = differ }, m)
 
 pub more_lost : {p q r : Pass} {c : Call} (ts : List (Lost c)) → Made p (flat_map looks ts) q → WasLost c q r
@@ -92,14 +94,14 @@ more_lost {p} {q} {r} {c} ts m w =
 
 -- the mark, and then the attempts that decided nothing
 abbrev pub Waited : Pass → Pass → Type 0
-Waited p q = (ts : List (Option (Lost Call.TakeDisable))) × Made p (MarkDisable ∷ flat_map waits ts) q
+Waited p q = (ts : List (Option (Lost Call.TakeDisable))) × Made p (MarkDisable ∷ flat_map take_attempt ts) q
 
 pub more_waits : {p q r : Pass} → Waited p q → WasLost Call.TakeDisable q r → Waited p r
 more_waits {p} {q} {r} m w =
     let ts = m.0 in
     let t = w.0 in (
       ts ++ Some t ∷ [],
-      subst (λ (os : List Operation). Made p (MarkDisable ∷ os) r) (sym (flat_map-append waits ts (Some t ∷ [])))
+      subst (λ (os : List Operation). Made p (MarkDisable ∷ os) r) (sym (flat_map-append take_attempt ts (Some t ∷ [])))
           (more (Look t.first) (Look t.second ∷ []) m.1 w.1),
     )
 
@@ -107,6 +109,6 @@ pub more_busy : {p q r : Pass} → Waited p q → Made q (TakeDisable false ∷ 
 more_busy {p} {q} {r} m w =
     let ts = m.0 in (
       ts ++ None ∷ [],
-      subst (λ (os : List Operation). Made p (MarkDisable ∷ os) r) (sym (flat_map-append waits ts (None ∷ [])))
+      subst (λ (os : List Operation). Made p (MarkDisable ∷ os) r) (sym (flat_map-append take_attempt ts (None ∷ [])))
           (more (TakeDisable false) [] m.1 w),
     )

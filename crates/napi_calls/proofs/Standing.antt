@@ -3,13 +3,15 @@ use Rattle.std.proofs.Common.{◌≡◌, ℕ, Bool, true, false, cond, List, Opt
 use Rattle.{std.proofs.Common.subst, napi_model.specs.declared.state.Place.{TheVariants.{Nobody, Granted, Polling, Control}, Place}}
 use Rattle.napi_model.specs.declared.{state.{Kind.Kind, Seen.Seen, State.State}, event.Operation.{Operation, TheVariants.{Look, Hand}}}
 use Rattle.napi_model.specs.{declared.event.Operation.TheVariants.{Take, MarkDisable, TakeDisable, Unmark, Enable}, Step.opening}
-use Rattle.napi_model.specs.{Step.after_by, History.{LegalHistory, own}, Laws.{is_owner, IsOwnedBy, IsPolled}}
+use Rattle.napi_model.specs.{Step.after_by, History.{LegalHistory, own}, Laws.{is_owner, IsOwnedBy, IsPollingPlace}}
 use Rattle.rx_ring.specs.{declared.{ends.{RxIn.RxIn, RxCtx.RxCtx}, packet.Packet.Packet}, Ends.{RingName, ring_name, received_list}}
-use Rattle.{rx_ring.specs.Ends.IsOneRing, napi_word.specs.{Slot.{Delivers, has_slot}, View.View, Events.Steps}}
+use Rattle.{rx_ring.specs.Ends.IsOneRing, napi_word.specs.{Slot.{SlotDelivers, has_slot}, View.View, Events.Steps}}
 use Rattle.napi_word.specs.{declared.{view.Holds.TheVariants.{Out, Nothing}, table.Pass.Pass}, Passes.{view_of, received_of}}
 use Rattle.napi_word.proofs.{Deliveries.{of_prefix, prefix_self, received_stays}, Knowing.{unbusy, take_polls, quiet_polls, step_of}}
-use Rattle.napi_calls.{proofs.{Steps.{found, state_stepped, shows_legal}, Whole.whole}, specs.Knows.{own_place, Free, Stands, BusyPolls}}
-use Rattle.napi_calls.specs.{Knows.{Controls, Has}, Seats.{number_of, controller_of, shown, state_of, ring_of, ShowsLegal, IsInputOf}}
+use Rattle.napi_calls.{proofs.{Steps.{found, state_stepped, shows_legal}, Whole.whole}}
+use Rattle.napi_calls.{specs.Knows.{own_place, Free, Stands, KnowsBusyPoll}}
+use Rattle.napi_calls.specs.{Knows.{ControllerKnows, Has}}
+use Rattle.napi_calls.specs.{Seats.{pass_number, controller_of, shown, state_shown, instance_ring, ShowsLegal, PutsIntoRingOf}}
 use Rattle.napi_word.specs.Slot as slot
 use Rattle.napi_word.specs.View as view
 
@@ -50,29 +52,33 @@ shows_of {r} {c} {p} st = record {
   exact = ap (λ (n : ℕ). own n (shown p)) st.number ∙ st.exact;
 }
 
-pub is_free : {c : ℕ} {p : Pass} → Stands Free c p → is_owner (number_of p) (state_of p).place ≡ false
+pub is_free : {c : ℕ} {p : Pass} → Stands Free c p → is_owner (pass_number p) (state_shown p).place ≡ false
 is_free {c} {p} st =
-    ap (λ (n : ℕ). is_owner n (state_of p).place) st.number ∙ free_by c (state_of p).place (is_owner c (state_of p).place) refl st.place
+    ap (λ (n : ℕ). is_owner n (state_shown p).place) st.number
+    ∙ free_by c (state_shown p).place (is_owner c (state_shown p).place) refl st.place
 
-pub owns_nothing : {c : ℕ} {p : Pass} → Stands Free c p → IsOwnedBy (number_of p) (state_of p).place → ⊥
+pub owns_nothing : {c : ℕ} {p : Pass} → Stands Free c p → IsOwnedBy (pass_number p) (state_shown p).place → ⊥
 owns_nothing {c} {p} st owns = true≢false (sym owns ∙ is_free st)
 
-pub is_granted : {c : ℕ} {p : Pass} → Stands Granted c p → (state_of p).place ≡ Granted (number_of p)
+pub is_granted : {c : ℕ} {p : Pass} → Stands Granted c p → (state_shown p).place ≡ Granted (pass_number p)
 is_granted {c} {p} st =
-    owned c (state_of p).place (Granted c) (is_owner c (state_of p).place) refl st.place (eq-eqb c c refl) ∙ ap Granted (sym st.number)
+    owned c (state_shown p).place (Granted c) (is_owner c (state_shown p).place) refl st.place (eq-eqb c c refl)
+    ∙ ap Granted (sym st.number)
 
-pub is_polling : {c : ℕ} {p : Pass} → Stands Polling c p → (state_of p).place ≡ Polling (number_of p)
+pub is_polling : {c : ℕ} {p : Pass} → Stands Polling c p → (state_shown p).place ≡ Polling (pass_number p)
 is_polling {c} {p} st =
-    owned c (state_of p).place (Polling c) (is_owner c (state_of p).place) refl st.place (eq-eqb c c refl) ∙ ap Polling (sym st.number)
+    owned c (state_shown p).place (Polling c) (is_owner c (state_shown p).place) refl st.place (eq-eqb c c refl)
+    ∙ ap Polling (sym st.number)
 
-pub is_control : {c : ℕ} {p : Pass} → Stands Control c p → (state_of p).place ≡ Control (number_of p)
+pub is_control : {c : ℕ} {p : Pass} → Stands Control c p → (state_shown p).place ≡ Control (pass_number p)
 is_control {c} {p} st =
-    owned c (state_of p).place (Control c) (is_owner c (state_of p).place) refl st.place (eq-eqb c c refl) ∙ ap Control (sym st.number)
+    owned c (state_shown p).place (Control c) (is_owner c (state_shown p).place) refl st.place (eq-eqb c c refl)
+    ∙ ap Control (sym st.number)
 
 -- ---- steps
 
 -- only the place after the event has to be given; the rest follows from the step
-standing : (r : ℕ → Place) (c : ℕ) (p : Pass) (o : Operation) (q : Pass) → (g : Steps (view_of p) o (view_of q)) → number_of p ≡ c
+standing : (r : ℕ → Place) (c : ℕ) (p : Pass) (o : Operation) (q : Pass) → (g : Steps (view_of p) o (view_of q)) → pass_number p ≡ c
     → own_place c (after_by c o (found p o q g)).place ≡ r c → Stands r c q
 standing r c p o q g num is = record {
   number = g.number ∙ num;
@@ -93,7 +99,7 @@ pub kept : {r : ℕ → Place} {c : ℕ} {p : Pass} {o : Operation} (q : Pass) �
 kept {r} {c} {p} {o} q st g leaves =
     let e = st.number in
     let now = (found p o q g).place in
-    let had = (state_of p).place in
+    let had = (state_shown p).place in
     let owner : is_owner c now ≡ is_owner c had = subst (λ (n : ℕ). is_owner n now ≡ is_owner n had) e g.owner in
     let place : is_owner c had ≡ true → now ≡ had = λ h. g.place (ap (λ (n : ℕ). is_owner n had) e ∙ h) in
     standing r c p o q g e (ap (own_place c) (leaves (found p o q g)) ∙ is_kept c had now (is_owner c had) refl owner place ∙ st.place)
@@ -104,60 +110,62 @@ looked q st g = kept q st g (λ s. refl)
 -- moving the context changes nothing that is shown
 pub moved : {r : ℕ → Place} {c : ℕ} {p : Pass} (q : Pass) → Stands r c p → view_of q ≡ view_of p → Stands r c q
 moved {r} {c} {p} q st e = record {
-  number = ap view.number_of e ∙ st.number;
-  legal = subst (λ (v : View). ∥ LegalHistory (view.controller_of v) (opening (view.controller_of v)) (view.shown v) ∥₁) (sym e) st.legal;
-  exact = subst (λ (v : View). own c (view.shown v) ≡ view.mine v) (sym e) st.exact;
+  number = ap view.view_number e ∙ st.number;
+  legal = subst (λ (v : View). ∥ LegalHistory (view.view_controller v) (opening (view.view_controller v)) (view.view_shown v) ∥₁) (sym e)
+      st.legal;
+  exact = subst (λ (v : View). own c (view.view_shown v) ≡ view.mine v) (sym e) st.exact;
   place = ap (λ (v : View). own_place c (view.state_in v).place) e ∙ st.place;
 }
 
 -- a look returns the flags of the state that it leaves
-pub looked_flags : {x : Seen} (p q : Pass) → Steps (view_of p) (Look x) (view_of q) → x.flags ≡ (state_of q).flags
+pub looked_flags : {x : Seen} (p q : Pass) → Steps (view_of p) (Look x) (view_of q) → x.flags ≡ (state_shown q).flags
 looked_flags {x} p q g = ap (λ (y : Seen). y.flags) (step_of (view_of p) (Look x) (view_of q) g).0
     ∙ ap (λ (s : State). s.flags) (sym (state_stepped p (Look x) q g))
 
 -- ---- the poller
 
 -- a granted instance isn't busy polled
-pub granted_unbusy : {c : ℕ} {p : Pass} → Stands Granted c p → BusyPolls false p
-granted_unbusy {c} {p} st = unbusy (controller_of p) (shown p) (shows_of st).legal (λ is. subst IsPolled (is_granted st) is)
+pub granted_unbusy : {c : ℕ} {p : Pass} → Stands Granted c p → KnowsBusyPoll false p
+granted_unbusy {c} {p} st = unbusy (controller_of p) (shown p) (shows_of st).legal (λ is. subst IsPollingPlace (is_granted st) is)
 
 pub busy_taken : {c : ℕ} {p : Pass} {k : Kind} (q : Pass) → Stands Free c p → Steps (view_of p) (Take k true) (view_of q)
-    → BusyPolls false q
+    → KnowsBusyPoll false q
 busy_taken {c} {p} {k} q st g = (take_polls (view_of p) (view_of q) k g).1
 
 -- an event that sets whether the caller busy polls, and one that changes nothing
 pub busy_made : {b : Bool} {r : ℕ → Place} {c : ℕ} {p : Pass} {o : Operation} (q : Pass) → Stands r c p → Steps (view_of p) o (view_of q)
-    → ((c : ℕ) (s : State) → (after_by c o s).flags.in_busy_poll ≡ b) → BusyPolls b q
+    → ((c : ℕ) (s : State) → (after_by c o s).flags.in_busy_poll ≡ b) → KnowsBusyPoll b q
 busy_made {b} {r} {c} {p} {o} q st g is =
-    ap (λ (s : State). s.flags.in_busy_poll) (state_stepped p o q g) ∙ is (number_of p) (found p o q g)
+    ap (λ (s : State). s.flags.in_busy_poll) (state_stepped p o q g) ∙ is (pass_number p) (found p o q g)
 
-pub busy_kept : {b : Bool} {c : ℕ} {p : Pass} {o : Operation} (q : Pass) → Stands Polling c p → BusyPolls b p
+pub busy_kept : {b : Bool} {c : ℕ} {p : Pass} {o : Operation} (q : Pass) → Stands Polling c p → KnowsBusyPoll b p
     → Steps (view_of p) o (view_of q)
-    → ((n : ℕ) (s : State) → after_by n o s ≡ s) → BusyPolls b q
+    → ((n : ℕ) (s : State) → after_by n o s ≡ s) → KnowsBusyPoll b q
 busy_kept {b} {c} {p} {o} q st busy g quiet =
-    (quiet_polls (view_of p) o (view_of q) g (quiet (number_of p) (found p o q g)) (is_polling st, busy)).1
+    (quiet_polls (view_of p) o (view_of q) g (quiet (pass_number p) (found p o q g)) (is_polling st, busy)).1
 
-pub busy_looked : {b : Bool} {c : ℕ} {p : Pass} {x : Seen} (q : Pass) → Stands Polling c p → BusyPolls b p
-    → Steps (view_of p) (Look x) (view_of q) → BusyPolls b q
+pub busy_looked : {b : Bool} {c : ℕ} {p : Pass} {x : Seen} (q : Pass) → Stands Polling c p → KnowsBusyPoll b p
+    → Steps (view_of p) (Look x) (view_of q) → KnowsBusyPoll b q
 busy_looked q st busy g = busy_kept q st busy g (λ n s. refl)
 
-pub busy_moved : {b : Bool} {c : ℕ} {p : Pass} (q : Pass) → Stands Polling c p → BusyPolls b p → view_of q ≡ view_of p → BusyPolls b q
+pub busy_moved : {b : Bool} {c : ℕ} {p : Pass} (q : Pass) → Stands Polling c p → KnowsBusyPoll b p → view_of q ≡ view_of p
+    → KnowsBusyPoll b q
 busy_moved {b} q st busy e = ap (λ (v : View). (view.state_in v).flags.in_busy_poll) e ∙ busy
 
 -- the context is taken out of the slot as the pass has it there
-pub outside : (p q : Pass) (x : RxCtx) → q.holds ≡ Out → view_of q ≡ view_of p → ring_of p ≡ Some (ring_name x)
+pub outside : (p q : Pass) (x : RxCtx) → q.holds ≡ Out → view_of q ≡ view_of p → instance_ring p ≡ Some (ring_name x)
     → received_list x ≡ received_of p → Has q (Some x)
 outside p q x out same ring is = record {
   holds = out;
-  ring = ap view.ring_of same ∙ ring;
+  ring = ap view.view_ring same ∙ ring;
   received =
       subst (λ (v : View). view.Continues (view.received_in v) (received_list x)) (sym same)
       (subst (λ (l : List Packet). view.Continues (view.received_in (view_of p)) l) (sym is) p.received);
 }
 
 -- a step that leaves the slot keeps what the context has received since
-pub stays_has : (p q : Pass) (x : RxCtx) → Has p (Some x) → q.holds ≡ p.holds → ring_of q ≡ ring_of p
-    → Delivers slot.stays p.seat.me q.seat.me → Has q (Some x)
+pub stays_has : (p q : Pass) (x : RxCtx) → Has p (Some x) → q.holds ≡ p.holds → instance_ring q ≡ instance_ring p
+    → SlotDelivers slot.stays p.seat.me q.seat.me → Has q (Some x)
 stays_has p q x h holds ring g = record {
   holds = holds ∙ h.holds;
   ring = ring ∙ h.ring;
@@ -171,59 +179,65 @@ has_none q holds = record { holds = holds; ring = refl; received = of_prefix _ _
 
 -- ---- the controller
 
-pub controls_moved : {r : ℕ → Place} {b : Bool} {p : Pass} (q : Pass) → Controls r b p → view_of q ≡ view_of p → Controls r b q
+pub controls_moved : {r : ℕ → Place} {b : Bool} {p : Pass} (q : Pass) → ControllerKnows r b p → view_of q ≡ view_of p
+    → ControllerKnows r b q
 controls_moved {r} {b} {p} q k e = record {
-  stands = subst (λ (n : ℕ). Stands r n q) (ap view.controller_of (sym e)) (moved q k.stands e);
+  stands = subst (λ (n : ℕ). Stands r n q) (ap view.view_controller (sym e)) (moved q k.stands e);
   flag = ap (λ (v : View). (view.state_in v).flags.disable) e ∙ k.flag;
 }
 
 -- the flag after an event that sets it, and after one that keeps it
 flag_made : (b : Bool) (p : Pass) (o : Operation) (q : Pass) → Steps (view_of p) o (view_of q)
-    → ((c : ℕ) (s : State) → (after_by c o s).flags.disable ≡ b) → (state_of q).flags.disable ≡ b
-flag_made b p o q g is = ap (λ (s : State). s.flags.disable) (state_stepped p o q g) ∙ is (number_of p) (found p o q g)
+    → ((c : ℕ) (s : State) → (after_by c o s).flags.disable ≡ b) → (state_shown q).flags.disable ≡ b
+flag_made b p o q g is = ap (λ (s : State). s.flags.disable) (state_stepped p o q g) ∙ is (pass_number p) (found p o q g)
 
-flag_kept : (r : ℕ → Place) (b : Bool) (p : Pass) (o : Operation) (q : Pass) → Steps (view_of p) o (view_of q) → Controls r b p
-    → ((c : ℕ) (s : State) → (after_by c o s).flags.disable ≡ s.flags.disable) → (state_of q).flags.disable ≡ b
+flag_kept : (r : ℕ → Place) (b : Bool) (p : Pass) (o : Operation) (q : Pass) → Steps (view_of p) o (view_of q) → ControllerKnows r b p
+    → ((c : ℕ) (s : State) → (after_by c o s).flags.disable ≡ s.flags.disable) → (state_shown q).flags.disable ≡ b
 flag_kept r b p o q g k leaves =
-    ap (λ (s : State). s.flags.disable) (state_stepped p o q g) ∙ leaves (number_of p) (found p o q g) ∙ g.disable k.stands.number ∙ k.flag
+    ap (λ (s : State). s.flags.disable) (state_stepped p o q g) ∙ leaves (pass_number p) (found p o q g) ∙ g.disable k.stands.number
+    ∙ k.flag
 
 controlling : (r : ℕ → Place) (b : Bool) (p : Pass) (o : Operation) (q : Pass) → Steps (view_of p) o (view_of q)
-    → Stands r (controller_of p) q → (state_of q).flags.disable ≡ b → Controls r b q
+    → Stands r (controller_of p) q → (state_shown q).flags.disable ≡ b → ControllerKnows r b q
 controlling r b p o q g st flag = record { stands = subst (λ (n : ℕ). Stands r n q) (sym g.controller) st; flag = flag }
 
-pub control_looked : {r : ℕ → Place} {b : Bool} {p : Pass} {x : Seen} (q : Pass) → Controls r b p → Steps (view_of p) (Look x) (view_of q)
-    → Controls r b q
+pub control_looked : {r : ℕ → Place} {b : Bool} {p : Pass} {x : Seen} (q : Pass) → ControllerKnows r b p
+    → Steps (view_of p) (Look x) (view_of q)
+    → ControllerKnows r b q
 control_looked {r} {b} {p} {x} q k g =
     controlling r b p (Look x) q g (looked q k.stands g) (flag_kept r b p (Look x) q g k (λ c s. refl))
 
-pub control_busy : {r : ℕ → Place} {b : Bool} {p : Pass} (q : Pass) → Controls r b p → Steps (view_of p) (TakeDisable false) (view_of q)
-    → Controls r b q
+pub control_busy : {r : ℕ → Place} {b : Bool} {p : Pass} (q : Pass) → ControllerKnows r b p
+    → Steps (view_of p) (TakeDisable false) (view_of q)
+    → ControllerKnows r b q
 control_busy {r} {b} {p} q k g =
     controlling r b p (TakeDisable false) q g (kept q k.stands g (λ s. refl)) (flag_kept r b p (TakeDisable false) q g k (λ c s. refl))
 
-pub control_marked : {p : Pass} (q : Pass) → Controls Free false p → Steps (view_of p) MarkDisable (view_of q) → Controls Free true q
+pub control_marked : {p : Pass} (q : Pass) → ControllerKnows Free false p → Steps (view_of p) MarkDisable (view_of q)
+    → ControllerKnows Free true q
 control_marked {p} q k g =
     controlling Free true p MarkDisable q g (kept q k.stands g (λ s. refl)) (flag_made true p MarkDisable q g (λ c s. refl))
 
-pub control_taken : {p : Pass} (q : Pass) → Controls Free true p → Steps (view_of p) (TakeDisable true) (view_of q)
-    → Controls Control true q
+pub control_taken : {p : Pass} (q : Pass) → ControllerKnows Free true p → Steps (view_of p) (TakeDisable true) (view_of q)
+    → ControllerKnows Control true q
 control_taken {p} q k g =
     controlling Control true p (TakeDisable true) q g (made Control q k.stands g (λ s. own_self (controller_of p)))
     (flag_kept Free true p (TakeDisable true) q g k (λ c s. refl))
 
-pub control_unmarked : {p : Pass} (q : Pass) → Controls Control true p → Steps (view_of p) Unmark (view_of q) → Controls Control false q
+pub control_unmarked : {p : Pass} (q : Pass) → ControllerKnows Control true p → Steps (view_of p) Unmark (view_of q)
+    → ControllerKnows Control false q
 control_unmarked {p} q k g =
     controlling Control false p Unmark q g (kept q k.stands g (λ s. refl)) (flag_made false p Unmark q g (λ c s. refl))
 
-pub control_enabled : {p : Pass} (b : Bool) (q : Pass) → Controls Control false p → Steps (view_of p) (Enable b) (view_of q)
-    → Controls Free false q
+pub control_enabled : {p : Pass} (b : Bool) (q : Pass) → ControllerKnows Control false p → Steps (view_of p) (Enable b) (view_of q)
+    → ControllerKnows Free false q
 control_enabled {p} b q k g =
     controlling Free false p (Enable b) q g (made Free q k.stands g (λ s. refl)) (flag_kept Control false p (Enable b) q g k (λ c s. refl))
 
 -- ---- the ring
 
 -- the two ends of the ring are those of the instance
-pub one_ring : {p : Pass} {ctx : RxCtx} (input : RxIn) → Has p (Some ctx) → IsInputOf input p → IsOneRing input ctx
+pub one_ring : {p : Pass} {ctx : RxCtx} (input : RxIn) → Has p (Some ctx) → PutsIntoRingOf input p → IsOneRing input ctx
 one_ring {p} {ctx} input has fed =
     let same : ring_name fed.0 ≡ ring_name ctx = ap (λ (o : Option RingName). unwrap_or o (ring_name ctx)) (sym fed.1 ∙ has.ring) in (
       sym (ap (λ (n : RingName). n.0) same) ∙ fed.2.0,
@@ -234,7 +248,8 @@ one_ring {p} {ctx} input has fed =
     )
 
 -- a context that was taken has received exactly what was delivered
-pub fresh : (p q r : Pass) (x : RxCtx) → Delivers slot.taken p.seat.me q.seat.me → received_list x ≡ received_of q → view_of r ≡ view_of q
+pub fresh : (p q r : Pass) (x : RxCtx) → SlotDelivers slot.taken p.seat.me q.seat.me → received_list x ≡ received_of q
+    → view_of r ≡ view_of q
     → received_list x ≡ view.received_in (view_of r)
 fresh p q r x g is same =
     let t = g.shifts.1 in

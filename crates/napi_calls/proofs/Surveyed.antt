@@ -5,8 +5,9 @@ use Rattle.napi_word.{proofs.{Deliveries.{of_prefix, prefix_self, received_as}, 
 use Rattle.napi_word.specs.{declared.view.Delivery.Delivery, View.Continues, Slot.has_slot, Passes.view_of, Surveys.{IsWhole, CatchesUp}}
 use Rattle.{napi_word.specs.Surveys.IsSurveyed, napi_model.specs.declared.event.{Event.Event, Operation.TheVariants.Look}}
 use Rattle.napi_model.specs.{declared.state.{State.State, Seen.Seen, Place.Place}, Step.{event, opening}, History.LegalHistory}
-use Rattle.{napi_model.specs.{History.{state_after, own}, Laws.is_owner}, napi_calls.specs.Seats.{controller_of, number_of, state_of}}
-use Rattle.napi_calls.{specs.Knows.{own_place, Stands, BusyPolls, Controls, Has, received_held}, proofs.Standing.{is_kept, is_polling}}
+use Rattle.{napi_model.specs.{History.{state_after, own}, Laws.is_owner}, napi_calls.specs.Seats.{controller_of, pass_number, state_shown}}
+use Rattle.napi_calls.{specs.Knows.{own_place, Stands, KnowsBusyPoll, ControllerKnows, Has, received_held}}
+use Rattle.napi_calls.{proofs.Standing.{is_kept, is_polling}}
 use Rattle.napi_word.specs.View as view
 use Rattle.napi_model.specs.declared.state.Place.TheVariants as place
 
@@ -18,13 +19,13 @@ module _ (k : ℕ) (h : List Event) (looker : ℕ) (seen : Seen) (ds : List Deli
   abbrev u : CatchesUp h (event looker (Look seen)) ds (view_of p) (view_of q)
   u = s.view
 
-  state_is : state_of q ≡ state_after (opening (controller_of p)) h
+  state_is : state_shown q ≡ state_after (opening (controller_of p)) h
   state_is = (λ i. state_after (opening (u.controller i)) (u.shown i)) ∙ state_looked (opening (controller_of p)) h looker seen
 
   pub stands_up : {r : ℕ → Place} {c : ℕ} → Stands r c p → Stands r c q
   stands_up {r} {c} st =
       let e = st.number in
-      let had = (state_of p).place in
+      let had = (state_shown p).place in
       let now = (state_after (opening (controller_of p)) h).place in
       let owner : is_owner c now ≡ is_owner c had = subst (λ (n : ℕ). is_owner n now ≡ is_owner n had) e u.owner in
       let place : is_owner c had ≡ true → now ≡ had = λ t. u.place (ap (λ (n : ℕ). is_owner n had) e ∙ t) in record {
@@ -36,11 +37,11 @@ module _ (k : ℕ) (h : List Event) (looker : ℕ) (seen : Seen) (ds : List Deli
       }
 
   -- a caller that polls, or busy polls, still does
-  pub busy_up : {b : Bool} {c : ℕ} → Stands place.Polling c p → BusyPolls b p → BusyPolls b q
+  pub busy_up : {b : Bool} {c : ℕ} → Stands place.Polling c p → KnowsBusyPoll b p → KnowsBusyPoll b q
   busy_up {b} {c} st busy = ap (λ (t : State). t.flags.in_busy_poll) state_is
-      ∙ u.busy (ap (is_owner (number_of p)) (is_polling st) ∙ eq-eqb (number_of p) (number_of p) refl) ∙ busy
+      ∙ u.busy (ap (is_owner (pass_number p)) (is_polling st) ∙ eq-eqb (pass_number p) (pass_number p) refl) ∙ busy
 
-  pub controls_up : {r : ℕ → Place} {b : Bool} → Controls r b p → Controls r b q
+  pub controls_up : {r : ℕ → Place} {b : Bool} → ControllerKnows r b p → ControllerKnows r b q
   controls_up {r} {b} c = record {
     stands = subst (λ (n : ℕ). Stands r n q) (sym u.controller) (stands_up c.stands);
     flag = ap (λ (t : State). t.flags.disable) state_is ∙ u.disable c.stands.number ∙ c.flag;

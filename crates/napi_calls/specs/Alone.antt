@@ -4,11 +4,11 @@ use Rattle.{rx_ring.specs.declared.packet.Packet.Packet, napi_model.specs.declar
 use Rattle.napi_model.specs.{declared.{event.Operation.TheVariants.Look, state.{Seen.Seen, State.State}}, Step.{event, opening}}
 use Rattle.{napi_model.specs.History.{LegalHistory, own, state_after}, napi_word.specs.declared.{table.Pass.Pass, view.Delivery.Delivery}}
 use Rattle.{napi_word.specs.{View.{own_deliveries, packets_of}, Surveys.Surveys}, napi_calls.specs.{Dealt.Delivers, Packets.delivered}}
-use Rattle.napi_calls.specs.{Made.{Lost, Made, events, looks}, Seats.{controller_of, number_of, own_list, shown}}
+use Rattle.napi_calls.specs.{Made.{Lost, Made, events, looks}, Seats.{controller_of, pass_number, own_list, shown}}
 
 -- the seat of this number shows this history, in which its own list is exact, and these deliveries
-pub record Shows (h : List Event) (ds : List Delivery) (c : ℕ) (p : Pass) : Type 0 where
-  pub number : number_of p ≡ c
+pub record ShowsAlone (h : List Event) (ds : List Delivery) (c : ℕ) (p : Pass) : Type 0 where
+  pub number : pass_number p ≡ c
   pub controller : controller_of p ≡ 3
   pub shows : shown p ≡ h
   pub exact : own c h ≡ own_list p
@@ -16,10 +16,10 @@ pub record Shows (h : List Event) (ds : List Delivery) (c : ℕ) (p : Pass) : Ty
 
 -- the seats of the numbers 0 to 3 show it, and no other number has an event or a delivery
 pub record AllShow (h : List Event) (ds : List Delivery) (first second third last : Pass) : Type 0 where
-  pub zeroth : Shows h ds 0 first
-  pub one : Shows h ds 1 second
-  pub two : Shows h ds 2 third
-  pub three : Shows h ds 3 last
+  pub zeroth : ShowsAlone h ds 0 first
+  pub one : ShowsAlone h ds 1 second
+  pub two : ShowsAlone h ds 2 third
+  pub three : ShowsAlone h ds 3 last
   pub others : (n : ℕ) → 3 < n → own n h ≡ []
   pub few : (n : ℕ) → 3 < n → own_deliveries n ds ≡ []
 

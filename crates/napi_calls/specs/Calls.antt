@@ -4,7 +4,7 @@ use Rattle.napi_model.specs.declared.{state.{Seen.Seen, Kind.Kind}, event.Operat
 use Rattle.napi_model.specs.{declared.event.Operation.TheVariants.{BusyStop, MarkDisable, TakeDisable, Unmark, Enable}, Step.MayBusyTake}
 use Rattle.{napi_word.specs.declared.table.Pass.Pass, napi_calls.specs.declared.types.{Caller.Caller, Polling.Polling, Busy.Busy}}
 use Rattle.napi_calls.specs.declared.answers.{TryPrep.TryPrep, Sched.Sched, TryDone.TryDone, Completed.Completed, TryBusy.TryBusy}
-use Rattle.napi_calls.specs.{declared.answers.{TryStop.TryStop, TryTake.TryTake}, Made.{Made, Lost, WasLost, looks, waits}}
+use Rattle.napi_calls.specs.{declared.answers.{TryStop.TryStop, TryTake.TryTake}, Made.{Made, Lost, WasLost, looks, take_attempt}}
 use Rattle.napi_model.specs.declared.event.Prep.TheVariants as prep
 use Rattle.napi_model.specs.declared.event.Done.TheVariants as done
 use Rattle.napi_model.specs.declared.event.Call.TheVariants as call
@@ -108,7 +108,7 @@ Stops p q = (ts : List (Lost call.BusyStop)) × (x : Seen) × Made p (flat_map l
 -- the mark, and then the attempts
 abbrev pub Disables : Pass → Pass → Type 0
 Disables p q = (ts : List (Option (Lost call.TakeDisable))) × (x : Seen)
-    × Made p ((MarkDisable ∷ flat_map waits ts) ++ Look x ∷ TakeDisable true ∷ Unmark ∷ []) q
+    × Made p ((MarkDisable ∷ flat_map take_attempt ts) ++ Look x ∷ TakeDisable true ∷ Unmark ∷ []) q
 
 abbrev pub Enables : Bool → Pass → Pass → Type 0
 Enables threaded p q =

@@ -4,8 +4,8 @@ use Rattle.rx_ring.specs.{declared.ends.RxCtx.RxCtx, Ends.{ring_name, received_l
 use Rattle.napi_model.specs.{declared.{state.Place.TheVariants.Control, event.Event.Event}, Step.opening, History.LegalHistory}
 use Rattle.{napi_model.specs.History.{state_after, own, IsAcceptedSchedule}, napi_word.specs.declared.table.Pass.Pass}
 use Rattle.napi_word.specs.{declared.view.Delivery.Delivery, View.{own_deliveries, received_by, deliverers}, Slot.givers}
-use Rattle.napi_calls.specs.{declared.types.{Napi.Napi, Caller.Caller}, Seats.{number_of, shown, own_list}, Instance.callers_of}
-use Rattle.napi_calls.specs.{Instance.{ring_of_instance, first_of_instance}, Packets.own_delivered, Served.IsServed}
+use Rattle.napi_calls.specs.{declared.types.{Napi.Napi, Caller.Caller}, Seats.{pass_number, shown, own_list}, Instance.callers_of}
+use Rattle.napi_calls.specs.{Instance.{ring_of_instance, first_of_instance}, Packets.own_delivered, Served.IsPolledBeforeRelease}
 use mathlib.Core.List.{IsPrefix}
 
 -- the callers' seats
@@ -23,8 +23,8 @@ pub record IsHistoryOf (k : ℕ) (seats : List Pass) (h : List Event) : Type 0 w
   -- whatever a seat has seen is a prefix of it
   pub begins : Each seats (λ p. IsPrefix (shown p) h)
   -- each own list is exact, each number has its seat, and no other number has an event
-  pub exact : Each seats (λ p. own (number_of p) h ≡ own_list p)
-  pub all : (c : ℕ) → c ≤ k → (i : ℕ) × (p : Pass) × (slice_get seats i ≡ Some p) × (number_of p ≡ c)
+  pub exact : Each seats (λ p. own (pass_number p) h ≡ own_list p)
+  pub all : (c : ℕ) → c ≤ k → (i : ℕ) × (p : Pass) × (slice_get seats i ≡ Some p) × (pass_number p ≡ c)
   pub only : (c : ℕ) → k < c → own c h ≡ []
   -- the longest list shown is all of it
   pub longest : Each seats (λ p. Each seats (λ q. length (shown q) ≤ length (shown p)) → shown p ≡ h)
@@ -32,7 +32,7 @@ pub record IsHistoryOf (k : ℕ) (seats : List Pass) (h : List Event) : Type 0 w
   pub ends : (state_after (opening k) h).place ≡ Control k
   -- every accepted schedule is followed by a Released, with a poll start between it and the next one
   pub served : (front : List Event) (e : Event) (rest : List Event) → h ≡ front ++ e ∷ rest
-      → IsAcceptedSchedule (state_after (opening k) front) e → IsServed false rest
+      → IsAcceptedSchedule (state_after (opening k) front) e → IsPolledBeforeRelease false rest
 
 -- all callers were given, there is exactly one such history, and the context is that of the ring with which the instance was
 -- made
@@ -44,7 +44,7 @@ pub record IsClosed (n : Napi) (callers : List Caller) (control : Pass) (ctx : R
   -- one delivery for each event that gave the context back, in order; each caller's own are those that it made
   pub deliveries : List Delivery
   pub order : deliverers deliveries ≡ givers (opening (callers_of n)) history
-  pub own_exact : Each (seats_of callers ++ control ∷ []) (λ p. own_deliveries (number_of p) deliveries ≡ own_delivered p)
+  pub own_exact : Each (seats_of callers ++ control ∷ []) (λ p. own_deliveries (pass_number p) deliveries ≡ own_delivered p)
   pub own_only : (c : ℕ) → callers_of n < c → own_deliveries c deliveries ≡ []
   -- the context has received what it had when the instance was made, and then these, concatenated: each packet once
   pub received : received_list ctx ≡ received_by (first_of_instance n) deliveries

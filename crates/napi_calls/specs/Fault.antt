@@ -15,6 +15,6 @@ abbrev pub is_bad_count : ℕ → Bool
 is_bad_count n = nat_lt n 2 || nat_lt 8 n
 
 -- the only error of a call with this many callers
-abbrev pub fault_of : Bool → NewFault
-fault_of true = BadCount
-fault_of false = OutOfMemory
+abbrev pub new_fault : Bool → NewFault
+new_fault true = BadCount
+new_fault false = OutOfMemory

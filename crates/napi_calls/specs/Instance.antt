@@ -2,7 +2,8 @@
 use Rattle.std.specs.Prelude.{◌≡◌, ℕ, Some, []}
 use Rattle.rx_ring.specs.{declared.ends.RxCtx.RxCtx, Ends.RingName}
 use Rattle.napi_word.specs.{declared.table.Pass.Pass, Passes.{IsPassOf, ring_of_table, first_of_table}}
-use Rattle.napi_calls.specs.{declared.types.Napi.Napi, Seats.{number_of, controller_of, shown, own_list, ring_of}, Packets.delivered}
+use Rattle.napi_calls.specs.{declared.types.Napi.Napi, Seats.{pass_number, controller_of, shown, own_list, instance_ring}}
+use Rattle.napi_calls.specs.{Packets.delivered}
 
 -- the number of callers, which is also the controller's number
 abbrev pub callers_of : Napi → ℕ
@@ -23,9 +24,9 @@ IsSeatOf n p = IsPassOf n.table p
 -- a new seat: it has seen nothing, and its own list is empty
 pub record IsNewSeat (n : Napi) (number : ℕ) (p : Pass) : Type 0 where
   pub instance : IsSeatOf n p
-  pub number_is : number_of p ≡ number
+  pub number_is : pass_number p ≡ number
   pub controller : controller_of p ≡ callers_of n
-  pub ring : ring_of p ≡ Some (ring_of_instance n)
+  pub ring : instance_ring p ≡ Some (ring_of_instance n)
   pub nothing_shown : shown p ≡ []
   pub nothing_done : own_list p ≡ []
   pub nothing_delivered : delivered p ≡ []

@@ -4,8 +4,8 @@ use Rattle.rx_ring.specs.declared.ends.RxCtx.{RxCtx}
 use Rattle.rx_ring.specs.{declared.packet.Packet.Packet, Ends.{RingName, ring_name, received_list}}
 use Rattle.napi_model.specs.{declared.state.Place.Place, Laws.is_owner, Step.opening, History.{LegalHistory, own}}
 use Rattle.napi_word.specs.{View.{received_in, Continues}, Passes.view_of, declared.{table.Pass.Pass, view.Holds.Holds}}
-use Rattle.{napi_word.specs.declared.view.Holds.TheVariants.{Nothing, Out}, napi_calls.specs.Seats.{number_of, controller_of, shown}}
-use Rattle.napi_calls.specs.Seats.{own_list, state_of, ring_of}
+use Rattle.{napi_word.specs.declared.view.Holds.TheVariants.{Nothing, Out}, napi_calls.specs.Seats.{pass_number, controller_of, shown}}
+use Rattle.napi_calls.specs.Seats.{own_list, state_shown, instance_ring}
 use Rattle.napi_model.specs.declared.state.Place.TheVariants as place
 
 -- the place as number c sees it, which doesn't distinguish other owners from none
@@ -18,23 +18,23 @@ Free c = place.Nobody
 
 -- number c shows a legal history and its exact own list, and has this place in the state after the history
 pub record Stands (role : ℕ → Place) (c : ℕ) (p : Pass) : Type 0 where
-  pub number : number_of p ≡ c
+  pub number : pass_number p ≡ c
   pub legal : ∥ LegalHistory (controller_of p) (opening (controller_of p)) (shown p) ∥₁
   pub exact : own c (shown p) ≡ own_list p
-  pub place : own_place c (state_of p).place ≡ role c
+  pub place : own_place c (state_shown p).place ≡ role c
 
 -- a caller that polls knows whether it busy polls
-abbrev pub BusyPolls : Bool → Pass → Type 0
-BusyPolls busy p = (state_of p).flags.in_busy_poll ≡ busy
+abbrev pub KnowsBusyPoll : Bool → Pass → Type 0
+KnowsBusyPoll busy p = (state_shown p).flags.in_busy_poll ≡ busy
 
 -- the same for the controller, which also knows the disable flag
-pub record Controls (role : ℕ → Place) (disable : Bool) (p : Pass) : Type 0 where
+pub record ControllerKnows (role : ℕ → Place) (disable : Bool) (p : Pass) : Type 0 where
   pub stands : Stands role (controller_of p) p
-  pub flag : (state_of p).flags.disable ≡ disable
+  pub flag : (state_shown p).flags.disable ≡ disable
 
-abbrev pub held : Option RxCtx → Holds
-held (Some x) = Out
-held None = Nothing
+abbrev pub held_slot : Option RxCtx → Holds
+held_slot (Some x) = Out
+held_slot None = Nothing
 
 abbrev pub ring_held : Option RxCtx → Option RingName → Option RingName
 ring_held (Some x) ring = Some (ring_name x)
@@ -46,7 +46,7 @@ received_held None known = known
 
 -- the value has the context, out of the instance's slot, and it is that of the instance's ring; or the value has none
 pub record Has (p : Pass) (ctx : Option RxCtx) : Type 0 where
-  pub holds : p.holds ≡ held ctx
-  pub ring : ring_of p ≡ ring_held ctx (ring_of p)
+  pub holds : p.holds ≡ held_slot ctx
+  pub ring : instance_ring p ≡ ring_held ctx (instance_ring p)
   -- it has received all packets delivered, and maybe more since
   pub received : Continues (received_in (view_of p)) (received_held ctx (received_in (view_of p)))

@@ -2,7 +2,7 @@
 use Rattle.std.specs.Prelude.{◌≡◌, ◌≢◌, ℕ, true, false, List, [], ◌∷◌, ◌++◌, map, Option, Some, None}
 use Rattle.napi_model.specs.declared.{state.{Flags.Flags, Seen.Seen}, event.{Call.Call, Event.Event, Operation.Operation}}
 use Rattle.napi_model.specs.{declared.event.Operation.TheVariants.{Look, TakeDisable}, Step.{event, MayBusyTake}}
-use Rattle.{napi_word.specs.declared.table.Pass.Pass, napi_calls.specs.Seats.{SameSeat, ShowsLegal, number_of, shown, own_list}}
+use Rattle.{napi_word.specs.declared.table.Pass.Pass, napi_calls.specs.Seats.{SameSeat, ShowsLegal, pass_number, shown, own_list}}
 use mathlib.Core.List.{IsPrefix}
 use Rattle.napi_model.specs.declared.event.Call.TheVariants as call
 
@@ -22,25 +22,25 @@ pub record Made (p : Pass) (os : List Operation) (q : Pass) : Type 0 where
   -- what was shown before is a prefix of what is shown now
   pub begins : IsPrefix (shown p) (shown q)
   -- the own list grew by exactly these
-  pub grown : own_list q ≡ own_list p ++ events (number_of p) os
+  pub grown : own_list q ≡ own_list p ++ events (pass_number p) os
   -- the last of them is the last that is shown
-  pub ends : EndsWith (events (number_of p) os) (shown q)
+  pub ends : EndsWith (events (pass_number p) os) (shown q)
   pub shows : ShowsLegal q
 
 -- with these flags, a call continues with its exchange
-abbrev pub GoesOn : Call → Flags → Type 0
-GoesOn call.Schedule f = f.disable ≡ false
-GoesOn call.Complete f = f.in_busy_poll ≡ false
-GoesOn call.BusyTake f = MayBusyTake f
-GoesOn call.BusyStop f = f.in_busy_poll ≡ true
-GoesOn call.TakeDisable f = (f.disable ≡ true) × (f.sched ≡ false) × (f.npsvc ≡ false)
-GoesOn (call.Enable threaded) f = f.disable ≡ false
-GoesOn _ f = Unit {0}
+abbrev pub ContinuesCall : Call → Flags → Type 0
+ContinuesCall call.Schedule f = f.disable ≡ false
+ContinuesCall call.Complete f = f.in_busy_poll ≡ false
+ContinuesCall call.BusyTake f = MayBusyTake f
+ContinuesCall call.BusyStop f = f.in_busy_poll ≡ true
+ContinuesCall call.TakeDisable f = (f.disable ≡ true) × (f.sched ≡ false) × (f.npsvc ≡ false)
+ContinuesCall (call.Enable threaded) f = f.disable ≡ false
+ContinuesCall _ f = Unit {0}
 
 -- a look after which the call continues, and then one that shows another state: the attempt failed
 pub record Lost (c : Call) : Type 0 where
   pub first : Seen
-  pub goes_on : GoesOn c first.flags
+  pub goes_on : ContinuesCall c first.flags
   pub second : Seen
   pub differ : second ≢ first
 
@@ -48,9 +48,9 @@ abbrev pub looks : {c : Call} → Lost c → List Operation
 looks t = Look t.first ∷ Look t.second ∷ []
 
 -- an attempt to take the instance for a disable that failed or found it busy
-abbrev pub waits : Option (Lost call.TakeDisable) → List Operation
-waits (Some t) = looks t
-waits None = TakeDisable false ∷ []
+abbrev pub take_attempt : Option (Lost call.TakeDisable) → List Operation
+take_attempt (Some t) = looks t
+take_attempt None = TakeDisable false ∷ []
 
 -- the attempt failed: its two looks are all that it made
 abbrev pub WasLost : Call → Pass → Pass → Type 0

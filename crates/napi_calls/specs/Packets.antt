@@ -5,7 +5,7 @@ use Rattle.rx_ring.specs.{declared.{packet.Packet.Packet, ends.RxCtx.RxCtx}, End
 use Rattle.napi_word.specs.{declared.{table.Pass.Pass, view.Delivery.Delivery}, Passes.view_of}
 use Rattle.napi_calls.specs.declared.{types.{Caller.Caller, Polling.Polling, Busy.Busy}, answers.{TryPrep.TryPrep, Sched.Sched}}
 use Rattle.napi_calls.specs.declared.answers.{TryDone.TryDone, Completed.Completed, TryBusy.TryBusy, TryStop.TryStop, TryTake.TryTake}
-use Rattle.napi_calls.specs.{Seats.number_of, Calls.seat_of}
+use Rattle.napi_calls.specs.{Seats.pass_number, Calls.seat_of}
 use Rattle.napi_word.specs.View as view
 use Rattle.napi_calls.specs.declared.answers.Sched.TheVariants as sched
 use Rattle.napi_calls.specs.declared.answers.TryDone.TheVariants as try_done
@@ -16,10 +16,10 @@ use Rattle.napi_calls.specs.declared.answers.TryTake.TheVariants as try_take
 
 -- the deliveries that a seat has seen, and its own ones among them
 abbrev pub delivered : Pass → List Delivery
-delivered p = view.delivered (view_of p)
+delivered p = view.view_delivered (view_of p)
 
 abbrev pub own_delivered : Pass → List Delivery
-own_delivered p = view.own_deliveries (number_of p) (delivered p)
+own_delivered p = view.own_deliveries (pass_number p) (delivered p)
 
 -- the packets that the context has received by these
 abbrev pub received_before : Pass → List Packet
@@ -57,7 +57,7 @@ pub record IsFresh (p q : Pass) (ctx : RxCtx) : Type 0 where
 pub record GivesBack (p : Pass) (ctx : RxCtx) (q : Pass) : Type 0 where
   pub laid : RxCtx
   pub same : IsSame ctx laid
-  pub deliveries : delivered q ≡ delivered p ++ view.delivery (number_of p) (polled p ctx) laid ∷ []
+  pub deliveries : delivered q ≡ delivered p ++ view.delivery (pass_number p) (polled p ctx) laid ∷ []
 
 -- ---- by each result
 

@@ -7,39 +7,39 @@ use Rattle.napi_word.specs.Passes.{SameTable}
 use Rattle.napi_word.specs.View as view
 
 -- the seat's number, and the controller's, which is the greatest
-abbrev pub number_of : Pass → ℕ
-number_of p = view.number_of (view_of p)
+abbrev pub pass_number : Pass → ℕ
+pass_number p = view.view_number (view_of p)
 
 abbrev pub controller_of : Pass → ℕ
-controller_of p = view.controller_of (view_of p)
+controller_of p = view.view_controller (view_of p)
 
 -- the history that it has seen, and the events of its own calls
 abbrev pub shown : Pass → List Event
-shown p = view.shown (view_of p)
+shown p = view.view_shown (view_of p)
 
 abbrev pub own_list : Pass → List Event
 own_list p = view.mine (view_of p)
 
 -- the instance's state after the history shown
-abbrev pub state_of : Pass → State
-state_of p = state_after (opening (controller_of p)) (shown p)
+abbrev pub state_shown : Pass → State
+state_shown p = state_after (opening (controller_of p)) (shown p)
 
 -- the ring of the context with which the instance was made
-abbrev pub ring_of : Pass → Option RingName
-ring_of p = view.ring_of (view_of p)
+abbrev pub instance_ring : Pass → Option RingName
+instance_ring p = view.view_ring (view_of p)
 
 -- the same number of the same instance
 pub record SameSeat (p q : Pass) : Type 0 where
   pub table : SameTable p q
-  pub number : number_of q ≡ number_of p
+  pub number : pass_number q ≡ pass_number p
   pub controller : controller_of q ≡ controller_of p
-  pub ring : ring_of q ≡ ring_of p
+  pub ring : instance_ring q ≡ instance_ring p
 
 -- the history shown is legal for the one-thread NAPI object, and the own list is the number's events in it
 pub record ShowsLegal (p : Pass) : Type 0 where
   pub legal : LegalHistory (controller_of p) (opening (controller_of p)) (shown p)
-  pub exact : own (number_of p) (shown p) ≡ own_list p
+  pub exact : own (pass_number p) (shown p) ≡ own_list p
 
 -- this end puts packets into the instance's ring
-abbrev pub IsInputOf : RxIn → Pass → Type 0
-IsInputOf input p = (ctx : RxCtx) × (ring_of p ≡ Some (ring_name ctx)) × IsOneRing input ctx
+abbrev pub PutsIntoRingOf : RxIn → Pass → Type 0
+PutsIntoRingOf input p = (ctx : RxCtx) × (instance_ring p ≡ Some (ring_name ctx)) × IsOneRing input ctx

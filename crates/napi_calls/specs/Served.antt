@@ -14,6 +14,6 @@ ServedAt false (Complete Released) started rest = ⊥
 ServedAt b o started rest = Either (starts_poll o) started rest
 
 -- a Released follows, and a poll starts before the first one, unless one has started
-unfoldable pub IsServed : Bool → List Event → Type 0
-IsServed b [] = ⊥
-IsServed b (e ∷ es) = ServedAt b e.operation (IsServed true es) (IsServed b es)
+unfoldable pub IsPolledBeforeRelease : Bool → List Event → Type 0
+IsPolledBeforeRelease b [] = ⊥
+IsPolledBeforeRelease b (e ∷ es) = ServedAt b e.operation (IsPolledBeforeRelease true es) (IsPolledBeforeRelease b es)

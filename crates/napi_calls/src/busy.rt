@@ -5,7 +5,7 @@ ghost use Rattle.napi_model.specs.declared.event.Done.TheVariants.{Held};
 ghost use Rattle.napi_model.specs.declared.event.Operation.TheVariants.{Look, Complete};
 ghost use Rattle.rx_ring.specs.ReceiveRing.{counts_of};
 ghost use Rattle.rx_ring.specs.Ends.{ring_name, polls_of, received_list, GivesNext, Meets};
-ghost use Rattle.napi_calls.specs.Seats.{number_of, state_of, ring_of, ShowsLegal, IsInputOf};
+ghost use Rattle.napi_calls.specs.Seats.{pass_number, state_shown, instance_ring, ShowsLegal, PutsIntoRingOf};
 ghost use Rattle.napi_calls.specs.Instance.{IsSeatOf};
 ghost use Rattle.napi_calls.specs.Made.{Made};
 ghost use Rattle.napi_calls.specs.Calls.{TriesToBusyPoll, RunsUnlessRefused, BusyPolling, TriesToStop, Stops};
@@ -76,7 +76,7 @@ impl Caller {
 impl Busy {
     /// The caller's number.
     pub fn number(&self) -> u32
-        ensures { result ≡ number_of self.now.pass }
+        ensures { result ≡ pass_number self.now.pass }
     {
         self.number
     }
@@ -84,9 +84,10 @@ impl Busy {
     /// States what is known of any caller that busy polls, and that its context belongs to the instance's ring.
     pub fn knows(&self)
         ensures shows { ShowsLegal self.now.pass }
-        ensures place { (state_of self.now.pass).place ≡ place.Polling (number_of self.now.pass) }
-        ensures flag { (state_of self.now.pass).flags.in_busy_poll ≡ true }
-        ensures context { ring_of self.now.pass ≡ Some (ring_name self.now.ctx) }
+        ensures place { (state_shown self.now.pass).place
+            ≡ place.Polling (pass_number self.now.pass) }
+        ensures flag { (state_shown self.now.pass).flags.in_busy_poll ≡ true }
+        ensures context { instance_ring self.now.pass ≡ Some (ring_name self.now.ctx) }
     {}
 
     /// Reads the state word: the flags, and in which queue the instance waits until it is taken.
@@ -121,7 +122,7 @@ impl Busy {
 
     /// Lets the ends of the ring meet, like [`Polling::beside`].
     pub fn beside(&mut self, input: &mut RxIn)
-        requires { IsInputOf input.old self.old.pass }
+        requires { PutsIntoRingOf input.old self.old.pass }
         ensures meets { Meets input.old self.old.ctx input.new self.new.ctx }
         ensures pass { self.new.pass ≡ self.old.pass }
     {

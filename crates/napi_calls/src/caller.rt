@@ -4,7 +4,7 @@ ghost use mathlib.Core.List.{IsPrefix};
 ghost use Rattle.napi_model.specs.declared.state.Seen.{Seen};
 ghost use Rattle.napi_model.specs.declared.event.Operation.TheVariants.{Look, SetThreaded};
 ghost use Rattle.napi_model.specs.Laws.{IsOwnedBy};
-ghost use Rattle.napi_calls.specs.Seats.{number_of, shown, state_of, ShowsLegal};
+ghost use Rattle.napi_calls.specs.Seats.{pass_number, shown, state_shown, ShowsLegal};
 ghost use Rattle.napi_calls.specs.Instance.{IsSeatOf};
 ghost use Rattle.napi_calls.specs.Made.{Made};
 ghost use Rattle.napi_calls.specs.Calls.{Prepares, Schedules, Takes, RunsUnlessDisabled};
@@ -19,7 +19,7 @@ use std::sync::Wait;
 impl Caller {
     /// The caller's number, from 0 on, in the order of the callers of [`Napi::new`].
     pub fn number(&self) -> u32
-        ensures { result ≡ number_of self.now.pass }
+        ensures { result ≡ pass_number self.now.pass }
     {
         self.number
     }
@@ -27,7 +27,7 @@ impl Caller {
     /// States what is known of any caller, wherever it comes from.
     pub fn knows(&self)
         ensures shows { ShowsLegal self.now.pass }
-        ensures place { ¬ IsOwnedBy (number_of self.now.pass) (state_of self.now.pass).place }
+        ensures place { ¬ IsOwnedBy (pass_number self.now.pass) (state_shown self.now.pass).place }
     {}
 
     /// Reads the state word: the flags, and in which queue the instance waits until it is taken.

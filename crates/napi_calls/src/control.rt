@@ -6,7 +6,7 @@ ghost use Rattle.napi_model.specs.declared.event.Operation.TheVariants.{MarkDisa
 ghost use Rattle.napi_model.specs.Laws.{IsOwnedBy};
 ghost use Rattle.rx_ring.specs.ReceiveRing.{counts_of};
 ghost use Rattle.rx_ring.specs.Ends.{ring_name, polls_of, received_list, Meets};
-ghost use Rattle.napi_calls.specs.Seats.{number_of, controller_of, state_of, ring_of, ShowsLegal, IsInputOf};
+ghost use Rattle.napi_calls.specs.Seats.{pass_number, controller_of, state_shown, instance_ring, ShowsLegal, PutsIntoRingOf};
 ghost use Rattle.napi_calls.specs.Instance.{IsSeatOf};
 ghost use Rattle.napi_calls.specs.Made.{Made, WasLost};
 ghost use Rattle.napi_calls.specs.Calls.{TriesToTake, RunsUnlessBusy, Disables, EnablesAt, Enables};
@@ -22,9 +22,9 @@ impl Control<On> {
     /// States what is known of the controller of an enabled instance.
     pub fn knows(&self)
         ensures shows { ShowsLegal self.now.pass }
-        ensures number { number_of self.now.pass ≡ controller_of self.now.pass }
-        ensures place { ¬ IsOwnedBy (number_of self.now.pass) (state_of self.now.pass).place }
-        ensures flag { (state_of self.now.pass).flags.disable ≡ false }
+        ensures number { pass_number self.now.pass ≡ controller_of self.now.pass }
+        ensures place { ¬ IsOwnedBy (pass_number self.now.pass) (state_shown self.now.pass).place }
+        ensures flag { (state_shown self.now.pass).flags.disable ≡ false }
     {}
 
     /// Marks a disable as pending (the first step of `napi_disable`): from now on requests for a poll fail.
@@ -84,9 +84,9 @@ impl Control<Marked> {
     /// States what is known of the controller of an instance that it marked.
     pub fn knows(&self)
         ensures shows { ShowsLegal self.now.pass }
-        ensures number { number_of self.now.pass ≡ controller_of self.now.pass }
-        ensures place { ¬ IsOwnedBy (number_of self.now.pass) (state_of self.now.pass).place }
-        ensures flag { (state_of self.now.pass).flags.disable ≡ true }
+        ensures number { pass_number self.now.pass ≡ controller_of self.now.pass }
+        ensures place { ¬ IsOwnedBy (pass_number self.now.pass) (state_shown self.now.pass).place }
+        ensures flag { (state_shown self.now.pass).flags.disable ≡ true }
     {}
 
     /// Tries once to take the instance, if no caller owns it, and clears the mark of the disable (the second and third step of
@@ -140,10 +140,11 @@ impl Control<Off> {
     /// has received exactly what was delivered.
     pub fn knows(&self)
         ensures shows { ShowsLegal self.now.pass }
-        ensures number { number_of self.now.pass ≡ controller_of self.now.pass }
-        ensures place { (state_of self.now.pass).place ≡ place.Control (number_of self.now.pass) }
-        ensures context { ring_of self.now.pass ≡ Some (ring_name self.now.state.ctx) }
-        ensures flag { (state_of self.now.pass).flags.disable ≡ false }
+        ensures number { pass_number self.now.pass ≡ controller_of self.now.pass }
+        ensures place { (state_shown self.now.pass).place
+            ≡ place.Control (pass_number self.now.pass) }
+        ensures context { instance_ring self.now.pass ≡ Some (ring_name self.now.state.ctx) }
+        ensures flag { (state_shown self.now.pass).flags.disable ≡ false }
         ensures received { received_list self.now.state.ctx ≡ received_before self.now.pass }
     {}
 
@@ -157,7 +158,7 @@ impl Control<Off> {
 
     /// Lets the ends of the ring meet.
     pub fn beside(&mut self, input: &mut RxIn)
-        requires { IsInputOf input.old self.old.pass }
+        requires { PutsIntoRingOf input.old self.old.pass }
         ensures meets { Meets input.old self.old.state.ctx input.new self.new.state.ctx }
         ensures pass { self.new.pass ≡ self.old.pass }
     {

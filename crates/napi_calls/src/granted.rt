@@ -2,7 +2,7 @@
 ghost use Rattle.std.specs.Prelude.{◌≡◌, [], ◌∷◌, false};
 ghost use Rattle.napi_model.specs.declared.state.Place.TheVariants as place;
 ghost use Rattle.napi_model.specs.declared.event.Operation.TheVariants.{Look, Hand};
-ghost use Rattle.napi_calls.specs.Seats.{number_of, state_of, ShowsLegal};
+ghost use Rattle.napi_calls.specs.Seats.{pass_number, state_shown, ShowsLegal};
 ghost use Rattle.napi_calls.specs.Instance.{IsSeatOf};
 ghost use Rattle.napi_calls.specs.Made.{Made};
 ghost use Rattle.napi_calls.specs.Packets.{Quiet};
@@ -13,7 +13,7 @@ use napi_model::{Kind, Seen};
 impl Granted {
     /// The caller's number.
     pub fn number(&self) -> u32
-        ensures { result ≡ number_of self.now.pass }
+        ensures { result ≡ pass_number self.now.pass }
     {
         self.number
     }
@@ -21,8 +21,9 @@ impl Granted {
     /// States what is known of any caller that was granted the instance.
     pub fn knows(&self)
         ensures shows { ShowsLegal self.now.pass }
-        ensures place { (state_of self.now.pass).place ≡ place.Granted (number_of self.now.pass) }
-        ensures flag { (state_of self.now.pass).flags.in_busy_poll ≡ false }
+        ensures place { (state_shown self.now.pass).place
+            ≡ place.Granted (pass_number self.now.pass) }
+        ensures flag { (state_shown self.now.pass).flags.in_busy_poll ≡ false }
     {}
 
     /// Reads the state word: the flags, and in which queue the instance waits until it is taken.

@@ -4,10 +4,10 @@ ghost use Rattle.rx_ring.specs.declared.ends.RxCtx.{RxCtx};
 ghost use Rattle.napi_word.specs.declared.table.Pass.{Pass};
 ghost use Rattle.napi_word.specs.declared.table.StateTable.{StateTable};
 ghost use Rattle.rx_ring.specs.Ends.{ring_name};
-ghost use Rattle.napi_word.specs.Passes.{view_of, IsPassOf, IsNew};
+ghost use Rattle.napi_word.specs.Passes.{view_of, IsPassOf, IsNewPass};
 ghost use Rattle.napi_calls.specs.declared.types.Caller.{Caller};
 ghost use Rattle.napi_calls.specs.declared.fault.CloseFault.TheVariants.{NotAll};
-ghost use Rattle.napi_calls.specs.Fault.{is_bad_count, fault_of};
+ghost use Rattle.napi_calls.specs.Fault.{is_bad_count, new_fault};
 ghost use Rattle.napi_calls.specs.Instance.{callers_of, ring_of_instance, first_of_instance, IsSeatOf, IsNewSeat};
 ghost use Rattle.napi_calls.specs.Closed.{seats_of, IsClosed};
 
@@ -55,7 +55,7 @@ pub fn next_caller(napi: &Napi, callers: &mut Vec<Caller>) -> Caller
 
 // Returns the controller of a new pass, with the context taken out of the slot.
 fn control_of(table: &StateTable, mut pass: Pass, last: u32) -> Control<Off>
-    requires { (ctx : RxCtx) × IsNew table.now last ctx last pass }
+    requires { (ctx : RxCtx) × IsNewPass table.now last ctx last pass }
     ensures table { IsPassOf table.now result.pass }
     ensures view { view_of result.pass ≡ view_of pass }
 {
@@ -69,7 +69,7 @@ fn control_of(table: &StateTable, mut pass: Pass, last: u32) -> Control<Off>
 // Returns the caller of a new pass.
 fn caller_of(pass: Pass, number: u32) -> Caller
     requires { (t : StateTable) × (last : ℕ) × (ctx : RxCtx) × (number < last)
-        × IsNew t last ctx number pass }
+        × IsNewPass t last ctx number pass }
     ensures { result.pass ≡ pass }
 {
     Caller { pass, number }
@@ -86,7 +86,7 @@ fn is_bad(callers: u32) -> bool
 fn seat_callers(passes: Vec<Pass>, mut callers: Vec<Caller>) -> Vec<Caller>
     requires new { (t : StateTable) × (last : ℕ) × (ctx : RxCtx) × (length passes.items ≤ last)
         × (last ≤ 8)
-        × ((k : ℕ) (p : Pass) → slice_get passes.items k ≡ Some p → IsNew t last ctx k p) }
+        × ((k : ℕ) (p : Pass) → slice_get passes.items k ≡ Some p → IsNewPass t last ctx k p) }
     requires empty { callers.items ≡ [] }
     requires room { length passes.items ≤ vec_capacity callers }
     ensures { seats_of result.items ≡ passes.items }
@@ -113,7 +113,7 @@ impl Napi {
         ctx: RxCtx,
         callers: u32,
     ) -> Result<(Napi, Vec<Caller>, Control<Off>), NewBack>
-        ensures fault { IfErr result (λ b. b.fault ≡ fault_of (is_bad_count callers)) }
+        ensures fault { IfErr result (λ b. b.fault ≡ new_fault (is_bad_count callers)) }
         ensures back { IfErr result (λ b. b.ctx ≡ ctx) }
         ensures count { IfOk result
             (λ r. (is_bad_count callers ≡ false) × (callers_of r.0 ≡ callers)

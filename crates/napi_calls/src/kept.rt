@@ -1,37 +1,37 @@
-//! A seat of an instance is linear, but a thread's closure holds only values that can be dropped: `Kept` carries a seat there.
+//! A seat of an instance is linear, but a thread's closure holds only values that can be dropped: `DropBomb` carries a seat there.
 ghost use Rattle.std.specs.Prelude.{◌≡◌};
 
 use std::sync::Wait;
 
 /// Carries a linear value where only values that can be dropped are allowed, as in a thread's closure and its result. Its drop
 /// never returns, so the value can't be lost: open it instead.
-pub struct Kept<R: Wait + Drop, T> {
+pub struct DropBomb<R: Wait + Drop, T> {
     rt: R,
     /// The linear value.
     pub value: T,
 }
 
-impl<R: Wait + Drop, T> Drop for Kept<R, T> {
+impl<R: Wait + Drop, T> Drop for DropBomb<R, T> {
     fn drop(self) {
-        let Kept { rt, value: _value } = self;
+        let DropBomb { rt, value: _value } = self;
         for _ in rt.forever() {}
         unreachable!()
     }
 }
 
-impl<R: Wait + Drop, T> Kept<R, T> {
+impl<R: Wait + Drop, T> DropBomb<R, T> {
     /// Wraps a value. `rt` is the capability by which its drop would wait.
     pub fn new(rt: R, value: T) -> Self
         ensures { result.value ≡ value }
     {
-        Kept { rt, value }
+        DropBomb { rt, value }
     }
 
     /// Returns the value.
     pub fn open(self) -> T
         ensures { result ≡ self.value }
     {
-        let Kept { rt: _rt, value } = self;
+        let DropBomb { rt: _rt, value } = self;
         value
     }
 }

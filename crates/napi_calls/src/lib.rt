@@ -33,7 +33,7 @@ pub use between::{Between, Nothing};
 pub use caller::meet;
 pub use fault::{CloseFault, NewFault};
 pub use instance::{CloseBack, NewBack, close, next_caller};
-pub use kept::Kept;
+pub use kept::DropBomb;
 pub use sharing::{is_sent, is_shared};
 pub use surveying::{none_is_lost, one_acts_alone, survey, survey_busy, survey_polling};
 pub use types::{Busy, Caller, Control, Granted, Marked, Mode, Napi, Off, On, Polling};

@@ -5,7 +5,7 @@ ghost use Rattle.napi_model.specs.declared.state.Place.TheVariants as place;
 ghost use Rattle.napi_model.specs.declared.event.Operation.TheVariants.{Look, Hand};
 ghost use Rattle.rx_ring.specs.ReceiveRing.{counts_of};
 ghost use Rattle.rx_ring.specs.Ends.{ring_name, polls_of, received_list, GivesNext, Meets};
-ghost use Rattle.napi_calls.specs.Seats.{number_of, state_of, ring_of, ShowsLegal, IsInputOf};
+ghost use Rattle.napi_calls.specs.Seats.{pass_number, state_shown, instance_ring, ShowsLegal, PutsIntoRingOf};
 ghost use Rattle.napi_calls.specs.Instance.{IsSeatOf};
 ghost use Rattle.napi_calls.specs.Made.{Made};
 ghost use Rattle.napi_calls.specs.Calls.{TriesToComplete, Completes};
@@ -21,7 +21,7 @@ use std::sync::Wait;
 impl Polling {
     /// The caller's number.
     pub fn number(&self) -> u32
-        ensures { result ≡ number_of self.now.pass }
+        ensures { result ≡ pass_number self.now.pass }
     {
         self.number
     }
@@ -29,9 +29,10 @@ impl Polling {
     /// States what is known of any poller, and that its context belongs to the instance's ring.
     pub fn knows(&self)
         ensures shows { ShowsLegal self.now.pass }
-        ensures place { (state_of self.now.pass).place ≡ place.Polling (number_of self.now.pass) }
-        ensures flag { (state_of self.now.pass).flags.in_busy_poll ≡ false }
-        ensures context { ring_of self.now.pass ≡ Some (ring_name self.now.ctx) }
+        ensures place { (state_shown self.now.pass).place
+            ≡ place.Polling (pass_number self.now.pass) }
+        ensures flag { (state_shown self.now.pass).flags.in_busy_poll ≡ false }
+        ensures context { instance_ring self.now.pass ≡ Some (ring_name self.now.ctx) }
     {}
 
     /// Reads the state word: the flags, and in which queue the instance waits until it is taken.
@@ -68,7 +69,7 @@ impl Polling {
 
     /// Lets the ends of the ring meet: a poll right after it returns exactly the lesser of its weight and what the ring holds.
     pub fn beside(&mut self, input: &mut RxIn)
-        requires { IsInputOf input.old self.old.pass }
+        requires { PutsIntoRingOf input.old self.old.pass }
         ensures meets { Meets input.old self.old.ctx input.new self.new.ctx }
         ensures pass { self.new.pass ≡ self.old.pass }
     {

@@ -5,7 +5,7 @@ ghost use Rattle.napi_word.specs.Slot.{stays};
 ghost use Rattle.napi_word.specs.Surveys.{Surveys};
 ghost use Rattle.napi_model.specs.declared.event.Operation.TheVariants.{Look};
 ghost use Rattle.napi_model.specs.Step.{seen_of};
-ghost use Rattle.napi_calls.specs.Seats.{controller_of, number_of, own_list, state_of};
+ghost use Rattle.napi_calls.specs.Seats.{controller_of, pass_number, own_list, state_shown};
 ghost use Rattle.napi_calls.specs.Instance.{IsSeatOf};
 ghost use Rattle.napi_calls.specs.Made.{Made};
 
@@ -32,10 +32,11 @@ pub fn survey<S: Mode>(
     ensures others { (own_list result.0.pass ≡ own_list first.pass)
         × (own_list result.1.pass ≡ own_list second.pass)
         × (own_list result.2.pass ≡ own_list third.pass) }
-    ensures surveys { Surveys (controller_of control.old.pass) (number_of control.old.pass) result.3
+    ensures surveys { Surveys (controller_of control.old.pass) (pass_number control.old.pass)
+        result.3
         (first.pass ∷ second.pass ∷ third.pass ∷ control.old.pass ∷ [])
         (result.0.pass ∷ result.1.pass ∷ result.2.pass ∷ control.new.pass ∷ []) }
-    ensures word { result.3 ≡ seen_of (state_of control.new.pass) }
+    ensures word { result.3 ≡ seen_of (state_shown control.new.pass) }
     ensures state { control.new.state ≡ control.old.state }
 {
     let Caller {
@@ -87,10 +88,10 @@ pub fn survey_polling<S: Mode>(
     ensures others { (own_list result.0.pass ≡ own_list first.pass)
         × (own_list result.1.pass ≡ own_list second.pass)
         × (own_list result.2.pass ≡ own_list control.pass) }
-    ensures surveys { Surveys (controller_of polling.pass) (number_of polling.pass) result.4
+    ensures surveys { Surveys (controller_of polling.pass) (pass_number polling.pass) result.4
         (first.pass ∷ second.pass ∷ control.pass ∷ polling.pass ∷ [])
         (result.0.pass ∷ result.1.pass ∷ result.2.pass ∷ result.3.pass ∷ []) }
-    ensures word { result.4 ≡ seen_of (state_of result.3.pass) }
+    ensures word { result.4 ≡ seen_of (state_shown result.3.pass) }
     ensures state { result.2.state ≡ control.state }
     ensures ctx { result.3.ctx ≡ polling.ctx }
 {
@@ -122,10 +123,10 @@ pub fn survey_busy<S: Mode>(
     ensures others { (own_list result.0.pass ≡ own_list first.pass)
         × (own_list result.1.pass ≡ own_list second.pass)
         × (own_list result.2.pass ≡ own_list control.pass) }
-    ensures surveys { Surveys (controller_of busy.pass) (number_of busy.pass) result.4
+    ensures surveys { Surveys (controller_of busy.pass) (pass_number busy.pass) result.4
         (first.pass ∷ second.pass ∷ control.pass ∷ busy.pass ∷ [])
         (result.0.pass ∷ result.1.pass ∷ result.2.pass ∷ result.3.pass ∷ []) }
-    ensures word { result.4 ≡ seen_of (state_of result.3.pass) }
+    ensures word { result.4 ≡ seen_of (state_shown result.3.pass) }
     ensures state { result.2.state ≡ control.state }
     ensures ctx { result.3.ctx ≡ busy.ctx }
 {
@@ -156,10 +157,10 @@ fn survey_beside<S: Mode>(
     ensures others { (own_list result.0.pass ≡ own_list first.pass)
         × (own_list result.1.pass ≡ own_list second.pass)
         × (own_list result.2.pass ≡ own_list control.pass) }
-    ensures surveys { Surveys (controller_of last.old) (number_of last.old) result.3
+    ensures surveys { Surveys (controller_of last.old) (pass_number last.old) result.3
         (first.pass ∷ second.pass ∷ control.pass ∷ last.old ∷ [])
         (result.0.pass ∷ result.1.pass ∷ result.2.pass ∷ last.new ∷ []) }
-    ensures word { result.3 ≡ seen_of (state_of last.new) }
+    ensures word { result.3 ≡ seen_of (state_shown last.new) }
     ensures state { result.2.state ≡ control.state }
 {
     let Caller {

@@ -3,7 +3,7 @@ ghost use Rattle.std.specs.Prelude.{◌≡◌, Some, true, false};
 ghost use Rattle.napi_model.specs.declared.state.Place.TheVariants as place;
 ghost use Rattle.napi_word.specs.View.{received_in};
 ghost use Rattle.napi_word.specs.Passes.{view_of, controller_of_table};
-ghost use Rattle.napi_calls.specs.Knows.{Free, Stands, BusyPolls, Controls, Has, received_held};
+ghost use Rattle.napi_calls.specs.Knows.{Free, Stands, KnowsBusyPoll, ControllerKnows, Has, received_held};
 
 use napi_word::{Pass, StateTable};
 use rx_ring::RxCtx;
@@ -36,7 +36,7 @@ pub struct Polling {
     pub(crate) number: u32,
     pub(crate) ctx: RxCtx,
     ghost stands: { Stands place.Polling number pass },
-    ghost busy: { BusyPolls false pass },
+    ghost busy: { KnowsBusyPoll false pass },
     ghost has: { Has pass (Some ctx) },
 }
 
@@ -47,7 +47,7 @@ pub struct Busy {
     pub(crate) number: u32,
     pub(crate) ctx: RxCtx,
     ghost stands: { Stands place.Polling number pass },
-    ghost busy: { BusyPolls true pass },
+    ghost busy: { KnowsBusyPoll true pass },
     ghost has: { Has pass (Some ctx) },
 }
 
@@ -116,7 +116,7 @@ impl Mode for Marked {
 pub struct Control<S: Mode> {
     pub(crate) pass: Pass,
     pub(crate) state: S,
-    ghost controls: { Controls S.role S.disable pass },
+    ghost controls: { ControllerKnows S.role S.disable pass },
     ghost has: { Has pass (S.ctx state) },
     ghost exact: { received_held (S.ctx state) (received_in (view_of pass)) ≡ received_in (view_of pass) },
 }

@@ -3,8 +3,8 @@
 ghost use Rattle.std.specs.Prelude.{◌≡◌, ◌≢◌, IfErr, OnOk, map, string_bytes};
 ghost use Rattle.std.specs.Io.KnownBytes.{Keeps};
 ghost use Rattle.std.specs.Process.{exit_status};
-ghost use Rattle.machine_report.specs.Fault.{line_of, status_of};
-ghost use Rattle.napi_machine.specs.Program.{IsFault, IsReport, LeavesOutput};
+ghost use Rattle.machine_report.specs.Fault.{machine_fault_line, machine_fault_status};
+ghost use Rattle.napi_machine.specs.Program.{IsNapiMachineFault, IsNapiMachineReport, LeavesMachineOutput};
 ghost use Rattle.replay_text.specs.Program.{FailedBy};
 ghost use Rattle.replay_text.specs.Written.{Writes};
 
@@ -22,10 +22,12 @@ fn run_asked<R: Read + Drop, W: Write>(
     input: R,
     output: &mut W,
 ) -> Result<(), ProgramFault<MachineFault>>
-    ensures written { OnOk result (Writes (IsReport (map string_bytes words.now))
+    ensures written { OnOk result (Writes (IsNapiMachineReport (map string_bytes words.now))
         (R.remaining input) (W.contents output.old) (W.contents output.new)) }
-    ensures fault { IfErr result (IsFault (map string_bytes words.now) (R.remaining input)) }
-    ensures output { IfErr result (LeavesOutput (IsReport (map string_bytes words.now))
+    ensures fault { IfErr result (IsNapiMachineFault (map string_bytes words.now)
+        (R.remaining input)) }
+    ensures output { IfErr result (LeavesMachineOutput
+        (IsNapiMachineReport (map string_bytes words.now))
         (R.remaining input) (W.contents output.old) (W.contents output.new)) }
 {
     match parse_words(alloc, words) {
@@ -49,12 +51,14 @@ pub(crate) fn run_program<R: Read + Drop, W: Write, E: Write>(
     errors: &mut E,
 ) -> ExitCode
     // What is written is the report of the bytes read, with the settings that the arguments ask for, and nothing else.
-    ensures written { exit_status result ≡ 0 → Writes (IsReport (map string_bytes words.now))
+    ensures written { exit_status result ≡ 0
+        → Writes (IsNapiMachineReport (map string_bytes words.now))
         (R.remaining input) (W.contents output.old) (W.contents output.new) }
     ensures quiet { exit_status result ≡ 0 → Keeps (E.contents errors.old) (E.contents errors.new) }
     ensures failed { exit_status result ≢ 0
-        → FailedBy line_of status_of (IsFault (map string_bytes words.now) (R.remaining input))
-        (LeavesOutput (IsReport (map string_bytes words.now)) (R.remaining input)
+        → FailedBy machine_fault_line machine_fault_status
+        (IsNapiMachineFault (map string_bytes words.now) (R.remaining input))
+        (LeavesMachineOutput (IsNapiMachineReport (map string_bytes words.now)) (R.remaining input)
         (W.contents output.old) (W.contents output.new))
         (E.contents errors.old) (E.contents errors.new) (exit_status result) }
 {

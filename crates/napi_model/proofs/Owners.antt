@@ -4,8 +4,9 @@ use Rattle.napi_model.specs.declared.state.{Place.{TheVariants.{Nobody, Granted,
 use Rattle.napi_model.specs.declared.{state.Kind.Kind, event.{Event.Event, Prep.Prep, Done.TheVariants.{Released, Again, Held}}}
 use Rattle.napi_model.specs.declared.event.Operation.{Operation, TheVariants.{Look, Schedule, Hand, Take, Complete, BusyTake, BusyStop}}
 use Rattle.napi_model.specs.declared.event.Operation.TheVariants.{MarkDisable, TakeDisable, Unmark, Enable, SetThreaded}
-use Rattle.napi_model.specs.{History.{LegalHistory, IsBy, state_after, own}, Step.{after, after_by, opening, IsLegalBy, Polls, MayHand}}
-use Rattle.napi_model.specs.Laws.{IsSound, is_owner, IsOwnedBy, stand_of, IsPolled, BusyIsPolled, IsHandedOrPolled, ThreadsIsHanded}
+use Rattle.napi_model.specs.{History.{LegalHistory, IsBy, state_after, own}}
+use Rattle.napi_model.specs.{Step.{after, after_by, opening, IsLegalBy, CallerPolls, MayHand}}
+use Rattle.napi_model.specs.Laws.{IsSound, is_owner, IsOwnedBy, stand_of, IsPollingPlace, BusyIsPolled, IsHandedOrPolled, ThreadsIsHanded}
 use Rattle.napi_model.specs.Laws.{IsControlled, SchedClearIsNobody, BusyPollIsPolling, SchedThreadedIsHanded, OthersLeaveOwner}
 use Rattle.napi_model.{specs.Laws.{OthersLeaveOwnership, ControlIsTheControllers, OthersLeaveDisable}, proofs.Histories.state_after-append}
 use Rattle.napi_model.proofs.Histories.{legal_front, legal_back, own_first}
@@ -13,7 +14,7 @@ use Rattle.napi_model.proofs.Histories.{legal_front, legal_back, own_first}
 -- ---- SCHED clear implies that the place is Nobody
 
 hand_apart : (c : ℕ) (s : State) → s.place ≡ Nobody → MayHand c Kind.List s → ⊥
-hand_apart c s e h = ⊎_elim (λ (g : s.place ≡ Granted c). cc) (λ (g : Polls c false s). let p = g.0 in cc) h
+hand_apart c s e h = ⊎_elim (λ (g : s.place ≡ Granted c). cc) (λ (g : CallerPolls c false s). let p = g.0 in cc) h
 
 pub sound_by : (c : ℕ) (o : Operation) (s : State) → IsLegalBy c o s → IsSound s → IsSound (after_by c o s)
 sound_by c (Schedule Prep.Granted) s l sound = λ e. absurd (true≢false e)
@@ -36,19 +37,19 @@ sound_after k s (e ∷ h) sound l = sound_after k (after s e) h (sound_by e.call
 -- ---- IN_BUSY_POLL, and the place is a Polling
 
 pub busy_by : (c : ℕ) (o : Operation) (s : State) → IsLegalBy c o s → IsSound s → BusyIsPolled s → BusyIsPolled (after_by c o s)
-busy_by c (Schedule Prep.Granted) s l sound busy = λ e. absurd (subst IsPolled (sound l.1) (busy e))
+busy_by c (Schedule Prep.Granted) s l sound busy = λ e. absurd (subst IsPollingPlace (sound l.1) (busy e))
 busy_by c (Hand Kind.List) s l sound busy = λ e. ⊎_elim
-    (λ (g : s.place ≡ Granted c). subst IsPolled g (busy e))
-    (λ (g : Polls c false s). absurd (true≢false (sym e ∙ g.1)))
+    (λ (g : s.place ≡ Granted c). subst IsPollingPlace g (busy e))
+    (λ (g : CallerPolls c false s). absurd (true≢false (sym e ∙ g.1)))
     l
-busy_by c (Hand Kind.Thread) s l sound busy = λ e. subst IsPolled l (busy e)
+busy_by c (Hand Kind.Thread) s l sound busy = λ e. subst IsPollingPlace l (busy e)
 busy_by c (Take k true) s l sound busy = λ e. tt
 busy_by c (Complete Again) s l sound busy = λ e. absurd (true≢false (sym e ∙ l.2))
 busy_by c (Complete Released) s l sound busy = λ e. absurd (true≢false (sym e ∙ l.2))
 busy_by c BusyTake s l sound busy = λ e. tt
 busy_by c BusyStop s l sound busy = λ e. absurd (true≢false (sym e))
-busy_by c (TakeDisable true) s l sound busy = λ e. absurd (subst IsPolled (sound l.1) (busy e))
-busy_by c (Enable b) s l sound busy = λ e. absurd (subst IsPolled l.0 (busy e))
+busy_by c (TakeDisable true) s l sound busy = λ e. absurd (subst IsPollingPlace (sound l.1) (busy e))
+busy_by c (Enable b) s l sound busy = λ e. absurd (subst IsPollingPlace l.0 (busy e))
 busy_by c o s l sound busy = busy
 
 pub busy_after : BusyPollIsPolling
@@ -87,7 +88,7 @@ ownership_by_others c b (Schedule Prep.Missed) s apart l sound = refl
 ownership_by_others c b (Schedule Prep.Disabled) s apart l sound = refl
 ownership_by_others c b (Hand Kind.List) s apart l sound =
     sym (⊎_elim (λ (g : s.place ≡ Granted b). ap (is_owner c) g ∙ ne_eqb b c apart)
-    (λ (g : Polls b false s). ap (is_owner c) g.0 ∙ ne_eqb b c apart) l)
+    (λ (g : CallerPolls b false s). ap (is_owner c) g.0 ∙ ne_eqb b c apart) l)
 ownership_by_others c b (Hand Kind.Thread) s apart l sound = sym (ap (is_owner c) l ∙ ne_eqb b c apart)
 ownership_by_others c b (Take Kind.List true) s apart l sound = ne_eqb b c apart ∙ sym (ap (is_owner c) l)
 ownership_by_others c b (Take Kind.Thread true) s apart l sound = ne_eqb b c apart ∙ sym (ap (is_owner c) l)
@@ -131,7 +132,7 @@ pub owned_by_others : (c b : ℕ) (o : Operation) (s : State)
 owned_by_others c b (Schedule Prep.Granted) s apart l sound owned = not_owner c s.place Nobody (sound l.1) refl owned
 owned_by_others c b (Hand Kind.List) s apart l sound owned = ⊎_elim
     (λ (g : s.place ≡ Granted b). not_owner c s.place (Granted b) g (ne_eqb b c apart) owned)
-    (λ (g : Polls b false s). not_owner c s.place (Polling b) g.0 (ne_eqb b c apart) owned)
+    (λ (g : CallerPolls b false s). not_owner c s.place (Polling b) g.0 (ne_eqb b c apart) owned)
     l
 owned_by_others c b (Hand Kind.Thread) s apart l sound owned = not_owner c s.place (Granted b) l (ne_eqb b c apart) owned
 owned_by_others c b (Take Kind.List true) s apart l sound owned = not_owner c s.place Listed l refl owned

@@ -25,12 +25,12 @@ abbrev pub stand_of : State → Place × Bool
 stand_of s = (s.place, s.flags.in_busy_poll)
 
 -- the place is a Polling
-abbrev pub IsPolled : Place → Type 0
-IsPolled (Polling c) = Unit {0}
-IsPolled _ = ⊥
+abbrev pub IsPollingPlace : Place → Type 0
+IsPollingPlace (Polling c) = Unit {0}
+IsPollingPlace _ = ⊥
 
 abbrev pub BusyIsPolled : State → Type 0
-BusyIsPolled s = s.flags.in_busy_poll ≡ true → IsPolled s.place
+BusyIsPolled s = s.flags.in_busy_poll ≡ true → IsPollingPlace s.place
 
 -- the instance is queued for its thread or polled
 abbrev pub IsHandedOrPolled : Place → Type 0

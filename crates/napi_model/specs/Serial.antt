@@ -6,10 +6,10 @@ use Rattle.napi_model.specs.{declared.serial.SerialNapi.SerialNapi, Step.{event,
 abbrev pub state_of : SerialNapi → State
 state_of napi = napi.state
 
-abbrev pub controller_of : SerialNapi → ℕ
-controller_of napi = napi.controller
+abbrev pub serial_controller : SerialNapi → ℕ
+serial_controller napi = napi.controller
 
 -- the caller made a legal step with this reply, and nothing else changed
-pub record Steps (old : SerialNapi) (caller : ℕ) (operation : Operation) (new : SerialNapi) : Type 0 where
+pub record SerialSteps (old : SerialNapi) (caller : ℕ) (operation : Operation) (new : SerialNapi) : Type 0 where
   pub legal : LegalStep (state_of old) (event caller operation) (state_of new)
-  pub controller : controller_of new ≡ controller_of old
+  pub controller : serial_controller new ≡ serial_controller old

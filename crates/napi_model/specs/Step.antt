@@ -47,12 +47,12 @@ IsControl _ = ⊥
 -- ---- the table of legal steps: from which states, with which reply, and the state after
 
 -- caller c polls the instance, and busy polls it or not
-abbrev pub Polls : ℕ → Bool → State → Type 0
-Polls c busy s = (s.place ≡ Polling c) × (s.flags.in_busy_poll ≡ busy)
+abbrev pub CallerPolls : ℕ → Bool → State → Type 0
+CallerPolls c busy s = (s.place ≡ Polling c) × (s.flags.in_busy_poll ≡ busy)
 
 -- caller c may queue an instance: on the list if it was granted or polls it, for the thread if it was granted
 abbrev pub MayHand : ℕ → Kind → State → Type 0
-MayHand c List s = (s.place ≡ Granted c) ⊎ Polls c false s
+MayHand c List s = (s.place ≡ Granted c) ⊎ CallerPolls c false s
 MayHand c Thread s = s.place ≡ Granted c
 
 -- the flags of an instance that a caller may take to busy poll it: none of these is set
@@ -74,10 +74,10 @@ IsLegalBy c (Take kind false) s = s.place ≢ place_of kind
 -- `napi_complete_done`
 IsLegalBy c (Complete Again) s = (s.place ≡ Polling c) × (s.flags.missed ≡ true) × (s.flags.in_busy_poll ≡ false)
 IsLegalBy c (Complete Released) s = (s.place ≡ Polling c) × (s.flags.missed ≡ false) × (s.flags.in_busy_poll ≡ false)
-IsLegalBy c (Complete Held) s = Polls c true s
+IsLegalBy c (Complete Held) s = CallerPolls c true s
 -- `napi_busy_loop`, which takes the instance, and `busy_poll_stop`
 IsLegalBy c BusyTake s = MayBusyTake s.flags
-IsLegalBy c BusyStop s = Polls c true s
+IsLegalBy c BusyStop s = CallerPolls c true s
 -- `napi_disable`, in three steps
 IsLegalBy c MarkDisable s = (s.flags.disable ≡ false) × ¬ IsControl s.place
 IsLegalBy c (TakeDisable false) s = (s.flags.disable ≡ true) × ((s.flags.sched ≡ true) ⊎ (s.flags.npsvc ≡ true))
@@ -162,7 +162,7 @@ abbrev pub MayCall : ℕ → Call → State → Type 0
 MayCall c (call.Hand kind) s = MayHand c kind s
 MayCall c call.Complete s = s.place ≡ Polling c
 MayCall c call.BusyTake s = MayBusyTake s.flags
-MayCall c call.BusyStop s = Polls c true s
+MayCall c call.BusyStop s = CallerPolls c true s
 MayCall c call.MarkDisable s = (s.flags.disable ≡ false) × ¬ IsControl s.place
 MayCall c call.TakeDisable s = s.flags.disable ≡ true
 MayCall c call.Unmark s = (s.place ≡ Control c) × (s.flags.disable ≡ true)
@@ -187,16 +187,16 @@ abbrev pub take_disable_reply : State → Bool
 take_disable_reply s = not (s.flags.sched || s.flags.npsvc)
 
 -- the reply to each call in this state
-abbrev pub answer_of : Call → State → Operation
-answer_of call.Look s = Look (seen_of s)
-answer_of call.Schedule s = Schedule (schedule_reply s)
-answer_of (call.Hand kind) s = Hand kind
-answer_of (call.Take kind) s = Take kind (take_reply kind s)
-answer_of call.Complete s = Complete (complete_reply s)
-answer_of call.BusyTake s = BusyTake
-answer_of call.BusyStop s = BusyStop
-answer_of call.MarkDisable s = MarkDisable
-answer_of call.TakeDisable s = TakeDisable (take_disable_reply s)
-answer_of call.Unmark s = Unmark
-answer_of (call.Enable threaded) s = Enable threaded
-answer_of (call.SetThreaded threaded) s = SetThreaded threaded
+abbrev pub reply_of : Call → State → Operation
+reply_of call.Look s = Look (seen_of s)
+reply_of call.Schedule s = Schedule (schedule_reply s)
+reply_of (call.Hand kind) s = Hand kind
+reply_of (call.Take kind) s = Take kind (take_reply kind s)
+reply_of call.Complete s = Complete (complete_reply s)
+reply_of call.BusyTake s = BusyTake
+reply_of call.BusyStop s = BusyStop
+reply_of call.MarkDisable s = MarkDisable
+reply_of call.TakeDisable s = TakeDisable (take_disable_reply s)
+reply_of call.Unmark s = Unmark
+reply_of (call.Enable threaded) s = Enable threaded
+reply_of (call.SetThreaded threaded) s = SetThreaded threaded

@@ -181,7 +181,7 @@ impl State {
     ghost use Rattle.std.specs.Prelude.{◌≡◌, ◌↔◌, IsTrue, IsFalse};
     ghost use Rattle.napi_model.specs.declared.event.Operation.{Operation};
     ghost use Rattle.napi_model.specs.declared.state.State.{State};
-    ghost use Rattle.napi_model.specs.Step.{opening, idle, seen_of, seen_after, IsLegal, IsLegalBy, after, LegalStep, MayCall, call_of, answer_of};
+    ghost use Rattle.napi_model.specs.Step.{opening, idle, seen_of, seen_after, IsLegal, IsLegalBy, after, LegalStep, MayCall, call_of, reply_of};
     ghost use Rattle.napi_model.specs.Laws.{IsSound};
 
     /// Returns the state of a new instance: disabled, owned by its controller.
@@ -303,7 +303,7 @@ impl State {
     /// Returns the call with its reply: the only one that is legal in this state.
     pub fn answer(self, caller: u32, call: Call) -> Operation
         requires { MayCall caller call self }
-        ensures answer { result ≡ answer_of call self }
+        ensures answer { result ≡ reply_of call self }
         ensures legal { IsLegalBy caller result self }
         ensures only { (o : Operation) → call_of o ≡ call → IsLegalBy caller o self → o ≡ result }
     {

@@ -4,16 +4,16 @@ ghost use Rattle.std.specs.Prelude.{◌≡◌, ◌≢◌, IfErr, OnOk, map, stri
 ghost use Rattle.std.specs.Io.KnownBytes.{Keeps};
 ghost use Rattle.std.specs.Process.{exit_status};
 ghost use Rattle.std.specs.Borrow.{Bor};
-ghost use Rattle.napi_replay.specs.Program.{IsFault, IsFaultIn, IsOutsideIn, IsReport, IsReportIn, Ran, RanIn};
-ghost use Rattle.replay_text.specs.Fault.{line_of, status_of};
+ghost use Rattle.napi_replay.specs.Program.{IsNapiReplayFault, IsFaultIn, IsOutsideIn, IsNapiReplayReport, IsReportIn, Ran, RanIn};
+ghost use Rattle.replay_text.specs.Fault.{replay_fault_line, replay_fault_status};
 ghost use Rattle.replay_text.specs.Program.{FailedBy, LeavesOutput};
-ghost use Rattle.replay_text.specs.Written.{IsFaultBy, Leaves, Writes};
+ghost use Rattle.replay_text.specs.Written.{IsFaultBy, LeavesText, Writes};
 
 use poll_workers::OpenGate;
 use replay_rows::replay_serial;
 use replay_text::{ProgramFault, ReplayFault, end_by};
 use replay_threads::{replay_shared, replay_threads};
-use replay_words::{Mode, Settings, parse_words};
+use replay_words::{ReplayMode, ReplaySettings, parse_words};
 use std::alloc::Global;
 use std::io::{Read, Write};
 use std::process::ExitCode;
@@ -24,10 +24,10 @@ use std::thread::Threads;
 fn replay_in<H, R, W>(
     rt: &H,
     alloc: Global,
-    mode: Mode,
+    mode: ReplayMode,
     input: R,
     output: &mut W,
-    settings: &Settings,
+    settings: &ReplaySettings,
 ) -> Result<(), ReplayFault>
 where
     H: Threads + Wait + Sync,
@@ -38,13 +38,13 @@ where
     ensures fault { IfErr result
         (IsFaultBy (IsOutsideIn mode) (IsFaultIn mode settings.now) (R.remaining input)) }
     ensures run { OnOk result (RanIn (Bor H) mode settings.now (R.remaining input)) }
-    ensures output { IfErr result (Leaves (IsReportIn mode settings.now)
+    ensures output { IfErr result (LeavesText (IsReportIn mode settings.now)
         (R.remaining input) (W.contents output.old) (W.contents output.new)) }
 {
     match mode {
-        Mode::Serial => replay_serial(alloc, input, output, settings),
-        Mode::Shared => replay_shared(rt, alloc, input, output, settings),
-        Mode::Threads => match replay_threads(rt, alloc, input, output, settings, &OpenGate) {
+        ReplayMode::Serial => replay_serial(alloc, input, output, settings),
+        ReplayMode::Shared => replay_shared(rt, alloc, input, output, settings),
+        ReplayMode::Threads => match replay_threads(rt, alloc, input, output, settings, &OpenGate) {
             Ok(_) => Ok(()),
             Err(fault) => Err(fault),
         },
@@ -59,11 +59,12 @@ fn replay_asked<H: Threads + Wait + Sync, R: Read + Drop, W: Write>(
     input: R,
     output: &mut W,
 ) -> Result<(), ProgramFault<ReplayFault>>
-    ensures written { OnOk result (Writes (IsReport (map string_bytes words.now))
+    ensures written { OnOk result (Writes (IsNapiReplayReport (map string_bytes words.now))
         (R.remaining input) (W.contents output.old) (W.contents output.new)) }
-    ensures fault { IfErr result (IsFault (map string_bytes words.now) (R.remaining input)) }
+    ensures fault { IfErr result (IsNapiReplayFault (map string_bytes words.now)
+        (R.remaining input)) }
     ensures run { OnOk result (Ran (Bor H) (map string_bytes words.now) (R.remaining input)) }
-    ensures output { IfErr result (LeavesOutput (IsReport (map string_bytes words.now))
+    ensures output { IfErr result (LeavesOutput (IsNapiReplayReport (map string_bytes words.now))
         (R.remaining input) (W.contents output.old) (W.contents output.new)) }
 {
     match parse_words(alloc, words) {
@@ -89,7 +90,8 @@ pub fn run_program<H: Threads + Wait + Sync, R: Read + Drop, W: Write, E: Write>
 ) -> ExitCode
     // What is written is the report of the bytes read, in the mode and with the settings that the arguments ask for, and
     // nothing else.
-    ensures written { exit_status result ≡ 0 → Writes (IsReport (map string_bytes words.now))
+    ensures written { exit_status result ≡ 0
+        → Writes (IsNapiReplayReport (map string_bytes words.now))
         (R.remaining input) (W.contents output.old) (W.contents output.new) }
     // In shared mode its rows were processed on shared instances; in threads mode they were polled with the settings that the
     // arguments ask for.
@@ -97,8 +99,9 @@ pub fn run_program<H: Threads + Wait + Sync, R: Read + Drop, W: Write, E: Write>
         → Ran (Bor H) (map string_bytes words.now) (R.remaining input) }
     ensures quiet { exit_status result ≡ 0 → Keeps (E.contents errors.old) (E.contents errors.new) }
     ensures failed { exit_status result ≢ 0
-        → FailedBy line_of status_of (IsFault (map string_bytes words.now) (R.remaining input))
-        (LeavesOutput (IsReport (map string_bytes words.now)) (R.remaining input)
+        → FailedBy replay_fault_line replay_fault_status
+        (IsNapiReplayFault (map string_bytes words.now) (R.remaining input))
+        (LeavesOutput (IsNapiReplayReport (map string_bytes words.now)) (R.remaining input)
         (W.contents output.old) (W.contents output.new))
         (E.contents errors.old) (E.contents errors.new) (exit_status result) }
 {

@@ -3,8 +3,8 @@
 ghost use Rattle.std.specs.Prelude.{◌≡◌, ◌≢◌, IfErr, OnOk, map, string_bytes};
 ghost use Rattle.std.specs.Io.KnownBytes.{Keeps};
 ghost use Rattle.std.specs.Process.{exit_status};
-ghost use Rattle.napi_serial.specs.Program.{IsFault, IsReport};
-ghost use Rattle.replay_text.specs.Fault.{line_of, status_of};
+ghost use Rattle.napi_serial.specs.Program.{IsNapiSerialFault, IsNapiSerialReport};
+ghost use Rattle.replay_text.specs.Fault.{replay_fault_line, replay_fault_status};
 ghost use Rattle.replay_text.specs.Program.{FailedBy, LeavesOutput};
 ghost use Rattle.replay_text.specs.Written.{Writes};
 
@@ -22,10 +22,11 @@ fn replay_asked<R: Read + Drop, W: Write>(
     input: R,
     output: &mut W,
 ) -> Result<(), ProgramFault<ReplayFault>>
-    ensures written { OnOk result (Writes (IsReport (map string_bytes words.now))
+    ensures written { OnOk result (Writes (IsNapiSerialReport (map string_bytes words.now))
         (R.remaining input) (W.contents output.old) (W.contents output.new)) }
-    ensures fault { IfErr result (IsFault (map string_bytes words.now) (R.remaining input)) }
-    ensures output { IfErr result (LeavesOutput (IsReport (map string_bytes words.now))
+    ensures fault { IfErr result (IsNapiSerialFault (map string_bytes words.now)
+        (R.remaining input)) }
+    ensures output { IfErr result (LeavesOutput (IsNapiSerialReport (map string_bytes words.now))
         (R.remaining input) (W.contents output.old) (W.contents output.new)) }
 {
     match parse_serial_words(alloc, words) {
@@ -49,12 +50,14 @@ pub(crate) fn run_program<R: Read + Drop, W: Write, E: Write>(
     errors: &mut E,
 ) -> ExitCode
     // What is written is the report of the bytes read, with the settings that the arguments ask for, and nothing else.
-    ensures written { exit_status result ≡ 0 → Writes (IsReport (map string_bytes words.now))
+    ensures written { exit_status result ≡ 0
+        → Writes (IsNapiSerialReport (map string_bytes words.now))
         (R.remaining input) (W.contents output.old) (W.contents output.new) }
     ensures quiet { exit_status result ≡ 0 → Keeps (E.contents errors.old) (E.contents errors.new) }
     ensures failed { exit_status result ≢ 0
-        → FailedBy line_of status_of (IsFault (map string_bytes words.now) (R.remaining input))
-        (LeavesOutput (IsReport (map string_bytes words.now)) (R.remaining input)
+        → FailedBy replay_fault_line replay_fault_status
+        (IsNapiSerialFault (map string_bytes words.now) (R.remaining input))
+        (LeavesOutput (IsNapiSerialReport (map string_bytes words.now)) (R.remaining input)
         (W.contents output.old) (W.contents output.new))
         (E.contents errors.old) (E.contents errors.new) (exit_status result) }
 {

@@ -7,19 +7,19 @@ use Rattle.replay_text.specs.Program.{IsFaultOf, IsTextBy}
 use Rattle.replay_text.specs.Written.{IsFaultBy}
 use Rattle.replay_text.specs.declared.fault.ReplayFault.{ReplayFault}
 use Rattle.replay_text.specs.declared.program.ProgramFault.{ProgramFault}
-use Rattle.replay_words.specs.Words.{Text, asked_of}
-use Rattle.replay_words.specs.declared.mode.Mode.TheVariants.{Serial}
-use Rattle.replay_words.specs.declared.settings.Settings.{Settings}
+use Rattle.replay_words.specs.Words.{Text, replay_args_of}
+use Rattle.replay_words.specs.declared.mode.ReplayMode.TheVariants.{Serial}
+use Rattle.replay_words.specs.declared.settings.ReplaySettings.{ReplaySettings}
 
 -- the arguments ask for a line for every so many rows, with these settings
-abbrev pub AskFor : List Text → ℕ × Settings → Type 0
-AskFor words asked = series_asked_for words ≡ Some (asked.0, asked_of (Serial, asked.1))
+abbrev pub AskForSeries : List Text → ℕ × ReplaySettings → Type 0
+AskForSeries words asked = series_asked_for words ≡ Some (asked.0, replay_args_of (Serial, asked.1))
 
 -- the text is the series of these bytes
 abbrev pub IsSeries : List Text → List ℕ → List ℕ → Type 0
-IsSeries words = IsTextBy (AskFor words) (λ asked bytes text. series_by asked.1 asked.0 bytes ≡ Ok text)
+IsSeries words = IsTextBy (AskForSeries words) (λ asked bytes text. series_by asked.1 asked.0 bytes ≡ Ok text)
 
 -- the error is that of the arguments or of the bytes; otherwise the reader, an allocation or the writer failed
-abbrev pub IsFault : List Text → Option (List ℕ) → ProgramFault ReplayFault → Type 0
-IsFault words input = IsFaultOf (series_asked_for words ≡ None) (AskFor words)
+abbrev pub IsNapiSeriesFault : List Text → Option (List ℕ) → ProgramFault ReplayFault → Type 0
+IsNapiSeriesFault words input = IsFaultOf (series_asked_for words ≡ None) (AskForSeries words)
     (λ asked. IsFaultBy IsOutside (λ bytes fault. series_by asked.1 asked.0 bytes ≡ Err fault) input)

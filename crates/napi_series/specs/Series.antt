@@ -9,16 +9,16 @@ use Rattle.device_bench.specs.declared.counts.DeviceCounts.{DeviceCounts}
 use Rattle.device_rows.specs.declared.fault.TraceFault.{TraceFault}
 use Rattle.device_rows.specs.declared.row.Row.{Row}
 use Rattle.dql_core.specs.Counter.{distance_of}
-use Rattle.replay_words.specs.declared.settings.Settings.{Settings}
+use Rattle.replay_words.specs.declared.settings.ReplaySettings.{ReplaySettings}
 use Rattle.replay_rows.specs.After.{counts_after, is_used_after, list_after, polled_after}
-use Rattle.replay_rows.specs.Replay.{after_all}
+use Rattle.replay_rows.specs.Replay.{after_all_rows}
 use Rattle.replay_text.specs.Lines.{flag}
 use Rattle.replay_rows.specs.Report.{lines_below, spaced, state_word}
 use Rattle.replay_rows.specs.ReplayState.{ReplayState}
 use Rattle.replay_text.specs.declared.fault.ReplayFault.{ReplayFault}
 use Rattle.replay_text.specs.declared.fault.ReplayFault.TheVariants.{Trace}
-use Rattle.replay_rows.specs.declared.line.Line.{Line}
-use Rattle.replay_rows.specs.declared.line.Line.TheVariants.{Softirq, Kthread, Busy}
+use Rattle.replay_rows.specs.declared.line.PollRecord.{PollRecord}
+use Rattle.replay_rows.specs.declared.line.PollRecord.TheVariants.{Softirq, Kthread, Busy}
 
 abbrev pub header : List ℕ
 header = codes "row,moment,device,state,waiting,arrived,dropped,polled,in_flight,limit,avail,stopped,polls,work,squeezed,word,list,gave\n"
@@ -47,7 +47,7 @@ queue_fields true (Some counts) =
 queue_fields _ counts = codes ",,,,"
 
 -- what a row that polled did; a thread's polling is never squeezed, nor is busy polling
-abbrev pub run_fields : Option Line → List ℕ
+abbrev pub run_fields : Option PollRecord → List ℕ
 run_fields None = codes ",,,"
 run_fields (Some (Softirq row run)) = fields (decimal run.polls ∷ decimal run.work ∷ decimal (flag run.squeezed) ∷ [])
 run_fields (Some (Kthread row device report)) = fields (decimal report.polls ∷ decimal report.work ∷ [] ∷ [])
@@ -59,7 +59,7 @@ word_field None = codes ","
 word_field (Some counts) = codes "," ++ decimal counts.word
 
 -- the effect of the row on its device, and what it polled
-abbrev pub told_fields : ℕ → Row → Bool → Option DeviceCounts → Option Line → List ℕ
+abbrev pub told_fields : ℕ → Row → Bool → Option DeviceCounts → Option PollRecord → List ℕ
 told_fields n row used counts polled =
     row_fields n row ++ (device_fields counts ++ (queue_fields used counts ++ (run_fields polled ++ word_field counts)))
 
@@ -71,44 +71,44 @@ gave device (Some before) (Some after) =
 gave device before after = []
 
 -- for each device that row n + 1 polled, its packets
-abbrev pub gave_in : Settings → List Row → ℕ → ℕ → List ℕ
+abbrev pub gave_in : ReplaySettings → List Row → ℕ → ℕ → List ℕ
 gave_in s rows n device = gave device (counts_after s rows n device) (counts_after s rows (n + 1) device)
 
 -- the poll list after row n + 1, and how many packets each device processed that this row polled
-abbrev pub list_fields : Settings → List Row → ℕ → List ℕ
+abbrev pub list_fields : ReplaySettings → List Row → ℕ → List ℕ
 list_fields s rows n = codes "," ++ (spaced (list_after s rows (n + 1)) ++ (codes "," ++ lines_below (gave_in s rows n) 17))
 
 -- the line of a row that follows n others
-abbrev pub line_after : Settings → List Row → ℕ → Option Row → List ℕ
+abbrev pub line_after : ReplaySettings → List Row → ℕ → Option Row → List ℕ
 line_after s rows n None = []
 line_after s rows n (Some row) =
     told_fields (n + 1) row (is_used_after rows (n + 1) row.device) (counts_after s rows (n + 1) row.device) (polled_after s rows (n + 1))
     ++ (list_fields s rows n ++ codes "\n")
 
 -- the same, if the row has a line
-abbrev pub part_after : Settings → ℕ → List Row → ℕ → Option Row → List ℕ
+abbrev pub part_after : ReplaySettings → ℕ → List Row → ℕ → Option Row → List ℕ
 part_after s every rows n row = if (n + 1) % every == 0 then line_after s rows n row else []
 
 -- the lines after the first n rows
-unfoldable pub lines_to : Settings → ℕ → List Row → ℕ → List ℕ
+unfoldable pub lines_to : ReplaySettings → ℕ → List Row → ℕ → List ℕ
 lines_to s every rows zero = []
 lines_to s every rows (suc n) = lines_to s every rows n ++ part_after s every rows n (slice_get rows n)
 
-abbrev pub text_of : Settings → ℕ → List Row → List ℕ
-text_of s every rows = header ++ lines_to s every rows (length rows)
+abbrev pub series_text : ReplaySettings → ℕ → List Row → List ℕ
+series_text s every rows = header ++ lines_to s every rows (length rows)
 
 -- the series of a trace's rows, or the error that their report has
 abbrev pub series_in : Result ReplayState ReplayFault → List ℕ → Result (List ℕ) ReplayFault
 series_in (Ok w) text = Ok text
 series_in (Err fault) text = Err fault
 
-abbrev pub series_of : Settings → ℕ → List Row → Result (List ℕ) ReplayFault
-series_of s every rows = series_in (after_all s rows) (text_of s every rows)
+abbrev pub series_of : ReplaySettings → ℕ → List Row → Result (List ℕ) ReplayFault
+series_of s every rows = series_in (after_all_rows s rows) (series_text s every rows)
 
 -- the series of a text: of its rows, or the first error of the trace
-abbrev pub answer_of : Settings → ℕ → Result (List Row) TraceFault → Result (List ℕ) ReplayFault
-answer_of s every (Ok rows) = series_of s every rows
-answer_of s every (Err fault) = Err (Trace fault)
+abbrev pub series_result : ReplaySettings → ℕ → Result (List Row) TraceFault → Result (List ℕ) ReplayFault
+series_result s every (Ok rows) = series_of s every rows
+series_result s every (Err fault) = Err (Trace fault)
 
-abbrev pub series_by : Settings → ℕ → List ℕ → Result (List ℕ) ReplayFault
-series_by s every bytes = answer_of s every (trace_of (records_of bytes))
+abbrev pub series_by : ReplaySettings → ℕ → List ℕ → Result (List ℕ) ReplayFault
+series_by s every bytes = series_result s every (trace_of (records_of bytes))

@@ -4,13 +4,13 @@ ghost use Rattle.std.specs.Prelude.{◌≡◌, ◌+◌, ◌++◌, ℕ, List, OnO
 ghost use Rattle.device_rows.specs.declared.row.Row.{Row};
 ghost use Rattle.replay_rows.specs.After.{IsAfter};
 ghost use Rattle.replay_rows.specs.Report.{lines_below};
-ghost use Rattle.replay_words.specs.declared.settings.Settings.{Settings};
+ghost use Rattle.replay_words.specs.declared.settings.ReplaySettings.{ReplaySettings};
 ghost use Rattle.napi_series.specs.Series.{device_fields, gave, gave_in, list_fields, queue_fields, row_fields, run_fields, told_fields, word_field};
 
 use device_bench::DeviceCounts;
-use device_places::PLACES;
+use device_places::TABLE_LEN;
 use device_rows::Row;
-use replay_rows::{Line, SerialReplay, add_numbers, state_word};
+use replay_rows::{PollRecord, SerialReplay, add_numbers, state_word};
 use std::alloc::AllocError;
 
 fn add_row(text: &mut String, number: u32, row: &Row) -> Result<(), AllocError>
@@ -60,21 +60,23 @@ fn add_queue(text: &mut String, used: bool, counts: Option<DeviceCounts>) -> Res
     Ok(())
 }
 
-fn add_run(text: &mut String, polled: Option<Line>) -> Result<(), AllocError>
+fn add_run(text: &mut String, polled: Option<PollRecord>) -> Result<(), AllocError>
     ensures { OnOk result (string_bytes text.new ≡ string_bytes text.old ++ run_fields polled) }
 {
     match polled {
-        Some(Line::Softirq { run, .. }) => write!(
+        Some(PollRecord::Softirq { run, .. }) => write!(
             text,
             ",{},{},{}",
             run.polls,
             run.work,
             u8::from(run.squeezed)
         )?,
-        Some(Line::Kthread { report, .. }) => {
+        Some(PollRecord::Kthread { report, .. }) => {
             write!(text, ",{},{},", report.polls, report.work)?
         }
-        Some(Line::Busy { report, .. }) => { write!(text, ",{},{},", report.polls, report.work)? }
+        Some(PollRecord::Busy { report, .. }) => {
+            write!(text, ",{},{},", report.polls, report.work)?
+        }
         None => text.push_str(",,,")?,
     }
     Ok(())
@@ -98,7 +100,7 @@ pub(crate) fn add_told(
     row: &Row,
     used: bool,
     counts: Option<DeviceCounts>,
-    polled: Option<Line>,
+    polled: Option<PollRecord>,
 ) -> Result<(), AllocError>
     ensures { OnOk result (string_bytes text.new
         ≡ string_bytes text.old ++ told_fields number row.now used counts polled) }
@@ -135,11 +137,11 @@ fn add_given(
     before: &SerialReplay,
     after: &SerialReplay,
 ) -> Result<(), AllocError>
-    ensures { (s : Settings) (rows : List Row) (n : ℕ) → IsAfter s rows n before.now
+    ensures { (s : ReplaySettings) (rows : List Row) (n : ℕ) → IsAfter s rows n before.now
         → IsAfter s rows (n + 1) after.now → OnOk result (string_bytes text.new
         ≡ string_bytes text.old ++ lines_below (gave_in s rows n) 17) }
 {
-    for device in 0..PLACES {
+    for device in 0..TABLE_LEN {
         add_gave(text, device, before.counts(device), after.counts(device))?;
     }
     Ok(())
@@ -152,7 +154,7 @@ pub(crate) fn add_list(
     before: &SerialReplay,
     after: &SerialReplay,
 ) -> Result<(), AllocError>
-    ensures { (s : Settings) (rows : List Row) (n : ℕ) → IsAfter s rows n before.now
+    ensures { (s : ReplaySettings) (rows : List Row) (n : ℕ) → IsAfter s rows n before.now
         → IsAfter s rows (n + 1) after.now → OnOk result (string_bytes text.new
         ≡ string_bytes text.old ++ list_fields s rows n) }
 {

@@ -3,8 +3,8 @@
 ghost use Rattle.std.specs.Prelude.{◌≡◌, ◌≢◌, IfErr, OnOk, map, string_bytes};
 ghost use Rattle.std.specs.Io.KnownBytes.{Keeps};
 ghost use Rattle.std.specs.Process.{exit_status};
-ghost use Rattle.napi_series.specs.Program.{IsFault, IsSeries};
-ghost use Rattle.replay_text.specs.Fault.{line_of, status_of};
+ghost use Rattle.napi_series.specs.Program.{IsNapiSeriesFault, IsSeries};
+ghost use Rattle.replay_text.specs.Fault.{replay_fault_line, replay_fault_status};
 ghost use Rattle.replay_text.specs.Program.{FailedBy, LeavesOutput};
 ghost use Rattle.replay_text.specs.Written.{Writes};
 
@@ -24,7 +24,8 @@ fn write_asked<R: Read + Drop, W: Write>(
 ) -> Result<(), ProgramFault<ReplayFault>>
     ensures written { OnOk result (Writes (IsSeries (map string_bytes words.now))
         (R.remaining input) (W.contents output.old) (W.contents output.new)) }
-    ensures fault { IfErr result (IsFault (map string_bytes words.now) (R.remaining input)) }
+    ensures fault { IfErr result (IsNapiSeriesFault (map string_bytes words.now)
+        (R.remaining input)) }
     ensures output { IfErr result (LeavesOutput (IsSeries (map string_bytes words.now))
         (R.remaining input) (W.contents output.old) (W.contents output.new)) }
 {
@@ -53,7 +54,8 @@ pub(crate) fn run_program<R: Read + Drop, W: Write, E: Write>(
         (R.remaining input) (W.contents output.old) (W.contents output.new) }
     ensures quiet { exit_status result ≡ 0 → Keeps (E.contents errors.old) (E.contents errors.new) }
     ensures failed { exit_status result ≢ 0
-        → FailedBy line_of status_of (IsFault (map string_bytes words.now) (R.remaining input))
+        → FailedBy replay_fault_line replay_fault_status
+        (IsNapiSeriesFault (map string_bytes words.now) (R.remaining input))
         (LeavesOutput (IsSeries (map string_bytes words.now)) (R.remaining input)
         (W.contents output.old) (W.contents output.new))
         (E.contents errors.old) (E.contents errors.new) (exit_status result) }

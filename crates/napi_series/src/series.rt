@@ -3,16 +3,16 @@
 ghost use Rattle.std.specs.Prelude.{◌≡◌, ◌≢◌, ◌⊎◌, ◌≤◌, ◌<◌, ◌+◌, ◌++◌, [], ℕ, List, Ok, Err, Some, IfOk, IfErr, OnOk, length, slice_get, string_bytes};
 ghost use Rattle.device_rows.specs.Trace.{AcceptedAfter};
 ghost use Rattle.napi_series.specs.Series.{part_after, series_by, series_of};
-ghost use Rattle.replay_text.specs.Outside.{IsOutside, IsWantOfMemory};
-ghost use Rattle.replay_text.specs.Written.{IsFaultBy, Leaves, Writes};
+ghost use Rattle.replay_text.specs.Outside.{IsOutside, IsReplayOutOfMemory};
+ghost use Rattle.replay_text.specs.Written.{IsFaultBy, LeavesText, Writes};
 ghost use Rattle.replay_rows.specs.After.{IsAfter};
-ghost use Rattle.replay_rows.specs.Replay.{after_all};
+ghost use Rattle.replay_rows.specs.Replay.{after_all_rows};
 
 use crate::line::{add_list, add_told};
 use device_rows::{Row, read_trace};
 use replay_rows::SerialReplay;
 use replay_text::{ReplayFault, write_text};
-use replay_words::Settings;
+use replay_words::ReplaySettings;
 use std::alloc::{AllocError, Global};
 use std::io::{Read, Write};
 
@@ -29,7 +29,7 @@ struct Steps {
 // Appends the line of the row with this index, if it has one.
 fn add_part(
     text: &mut String,
-    settings: &Settings,
+    settings: &ReplaySettings,
     every: u32,
     rows: &[Row],
     index: usize,
@@ -65,7 +65,7 @@ fn add_part(
 // Returns the series of the rows.
 fn series_of(
     alloc: Global,
-    settings: &Settings,
+    settings: &ReplaySettings,
     every: u32,
     rows: &[Row],
 ) -> Result<String, ReplayFault>
@@ -75,7 +75,7 @@ fn series_of(
     ensures text { IfOk result
         (λ text. series_of settings.now every rows.now ≡ Ok (string_bytes text)) }
     ensures fault { IfErr result
-        (λ fault. IsWantOfMemory fault ⊎ (after_all settings.now rows.now ≡ Err fault)) }
+        (λ fault. IsReplayOutOfMemory fault ⊎ (after_all_rows settings.now rows.now ≡ Err fault)) }
 {
     let mut text = String::from_str(alloc, HEADER)?;
     let mut steps = Steps {
@@ -98,7 +98,7 @@ pub(crate) fn write_series<R: Read + Drop, W: Write>(
     alloc: Global,
     reader: R,
     writer: &mut W,
-    settings: &Settings,
+    settings: &ReplaySettings,
     every: u32,
 ) -> Result<(), ReplayFault>
     requires every { 0 < every }
@@ -112,7 +112,7 @@ pub(crate) fn write_series<R: Read + Drop, W: Write>(
         (λ bytes fault. series_by settings.now every bytes ≡ Err fault) (R.remaining reader)) }
     // If the output failed, less than the whole series was written, and after each other error nothing.
     ensures output { IfErr result
-        (Leaves (λ bytes text. series_by settings.now every bytes ≡ Ok text)
+        (LeavesText (λ bytes text. series_by settings.now every bytes ≡ Ok text)
         (R.remaining reader) (W.contents writer.old) (W.contents writer.new)) }
 {
     let trace = read_trace(alloc, reader)?;

@@ -1,12 +1,12 @@
 //! The command line.
 
 ghost use Rattle.std.specs.Prelude.{◌≡◌, ◌≤◌, None, Err, IfOk, IfSome, map, option_map, string_bytes};
-ghost use Rattle.napi_series.specs.Program.{AskFor};
+ghost use Rattle.napi_series.specs.Program.{AskForSeries};
 ghost use Rattle.napi_series.specs.Words.{every_of, series_asked_for};
-ghost use Rattle.replay_words.specs.Refusals.{IsRefused};
+ghost use Rattle.replay_words.specs.Refusals.{IsArgsOutOfMemory};
 ghost use Rattle.replay_words.specs.declared.words.WordFault.TheVariants.{OutOfMemory, Usage};
 
-use replay_words::{Settings, WordFault, number_of, parse_serial_words};
+use replay_words::{ReplaySettings, WordFault, number_of, parse_serial_words};
 use std::alloc::Global;
 
 // Returns how many rows make one line, and the remaining arguments.
@@ -32,10 +32,10 @@ fn split_every(words: &[String]) -> Option<(u32, &[String])>
 pub(crate) fn parse_series_words(
     alloc: Global,
     words: &[String],
-) -> Result<(u32, Settings), WordFault>
-    ensures asked { IfOk result (AskFor (map string_bytes words.now)) }
+) -> Result<(u32, ReplaySettings), WordFault>
+    ensures asked { IfOk result (AskForSeries (map string_bytes words.now)) }
     ensures usage { result ≡ Err Usage → series_asked_for (map string_bytes words.now) ≡ None }
-    ensures memory { result ≡ Err OutOfMemory → IsRefused }
+    ensures memory { result ≡ Err OutOfMemory → IsArgsOutOfMemory }
     ensures range { IfOk result (λ asked. 1 ≤ asked.0) }
 {
     let Some((every, rest)) = split_every(words) else {

@@ -1,9 +1,11 @@
 -- A step is allowed if, in each state that the view allows, it is legal and writes the right word.
-use Rattle.napi_word.specs.{Told.{told, laid_down}, View.{View, is_pass, number_of, place_in, ring_of, delivery, own_deliveries, delivered}}
+use Rattle.napi_word.specs.{Told.{makes_as_seen, laid_down}}
+use Rattle.napi_word.specs.{View.{View, is_pass, view_number, place_in, view_ring, delivery, own_deliveries, view_delivered}}
 use Rattle.napi_word.specs.{View.{received_by, received_in, first_in, last_of, Continues}, declared.view.{Key.Key, Delivery.Delivery}}
 use Rattle.napi_word.specs.{declared.view.Holds.{Holds, TheVariants.{Nothing, Within, Out}}, Rule.{Home, Homes, Owned, Fits, Kept, Holding}}
 use Rattle.napi_word.specs.Slot.{Content, Carried, has_at, is_out, owns_slot, hold_of, has_slot, ring_in, beside_in, carried_received, Tied}
-use Rattle.napi_word.{specs.Slot.{Moves, stays, taken, given, moved, Gives, Shifts, Delivers}, proofs.Places.{has_out, has_same}}
+use Rattle.napi_word.{specs.Slot.{Moves, stays, taken, given, moved, GivesSlotBack, Shifts, SlotDelivers}}
+use Rattle.napi_word.{proofs.Places.{has_out, has_same}}
 use Rattle.napi_word.proofs.{Places.in_no_hand, Keeps.{St, Open, opened, grown, running, Knows, knows, own_fits, owned, found, steps, grew}}
 use Rattle.napi_word.proofs.{Keeps.again, Deliveries.{some_is, prefix_self, to_prefix, of_prefix, received_snoc, last_snoc, More}}
 use Rattle.{napi_word.proofs.Deliveries.{not_given, more_none, more_one}, rx_ring.specs.declared.{ends.RxCtx.RxCtx, packet.Packet.Packet}}
@@ -45,7 +47,7 @@ within Nothing e n = absurd (true≢false (sym e))
 within Within e n = refl
 within Out e n = absurd (n refl)
 
-pub ring_kept : (l : Carried) (v w : View) → ring_in l v ≡ ring_of v → ring_of v ≡ ring_of w → ring_in l w ≡ ring_of w
+pub ring_kept : (l : Carried) (v w : View) → ring_in l v ≡ view_ring v → view_ring v ≡ view_ring w → ring_in l w ≡ view_ring w
 ring_kept [] v w e f = refl
 ring_kept ((k, Some y) ∷ l) v w e f = e ∙ f
 ring_kept ((k, None) ∷ l) v w e f = refl
@@ -80,15 +82,15 @@ module _ (key : Key) (id : ℕ) (me : Me Content View) (h : Holds) (tie : Tied h
   now = state_after start r.history
 
   abbrev c : ℕ
-  c = number_of me.0
+  c = view_number me.0
 
   has_now : has_at c now.place ≡ has_slot h
   has_now =
       let k = knows key s r id me.0 at o in
       has_same c now.place (place_in me.0) k.owner k.place ∙ tie.right
 
-  ring_now : ring_of me.0 ≡ Some (ring_name o.first.ring)
-  ring_now = ap ring_of o.is
+  ring_now : view_ring me.0 ≡ Some (ring_name o.first.ring)
+  ring_now = ap view_ring o.is
 
   abbrev ring : RxCtx
   ring = key.ring.value
@@ -99,8 +101,8 @@ module _ (key : Key) (id : ℕ) (me : Me Content View) (h : Holds) (tie : Tied h
   owned_now : Owned key r.history r.deliveries r.seat (id, 0) o.first c
   owned_now = owned key s r id me.0 at o
 
-  shown_now : delivered me.0 ≡ o.first.delivered
-  shown_now = ap delivered o.is
+  shown_now : view_delivered me.0 ≡ o.first.delivered
+  shown_now = ap view_delivered o.is
 
   -- the owner of the slot knows all deliveries
   all_known : has_at c now.place ≡ true → o.first.delivered ≡ r.deliveries
@@ -109,7 +111,8 @@ module _ (key : Key) (id : ℕ) (me : Me Content View) (h : Holds) (tie : Tied h
   received_now : received_in me.0 ≡ received_by ring o.first.delivered
   received_now = ap received_in o.is ∙ ap (λ (x : RxCtx). received_by x o.first.delivered) fits_now.ring
 
-  delivers_by : (m : Moves) (me' : Me Content View) → first_in me'.0 ≡ Some o.first.ring → Shifts m r.deliveries me me' → Delivers m me me'
+  delivers_by : (m : Moves) (me' : Me Content View) → first_in me'.0 ≡ Some o.first.ring → Shifts m r.deliveries me me'
+      → SlotDelivers m me me'
   delivers_by m me' first y = record {
     before = r.deliveries;
     begins = λ k x is. (r.strands id me.0 at k x is).delivered;
@@ -156,7 +159,7 @@ module _ (key : Key) (id : ℕ) (me : Me Content View) (h : Holds) (tie : Tied h
       pub valid : Valid s.homes me.1 act
       pub home : is_out q ≡ false → Home key.ring.value ds (homes_after s.homes me.1 act)
       pub tied : Tied (moved m h) (w ds, carried_after me.1 act)
-      pub told : Delivers m me (w ds, carried_after me.1 act)
+      pub told : SlotDelivers m me (w ds, carried_after me.1 act)
 
     pub slot_step : (m : Moves) → Fitting m c now.place q → (m ≡ given → h ≢ Out) → Went m
     slot_step stays f n = record {
@@ -237,22 +240,22 @@ module _ (key : Key) (id : ℕ) (me : Me Content View) (h : Holds) (tie : Tied h
                 (of_prefix _ _ (prefix_self (received_in (w ds))));
           };
           told = delivers_by given (w ds, rest me.1) refl
-              (subst (λ (b : Bool). Gives b r.deliveries me (w ds, rest me.1)) owns (held.0, more.0, held.1, sym more.1, refl));
+              (subst (λ (b : Bool). GivesSlotBack b r.deliveries me (w ds, rest me.1)) owns (held.0, more.0, held.1, sym more.1, refl));
         }
 
 module _ (key : Key) (slots id : ℕ) (me : Me Content View) (one : slots ≡ 1) (p : is_pass me.0 ≡ true) (h : Holds) (tie : Tied h me) where
   pub allowed : (g : ℕ → ℕ) (f : Seen → Operation) (m : Seen → Moves) → ((x : Seen) → m x ≡ given → h ≢ Out)
       → ((now : Napi) (c : ℕ) → Knows key.controller me.0 c now → Turn key.controller now c (f (seen_of now)) (m (seen_of now)) g)
-      → Allows (Holding key) slots id me 0 g (told f m me)
+      → Allows (Holding key) slots id me 0 g (makes_as_seen f m me)
   allowed g f m ready turn s holding len at fits =
       let r = running key s holding id me.0 at p in
       let o = opened me.0 p in
       let now = state_after (opening key.controller) r.history in
       let x = seen_of now in
       let d = f x in
-      let t = turn now (number_of me.0) (knows key s r id me.0 at o) in
+      let t = turn now (view_number me.0) (knows key s r id me.0 at o) in
       let a = slot_step key id me h tie s r (len ∙ one) at o d (m x) t.slot (ready x) in (
-        grown o.first (number_of me.0) r.history d a.ds ∷ [],
+        grown o.first (view_number me.0) r.history d a.ds ∷ [],
         a.act,
         a.valid,
         inr (steps key s r id me.0 at o d a.ds [] (λ k x is. absurd (some-ne-none x (sym is))) g t.word t.legal a.more
@@ -263,7 +266,7 @@ module _ (key : Key) (slots id : ℕ) (me : Me Content View) (one : slots ≡ 1)
           (
             grew key s r id me.0 at o d a.ds [] t.legal,
             λ h' tie'. subst
-                (λ (y : Holds). Tied (moved (m x) y) (grown o.first (number_of me.0) r.history d a.ds ∷ [], carried_after me.1 a.act))
+                (λ (y : Holds). Tied (moved (m x) y) (grown o.first (view_number me.0) r.history d a.ds ∷ [], carried_after me.1 a.act))
                 (some_is (sym tie.marked ∙ tie'.marked)) a.tied,
             a.told,
           ),
@@ -281,6 +284,6 @@ module _ (key : Key) (slots id : ℕ) (me : Me Content View) (one : slots ≡ 1)
         gives,
         tt,
         inr (again key s r id me.0 at o (put_back s.homes me.1)
-            (λ y. absurd (true≢false (sym (has_out (number_of me.0) now.place has) ∙ y)))),
+            (λ y. absurd (true≢false (sym (has_out (view_number me.0) now.place has) ∙ y)))),
         (refl, ap rest (hold_out me.1 (tie.marked ∙ ap Some out))),
       )

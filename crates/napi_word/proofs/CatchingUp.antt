@@ -7,7 +7,8 @@ use Rattle.napi_model.specs.declared.{event.{Event.Event, Operation.TheVariants.
 use Rattle.napi_model.specs.{Step.{event, opening, seen_of}, History.{LegalHistory, state_after, own}, Laws.is_owner}
 use Rattle.{napi_model.proofs.Histories.{legal_snoc, state_after-snoc}, napi_word.specs.declared.view.{Key.Key, Strand.Strand}}
 use Rattle.napi_word.specs.{declared.{view.{Delivery.Delivery, Holds.{Holds, TheVariants.Nothing}}, table.Pass.Pass}, View.{View, is_pass}}
-use Rattle.napi_word.specs.{View.{mine, number_of, controller_of, first_in, received_in, own_deliveries, place_in, Continues}, Slot.Content}
+use Rattle.napi_word.specs.{View.{mine, view_number, view_controller, first_in, received_in, own_deliveries, place_in, Continues}}
+use Rattle.napi_word.specs.{Slot.Content}
 use Rattle.napi_word.specs.{Slot.{Carried, stays, has_at, is_given, one_if, hold_of, has_slot, carried_received, Tied}, Rule.{Fits, Kept}}
 use Rattle.napi_word.specs.{Rule.Holding, Surveys.{IsWhole, CatchesUp, Knew, Surveyed, Surveys, front, with_front, but_last, last_alone}}
 use Rattle.napi_word.specs.{Surveys.{caught_up, looked, all_looked, all_caught_up}, Passes.{Makes, SameTable, view_of, tie_of}}
@@ -30,15 +31,15 @@ module _ (key : Key) (s : St) (r : Kept key s) (id : ℕ) (v : View) (at : get_e
   state_found = state_after (opening key.controller) r.history
 
   abbrev look_made : Event
-  look_made = event (number_of v) (Look (seen_of state_found))
+  look_made = event (view_number v) (Look (seen_of state_found))
 
   abbrev all_made : List Event
   all_made = r.history ++ look_made ∷ []
 
   -- among the strands, only the first has the number of the caller that looks
-  front_alone : (k : ℕ) (x : Strand) → get_elem? v k ≡ maybe.some x → x.number ≡ Some (number_of v) → k ≡ 0
+  front_alone : (k : ℕ) (x : Strand) → get_elem? v k ≡ maybe.some x → x.number ≡ Some (view_number v) → k ≡ 0
   front_alone k x is n =
-      ap (λ (p : ℕ × ℕ). p.1) (sym ((r.strands id v at k x is).owned (number_of v) n).here ∙ (owned key s r id v at o).here)
+      ap (λ (p : ℕ × ℕ). p.1) (sym ((r.strands id v at k x is).owned (view_number v) n).here ∙ (owned key s r id v at o).here)
 
   behind : (k : ℕ) (x : Strand) → get_elem? o.extra k ≡ maybe.some x → get_elem? v (suc k) ≡ maybe.some x
   behind k x is = ap (λ (l : View). get_elem? l (suc k)) o.is ∙ is
@@ -51,7 +52,7 @@ module _ (key : Key) (s : St) (r : Kept key s) (id : ℕ) (v : View) (at : get_e
         delivered = prefix_self r.deliveries;
         owned = λ c n.
             let w = f.owned c n in
-            let other : number_of v ≢ c = λ same. absurd (omega (arith, front_alone (suc k) x is (n ∙ ap Some (sym same)))) in
+            let other : view_number v ≢ c = λ same. absurd (omega (arith, front_alone (suc k) x is (n ∙ ap Some (sym same)))) in
             let whole = own_other c r.history look_made other ∙ w.whole in
             record { whole = whole; shown = whole; delivers = refl; has = λ there. refl; here = w.here; few = w.few };
         controller = f.controller;
@@ -66,7 +67,7 @@ module _ (key : Key) (s : St) (r : Kept key s) (id : ℕ) (v : View) (at : get_e
       subst (Fits key all_made r.deliveries r.seat (id, suc k)) x.2 (refreshed k x.0 (behind k x.0 x.1))
 
   none_given : More state_found look_made r.deliveries r.deliveries
-  none_given = more_none state_found look_made r.deliveries (not_given (number_of v) state_found.place state_found.place refl)
+  none_given = more_none state_found look_made r.deliveries (not_given (view_number v) state_found.place state_found.place refl)
 
   knew : (k : ℕ) (x : Strand) (c : ℕ) → get_elem? v k ≡ maybe.some x → x.number ≡ Some c → Knew key.controller r.history r.deliveries x c
   knew k x c e is =
@@ -88,10 +89,10 @@ module _ (key : Key) (s : St) (r : Kept key s) (id : ℕ) (v : View) (at : get_e
   whole_then =
       let few = (owned key s r id v at o).few in record {
         legal = legal_snoc key.controller (opening key.controller) r.history look_made r.legal (refl, tt);
-        others = λ c above. own_other c r.history look_made (λ (same : number_of v ≡ c). absurd (omega (arith, few, same, above)))
+        others = λ c above. own_other c r.history look_made (λ (same : view_number v ≡ c). absurd (omega (arith, few, same, above)))
             ∙ r.few c above;
         few = r.few_deliver;
-        order = none_given.order ∙ ap (λ (l : List ℕ). l ++ one_if (is_given state_found look_made) (number_of v)) r.order
+        order = none_given.order ∙ ap (λ (l : List ℕ). l ++ one_if (is_given state_found look_made) (view_number v)) r.order
             ∙ sym (givers_snoc (opening key.controller) r.history look_made);
       }
 
@@ -100,11 +101,11 @@ pub surveys : (key : Key) (slots id : ℕ) (me : Me Content View) → is_pass me
 surveys key slots id me p s holding len at fits =
     let r = running key s holding id me.0 at p in
     let o = opened me.0 p in
-    let same : controller_of me.0 ≡ key.controller = ap controller_of o.is ∙ (own_fits key s r id me.0 at o).controller in
+    let same : view_controller me.0 ≡ key.controller = ap view_controller o.is ∙ (own_fits key s r id me.0 at o).controller in
     let x = seen_of (state_after (opening key.controller) r.history) in
-    let e = event (number_of me.0) (Look x) in
+    let e = event (view_number me.0) (Look x) in
     let tail = all_caught_up (r.history ++ e ∷ []) r.deliveries o.extra in (
-      grown o.first (number_of me.0) r.history (Look x) r.deliveries ∷ tail,
+      grown o.first (view_number me.0) r.history (Look x) r.deliveries ∷ tail,
       keeps,
       tt,
       inr (steps key s r id me.0 at o (Look x) r.deliveries tail (tail_fits key s r id me.0 at o) (λ n. n) refl (refl, tt)
@@ -134,8 +135,8 @@ abbrev pub shows_all : List Event → List Delivery → List Event → Strand �
 shows_all h ds own x = record x { seen = h; mine = own; delivered = ds }
 
 pub catches_up : (k : ℕ) (h : List Event) (e : Event) (ds : List Delivery) (v w : View) (o : Open v) (list : List Event) (more : View)
-    → Knew k h ds o.first (number_of v)
-    → own (number_of v) (h ++ e ∷ []) ≡ list → w ≡ shows_all (h ++ e ∷ []) ds list o.first ∷ more → CatchesUp h e ds v w
+    → Knew k h ds o.first (view_number v)
+    → own (view_number v) (h ++ e ∷ []) ≡ list → w ≡ shows_all (h ++ e ∷ []) ds list o.first ∷ more → CatchesUp h e ds v w
 catches_up k h e ds v w o list more n exact is =
     subst (λ (u : View). CatchesUp h e ds u w) (sym o.is) (subst (λ (u : View). CatchesUp h e ds (o.first ∷ o.extra) u) (sym is)
     record {
@@ -167,10 +168,10 @@ catches_up k h e ds v w o list more n exact is =
     })
   where
     c : ℕ
-    c = number_of v
+    c = view_number v
 
-    num : number_of v ≡ unwrap_or o.first.number 0
-    num = ap number_of o.is
+    num : view_number v ≡ unwrap_or o.first.number 0
+    num = ap view_number o.is
 
     named : ℕ × ℕ
     named = (c, k)
@@ -189,9 +190,9 @@ catches_up k h e ds v w o list more n exact is =
 
 -- the caller that looked made a step
 pub made_step : (h : List Event) (x : Seen) (ds : List Delivery) (p q : Pass)
-    → IsWhole (controller_of (view_of p)) (h ++ event (number_of (view_of p)) (Look x) ∷ []) ds
-    → CatchesUp h (event (number_of (view_of p)) (Look x)) ds (view_of p) (view_of q)
-    → mine (view_of q) ≡ mine (view_of p) ++ event (number_of (view_of p)) (Look x) ∷ []
+    → IsWhole (view_controller (view_of p)) (h ++ event (view_number (view_of p)) (Look x) ∷ []) ds
+    → CatchesUp h (event (view_number (view_of p)) (Look x)) ds (view_of p) (view_of q)
+    → mine (view_of q) ≡ mine (view_of p) ++ event (view_number (view_of p)) (Look x) ∷ []
     → ((k : ℕ) (z : Strand) → get_elem? (view_of p) k ≡ maybe.some z → IsPrefix z.seen h)
     → ((k : ℕ) (z : Strand) → get_elem? (view_of p) k ≡ maybe.some z → IsPrefix z.delivered ds)
     → SameTable p q → q.holds ≡ p.holds → q.seat.me.1 ≡ p.seat.me.1 → Makes p (Look x) stays q
@@ -204,7 +205,7 @@ made_step h x ds p q whole u grows begins delivered_begins table holds slot = re
     ends = u.shown;
     legal = subst (LegalHistory k (opening k)) (sym u.shown) whole.legal;
     grows = grows;
-    exact = ap (own (number_of (view_of p))) u.shown ∙ u.exact;
+    exact = ap (own (view_number (view_of p))) u.shown ∙ u.exact;
     pass = u.pass;
     number = u.number;
     controller = u.controller;
@@ -225,7 +226,7 @@ made_step h x ds p q whole u grows begins delivered_begins table holds slot = re
 }
   where
     k : ℕ
-    k = controller_of (view_of p)
+    k = view_controller (view_of p)
 
 -- a slot that the pass owns stays with it
 received_caught : (l : Carried) (hold : Holds) (v w : View) → hold_of l ≡ Some hold → (has_slot hold ≡ true → received_in w ≡ received_in v)
@@ -244,8 +245,8 @@ pub tied_up : (h : List Event) (c : ℕ) (x : Seen) (ds : List Delivery) (v w : 
 tied_up h c x ds v w l hold u tie = record {
   marked = tie.marked;
   right = (λ i. has_at (u.number i) (state_after (opening (u.controller i)) (u.shown i)).place)
-      ∙ ap (λ (s : Napi). has_at (number_of v) s.place) (state_looked (opening (controller_of v)) h c x)
-      ∙ has_same (number_of v) (state_after (opening (controller_of v)) h).place (place_in v) u.owner u.place ∙ tie.right;
+      ∙ ap (λ (s : Napi). has_at (view_number v) s.place) (state_looked (opening (view_controller v)) h c x)
+      ∙ has_same (view_number v) (state_after (opening (view_controller v)) h).place (place_in v) u.owner u.place ∙ tie.right;
   ring = ring_kept l v w tie.ring (sym (ring_as v w u.ring));
   unmarked = tie.unmarked;
   received =
@@ -292,13 +293,13 @@ module _ (v0 v1 v2 v3 : View) (o0 : Open v0) (o1 : Open v1) (o2 : Open v2) (o3 :
       g ∙ ap (λ (l : View). with_front l v2) two_is ∙ ap (λ (l : View). two ++ front l) o2.is
 
   module _ (j : View) (is : j ≡ two ++ o2.first ∷ []) where
-    pub led_by : controller_of j ≡ controller_of v3
-    led_by = ap controller_of is ∙ ap (λ (l : View). controller_of (((l ++ o0.first ∷ []) ++ o1.first ∷ []) ++ o2.first ∷ [])) o3.is
-        ∙ sym (ap controller_of o3.is)
+    pub led_by : view_controller j ≡ view_controller v3
+    led_by = ap view_controller is ∙ ap (λ (l : View). view_controller (((l ++ o0.first ∷ []) ++ o1.first ∷ []) ++ o2.first ∷ [])) o3.is
+        ∙ sym (ap view_controller o3.is)
 
-    pub looked_by : number_of j ≡ number_of v3
-    looked_by = ap number_of is ∙ ap (λ (l : View). number_of (((l ++ o0.first ∷ []) ++ o1.first ∷ []) ++ o2.first ∷ [])) o3.is
-        ∙ sym (ap number_of o3.is)
+    pub looked_by : view_number j ≡ view_number v3
+    looked_by = ap view_number is ∙ ap (λ (l : View). view_number (((l ++ o0.first ∷ []) ++ o1.first ∷ []) ++ o2.first ∷ [])) o3.is
+        ∙ sym (ap view_number o3.is)
 
     -- the position of each strand
     at_third : get_elem? j (length two) ≡ maybe.some o2.first
@@ -334,7 +335,7 @@ module _ (v0 v1 v2 v3 : View) (o0 : Open v0) (o1 : Open v1) (o2 : Open v2) (o3 :
 
     module _ (h : List Event) (x : Seen) (ds : List Delivery) where
       abbrev look_by : Event
-      look_by = event (number_of v3) (Look x)
+      look_by = event (view_number v3) (Look x)
 
       abbrev all_by : List Event
       all_by = h ++ look_by ∷ []
@@ -364,24 +365,26 @@ module _ (v0 v1 v2 v3 : View) (o0 : Open v0) (o1 : Open v1) (o2 : Open v2) (o3 :
         pub first_is : last_alone (but_last (but_last u)) ≡ caught_up all_by ds o0.first ∷ []
         first_is = ap last_alone parts_none ∙ last_alone_is (all_looked h look_by ds v3) (caught_up all_by ds o0.first)
 
-        module _ (knows : (k : ℕ) (z : Strand) (c : ℕ) → get_elem? j k ≡ maybe.some z → z.number ≡ Some c → Knew (controller_of j) h ds z c)
-            (once : (k : ℕ) (z : Strand) → get_elem? j k ≡ maybe.some z → z.number ≡ Some (number_of j) → k ≡ 0) where
-          pub knows_at : (k : ℕ) (z : Strand) (c : ℕ) → get_elem? j k ≡ maybe.some z → z.number ≡ Some c → Knew (controller_of v3) h ds z c
+        module _ (knows : (k : ℕ) (z : Strand) (c : ℕ) → get_elem? j k ≡ maybe.some z → z.number ≡ Some c
+            → Knew (view_controller j) h ds z c)
+            (once : (k : ℕ) (z : Strand) → get_elem? j k ≡ maybe.some z → z.number ≡ Some (view_number j) → k ≡ 0) where
+          pub knows_at : (k : ℕ) (z : Strand) (c : ℕ) → get_elem? j k ≡ maybe.some z → z.number ≡ Some c
+              → Knew (view_controller v3) h ds z c
           knows_at k z c there n = subst (λ (m : ℕ). Knew m h ds z c) led_by (knows k z c there n)
 
           -- a strand that isn't the first has another number
-          apart : (k : ℕ) (v : View) (o : Open v) → get_elem? j k ≡ maybe.some o.first → k ≢ 0 → number_of v3 ≢ number_of v
+          apart : (k : ℕ) (v : View) (o : Open v) → get_elem? j k ≡ maybe.some o.first → k ≢ 0 → view_number v3 ≢ view_number v
           apart k v o there behind same = behind (once k o.first there (o.numbered ∙ ap Some (sym same ∙ sym looked_by)))
 
           other_exact : (k : ℕ) (v : View) (o : Open v) → get_elem? j k ≡ maybe.some o.first → k ≢ 0
-              → own (number_of v) all_by ≡ o.first.mine
+              → own (view_number v) all_by ≡ o.first.mine
           other_exact k v o there behind =
-              own_other (number_of v) h look_by (apart k v o there behind) ∙ (knows_at k o.first (number_of v) there o.numbered).exact
+              own_other (view_number v) h look_by (apart k v o there behind) ∙ (knows_at k o.first (view_number v) there o.numbered).exact
 
           other_catches : (k : ℕ) (v : View) (o : Open v) → get_elem? j k ≡ maybe.some o.first → k ≢ 0 → (w : View)
               → w ≡ caught_up all_by ds o.first ∷ [] → CatchesUp h look_by ds v w × (mine w ≡ mine v)
           other_catches k v o there behind w back = (
-            catches_up (controller_of v3) h look_by ds v w o o.first.mine [] (knows_at k o.first (number_of v) there o.numbered)
+            catches_up (view_controller v3) h look_by ds v w o o.first.mine [] (knows_at k o.first (view_number v) there o.numbered)
                 (other_exact k v o there behind) back,
             ap mine back ∙ sym (ap mine o.is),
           )
@@ -399,19 +402,19 @@ module _ (v0 v1 v2 v3 : View) (o0 : Open v0) (o1 : Open v1) (o2 : Open v2) (o3 :
           pub last_catches : CatchesUp h look_by ds v3 (but_last (but_last (but_last u)))
               × (mine (but_last (but_last (but_last u))) ≡ mine v3 ++ look_by ∷ [])
           last_catches =
-              let knew = knows_at 0 o3.first (number_of v3) at_front o3.numbered in (
-                catches_up (controller_of v3) h look_by ds v3 (but_last (but_last (but_last u))) o3 (o3.first.mine ++ look_by ∷ [])
+              let knew = knows_at 0 o3.first (view_number v3) at_front o3.numbered in (
+                catches_up (view_controller v3) h look_by ds v3 (but_last (but_last (but_last u))) o3 (o3.first.mine ++ look_by ∷ [])
                     (all_caught_up all_by ds o3.extra) knew
-                    (own_mine (number_of v3) h look_by refl ∙ ap (λ (l : List Event). l ++ look_by ∷ []) knew.exact) rest_is,
+                    (own_mine (view_number v3) h look_by refl ∙ ap (λ (l : List Event). l ++ look_by ∷ []) knew.exact) rest_is,
                 ap mine rest_is ∙ ap (λ (v : View). mine v ++ look_by ∷ []) (sym o3.is),
               )
 
-          pub others_led : (controller_of v0 ≡ controller_of v3) × (controller_of v1 ≡ controller_of v3)
-              × (controller_of v2 ≡ controller_of v3)
+          pub others_led : (view_controller v0 ≡ view_controller v3) × (view_controller v1 ≡ view_controller v3)
+              × (view_controller v2 ≡ view_controller v3)
           others_led = (
-            ap controller_of o0.is ∙ (knows_at (length v3) o0.first (number_of v0) at_first o0.numbered).controller,
-            ap controller_of o1.is ∙ (knows_at (length one) o1.first (number_of v1) at_second o1.numbered).controller,
-            ap controller_of o2.is ∙ (knows_at (length two) o2.first (number_of v2) at_third o2.numbered).controller,
+            ap view_controller o0.is ∙ (knows_at (length v3) o0.first (view_number v0) at_first o0.numbered).controller,
+            ap view_controller o1.is ∙ (knows_at (length one) o1.first (view_number v1) at_second o1.numbered).controller,
+            ap view_controller o2.is ∙ (knows_at (length two) o2.first (view_number v2) at_third o2.numbered).controller,
           )
 
 -- ---- of four passes
@@ -483,10 +486,10 @@ module _ (p0 p1 p2 p3 : Pass) (m1 m2 m3 : Me Content View) (e1 : m1 ≡ (with_fr
   all_in = together (view_of p0) (view_of p1) (view_of p2) (view_of p3) q0 q1 q2 q3 p3.is_pass m1.0 m2.0 m3.0
       (ap (λ (m : Me Content View). m.0) e1) (ap (λ (m : Me Content View). m.0) e2) (ap (λ (m : Me Content View). m.0) e3)
 
-  led : controller_of m3.0 ≡ controller_of (view_of p3)
+  led : view_controller m3.0 ≡ view_controller (view_of p3)
   led = led_by (view_of p0) (view_of p1) (view_of p2) (view_of p3) q0 q1 q2 q3 p3.is_pass m3.0 all_in
 
-  number_led : number_of m3.0 ≡ number_of (view_of p3)
+  number_led : view_number m3.0 ≡ view_number (view_of p3)
   number_led = looked_by (view_of p0) (view_of p1) (view_of p2) (view_of p3) q0 q1 q2 q3 p3.is_pass m3.0 all_in
 
   in_all : (k : ℕ) (z : Strand) → get_elem? (view_of p3) k ≡ maybe.some z → get_elem? m3.0 k ≡ maybe.some z
@@ -500,7 +503,7 @@ module _ (p0 p1 p2 p3 : Pass) (m1 m2 m3 : Me Content View) (e1 : m1 ≡ (with_fr
     es = t.deliveries
 
     abbrev pub look_then : Event
-    look_then = event (number_of (view_of p3)) (Look t.seen)
+    look_then = event (view_number (view_of p3)) (Look t.seen)
 
     abbrev pub whole_now : List Event
     whole_now = hs ++ look_then ∷ []
@@ -563,7 +566,7 @@ module _ (p0 p1 p2 p3 : Pass) (m1 m2 m3 : Me Content View) (e1 : m1 ≡ (with_fr
         pub last_tied : (s3 : Me Content View) → s3 ≡ (but_last s2.0, s2.1) → Tied p3.holds s3
         last_tied s3 e =
             subst (λ (l : Carried). Tied p3.holds (s3.0, l)) (sym (last_slot s3 e))
-            (tied_up hs (number_of (view_of p3)) t.seen es (view_of p3) s3.0 p3.seat.me.1 p3.holds (last_back s3 e).0 (tie_of p3))
+            (tied_up hs (view_number (view_of p3)) t.seen es (view_of p3) s3.0 p3.seat.me.1 p3.holds (last_back s3 e).0 (tie_of p3))
 
       pub second_back : (r : Me Content View) → r ≡ (last_alone s1.0, [])
           → CatchesUp hs look_then es (view_of p1) r.0 × (mine r.0 ≡ mine (view_of p1))
@@ -585,9 +588,9 @@ module _ (p0 p1 p2 p3 : Pass) (m1 m2 m3 : Me Content View) (e1 : m1 ≡ (with_fr
         → CatchesUp hs look_then es (view_of p) r.0 → Tied Nothing r
     rest_tied p none v r e u =
         subst (λ (l : Carried). Tied Nothing (r.0, l)) (sym (ap (λ (m : Me Content View). m.1) e))
-        (tied_up hs (number_of (view_of p3)) t.seen es (view_of p) r.0 [] Nothing u (at_rest p none))
+        (tied_up hs (view_number (view_of p3)) t.seen es (view_of p) r.0 [] Nothing u (at_rest p none))
 
-    pub whole_is : IsWhole (controller_of (view_of p3)) whole_now es
+    pub whole_is : IsWhole (view_controller (view_of p3)) whole_now es
     whole_is = subst (λ (y : ℕ × ℕ). IsWhole y.0 (hs ++ event y.1 (Look t.seen) ∷ []) es) (λ i. (led i, number_led i)) t.whole
 
     pub all_named : (i : ℕ) (p : Pass) → slice_get (p0 ∷ p1 ∷ p2 ∷ p3 ∷ []) i ≡ Some p → first_in (view_of p) ≡ Some t.first
@@ -598,17 +601,17 @@ module _ (p0 p1 p2 p3 : Pass) (m1 m2 m3 : Me Content View) (e1 : m1 ≡ (with_fr
         (last_named (view_of p0) (view_of p1) (view_of p2) (view_of p3) q0 q1 q2 q3 p3.is_pass m3.0 all_in t.first t.firsts)
 
     -- the word encodes the state after the whole history
-    pub told_is : t.seen ≡ seen_of (state_after (opening (controller_of (view_of p3))) whole_now)
+    pub told_is : t.seen ≡ seen_of (state_after (opening (view_controller (view_of p3))) whole_now)
     told_is = t.told ∙ ap (λ (k : ℕ). seen_of (state_after (opening k) hs)) led
-        ∙ ap seen_of (sym (state_looked (opening (controller_of (view_of p3))) hs (number_of (view_of p3)) t.seen))
+        ∙ ap seen_of (sym (state_looked (opening (view_controller (view_of p3))) hs (view_number (view_of p3)) t.seen))
 
     pub all_led : (i : ℕ) (p : Pass) → slice_get (p0 ∷ p1 ∷ p2 ∷ p3 ∷ []) i ≡ Some p
-        → controller_of (view_of p) ≡ controller_of (view_of p3)
+        → view_controller (view_of p) ≡ view_controller (view_of p3)
     all_led =
         let l =
         others_led (view_of p0) (view_of p1) (view_of p2)
         (view_of p3) q0 q1 q2 q3 p3.is_pass m3.0 all_in hs t.seen es u.0 caught t.knew t.once in
-        of_four (λ p. controller_of (view_of p) ≡ controller_of (view_of p3)) p0 p1 p2 p3 l.0 l.1 l.2 refl
+        of_four (λ p. view_controller (view_of p) ≡ view_controller (view_of p3)) p0 p1 p2 p3 l.0 l.1 l.2 refl
 
     pub last_steps : (q : Pass)
         → CatchesUp hs look_then es (view_of p3) (view_of q) × (mine (view_of q) ≡ mine (view_of p3) ++ look_then ∷ []) → SameTable p3 q

@@ -3,9 +3,11 @@ use Rattle.napi_word.proofs.{Keeps.{St, Open, opened, running, owner_since, plac
 use Rattle.napi_word.proofs.{Places.is_false, Whole.whole, Counting.{numbers_of, numbers_length, find_number, every_number, no_more}}
 use Rattle.napi_word.specs.{Rule.{Fits, Kept, Holding}, declared.view.{Key.Key, Holds.{Holds, TheVariants.{Nothing, Within, Out}}}}
 use Rattle.napi_word.specs.declared.{view.{Delivery.Delivery, Strand.Strand}, table.{Pass.Pass, StateTable.StateTable}}
-use Rattle.napi_word.specs.{declared.gathering.Found.Found, Ends.{Finds, picked, IsOut, IsEnded, views_of, Gathered}, View.{View, first_in}}
-use Rattle.napi_word.specs.View.{delivered, own_deliveries, received_by, last_of, is_pass, shown, mine, number_of, controller_of, place_in}
-use Rattle.napi_word.specs.{View.ring_of, Passes.{view_of, controller_of_table}, Slot.{Content, is_out, has_at, has_slot}}
+use Rattle.napi_word.specs.{declared.gathering.Found.Found, Ends.{Finds, picked, IsOut, IsClosedTable, views_of, Gathered}}
+use Rattle.napi_word.specs.{View.{View, first_in}}
+use Rattle.napi_word.specs.View.{view_delivered, own_deliveries, received_by, last_of, is_pass, view_shown, mine, view_number}
+use Rattle.napi_word.specs.View.{view_controller, place_in}
+use Rattle.napi_word.specs.{View.view_ring, Passes.{view_of, controller_of_table}, Slot.{Content, is_out, has_at, has_slot}}
 use Rattle.rx_ring.{proofs.Names.same_name, specs.{Ends.{RingName, ring_name, received_list}, declared.ends.RxCtx.RxCtx}}
 use Rattle.{atomic_table.{proofs.Lists.at_longer, specs.Table.{Final, Seen}}, std.specs.List.{AllByRecursion, IsDistinct, list_any}}
 use Rattle.std.proofs.Common.{◌<◌, ◌+◌, ◌≡◌, ◌≢◌, ℕ, zero, suc, ◌≤◌, List, [], ◌∷◌, ◌++◌, length, length-append, slice_get, Option, Some}
@@ -59,13 +61,13 @@ all_more P p taken one all zero q e = subst P (some_is e) one
 all_more P p taken one all (suc k) q e = all k q e
 
 pub gathered_more : (p : Pass) (taken : List Pass) (v w : View) (f f' : Found) → Gathered taken v f
-    → Finds p.holds (ring_of (view_of p)) f f' → w ≡ v ++ view_of p → Gathered (p ∷ taken) w f'
+    → Finds p.holds (view_ring (view_of p)) f f' → w ≡ v ++ view_of p → Gathered (p ∷ taken) w f'
 gathered_more p taken v w f f' g finds both = by p.holds refl finds
   where
     views : w ≡ views_of (p ∷ taken)
     views = both ∙ ap (λ (l : View). l ++ view_of p) g.views
 
-    by : (h : Holds) → p.holds ≡ h → Finds h (ring_of (view_of p)) f f' → Gathered (p ∷ taken) w f'
+    by : (h : Holds) → p.holds ≡ h → Finds h (view_ring (view_of p)) f f' → Gathered (p ∷ taken) w f'
     by Nothing is same = record {
       views = views;
       some_out = λ e. let o = g.some_out (ap (λ (y : Found). y.out) (sym same) ∙ e) in (suc o.0, o.1, o.2, o.3);
@@ -131,13 +133,13 @@ module _ (t : StateTable) (passes : List Pass) (v : View) (id : ℕ) (f : Found)
   front_less : (p : Pass) (ps : List Pass) → Front (p ∷ ps) → Front ps
   front_less p ps f k x e = f k x (at_longer (views_of ps) (view_of p) k x e)
 
-  at_first : (p : Pass) (ps : List Pass) → Front (p ∷ ps) → place_of (number_of (view_of p)) ≡ length (views_of ps)
+  at_first : (p : Pass) (ps : List Pass) → Front (p ∷ ps) → place_of (view_number (view_of p)) ≡ length (views_of ps)
   at_first p ps f =
       let o = front p in
       let fit =
       r.strands id v at (length (views_of ps)) o.first
       (f (length (views_of ps)) o.first (at_mid (views_of ps) (view_of p) o.first o.extra o.is)) in
-      ap (λ (q : ℕ × ℕ). q.1) (fit.owned (number_of (view_of p)) o.numbered).here
+      ap (λ (q : ℕ × ℕ). q.1) (fit.owned (view_number (view_of p)) o.numbered).here
 
   longer : (p : Pass) (ps : List Pass) → length (views_of ps) < length (views_of (p ∷ ps))
   longer p ps =
@@ -162,7 +164,7 @@ module _ (t : StateTable) (passes : List Pass) (v : View) (id : ℕ) (f : Found)
   unfolding IsDistinct
   distinct [] f = tt
   distinct (p ∷ ps) f = (
-    apart (number_of (view_of p)) (length (views_of ps)) (numbers_of ps) (at_first p ps f)
+    apart (view_number (view_of p)) (length (views_of ps)) (numbers_of ps) (at_first p ps f)
         (before (length (views_of ps)) ps (front_less p ps f) (omega arith)),
     distinct ps (front_less p ps f),
   )
@@ -174,9 +176,9 @@ module _ (t : StateTable) (passes : List Pass) (v : View) (id : ℕ) (f : Found)
   all_below q h =
       let a = find_number q passes h in
       let o = front a.1 in
-      subst (λ (n : ℕ). n ≤ key.controller) a.3 ((stood a.0 a.1 a.2).1.owned (number_of (view_of a.1)) o.numbered).few
+      subst (λ (n : ℕ). n ≤ key.controller) a.3 ((stood a.0 a.1 a.2).1.owned (view_number (view_of a.1)) o.numbered).few
 
-  pub all : (c : ℕ) → c ≤ controller_of_table t → (k : ℕ) × (p : Pass) × (slice_get passes k ≡ Some p) × (number_of (view_of p) ≡ c)
+  pub all : (c : ℕ) → c ≤ controller_of_table t → (k : ℕ) × (p : Pass) × (slice_get passes k ≡ Some p) × (view_number (view_of p) ≡ c)
   all c low =
       let same = numbers_length passes in
       find_number c passes (every_number key.controller c (numbers_of passes) all_distinct all_below (omega (arith, same, count)) low)
@@ -187,42 +189,42 @@ module _ (t : StateTable) (passes : List Pass) (v : View) (id : ℕ) (f : Found)
       let most = no_more key.controller (numbers_of passes) all_distinct all_below in
       omega (arith, same, count, most)
 
-  pub begins : (k : ℕ) (q : Pass) → slice_get passes k ≡ Some q → IsPrefix (shown (view_of q)) h
-  begins k q e = subst (λ (l : List Event). IsPrefix l h) (sym (ap shown (front q).is)) (stood k q e).1.begins
+  pub begins : (k : ℕ) (q : Pass) → slice_get passes k ≡ Some q → IsPrefix (view_shown (view_of q)) h
+  begins k q e = subst (λ (l : List Event). IsPrefix l h) (sym (ap view_shown (front q).is)) (stood k q e).1.begins
 
-  pub exact : (k : ℕ) (q : Pass) → slice_get passes k ≡ Some q → own (number_of (view_of q)) h ≡ mine (view_of q)
+  pub exact : (k : ℕ) (q : Pass) → slice_get passes k ≡ Some q → own (view_number (view_of q)) h ≡ mine (view_of q)
   exact k q e = let o = front q in
-      ((stood k q e).1.owned (number_of (view_of q)) o.numbered).whole ∙ sym (ap mine o.is)
+      ((stood k q e).1.owned (view_number (view_of q)) o.numbered).whole ∙ sym (ap mine o.is)
 
   pub firsts : (k : ℕ) (q : Pass) → slice_get passes k ≡ Some q → first_in (view_of q) ≡ Some key.ring.value
   firsts k q e = ap first_in (front q).is ∙ ap Some (stood k q e).1.ring
 
-  pub deliveries_begin : (k : ℕ) (q : Pass) → slice_get passes k ≡ Some q → IsPrefix (delivered (view_of q)) r.deliveries
+  pub deliveries_begin : (k : ℕ) (q : Pass) → slice_get passes k ≡ Some q → IsPrefix (view_delivered (view_of q)) r.deliveries
   deliveries_begin k q e =
-      subst (λ (l : List Delivery). IsPrefix l r.deliveries) (sym (ap delivered (front q).is)) (stood k q e).1.delivered
+      subst (λ (l : List Delivery). IsPrefix l r.deliveries) (sym (ap view_delivered (front q).is)) (stood k q e).1.delivered
 
   pub deliveries_exact : (k : ℕ) (q : Pass) → slice_get passes k ≡ Some q
-      → own_deliveries (number_of (view_of q)) r.deliveries ≡ own_deliveries (number_of (view_of q)) (delivered (view_of q))
+      → own_deliveries (view_number (view_of q)) r.deliveries ≡ own_deliveries (view_number (view_of q)) (view_delivered (view_of q))
   deliveries_exact k q e = let o = front q in
-      ((stood k q e).1.owned (number_of (view_of q)) o.numbered).delivers
-      ∙ ap (λ (l : View). own_deliveries (number_of (view_of q)) (delivered l)) (sym o.is)
+      ((stood k q e).1.owned (view_number (view_of q)) o.numbered).delivers
+      ∙ ap (λ (l : View). own_deliveries (view_number (view_of q)) (view_delivered l)) (sym o.is)
 
   pub longest : (k : ℕ) (p : Pass) → slice_get passes k ≡ Some p
-      → ((j : ℕ) (q : Pass) → slice_get passes j ≡ Some q → length (shown (view_of q)) ≤ length (shown (view_of p)))
-      → shown (view_of p) ≡ h
-  longest k p e most = whole key.controller h (shown (view_of p)) (begins k p e)
+      → ((j : ℕ) (q : Pass) → slice_get passes j ≡ Some q → length (view_shown (view_of q)) ≤ length (view_shown (view_of p)))
+      → view_shown (view_of p) ≡ h
+  longest k p e most = whole key.controller h (view_shown (view_of p)) (begins k p e)
       (λ c low.
       let a = all c low in
       let o = front a.1 in
       let fit = (stood a.0 a.1 a.2).1 in
-      let w = fit.owned (number_of (view_of a.1)) o.numbered in
-      let is : c ≡ number_of (view_of a.1) = sym a.3 in (
+      let w = fit.owned (view_number (view_of a.1)) o.numbered in
+      let is : c ≡ view_number (view_of a.1) = sym a.3 in (
         o.first.seen,
         o.first.mine,
         fit.begins,
         ap (λ (n : ℕ). own n o.first.seen) is ∙ w.shown,
         ap (λ (n : ℕ). own n h) is ∙ w.whole,
-        subst (λ (l : List Event). length l ≤ length (shown (view_of p))) (ap shown o.is) (most a.0 a.1 a.2),
+        subst (λ (l : List Event). length l ≤ length (view_shown (view_of p))) (ap view_shown o.is) (most a.0 a.1 a.2),
       ))
       r.few
 
@@ -233,20 +235,20 @@ module _ (t : StateTable) (passes : List Pass) (v : View) (id : ℕ) (f : Found)
   viewed k q e = let o = front q in
       ap place_in o.is ∙ ap (λ (n : ℕ). (state_after (opening n) o.first.seen).place) (stood k q e).1.controller
 
-  pub places : (k : ℕ) (q : Pass) → slice_get passes k ≡ Some q → is_owner (number_of (view_of q)) (place_in (view_of q)) ≡ true
+  pub places : (k : ℕ) (q : Pass) → slice_get passes k ≡ Some q → is_owner (view_number (view_of q)) (place_in (view_of q)) ≡ true
       → now.place ≡ place_in (view_of q)
   places k q e owner =
       let o = front q in
       let fit = stood k q e in
-      let is : is_owner (number_of (view_of q)) (seen_place q) ≡ true =
-      ap (is_owner (number_of (view_of q))) (sym (viewed k q e)) ∙ owner in
-      place_since key s r (id, fit.0) o.first fit.1 (number_of (view_of q)) o.numbered is ∙ sym (viewed k q e)
+      let is : is_owner (view_number (view_of q)) (seen_place q) ≡ true =
+      ap (is_owner (view_number (view_of q))) (sym (viewed k q e)) ∙ owner in
+      place_since key s r (id, fit.0) o.first fit.1 (view_number (view_of q)) o.numbered is ∙ sym (viewed k q e)
 
-  has_now : (k : ℕ) (q : Pass) → slice_get passes k ≡ Some q → has_at (number_of (view_of q)) now.place ≡ has_slot q.holds
+  has_now : (k : ℕ) (q : Pass) → slice_get passes k ≡ Some q → has_at (view_number (view_of q)) now.place ≡ has_slot q.holds
   has_now k q e =
       let o = front q in
       let fit = stood k q e in
-      let n = number_of (view_of q) in
+      let n = view_number (view_of q) in
       has_same n now.place (seen_place q) (owner_since key s r (id, fit.0) o.first fit.1 n o.numbered)
       (place_since key s r (id, fit.0) o.first fit.1 n o.numbered)
       ∙ ap (has_at n) (sym (viewed k q e)) ∙ q.right
@@ -255,15 +257,15 @@ module _ (t : StateTable) (passes : List Pass) (v : View) (id : ℕ) (f : Found)
   some_slot Nothing a = absurd (a refl)
   some_slot x a = refl
 
-  pub deliveries_held : (k : ℕ) (q : Pass) → slice_get passes k ≡ Some q → q.holds ≢ Nothing → delivered (view_of q) ≡ r.deliveries
+  pub deliveries_held : (k : ℕ) (q : Pass) → slice_get passes k ≡ Some q → q.holds ≢ Nothing → view_delivered (view_of q) ≡ r.deliveries
   deliveries_held k q e some = let o = front q in
-      ap delivered o.is ∙ ((stood k q e).1.owned (number_of (view_of q)) o.numbered).has (has_now k q e ∙ some_slot q.holds some)
+      ap view_delivered o.is ∙ ((stood k q e).1.owned (view_number (view_of q)) o.numbered).has (has_now k q e ∙ some_slot q.holds some)
 
-  pub controllers : (k : ℕ) (q : Pass) → slice_get passes k ≡ Some q → controller_of (view_of q) ≡ key.controller
-  controllers k q e = ap controller_of (front q).is ∙ (stood k q e).1.controller
+  pub controllers : (k : ℕ) (q : Pass) → slice_get passes k ≡ Some q → view_controller (view_of q) ≡ key.controller
+  controllers k q e = ap view_controller (front q).is ∙ (stood k q e).1.controller
 
-  pub rings : (k : ℕ) (q : Pass) → slice_get passes k ≡ Some q → ring_of (view_of q) ≡ Some (ring_name key.ring.value)
-  rings k q e = ap ring_of (front q).is ∙ ap (λ (x : RxCtx). Some (ring_name x)) (stood k q e).1.ring
+  pub rings : (k : ℕ) (q : Pass) → slice_get passes k ≡ Some q → view_ring (view_of q) ≡ Some (ring_name key.ring.value)
+  rings k q e = ap view_ring (front q).is ∙ ap (λ (x : RxCtx). Some (ring_name x)) (stood k q e).1.ring
 
   -- the owner of the slot by the history has it by its mark
   has_nothing : (c : ℕ) → ((k : ℕ) (q : Pass) → slice_get passes k ≡ Some q → q.holds ≡ Nothing) → has_at c now.place ≡ false
@@ -274,7 +276,7 @@ module _ (t : StateTable) (passes : List Pass) (v : View) (id : ℕ) (f : Found)
       let o = front q in
       let fit = (stood a.0 q a.2).1 in
       let p : ℕ × ℕ = (id, (stood a.0 q a.2).0) in
-      let n = number_of (view_of q) in
+      let n = view_number (view_of q) in
       let same : has_at n now.place ≡ has_at n (seen_place q) =
       has_same n now.place (seen_place q) (owner_since key s r p o.first fit n o.numbered)
       (place_since key s r p o.first fit n o.numbered) in
@@ -303,11 +305,11 @@ module _ (t : StateTable) (passes : List Pass) (v : View) (id : ℕ) (f : Found)
       by (Polling c) e = absurd (true≢false (sym (ap (has_at c) e ∙ eq-eqb c c refl) ∙ has_nothing c empty))
       by (Control c) e = absurd (true≢false (sym (ap (has_at c) e ∙ eq-eqb c c refl) ∙ has_nothing c empty))
 
-  named : (k : ℕ) (q : Pass) (x : RxCtx) → slice_get passes k ≡ Some q → ring_of (view_of q) ≡ Some (ring_name x)
+  named : (k : ℕ) (q : Pass) (x : RxCtx) → slice_get passes k ≡ Some q → view_ring (view_of q) ≡ Some (ring_name x)
       → ring_name x ≡ ring_name key.ring.value
   named k q x e ring =
       let o = front q in
-      let is : Some (ring_name x) ≡ Some (ring_name o.first.ring) = sym ring ∙ ap ring_of o.is in
+      let is : Some (ring_name x) ≡ Some (ring_name o.first.ring) = sym ring ∙ ap view_ring o.is in
       ap (λ (y : Option RingName). unwrap_or y (ring_name x)) is ∙ ap ring_name (stood k q e).1.ring
 
   module _ (slots : List Content) (each : (k : ℕ) (y : Content) → get_elem? s.homes k ≡ Maybe.some (Maybe.some y)
@@ -351,7 +353,7 @@ module _ (t : StateTable) (passes : List Pass) (v : View) (id : ℕ) (f : Found)
         by false (Some z) a b e t = let q = g.ring z b in let bad : Nothing ≡ Within = sym (empty q.0 q.1 q.2) ∙ q.4 in absurd (cc)
         by false None a b e t = some_is (sym e ∙ t)
 
-    pub closes : IsEnded t passes (picked f.out f.ctx slot)
+    pub closes : IsClosedTable t passes (picked f.out f.ctx slot)
     closes = record {
       history = h;
       legal = r.legal;
@@ -380,7 +382,7 @@ pub ended : (t : StateTable) (passes : List Pass) (v : View) (id : ℕ) (f : Fou
     → controller_of_table t + 1 ≤ length passes
     → is_pass v ≡ true → (ws : List ℕ) (slots : List Content) (slot : Content) → Final (Seen (Holding t.table.shared.key) id v) ws slots
     → get_elem? slots 0 ≡ Maybe.some slot
-    → IsEnded t passes (picked f.out f.ctx slot)
+    → IsClosedTable t passes (picked f.out f.ctx slot)
 ended t passes v id f g count p ws slots slot final there =
     closes t passes v id f g count final.0
     (running t.table.shared.key final.0 final.1.0 id v final.1.1 p) final.1.1 slots final.4 slot there

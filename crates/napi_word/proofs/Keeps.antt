@@ -1,7 +1,8 @@
 -- One more event preserves the rule.
 use Rattle.napi_word.proofs.{Owns.{own_mine, own_other, own_rest, begins_self, begins_more}, Deliveries.{prefix_self, has_others}}
 use Rattle.napi_word.{proofs.Deliveries.{givers_snoc, More, some_is}, specs.{Events.Steps, Slot.{Content, has_at, is_out, is_given}}}
-use Rattle.napi_word.specs.{Slot.one_if, View.{View, is_pass, number_of, controller_of, mine, ring_of, state_in, place_in, disable_in}}
+use Rattle.napi_word.specs.{Slot.one_if}
+use Rattle.napi_word.specs.{View.{View, is_pass, view_number, view_controller, mine, view_ring, state_in, place_in, disable_in}}
 use Rattle.napi_word.specs.{View.busy_in, declared.view.{Strand.Strand, Key.Key, Delivery.Delivery}, Rule.{first_view, Home, Homes, Owned}}
 use Rattle.{napi_word.specs.Rule.{Fits, Kept, Starts, Holding}, napi_model.specs.History.{LegalHistory, IsLegalFor, state_after, own}}
 use Rattle.napi_model.specs.{Laws.{IsSound, ThreadsIsHanded, IsControlled, is_owner, stand_of}, Step.{event, opening, seen_of, after}}
@@ -23,7 +24,7 @@ pub record Open (v : View) : Type 0 where
   pub first : Strand
   pub extra : View
   pub is : v ≡ first ∷ extra
-  pub numbered : first.number ≡ Some (number_of v)
+  pub numbered : first.number ≡ Some (view_number v)
 
 numbered_of : (n : Option ℕ) → is_some n ≡ true → n ≡ Some (unwrap_or n 0)
 numbered_of (Some c) e = refl
@@ -51,8 +52,8 @@ running key s h id v at p = ⊎_elim
 
 -- what a pass's view determines of the state
 pub record Knows (k : ℕ) (v : View) (c : ℕ) (now : Napi) : Type 0 where
-  pub number : number_of v ≡ c
-  pub controller : controller_of v ≡ k
+  pub number : view_number v ≡ c
+  pub controller : view_controller v ≡ k
   pub sound : IsSound now
   pub threads : ThreadsIsHanded now
   pub controlled : IsControlled k now
@@ -109,7 +110,7 @@ module _ (key : Key) (s : St) (r : Kept key s) (p : ℕ × ℕ) (x : Strand) (f 
 -- ---- one more event, which other strands of the seat may have seen
 module _ (key : Key) (s : St) (r : Kept key s) (id : ℕ) (v : View) (at : get_elem? s.views id ≡ maybe.some v) (o : Open v) where
   abbrev c : ℕ
-  c = number_of v
+  c = view_number v
 
   abbrev h : List Event
   h = r.history
@@ -138,7 +139,7 @@ module _ (key : Key) (s : St) (r : Kept key s) (id : ℕ) (v : View) (at : get_e
   pub knows : Knows key.controller v c now
   knows = record {
     number = refl;
-    controller = ap controller_of o.is ∙ own_fits.controller;
+    controller = ap view_controller o.is ∙ own_fits.controller;
     sound = sound_after key.controller (opening key.controller) h (opens_sound key.controller) r.legal;
     threads =
         threads_after key.controller (opening key.controller) h (opens_sound key.controller) (opens_unthreaded key.controller) r.legal;
@@ -256,8 +257,8 @@ module _ (key : Key) (s : St) (r : Kept key s) (id : ℕ) (v : View) (at : get_e
       exact = exact;
       pass = ap is_some o.numbered;
       number = ap (λ (n : Option ℕ). unwrap_or n 0) o.numbered;
-      controller = sym (ap controller_of o.is);
-      ring = sym (ap ring_of o.is);
+      controller = sym (ap view_controller o.is);
+      ring = sym (ap view_ring o.is);
       owner = subst (λ (k : ℕ). is_owner c (state_after (opening k) h).place ≡ is_owner c (place_in v)) (sym knows.controller) knows.owner;
       place =
           subst (λ (k : ℕ). is_owner c (place_in v) ≡ true → (state_after (opening k) h).place ≡ place_in v)

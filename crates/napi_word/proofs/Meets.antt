@@ -2,8 +2,8 @@
 use Rattle.std.proofs.Common.{◌≡◌, List, [], ◌∷◌, length, true, refl, sym, subst, true≢false}
 use Rattle.atomic_table.proofs.Lists.{at_longer}
 use Rattle.{atomic_table.{proofs.Lists.at_last, specs.Table.Me}, napi_model.specs.declared.event.{Event.Event, Operation.Operation}}
-use Rattle.{napi_model.specs.Step.event, napi_word.specs.{View.{View, is_pass, number_of, shown}, Rule.{note, note_of, joined}}}
-use Rattle.napi_word.{specs.{Events.Steps, Slot.{Content, Carried, stays, Delivers}}, proofs.Owns.begins_more}
+use Rattle.{napi_model.specs.Step.event, napi_word.specs.{View.{View, is_pass, view_number, view_shown}, Rule.{note, note_of, joined}}}
+use Rattle.napi_word.{specs.{Events.Steps, Slot.{Content, Carried, stays, SlotDelivers}}, proofs.Owns.begins_more}
 use mathlib.Core.List.{IsPrefix}
 
 -- a step of a pass that joined another one is a step of the pass
@@ -27,8 +27,8 @@ steps_joined (x ∷ xs) w o u p g = record {
 }
 
 -- and what a look shows of the deliveries
-pub delivers_joined : (v w : View) (l : Carried) (y : Me Content View) → is_pass v ≡ true → Delivers stays (joined v w, l) y
-    → Delivers stays (v, l) y
+pub delivers_joined : (v w : View) (l : Carried) (y : Me Content View) → is_pass v ≡ true → SlotDelivers stays (joined v w, l) y
+    → SlotDelivers stays (v, l) y
 delivers_joined [] w l y p g = absurd (true≢false (sym p))
 delivers_joined (x ∷ xs) w l y p g =
     record {
@@ -40,9 +40,10 @@ delivers_joined (x ∷ xs) w l y p g =
       shifts = g.shifts;
     }
 
-pub meets : (v a : View) (o : Operation) (u : View) → is_pass a ≡ true → Steps (joined v (note_of a)) o u → IsPrefix (shown a) (shown u)
+pub meets : (v a : View) (o : Operation) (u : View) → is_pass a ≡ true → Steps (joined v (note_of a)) o u
+    → IsPrefix (view_shown a) (view_shown u)
 meets v [] o u p g = absurd (true≢false (sym p))
 meets v (x ∷ xs) o u p g =
     let seen = g.begins (length v) (note x) (at_last v (note x) (length v) refl) in
     subst (λ (l : List Event). IsPrefix x.seen l) (sym g.ends)
-    (begins_more x.seen g.before (event (number_of (joined v (note x ∷ []))) o) seen)
+    (begins_more x.seen g.before (event (view_number (joined v (note x ∷ []))) o) seen)

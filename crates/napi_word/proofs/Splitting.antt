@@ -4,7 +4,7 @@ use Rattle.std.proofs.Common.{ne_eqb, refl, sym, ap, ◌∙◌, subst, inl, inr,
 use Rattle.atomic_table.specs.Table.{Splits, Joins}
 use Rattle.{atomic_table.proofs.Lists.{at_longer, at_set, at_snoc, set_again}, napi_model.specs.declared.event.Event.Event}
 use Rattle.napi_word.specs.{declared.view.{Key.Key, Strand.Strand, Delivery.Delivery}, View.{View, is_pass}}
-use Rattle.napi_word.specs.Rule.{Fits, Kept, Holding, left_of, right_of, note, note_of, joined, spent}
+use Rattle.napi_word.specs.Rule.{Fits, Kept, Holding, left_of, right_of, note, note_of, joined, spent_view}
 use Rattle.napi_word.{specs.Surveys.{front, with_front, but_last, last_alone}, proofs.Keeps.{St, opened, running}}
 use lib.ListN.{get_elem?}
 use mathlib.Core.Option as maybe
@@ -168,19 +168,20 @@ module _ (key : Key) (id : ℕ) (v : View) (other : ℕ) (w u : View)
       (r.strands other w stood t.0 z (from t.0 z t.2))))
       (at_join v u z k e)
 
-  merged : Kept key record { words = s.words; homes = s.homes; views = set (set s.views id (joined v u)) other spent }
-  merged = other_views r (λ c. shifted (r.seat c)) (set (set s.views id (joined v u)) other spent)
+  merged : Kept key record { words = s.words; homes = s.homes; views = set (set s.views id (joined v u)) other spent_view }
+  merged = other_views r (λ c. shifted (r.seat c)) (set (set s.views id (joined v u)) other spent_view)
       (λ j y is k z e. ⊎_elim
-      (λ (t : (j ≡ other) × (spent ≡ y)). absurd (maybe.some-ne-none z (sym (ap (λ (l : View). get_elem? l k) t.1 ∙ e))))
+      (λ (t : (j ≡ other) × (spent_view ≡ y)). absurd (maybe.some-ne-none z (sym (ap (λ (l : View). get_elem? l k) t.1 ∙ e))))
       (λ (t : (j ≢ other) × (get_elem? (set s.views id (joined v u)) j ≡ maybe.some y)). ⊎_elim
       (λ (d : (j ≡ id) × (joined v u ≡ y)). subst (λ (i : ℕ). Fits key r.history r.deliveries (λ c. shifted (r.seat c)) (i, k) z) (sym d.0)
       (both_fit k z (ap (λ (l : View). get_elem? l k) d.1 ∙ e)))
       (λ (d : (j ≢ id) × (get_elem? s.views j ≡ maybe.some y)). refit key r.history r.deliveries r.seat (λ c. shifted (r.seat c)) (j, k)
       (j, k) z (λ c. stays j k c t.0) (r.strands j y d.1 k z e))
       (at_set s.views id j (joined v u) y t.1))
-      (at_set (set s.views id (joined v u)) other j spent y is))
+      (at_set (set s.views id (joined v u)) other j spent_view y is))
 
-pub joins : (key : Key) (id : ℕ) (v : View) (other : ℕ) (w : View) → is_pass v ≡ true → Joins (Holding key) id v other w (joined v w) spent
+pub joins : (key : Key) (id : ℕ) (v : View) (other : ℕ) (w : View) → is_pass v ≡ true
+    → Joins (Holding key) id v other w (joined v w) spent_view
 joins key id v other w p s holding at apart beside =
     inr (merged key id v other w w (λ i z e. e) s (running key s holding id v at p) at apart beside)
 
@@ -189,7 +190,7 @@ front_from (x ∷ xs) (suc i) z e = absurd (maybe.some-ne-none z (sym e))
 front_from w i z e = e
 
 pub joins_front : (key : Key) (id : ℕ) (v : View) (other : ℕ) (w : View) → is_pass v ≡ true
-    → Joins (Holding key) id v other w (with_front v w) spent
+    → Joins (Holding key) id v other w (with_front v w) spent_view
 joins_front key id v other w p s holding at apart beside =
     inr (merged key id v other w (front w) (front_from w) s (running key s holding id v at p) at apart beside)
 

@@ -4,9 +4,10 @@ use Rattle.std.proofs.Common.{Bool, true, false, cond, eqb, eq-eqb, ne_eqb, unwr
 use Rattle.{std.proofs.Common.true≢false, atomic_table.specs.Table.{Me, opening, takes, Allows}, rx_ring.specs.declared.ends.RxCtx.RxCtx}
 use Rattle.napi_model.specs.{Step.seen_of, History.{LegalHistory, state_after}, Word.word_of, declared.state.Place.TheVariants.Control}
 use Rattle.napi_word.specs.declared.{view.{Key.Key, Strand.Strand, Holds.TheVariants.Within}, table.{Pass.Pass, StateTable.StateTable}}
-use Rattle.napi_word.specs.{View.{View, number_of, place_in, disable_in}, Slot.{Content, is_out, owns_slot}, Rule.{strand, strands_from}}
-use Rattle.napi_word.specs.{Rule.{maker_at, first_view, begun_view, begun_slot, Homes, Owned, Fits, Kept, Starts, Holding}, Told.begun}
-use Rattle.napi_word.{specs.Passes.{ctx_of, IsLaid, view_of, IsPassOf, IsNew, Controls, Disable}, proofs.Owns.own_none}
+use Rattle.napi_word.specs.{View.{View, view_number, place_in, disable_in}, Slot.{Content, is_out, owns_slot}, Rule.{strand, strands_from}}
+use Rattle.napi_word.specs.{Rule.{maker_at, first_view, begun_view, begun_slot, Homes, Owned, Fits, Kept, Starts, Holding}}
+use Rattle.napi_word.specs.{Told.table_begun}
+use Rattle.napi_word.{specs.Passes.{ctx_of, IsLaid, view_of, IsPassOf, IsNewPass, Controls, Disable}, proofs.Owns.own_none}
 use Rattle.napi_word.proofs.Deliveries.{own_deliveries_none, givers_none, some_is}
 use lib.ListN.{get_elem?}
 use mathlib.Core.Option as maybe
@@ -116,7 +117,8 @@ module _ (key : Key) where
   only_first zero v e = refl
   only_first (suc id) v e = absurd (maybe.some-ne-none v (sym e))
 
-  pub begins : (slots id : ℕ) (me : Me Content View) → me ≡ (first_view key, []) → Allows (Holding key) slots id me 0 (λ n. n) (begun me)
+  pub begins : (slots id : ℕ) (me : Me Content View) → me ≡ (first_view key, [])
+      → Allows (Holding key) slots id me 0 (λ n. n) (table_begun me)
   begins slots id me is s holding len at fits = ⊎_elim
       (λ (t : Starts key s).
       let first = only_first id me.0 (ap (λ (l : List View). get_elem? l id) (sym t.views) ∙ at) in
@@ -149,9 +151,9 @@ at_push [] y p (suc k) e = absurd (cc)
 at_push (x ∷ xs) y p zero e = inl e
 at_push (x ∷ xs) y p (suc k) e = ⊎_elim (λ t. inl t) (λ t. inr (ap suc t.0, t.1)) (at_push xs y p k e)
 
-pub new_as : {t : StateTable} (k l : ℕ) (x y : RxCtx) (i j : ℕ) (p q : Pass) → k ≡ l → x ≡ y → i ≡ j → p ≡ q → IsNew t k x i p
-    → IsNew t l y j q
-new_as {t} k l x y i j p q a b d e new = subst (λ (z : ℕ × RxCtx × ℕ × Pass). IsNew t z.0 z.1 z.2 z.3) (λ f. (a f, b f, d f, e f)) new
+pub new_as : {t : StateTable} (k l : ℕ) (x y : RxCtx) (i j : ℕ) (p q : Pass) → k ≡ l → x ≡ y → i ≡ j → p ≡ q → IsNewPass t k x i p
+    → IsNewPass t l y j q
+new_as {t} k l x y i j p q a b d e new = subst (λ (z : ℕ × RxCtx × ℕ × Pass). IsNewPass t z.0 z.1 z.2 z.3) (λ f. (a f, b f, d f, e f)) new
 
 -- the slot still has the same content
 pub still_laid : {x : RxCtx} (p q : Pass) → ctx_of q ≡ ctx_of p → IsLaid x p → IsLaid x q
@@ -166,7 +168,7 @@ still_laid p q same l = record {
 }
 
 pub new_last : {t : StateTable} (last : ℕ) (x : RxCtx) (n : ℕ) (p : Pass) → n ≡ last → IsPassOf t p → view_of p ≡ maker_at last x n
-    → p.holds ≡ Within → IsLaid x p → IsNew t last x last p
+    → p.holds ≡ Within → IsLaid x p → IsNewPass t last x last p
 new_last {t} last x n p at table view holds laid = record {
   table = table;
   view = view ∙ ap (λ (m : ℕ). maker_at last x m) at ∙ maker_alone last x;
@@ -185,10 +187,10 @@ disable_at_start : (k : ℕ) → (state_after (model.opening k) []).flags.disabl
 unfolding state_after
 disable_at_start k = refl
 
-pub new_controls : {t : StateTable} (k : ℕ) (x : RxCtx) (p : Pass) → IsNew t k x k p → Controls p
-new_controls {t} k x p new = ap place_in new.view ∙ place_at_start k ∙ ap Control (sym (ap number_of new.view))
+pub new_controls : {t : StateTable} (k : ℕ) (x : RxCtx) (p : Pass) → IsNewPass t k x k p → Controls p
+new_controls {t} k x p new = ap place_in new.view ∙ place_at_start k ∙ ap Control (sym (ap view_number new.view))
 
-pub new_unmarked : {t : StateTable} (k c : ℕ) (x : RxCtx) (p : Pass) → IsNew t k x c p → Disable false p
+pub new_unmarked : {t : StateTable} (k c : ℕ) (x : RxCtx) (p : Pass) → IsNewPass t k x c p → Disable false p
 new_unmarked {t} k c x p new = ap disable_in new.view ∙ disable_at_start k
 
 pub slot_is : (a b : Content) (k l : List (ℕ × Content)) → (0, a) ∷ k ≡ (0, b) ∷ l → a ≡ b

@@ -9,11 +9,13 @@ use Rattle.{napi_model.proofs.Tells.tells_next, atomic_table.specs.Table.Me, nap
 use Rattle.napi_word.proofs.Bits.{hand_bits, take_mask, added, subtracted, hand_list, hand_thread, take_word, threaded_word}
 use Rattle.napi_word.proofs.{Bits.{unthreaded_word, mark_word, unmark_word}, Allowed.{nothing, Fitting, Turn, allowed}}
 use Rattle.napi_word.specs.{declared.{view.Holds.Holds, table.{Pass.Pass, StateTable.StateTable}}, Slot.{Content, has_at, is_out}}
-use Rattle.napi_word.specs.{Slot.{owns_slot, Tied, Moves, stays, taken, given, Gives, Delivers}, Passes.{tie_of, IsWithin, HandsOver}}
-use Rattle.napi_word.specs.{Passes.{HasPoll, Polls, IsController, Controls, IsNoOwner, Disable}, Atoms.{MayMake, MayExchange}, Told.Did}
-use Rattle.napi_word.specs.{Told.{when, either_op, no_move, load_op, prep_of, done_of, is_marked, is_busy, busy_op}, View.{View, number_of}}
+use Rattle.napi_word.specs.{Slot.{owns_slot, Tied, Moves, stays, taken, given, GivesSlotBack, SlotDelivers}}
+use Rattle.napi_word.specs.{Passes.{tie_of, IsSlotFilled, PassMayHand}}
+use Rattle.napi_word.specs.{Passes.{HasPoll, PassPolls, IsController, Controls, IsNoOwner, Disable}, Atoms.{MayMake, MayExchange}, Told.Did}
+use Rattle.napi_word.specs.{Told.{when, either_op, no_move, load_op, prep_of, done_of, is_marked, shows_busy, busy_op}}
+use Rattle.napi_word.specs.{View.{View, view_number}}
 use Rattle.std.proofs.Common.{◌≡◌, ◌⊎◌, ℕ, eqb, eq-eqb, None, Bool, true, false}
-use Rattle.napi_word.specs.View.{controller_of, place_in}
+use Rattle.napi_word.specs.View.{view_controller, place_in}
 use Rattle.std.proofs.{Common.{refl, sym, ap, ◌∙◌, subst, inl, inr, ⊎_elim, true≢false, bit_and, bit_or}, lemmas.Bool.{eqb-true, or_cases}}
 use prog.Atomic.{either}
 use Rattle.napi_model.specs.Step as step
@@ -51,15 +53,15 @@ gift false m f e = absurd (cc)
 owned_place : (k : ℕ) (v : View) (c : ℕ) (now : Napi) → Knows k v c now → (q : Place) → place_in v ≡ q → is_owner c q ≡ true → now.place ≡ q
 owned_place k v c now kn q is mine = kn.place (ap (is_owner c) is ∙ mine) ∙ is
 
-is_polling : (k : ℕ) (v : View) (c : ℕ) (now : Napi) (b : Bool) → Knows k v c now → HasPoll b v → step.Polls c b now
+is_polling : (k : ℕ) (v : View) (c : ℕ) (now : Napi) (b : Bool) → Knows k v c now → HasPoll b v → step.CallerPolls c b now
 is_polling k v c now b kn is =
     let place = is.0 ∙ ap Polling kn.number in
     (owned_place k v c now kn (Polling c) place (eq-eqb c c refl), kn.busy (ap (is_owner c) place ∙ eq-eqb c c refl) ∙ is.1)
 
-is_control : (k : ℕ) (v : View) (c : ℕ) (now : Napi) → Knows k v c now → place_in v ≡ Control (number_of v) → now.place ≡ Control c
+is_control : (k : ℕ) (v : View) (c : ℕ) (now : Napi) → Knows k v c now → place_in v ≡ Control (view_number v) → now.place ≡ Control c
 is_control k v c now kn is = owned_place k v c now kn (Control c) (is ∙ ap Control kn.number) (eq-eqb c c refl)
 
-is_last : (k : ℕ) (v : View) (c : ℕ) (now : Napi) → Knows k v c now → number_of v ≡ controller_of v → c ≡ k
+is_last : (k : ℕ) (v : View) (c : ℕ) (now : Napi) → Knows k v c now → view_number v ≡ view_controller v → c ≡ k
 is_last k v c now kn top = sym kn.number ∙ top ∙ kn.controller
 
 -- an exchange is its operation if it succeeds, otherwise a look
@@ -78,7 +80,7 @@ module _ (t : StateTable) (p : Pass) where
   last = t.table.shared.key.controller
 
   -- a step is allowed if it is legal in every place that the pass may be in
-  makes : (g : ℕ → ℕ) (f : Seen → Operation) (m : Seen → Moves) → ((x : Seen) → m x ≡ given → IsWithin p)
+  makes : (g : ℕ → ℕ) (f : Seen → Operation) (m : Seen → Moves) → ((x : Seen) → m x ≡ given → IsSlotFilled p)
       → ((now : Napi) (c : ℕ) → Knows last me.0 c now → Turn last now c (f (seen_of now)) (m (seen_of now)) g)
       → MayMake t p.seat g f m
   makes g f m ready turn =
@@ -104,15 +106,15 @@ module _ (t : StateTable) (p : Pass) where
   tries = makes (λ n. n) (λ x. load_op x.flags.disable x) no_move (λ x e. absurd (cc))
       (λ now c kn. try_turn now c now.flags.disable refl)
 
-  ask_turn : (now : Napi) (c : ℕ) → c ≡ last → now.flags.disable ≡ true → (b : Bool) → is_busy (seen_of now) ≡ b
+  ask_turn : (now : Napi) (c : ℕ) → c ≡ last → now.flags.disable ≡ true → (b : Bool) → shows_busy (seen_of now) ≡ b
       → Turn last now c (busy_op b (seen_of now)) stays (λ n. n)
   ask_turn now c top off true is =
       record { legal = ((off, or_cases now.flags.sched now.flags.npsvc is), top); word = refl; slot = (refl, refl) }
   ask_turn now c top off false is = record { legal = (refl, tt); word = refl; slot = (refl, refl) }
 
-  pub asks : IsController p → Disable true p → MayMake t p.seat (λ n. n) (λ x. busy_op (is_busy x) x) no_move
-  asks is off = makes (λ n. n) (λ x. busy_op (is_busy x) x) no_move (λ x e. absurd (cc))
-      (λ now c kn. let top = is_last last me.0 c now kn is in ask_turn now c top (kn.disable top ∙ off) (is_busy (seen_of now)) refl)
+  pub asks : IsController p → Disable true p → MayMake t p.seat (λ n. n) (λ x. busy_op (shows_busy x) x) no_move
+  asks is off = makes (λ n. n) (λ x. busy_op (shows_busy x) x) no_move (λ x e. absurd (cc))
+      (λ now c kn. let top = is_last last me.0 c now kn is in ask_turn now c top (kn.disable top ∙ off) (shows_busy (seen_of now)) refl)
 
   -- ---- exchanges
 
@@ -120,7 +122,7 @@ module _ (t : StateTable) (p : Pass) where
   abbrev Hit : Napi → ℕ → Operation → Moves → Type 0
   Hit now c o m = IsLegalFor last now (event c o) × Fitting m c now.place (after_by c o now).place
 
-  exchanges : (seen : Seen) (f : Seen → Operation) (m : Seen → Moves) → ((x : Seen) → m x ≡ given → IsWithin p)
+  exchanges : (seen : Seen) (f : Seen → Operation) (m : Seen → Moves) → ((x : Seen) → m x ≡ given → IsSlotFilled p)
       → ((now : Napi) (c : ℕ) → Knows last me.0 c now → seen_of now ≡ seen → Hit now c (f (seen_of now)) (m (seen_of now)))
       → MayExchange t p.seat seen f m
   exchanges seen f m ready hit = makes (λ n. either (eqb n (word_of seen)) (word_of (seen_after (f seen) seen)) n)
@@ -141,11 +143,12 @@ module _ (t : StateTable) (p : Pass) where
   schedules seen on = exchanges seen (λ x. Schedule (prep_of x.flags.sched)) no_move (λ x e. absurd (cc))
       (λ now c kn same. schedule_hit now c kn (ap (λ (x : Seen). x.flags.disable) same ∙ on) now.flags.sched refl)
 
-  complete_hit : (now : Napi) (c : ℕ) → step.Polls c false now → (b : Bool) → now.flags.missed ≡ b → Hit now c (Complete (done_of b)) given
+  complete_hit : (now : Napi) (c : ℕ) → step.CallerPolls c false now → (b : Bool) → now.flags.missed ≡ b
+      → Hit now c (Complete (done_of b)) given
   complete_hit now c polls true is = (((polls.0, is, polls.1), tt), (ap (has_at c) polls.0 ∙ eq-eqb c c refl, refl))
   complete_hit now c polls false is = (((polls.0, is, polls.1), tt), (ap (has_at c) polls.0 ∙ eq-eqb c c refl, refl))
 
-  pub completes : (seen : Seen) → Polls false p → IsWithin p
+  pub completes : (seen : Seen) → PassPolls false p → IsSlotFilled p
       → MayExchange t p.seat seen (λ x. Complete (done_of x.flags.missed)) (λ x. given)
   completes seen polls within = exchanges seen (λ x. Complete (done_of x.flags.missed)) (λ x. given) (λ x e. within)
       (λ now c kn same. complete_hit now c (is_polling last me.0 c now false kn polls) now.flags.missed refl)
@@ -156,11 +159,11 @@ module _ (t : StateTable) (p : Pass) where
       let may = subst (λ (x : Seen). step.MayBusyTake x.flags) (sym same) free in
       ((may, tt), (ap is_out (kn.sound may.1), eq-eqb c c refl)))
 
-  pub stops_busy : (seen : Seen) → Polls true p → MayExchange t p.seat seen (λ x. BusyStop) no_move
+  pub stops_busy : (seen : Seen) → PassPolls true p → MayExchange t p.seat seen (λ x. BusyStop) no_move
   stops_busy seen polls = exchanges seen (λ x. BusyStop) no_move (λ x e. absurd (cc))
       (λ now c kn same. ((is_polling last me.0 c now true kn polls, tt), (refl, refl)))
 
-  pub completes_held : Polls true p → MayMake t p.seat (λ n. n) (λ x. Complete Held) no_move
+  pub completes_held : PassPolls true p → MayMake t p.seat (λ n. n) (λ x. Complete Held) no_move
   completes_held polls = makes (λ n. n) (λ x. Complete Held) no_move (λ x e. absurd (cc))
       (λ now c kn. record { legal = (is_polling last me.0 c now true kn polls, tt); word = refl; slot = (refl, refl) })
 
@@ -177,7 +180,7 @@ module _ (t : StateTable) (p : Pass) where
         (ap is_out (kn.sound clear), eq-eqb c c refl),
       ))
 
-  pub enables : (b : Bool) (seen : Seen) → IsController p → Controls p → Disable false p → IsWithin p
+  pub enables : (b : Bool) (seen : Seen) → IsController p → Controls p → Disable false p → IsSlotFilled p
       → MayExchange t p.seat seen (λ x. Enable b) (λ x. given)
   enables b seen is control on within = exchanges seen (λ x. Enable b) (λ x. given) (λ x e. within)
       (λ now c kn same.
@@ -201,39 +204,40 @@ module _ (t : StateTable) (p : Pass) where
       turn now c (Hand Kind.Thread) stays (added (hand_bits Kind.Thread)) kn (is, tt)
       (hand_thread (seen_of now) (ap handed_at is) unthreaded) (sym (ap is_out is), sym (ap (has_at c) is))
 
-  gives_nothing : (x y : Me Content View) → owns_slot x.0 ≡ false → Delivers stays x y → Delivers given x y
+  gives_nothing : (x y : Me Content View) → owns_slot x.0 ≡ false → SlotDelivers stays x y → SlotDelivers given x y
   gives_nothing x y none g = record {
     before = g.before;
     begins = g.begins;
     exact = g.exact;
     held = g.held;
     first = g.first;
-    shifts = subst (λ (b : Bool). Gives b g.before x y) (sym none) g.shifts;
+    shifts = subst (λ (b : Bool). GivesSlotBack b g.before x y) (sym none) g.shifts;
   }
 
   -- a caller that was granted the instance doesn't have the slot, so it doesn't give it back
-  nothing_given : (o : Operation) (me' : Me Content View) → place_in me.0 ≡ Granted (number_of me.0) → Did o stays me me'
+  nothing_given : (o : Operation) (me' : Me Content View) → place_in me.0 ≡ Granted (view_number me.0) → Did o stays me me'
       → Did o given me me'
   nothing_given o me' is d =
-      let none : owns_slot me.0 ≡ false = ap (has_at (number_of me.0)) is in
+      let none : owns_slot me.0 ≡ false = ap (has_at (view_number me.0)) is in
       (d.0, λ h' tie'. subst (λ (y : Holds). Tied y me') (nothing h' (sym tie'.right ∙ none)) (d.1 h' tie'), gives_nothing me me' none d.2)
 
-  hands_granted : (k : Kind) → place_in me.0 ≡ Granted (number_of me.0) → MayMake t p.seat (added (hand_bits k)) (λ x. Hand k) (λ x. given)
+  hands_granted : (k : Kind) → place_in me.0 ≡ Granted (view_number me.0)
+      → MayMake t p.seat (added (hand_bits k)) (λ x. Hand k) (λ x. given)
   hands_granted k is s holding len at fits =
       let a = makes (added (hand_bits k)) (λ x. Hand k) no_move (λ x e. absurd (cc))
       (λ now c kn. granted_turn k now c kn (owned_place last me.0 c now kn (Granted c) (is ∙ ap Granted kn.number) (eq-eqb c c refl))) s
       holding len at fits in
       (a.0, a.1, a.2, a.3, (a.4.0, a.4.1, nothing_given (Hand k) _ is a.4.2))
 
-  hands_polled : Polls false p → IsWithin p → MayMake t p.seat (added (hand_bits Kind.List)) (λ x. Hand Kind.List) (λ x. given)
+  hands_polled : PassPolls false p → IsSlotFilled p → MayMake t p.seat (added (hand_bits Kind.List)) (λ x. Hand Kind.List) (λ x. given)
   hands_polled is within = makes (added (hand_bits Kind.List)) (λ x. Hand Kind.List) (λ x. given) (λ x e. within)
       (λ now c kn. let q = is_polling last me.0 c now false kn is in
       list_turn given now c kn (inr q) (ap handed_at q.0) (ap (has_at c) q.0 ∙ eq-eqb c c refl, refl))
 
-  pub hands : (k : Kind) → HandsOver k p → IsWithin p → MayMake t p.seat (added (hand_bits k)) (λ x. Hand k) (λ x. given)
+  pub hands : (k : Kind) → PassMayHand k p → IsSlotFilled p → MayMake t p.seat (added (hand_bits k)) (λ x. Hand k) (λ x. given)
   hands Kind.List may within =
-      ⊎_elim (λ (q : place_in me.0 ≡ Granted (number_of me.0)). hands_granted Kind.List q)
-      (λ (q : Polls false p). hands_polled q within) may
+      ⊎_elim (λ (q : place_in me.0 ≡ Granted (view_number me.0)). hands_granted Kind.List q)
+      (λ (q : PassPolls false p). hands_polled q within) may
   hands Kind.Thread may within = hands_granted Kind.Thread may
 
   take_turn : (k : Kind) (now : Napi) (c : ℕ) → Knows last me.0 c now → (b : Bool) → is_marked k (handed_at now.place) ≡ b

@@ -3,7 +3,8 @@ use Rattle.std.specs.Prelude.{◌≡◌, ℕ, Bool, true, false, List, [], ◌�
 use Rattle.napi_model.specs.declared.{state.Seen.Seen, event.{Prep.Prep, Done.Done, Operation.{Operation, TheVariants.{Look, Schedule}}}}
 use Rattle.napi_model.specs.{declared.event.{Operation.TheVariants.{Complete, TakeDisable}, Event.Event}, Step.{event, opening}}
 use Rattle.{napi_model.specs.{History.{LegalHistory, own}, Laws.is_owner}, napi_word.specs.{declared.view.Strand.Strand, View.View}}
-use Rattle.napi_word.specs.View.{is_pass, shown, mine, number_of, controller_of, ring_of, state_at, place_in, disable_in, busy_in}
+use Rattle.napi_word.specs.View.{is_pass, view_shown, mine, view_number, view_controller, view_ring, state_at, place_in, disable_in}
+use Rattle.napi_word.specs.View.{busy_in}
 use mathlib.Core.List.{IsPrefix}
 use lib.ListN.{get_elem?}
 use mathlib.Core.Option as maybe
@@ -16,23 +17,23 @@ pub record Steps (v : View) (o : Operation) (w : View) : Type 0 where
   -- it begins with all that the pass had seen, by itself or from passes that it met
   pub begins : (k : ℕ) (x : Strand) → get_elem? v k ≡ maybe.some x → IsPrefix x.seen before
   -- the event comes next, and then the pass shows the whole history
-  pub ends : shown w ≡ before ++ event (number_of v) o ∷ []
+  pub ends : view_shown w ≡ before ++ event (view_number v) o ∷ []
   -- the history is legal
-  pub legal : LegalHistory (controller_of v) (opening (controller_of v)) (shown w)
+  pub legal : LegalHistory (view_controller v) (opening (view_controller v)) (view_shown w)
   -- the own list grew by exactly this event, and is the caller's events in the history
-  pub grows : mine w ≡ mine v ++ event (number_of v) o ∷ []
-  pub exact : own (number_of v) (shown w) ≡ mine w
+  pub grows : mine w ≡ mine v ++ event (view_number v) o ∷ []
+  pub exact : own (view_number v) (view_shown w) ≡ mine w
   -- number, controller and ring don't change
   pub pass : is_pass w ≡ true
-  pub number : number_of w ≡ number_of v
-  pub controller : controller_of w ≡ controller_of v
-  pub ring : ring_of w ≡ ring_of v
+  pub number : view_number w ≡ view_number v
+  pub controller : view_controller w ≡ view_controller v
+  pub ring : view_ring w ≡ view_ring v
   -- what others can't have changed since: whether the caller owns the instance, its place if so, whether it busy polls, and,
   -- for the controller, the disable flag
-  pub owner : is_owner (number_of v) (state_at v before).place ≡ is_owner (number_of v) (place_in v)
-  pub place : is_owner (number_of v) (place_in v) ≡ true → (state_at v before).place ≡ place_in v
-  pub busy : is_owner (number_of v) (place_in v) ≡ true → (state_at v before).flags.in_busy_poll ≡ busy_in v
-  pub disable : number_of v ≡ controller_of v → (state_at v before).flags.disable ≡ disable_in v
+  pub owner : is_owner (view_number v) (state_at v before).place ≡ is_owner (view_number v) (place_in v)
+  pub place : is_owner (view_number v) (place_in v) ≡ true → (state_at v before).place ≡ place_in v
+  pub busy : is_owner (view_number v) (place_in v) ≡ true → (state_at v before).flags.in_busy_poll ≡ busy_in v
+  pub disable : view_number v ≡ view_controller v → (state_at v before).flags.disable ≡ disable_in v
 
 -- ---- each result as an operation
 

@@ -4,8 +4,9 @@ use Rattle.rx_ring.specs.{declared.{packet.Packet.Packet, ends.RxCtx.RxCtx}, End
 use Rattle.{rx_ring.specs.Ends.{polls_of, is_beside}, napi_model.specs.declared.state.{Kind.Kind, Place.TheVariants.Control}}
 use Rattle.{napi_model.specs.{declared.event.Operation.Operation, Laws.is_owner}, napi_word.specs.declared.view.Holds.TheVariants.Nothing}
 use Rattle.napi_word.specs.{declared.{view.Holds.TheVariants.{Within, Out}, table.{Pass.Pass, StateTable.StateTable}}, View.View}
-use Rattle.napi_word.specs.{View.{number_of, controller_of, state_in, place_in, disable_in, ring_of}, Slot.{Tied, Moves, moved, owns_slot}}
-use Rattle.napi_word.specs.{Slot.{ctx_in, carried_received, Delivers}, Rule.strand, Events.Steps}
+use Rattle.napi_word.specs.{View.{view_number, view_controller, state_in, place_in, disable_in, view_ring}}
+use Rattle.napi_word.specs.{Slot.{Tied, Moves, moved, owns_slot}}
+use Rattle.napi_word.specs.{Slot.{ctx_in, carried_received, SlotDelivers}, Rule.strand, Events.Steps}
 use Rattle.napi_model.specs.Step as step
 
 abbrev pub view_of : Pass → View
@@ -53,7 +54,7 @@ pub record Makes (before : Pass) (o : Operation) (m : Moves) (after : Pass) : Ty
   pub table : SameTable before after
   pub holds : after.holds ≡ moved m before.holds
   pub event : Steps (view_of before) o (view_of after)
-  pub packets : Delivers m before.seat.me after.seat.me
+  pub packets : SlotDelivers m before.seat.me after.seat.me
 
 -- moving the context isn't an event: what the pass knows doesn't change
 pub record Keeps (before : Pass) (after : Pass) : Type 0 where
@@ -63,33 +64,33 @@ pub record Keeps (before : Pass) (after : Pass) : Type 0 where
 -- ---- what a step requires of its pass
 
 -- if it owns the slot, the context is in it
-abbrev pub IsWithin : Pass → Type 0
-IsWithin p = p.holds ≢ Out
+abbrev pub IsSlotFilled : Pass → Type 0
+IsSlotFilled p = p.holds ≢ Out
 
-abbrev pub HandsOver : Kind → Pass → Type 0
-HandsOver kind p = step.MayHand (number_of (view_of p)) kind (state_in (view_of p))
+abbrev pub PassMayHand : Kind → Pass → Type 0
+PassMayHand kind p = step.MayHand (view_number (view_of p)) kind (state_in (view_of p))
 
 -- by the list that it shows, a pass polls the instance, and busy polls it or not
 abbrev pub HasPoll : Bool → View → Type 0
-HasPoll busy v = step.Polls (number_of v) busy (state_in v)
+HasPoll busy v = step.CallerPolls (view_number v) busy (state_in v)
 
-abbrev pub Polls : Bool → Pass → Type 0
-Polls busy p = HasPoll busy (view_of p)
+abbrev pub PassPolls : Bool → Pass → Type 0
+PassPolls busy p = HasPoll busy (view_of p)
 
 abbrev pub OwnsSlot : Pass → Type 0
 OwnsSlot p = owns_slot (view_of p) ≡ true
 
 abbrev pub HasController : View → Type 0
-HasController v = number_of v ≡ controller_of v
+HasController v = view_number v ≡ view_controller v
 
 abbrev pub IsController : Pass → Type 0
 IsController p = HasController (view_of p)
 
 abbrev pub Controls : Pass → Type 0
-Controls p = place_in (view_of p) ≡ Control (number_of (view_of p))
+Controls p = place_in (view_of p) ≡ Control (view_number (view_of p))
 
 abbrev pub IsNoOwner : Pass → Type 0
-IsNoOwner p = is_owner (number_of (view_of p)) (place_in (view_of p)) ≡ false
+IsNoOwner p = is_owner (view_number (view_of p)) (place_in (view_of p)) ≡ false
 
 -- the value of the disable flag, as far as the pass has seen
 abbrev pub Disable : Bool → Pass → Type 0
@@ -97,13 +98,13 @@ Disable on p = disable_in (view_of p) ≡ on
 
 -- the context belongs to the ring that the pass names
 abbrev pub OfItsRing : Pass → RxCtx → Type 0
-OfItsRing p ctx = ring_of (view_of p) ≡ Some (ring_name ctx)
+OfItsRing p ctx = view_ring (view_of p) ≡ Some (ring_name ctx)
 
 abbrev pub tie_of : (p : Pass) → Tied p.holds p.seat.me
 tie_of p = record { marked = p.marked; right = p.right; ring = p.ring; unmarked = p.unmarked; received = p.received }
 
 -- the pass of number c, which has seen and done nothing; the controller's has the slot, with the context in it
-pub record IsNew (t : StateTable) (controller : ℕ) (ctx : RxCtx) (c : ℕ) (p : Pass) : Type 0 where
+pub record IsNewPass (t : StateTable) (controller : ℕ) (ctx : RxCtx) (c : ℕ) (p : Pass) : Type 0 where
   pub table : IsPassOf t p
   pub view : view_of p ≡ strand controller ctx c ∷ []
   pub others : c < controller → p.holds ≡ Nothing

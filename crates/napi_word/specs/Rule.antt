@@ -118,5 +118,5 @@ note_of (x ∷ xs) = note x ∷ []
 abbrev pub joined : View → View → View
 joined v w = v ++ w
 
-abbrev pub spent : View
-spent = []
+abbrev pub spent_view : View
+spent_view = []

@@ -4,7 +4,8 @@ use Rattle.{atomic_table.specs.Table.Me, rx_ring.specs.{declared.{packet.Packet.
 use Rattle.{rx_ring.specs.Ends.{is_beside, received_list}, napi_model.specs.declared.state.Place.{Place, TheVariants.{Nobody, Granted}}}
 use Rattle.napi_model.specs.declared.{state.{Place.TheVariants.{Listed, ToThread, Polling, Control}, State.State}, event.Event.Event}
 use Rattle.{napi_model.specs.Step.after, napi_word.specs.declared.view.{Holds.{Holds, TheVariants.{Nothing, Within, Out}}, Strand.Strand}}
-use Rattle.napi_word.specs.{declared.view.Delivery.Delivery, View.{View, number_of, place_in, ring_of, delivery, own_deliveries, delivered}}
+use Rattle.napi_word.specs.{declared.view.Delivery.Delivery}
+use Rattle.napi_word.specs.{View.{View, view_number, place_in, view_ring, delivery, own_deliveries, view_delivered}}
 use Rattle.napi_word.specs.View.{received_in, last_in, first_in, Continues}
 use mathlib.Core.List.{IsPrefix}
 use lib.ListN.{get_elem?}
@@ -43,7 +44,7 @@ givers s (e ∷ es) = one_if (is_given s e) e.caller ++ givers (after s e) es
 
 -- by the list that it shows, a pass owns the slot
 abbrev pub owns_slot : View → Bool
-owns_slot v = has_at (number_of v) (place_in v)
+owns_slot v = has_at (view_number v) (place_in v)
 
 -- ---- what a seat holds, and the mark that says so
 
@@ -67,8 +68,8 @@ has_slot Out = true
 -- the ring of the context in the slot that is held, otherwise the view's
 abbrev pub ring_in : Carried → View → Option RingName
 ring_in ((k, Some x) ∷ l) v = Some (ring_name x)
-ring_in ((k, None) ∷ l) v = ring_of v
-ring_in [] v = ring_of v
+ring_in ((k, None) ∷ l) v = view_ring v
+ring_in [] v = view_ring v
 
 -- the context in the slot that is held
 abbrev pub ctx_in : Carried → Option RxCtx
@@ -91,7 +92,7 @@ carried_received [] v = received_in v
 pub record Tied (h : Holds) (me : View × Carried) : Type 0 where
   pub marked : hold_of me.1 ≡ Some h
   pub right : owns_slot me.0 ≡ has_slot h
-  pub ring : ring_in me.1 me.0 ≡ ring_of me.0
+  pub ring : ring_in me.1 me.0 ≡ view_ring me.0
   pub unmarked : beside_in me.1 ≡ false
   -- the context in it has received all packets delivered, and maybe more since
   pub received : Continues (received_in me.0) (carried_received me.1 me.0)
@@ -111,28 +112,28 @@ moved given h = Nothing
 -- ---- what a step shows of the deliveries: all until then, which the caller knows from then on
 
 -- a slot with its context in it is given back: one more delivery, of what was received since it was taken
-abbrev pub Gives : Bool → List Delivery → Me Content View → Me Content View → Type 0
-Gives true before me me' =
+abbrev pub GivesSlotBack : Bool → List Delivery → Me Content View → Me Content View → Type 0
+GivesSlotBack true before me me' =
     (x : RxCtx) × (packets : List Packet) × (me.1 ≡ (0, Some x) ∷ []) × (received_list x ≡ received_in me.0 ++ packets)
-    × (delivered me'.0 ≡ before ++ delivery (number_of me.0) packets x ∷ [])
-Gives false before me me' = (delivered me'.0 ≡ before) × (me'.1 ≡ me.1)
+    × (view_delivered me'.0 ≡ before ++ delivery (view_number me.0) packets x ∷ [])
+GivesSlotBack false before me me' = (view_delivered me'.0 ≡ before) × (me'.1 ≡ me.1)
 
 abbrev pub Shifts : Moves → List Delivery → Me Content View → Me Content View → Type 0
-Shifts stays before me me' = (delivered me'.0 ≡ before) × (me'.1 ≡ me.1)
+Shifts stays before me me' = (view_delivered me'.0 ≡ before) × (me'.1 ≡ me.1)
 -- the context that is taken is the one that was given back last, and has received all packets delivered
-Shifts taken before me me' = (delivered me'.0 ≡ before)
+Shifts taken before me me' = (view_delivered me'.0 ≡ before)
     × ((x : RxCtx) × (me'.1 ≡ (0, Some x) ∷ []) × (received_list x ≡ received_in me'.0) × (last_in me'.0 ≡ Some x))
-Shifts given before me me' = Gives (owns_slot me.0) before me me'
+Shifts given before me me' = GivesSlotBack (owns_slot me.0) before me me'
 
-pub record Delivers (m : Moves) (me : Me Content View) (me' : Me Content View) : Type 0 where
+pub record SlotDelivers (m : Moves) (me : Me Content View) (me' : Me Content View) : Type 0 where
   -- all deliveries, just before
   pub before : List Delivery
   -- they begin with all that the pass had seen, by itself or from passes that it met
   pub begins : (k : ℕ) (x : Strand) → get_elem? me.0 k ≡ maybe.some x → IsPrefix x.delivered before
   -- the caller's own ones are those that it knew
-  pub exact : own_deliveries (number_of me.0) before ≡ own_deliveries (number_of me.0) (delivered me.0)
+  pub exact : own_deliveries (view_number me.0) before ≡ own_deliveries (view_number me.0) (view_delivered me.0)
   -- while the caller has the slot, no other caller delivers
-  pub held : owns_slot me.0 ≡ true → before ≡ delivered me.0
+  pub held : owns_slot me.0 ≡ true → before ≡ view_delivered me.0
   -- the first context is known as before
   pub first : first_in me'.0 ≡ first_in me.0
   pub shifts : Shifts m before me me'

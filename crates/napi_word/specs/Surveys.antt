@@ -4,7 +4,8 @@ use Rattle.atomic_table.specs.Table.{Me}
 use Rattle.{rx_ring.specs.declared.ends.RxCtx.RxCtx, napi_model.specs.declared.{state.Seen.Seen, event.Event.Event}}
 use Rattle.napi_model.specs.{declared.event.Operation.TheVariants.Look, Step.{event, opening, seen_of}, Word.word_of, History.LegalHistory}
 use Rattle.{napi_model.specs.{History.{state_after, own}, Laws.is_owner}, napi_word.specs.declared.view.{Strand.Strand, Delivery.Delivery}}
-use Rattle.napi_word.specs.{declared.table.Pass.Pass, View.{View, is_pass, number_of, controller_of, first_in, own_deliveries, deliverers}}
+use Rattle.napi_word.specs.{declared.table.Pass.Pass}
+use Rattle.napi_word.specs.{View.{View, is_pass, view_number, view_controller, first_in, own_deliveries, deliverers}}
 use Rattle.napi_word.specs.{View.{place_in, busy_in, disable_in, state_at}, Slot.{Content, givers, has_at, owns_slot}, Passes.view_of}
 use Rattle.napi_word.specs.Passes.{SameTable}
 use mathlib.Core.List.{IsPrefix}
@@ -24,25 +25,25 @@ pub record IsWhole (k : ℕ) (h : List Event) (ds : List Delivery) : Type 0 wher
 -- a view before and after a survey: it then shows the whole, which is the history that the look e found and the look itself;
 -- that history had no own events beyond those that the pass knew
 pub record CatchesUp (found : List Event) (e : Event) (ds : List Delivery) (v w : View) : Type 0 where
-  pub shown : view.shown w ≡ found ++ e ∷ []
-  pub begins : IsPrefix (view.shown v) found
-  pub knew : own (number_of v) found ≡ view.mine v
-  pub exact : own (number_of v) (found ++ e ∷ []) ≡ view.mine w
-  pub delivered : view.delivered w ≡ ds
-  pub delivered_begins : IsPrefix (view.delivered v) ds
-  pub delivered_exact : own_deliveries (number_of v) ds ≡ own_deliveries (number_of v) (view.delivered v)
+  pub shown : view.view_shown w ≡ found ++ e ∷ []
+  pub begins : IsPrefix (view.view_shown v) found
+  pub knew : own (view_number v) found ≡ view.mine v
+  pub exact : own (view_number v) (found ++ e ∷ []) ≡ view.mine w
+  pub delivered : view.view_delivered w ≡ ds
+  pub delivered_begins : IsPrefix (view.view_delivered v) ds
+  pub delivered_exact : own_deliveries (view_number v) ds ≡ own_deliveries (view_number v) (view.view_delivered v)
   -- the owner of the slot had seen all deliveries
-  pub held : owns_slot v ≡ true → view.delivered v ≡ ds
+  pub held : owns_slot v ≡ true → view.view_delivered v ≡ ds
   -- number, controller and ring don't change
   pub pass : is_pass w ≡ true
-  pub number : number_of w ≡ number_of v
-  pub controller : controller_of w ≡ controller_of v
+  pub number : view_number w ≡ view_number v
+  pub controller : view_controller w ≡ view_controller v
   pub ring : first_in w ≡ first_in v
   -- nor does what others can't change
-  pub owner : is_owner (number_of v) (state_at v found).place ≡ is_owner (number_of v) (place_in v)
-  pub place : is_owner (number_of v) (place_in v) ≡ true → (state_at v found).place ≡ place_in v
-  pub busy : is_owner (number_of v) (place_in v) ≡ true → (state_at v found).flags.in_busy_poll ≡ busy_in v
-  pub disable : number_of v ≡ controller_of v → (state_at v found).flags.disable ≡ disable_in v
+  pub owner : is_owner (view_number v) (state_at v found).place ≡ is_owner (view_number v) (place_in v)
+  pub place : is_owner (view_number v) (place_in v) ≡ true → (state_at v found).place ≡ place_in v
+  pub busy : is_owner (view_number v) (place_in v) ≡ true → (state_at v found).flags.in_busy_poll ≡ busy_in v
+  pub disable : view_number v ≡ view_controller v → (state_at v found).flags.disable ≡ disable_in v
 
 -- a pass before and after a survey: it is the same pass, and its hold is the same
 pub record IsSurveyed (found : List Event) (e : Event) (ds : List Delivery) (p q : Pass) : Type 0 where
@@ -58,7 +59,7 @@ pub record Surveys (k c : ℕ) (x : Seen) (before after : List Pass) : Type 0 wh
   pub deliveries : List Delivery
   -- the look is the next event
   pub whole : IsWhole k (found ++ event c (Look x) ∷ []) deliveries
-  pub controllers : (i : ℕ) (p : Pass) → slice_get before i ≡ Some p → controller_of (view_of p) ≡ k
+  pub controllers : (i : ℕ) (p : Pass) → slice_get before i ≡ Some p → view_controller (view_of p) ≡ k
   -- all name the first context of the table
   pub first : RxCtx
   pub firsts : (i : ℕ) (p : Pass) → slice_get before i ≡ Some p → first_in (view_of p) ≡ Some first
@@ -123,14 +124,14 @@ pub record Surveyed (me : Me Content View) (n : ℕ) (me' : Me Content View) : T
   pub found : List Event
   pub deliveries : List Delivery
   -- what was seen is the state then
-  pub told : seen ≡ seen_of (state_after (opening (controller_of me.0)) found)
-  pub whole : IsWhole (controller_of me.0) (found ++ event (number_of me.0) (Look seen) ∷ []) deliveries
-  pub view : me'.0 ≡ all_looked found (event (number_of me.0) (Look seen)) deliveries me.0
+  pub told : seen ≡ seen_of (state_after (opening (view_controller me.0)) found)
+  pub whole : IsWhole (view_controller me.0) (found ++ event (view_number me.0) (Look seen) ∷ []) deliveries
+  pub view : me'.0 ≡ all_looked found (event (view_number me.0) (Look seen)) deliveries me.0
   pub slot : me'.1 ≡ me.1
   pub knew : (k : ℕ) (x : Strand) (c : ℕ) → get_elem? me.0 k ≡ maybe.some x → x.number ≡ Some c
-      → Knew (controller_of me.0) found deliveries x c
+      → Knew (view_controller me.0) found deliveries x c
   -- the number that looks occurs once
-  pub once : (k : ℕ) (x : Strand) → get_elem? me.0 k ≡ maybe.some x → x.number ≡ Some (number_of me.0) → k ≡ 0
+  pub once : (k : ℕ) (x : Strand) → get_elem? me.0 k ≡ maybe.some x → x.number ≡ Some (view_number me.0) → k ≡ 0
   -- all strands, with a number or not, had seen a prefix, and name the same context
   pub seen_begins : (k : ℕ) (x : Strand) → get_elem? me.0 k ≡ maybe.some x → IsPrefix x.seen found
   pub delivered_begins : (k : ℕ) (x : Strand) → get_elem? me.0 k ≡ maybe.some x → IsPrefix x.delivered deliveries

@@ -3,18 +3,18 @@ use Rattle.std.specs.Prelude.{◌≡◌, ℕ, ◌==◌, Bool, true, false, ◌||
 use Rattle.atomic_table.specs.Table.{Me}
 use Rattle.napi_model.specs.declared.{state.{Kind.Kind, Seen.Seen}, event.{Prep.Prep, Done.{Done, TheVariants.{Released, Again}}}}
 use Rattle.napi_model.specs.{declared.event.Operation.{Operation, TheVariants.{Look, Schedule, TakeDisable}}, Word.word_of}
-use Rattle.napi_word.specs.{declared.view.Holds.Holds, View.View, Slot.{Content, Tied, Moves, stays, moved, Delivers}, Rule.begun_view}
+use Rattle.napi_word.specs.{declared.view.Holds.Holds, View.View, Slot.{Content, Tied, Moves, stays, moved, SlotDelivers}, Rule.begun_view}
 use Rattle.napi_word.specs.{Rule.begun_slot, Events.Steps}
 use Rattle.napi_model.specs.declared.state.Kind.TheVariants as kind
 use Rattle.napi_model.specs.declared.event.Prep.TheVariants as prep
 
 -- the seat made this operation, and its hold on the slot changed accordingly
 abbrev pub Did : Operation → Moves → Me Content View → Me Content View → Type 0
-Did o m me me' = Steps me.0 o me'.0 × ((h : Holds) → Tied h me → Tied (moved m h) me') × Delivers m me me'
+Did o m me me' = Steps me.0 o me'.0 × ((h : Holds) → Tied h me → Tied (moved m h) me') × SlotDelivers m me me'
 
 -- the word showed x, so the operation and the move are these
-abbrev pub told : (Seen → Operation) → (Seen → Moves) → Me Content View → ℕ → Me Content View → Type 0
-told f m me n me' = (x : Seen) × (n ≡ word_of x) × Did (f x) (m x) me me'
+abbrev pub makes_as_seen : (Seen → Operation) → (Seen → Moves) → Me Content View → ℕ → Me Content View → Type 0
+makes_as_seen f m me n me' = (x : Seen) × (n ≡ word_of x) × Did (f x) (m x) me me'
 
 abbrev pub when : Bool → Moves → Moves
 when true m = m
@@ -26,7 +26,7 @@ either_op true o x = o
 either_op false o x = Look x
 
 abbrev pub exchanged : (Seen → Operation) → (Seen → Moves) → ℕ → Me Content View → ℕ → Me Content View → Type 0
-exchanged f m expected = told (λ x. either_op (word_of x == expected) (f x) x) (λ x. when (word_of x == expected) (m x))
+exchanged f m expected = makes_as_seen (λ x. either_op (word_of x == expected) (f x) x) (λ x. when (word_of x == expected) (m x))
 
 abbrev pub no_move : Seen → Moves
 no_move x = stays
@@ -55,8 +55,8 @@ is_marked kind.List None = false
 is_marked kind.Thread None = false
 
 -- the controller can't take an instance while one of these is set
-abbrev pub is_busy : Seen → Bool
-is_busy x = x.flags.sched || x.flags.npsvc
+abbrev pub shows_busy : Seen → Bool
+shows_busy x = x.flags.sched || x.flags.npsvc
 
 abbrev pub busy_op : Bool → Seen → Operation
 busy_op true x = TakeDisable false
@@ -65,8 +65,8 @@ busy_op false x = Look x
 -- ---- loads that are no events
 
 -- the first seat takes the slot with the first context, and has the strands of all numbers
-abbrev pub begun : Me Content View → ℕ → Me Content View → Type 0
-begun me n me' = (me'.0 ≡ begun_view me.0) × (me'.1 ≡ begun_slot me.0)
+abbrev pub table_begun : Me Content View → ℕ → Me Content View → Type 0
+table_begun me n me' = (me'.0 ≡ begun_view me.0) × (me'.1 ≡ begun_slot me.0)
 
 -- a slot that the seat owns goes back; the view doesn't change
 abbrev pub laid_down : Me Content View → ℕ → Me Content View → Type 0

@@ -14,28 +14,28 @@ is_pass [] = false
 is_pass (x ∷ xs) = is_some x.number
 
 -- the list that a pass shows: a prefix of the one history
-abbrev pub shown : View → List Event
-shown [] = []
-shown (x ∷ xs) = x.seen
+abbrev pub view_shown : View → List Event
+view_shown [] = []
+view_shown (x ∷ xs) = x.seen
 
 -- its own events
 abbrev pub mine : View → List Event
 mine [] = []
 mine (x ∷ xs) = x.mine
 
-abbrev pub number_of : View → ℕ
-number_of [] = 0
-number_of (x ∷ xs) = unwrap_or x.number 0
+abbrev pub view_number : View → ℕ
+view_number [] = 0
+view_number (x ∷ xs) = unwrap_or x.number 0
 
 -- the controller's number
-abbrev pub controller_of : View → ℕ
-controller_of [] = 0
-controller_of (x ∷ xs) = x.controller
+abbrev pub view_controller : View → ℕ
+view_controller [] = 0
+view_controller (x ∷ xs) = x.controller
 
 -- the ring of the table's first context
-abbrev pub ring_of : View → Option RingName
-ring_of [] = None
-ring_of (x ∷ xs) = Some (ring_name x.ring)
+abbrev pub view_ring : View → Option RingName
+view_ring [] = None
+view_ring (x ∷ xs) = Some (ring_name x.ring)
 
 -- ---- deliveries
 
@@ -70,9 +70,9 @@ abbrev pub Continues : List Packet → List Packet → Type 0
 Continues before after = after ≡ before ++ drop (length before) after
 
 -- the deliveries that a pass shows: a prefix of all
-abbrev pub delivered : View → List Delivery
-delivered [] = []
-delivered (x ∷ xs) = x.delivered
+abbrev pub view_delivered : View → List Delivery
+view_delivered [] = []
+view_delivered (x ∷ xs) = x.delivered
 
 -- the packets that the context has received by these
 abbrev pub received_in : View → List Packet
@@ -91,11 +91,11 @@ last_in (x ∷ xs) = Some (last_of x.ring x.delivered)
 
 -- the state after a list of events, from the state of a new table
 abbrev pub state_at : View → List Event → State
-state_at v h = state_after (opening (controller_of v)) h
+state_at v h = state_after (opening (view_controller v)) h
 
 -- the state after the list shown
 abbrev pub state_in : View → State
-state_in v = state_at v (shown v)
+state_in v = state_at v (view_shown v)
 
 abbrev pub place_in : View → Place
 place_in v = (state_in v).place

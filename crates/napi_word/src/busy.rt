@@ -6,7 +6,7 @@ ghost use Rattle.napi_model.specs.Step.{MayBusyTake};
 ghost use Rattle.napi_word.specs.Slot.{stays, taken};
 ghost use Rattle.napi_word.specs.Events.{by_swap};
 ghost use Rattle.napi_word.specs.Told.{when};
-ghost use Rattle.napi_word.specs.Passes.{IsPassOf, Makes, Polls};
+ghost use Rattle.napi_word.specs.Passes.{IsPassOf, Makes, PassPolls};
 
 use crate::step_kinds::{CompletesHeld, StopsBusy, TakesBusy};
 use crate::table::{Pass, StateTable};
@@ -36,7 +36,7 @@ impl StateTable {
     #[inline]
     pub fn stop_swap(&self, pass: &mut Pass, seen: Seen) -> Result<(), Seen>
         requires table { IsPassOf self.now pass.old }
-        requires owner { Polls true pass.old }
+        requires owner { PassPolls true pass.old }
         ensures step { Makes pass.old (by_swap BusyStop result) stays pass.new }
         ensures other { IfErr result (λ found. found ≢ seen) }
     {
@@ -47,7 +47,7 @@ impl StateTable {
     #[inline]
     pub fn complete_load(&self, pass: &mut Pass)
         requires table { IsPassOf self.now pass.old }
-        requires owner { Polls true pass.old }
+        requires owner { PassPolls true pass.old }
         ensures { Makes pass.old (Complete Held) stays pass.new }
     {
         self.load::<CompletesHeld>(&mut pass.seat);

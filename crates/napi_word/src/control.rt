@@ -5,7 +5,7 @@ ghost use Rattle.napi_word.specs.Slot.{stays, taken, given};
 ghost use Rattle.napi_word.specs.Events.{by_take_load, by_swap};
 ghost use Rattle.napi_word.specs.Told as told;
 ghost use Rattle.napi_word.specs.Told.{when};
-ghost use Rattle.napi_word.specs.Passes.{IsPassOf, Makes, IsWithin, IsController, Controls, IsNoOwner, Disable};
+ghost use Rattle.napi_word.specs.Passes.{IsPassOf, Makes, IsSlotFilled, IsController, Controls, IsNoOwner, Disable};
 
 use crate::step_kinds::{Asks, Disables, Enables, EnablesThreaded, Marks, Unmarks};
 use crate::table::{Pass, StateTable};
@@ -14,7 +14,7 @@ use napi_model::bits::DISABLE;
 use napi_model::{Operation, Seen};
 
 fn is_busy(seen: Seen) -> bool
-    ensures { result ≡ told.is_busy seen }
+    ensures { result ≡ told.shows_busy seen }
 {
     seen.flags.sched || seen.flags.npsvc
 }
@@ -84,7 +84,7 @@ impl StateTable {
         requires controller { IsController pass.old }
         requires owner { Controls pass.old }
         requires unmarked { Disable false pass.old }
-        requires within { IsWithin pass.old }
+        requires within { IsSlotFilled pass.old }
         ensures step { Makes pass.old (by_swap (Enable threaded) result)
             (when (is_ok result) given) pass.new }
         ensures other { IfErr result (λ found. found ≢ seen) }

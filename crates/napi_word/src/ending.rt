@@ -1,9 +1,9 @@
 //! Closing a table, after all its passes are joined.
 ghost use Rattle.std.specs.Prelude.{◌≡◌, ℕ, ◌+◌, ◌≤◌, List, [], ◌∷◌, length, Some, slice_get};
 ghost use Rattle.napi_word.specs.declared.view.Holds.TheVariants as holds;
-ghost use Rattle.napi_word.specs.View.{ring_of};
+ghost use Rattle.napi_word.specs.View.{view_ring};
 ghost use Rattle.napi_word.specs.Passes.{view_of, IsPassOf, controller_of_table};
-ghost use Rattle.napi_word.specs.Ends.{Finds, picked, IsGatheredOf, Gathered, IsEnded};
+ghost use Rattle.napi_word.specs.Ends.{Finds, picked, IsGatheredOf, Gathered, IsClosedTable};
 
 use crate::gathering::{Found, Gathering};
 use crate::step_kinds::{LaysDown, TakesIn};
@@ -51,7 +51,7 @@ impl StateTable {
         requires table { IsPassOf self.now pass }
         ensures table { result.table_id ≡ self.now.table.shared.table_id }
         ensures seat { result.me ≡ (view_of pass, []) }
-        ensures found { Finds pass.holds (ring_of (view_of pass)) found.old found.new }
+        ensures found { Finds pass.holds (view_ring (view_of pass)) found.old found.new }
     {
         let mut pass = pass;
         match pass.holds {
@@ -104,7 +104,7 @@ impl StateTable {
     pub fn finish(self, gathering: Gathering) -> Ended
         requires table { IsGatheredOf self gathering }
         ensures { (taken : List Pass) → Gathered taken gathering.seat.me.0 gathering.found
-            → controller_of_table self + 1 ≤ length taken → IsEnded self taken result.ctx }
+            → controller_of_table self + 1 ≤ length taken → IsClosedTable self taken result.ctx }
     {
         let StateTable { table } = self;
         let Gathering { seat, found } = gathering;
@@ -122,7 +122,7 @@ impl StateTable {
 pub fn end(table: StateTable, mut passes: Vec<Pass>) -> Ended
     requires passes { (k : ℕ) (p : Pass) → slice_get passes.items k ≡ Some p → IsPassOf table p }
     requires count { length passes.items ≡ controller_of_table table + 1 }
-    ensures { IsEnded table passes.items result.ctx }
+    ensures { IsClosedTable table passes.items result.ctx }
 {
     let popped = passes.pop();
     let Some(first) = popped else { unreachable!() };

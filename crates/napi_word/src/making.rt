@@ -3,9 +3,9 @@ ghost use Rattle.std.specs.Prelude.{◌≡◌, ℕ, ◌+◌, ◌-◌, ◌<◌, �
 ghost use Rattle.napi_word.specs.declared.view.Holds.TheVariants as holds;
 ghost use Rattle.rx_ring.specs.Ends.{ring_name};
 ghost use Rattle.napi_word.specs.Rule.{strand, maker_at, first_view};
-ghost use Rattle.napi_word.specs.Passes.{view_of, ctx_of, IsPassOf, SameTable, IsLaid, IsNew, controller_of_table, ring_of_table, first_of_table};
+ghost use Rattle.napi_word.specs.Passes.{view_of, ctx_of, IsPassOf, SameTable, IsLaid, IsNewPass, controller_of_table, ring_of_table, first_of_table};
 
-use crate::step_kinds::{Begins, GivesNumber};
+use crate::step_kinds::{GivesNumber, TakesFirstSlot};
 use crate::table::{Pass, StateTable};
 use crate::view::{Holds, Key, View};
 use atomic_table::{Refused, Seat, Table};
@@ -58,7 +58,7 @@ fn begin(table: &StateTable, mut seat: Seat<Option<RxCtx>, View>) -> Pass
     ensures holds { result.holds ≡ holds.Within }
     ensures laid { IsLaid table.now.table.shared.key.ring.value result }
 {
-    table.table.shared.load::<Begins>(&mut seat, 0);
+    table.table.shared.load::<TakesFirstSlot>(&mut seat, 0);
     let Some(mut ctx) = table.table.shared.exchange(&mut seat, 0, None) else {
         unreachable!()
     };
@@ -85,7 +85,7 @@ fn next_pass(table: &StateTable, maker: &mut Pass, number: u32) -> Pass
         (number + 1) }
     ensures holds { maker.new.holds ≡ maker.old.holds }
     ensures slot { ctx_of maker.new ≡ ctx_of maker.old }
-    ensures made { IsNew table.now table.now.table.shared.key.controller
+    ensures made { IsNewPass table.now table.now.table.shared.key.controller
         table.now.table.shared.key.ring.value number result }
 {
     Pass {
@@ -110,7 +110,7 @@ impl StateTable {
         ensures first { IfOk result (λ r. first_of_table r.0 ≡ ctx) }
         ensures new { IfOk result
             (λ r. (k : ℕ) (p : Pass) → slice_get r.1.items k ≡ Some p
-            → IsNew r.0 (seats - 1) ctx k p) }
+            → IsNewPass r.0 (seats - 1) ctx k p) }
         ensures back { IfErr result (λ b. b.ctx ≡ ctx) }
     {
         let Ok(mut passes) = Vec::with_capacity(alloc, seats as usize) else {

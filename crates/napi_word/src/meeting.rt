@@ -2,7 +2,7 @@
 ghost use Rattle.std.specs.Prelude.{◌≡◌};
 ghost use mathlib.Core.List.{IsPrefix};
 ghost use Rattle.napi_model.specs.declared.event.Operation.TheVariants.{Look};
-ghost use Rattle.napi_word.specs.View.{shown};
+ghost use Rattle.napi_word.specs.View.{view_shown};
 ghost use Rattle.napi_word.specs.Slot.{stays};
 ghost use Rattle.napi_word.specs.Passes.{view_of, IsPassOf, Makes};
 
@@ -18,7 +18,7 @@ impl StateTable {
         requires second { IsPassOf self.now second.old }
         ensures first { Makes first.old (Look result.0) stays first.new }
         ensures second { Makes second.old (Look result.1) stays second.new }
-        ensures met { IsPrefix (shown (view_of first.new)) (shown (view_of second.new)) }
+        ensures met { IsPrefix (view_shown (view_of first.new)) (view_shown (view_of second.new)) }
     {
         let found = self.look(first);
         let note = self.table.shared.split_seat::<Notes>(&mut first.seat);

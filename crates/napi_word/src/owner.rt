@@ -4,7 +4,7 @@ ghost use Rattle.napi_model.specs.declared.event.Operation.TheVariants.{Hand, Ta
 ghost use Rattle.napi_word.specs.Slot.{taken, given};
 ghost use Rattle.napi_word.specs.Events.{by_complete};
 ghost use Rattle.napi_word.specs.Told.{when, is_marked, done_of};
-ghost use Rattle.napi_word.specs.Passes.{IsPassOf, Makes, IsWithin, HandsOver, Polls};
+ghost use Rattle.napi_word.specs.Passes.{IsPassOf, Makes, IsSlotFilled, PassMayHand, PassPolls};
 
 use crate::step_kinds::{Completes, HandsToList, HandsToThread, TakesFromList, TakesFromThread};
 use crate::table::{Pass, StateTable};
@@ -36,8 +36,8 @@ impl StateTable {
     #[inline]
     pub fn hand(&self, pass: &mut Pass, kind: Kind)
         requires table { IsPassOf self.now pass.old }
-        requires owner { HandsOver kind pass.old }
-        requires within { IsWithin pass.old }
+        requires owner { PassMayHand kind pass.old }
+        requires within { IsSlotFilled pass.old }
         ensures step { Makes pass.old (Hand kind) given pass.new }
     {
         match kind {
@@ -72,8 +72,8 @@ impl StateTable {
     #[inline(always)]
     pub fn complete_swap(&self, pass: &mut Pass, seen: Seen) -> Result<Done, Seen>
         requires table { IsPassOf self.now pass.old }
-        requires owner { Polls false pass.old }
-        requires within { IsWithin pass.old }
+        requires owner { PassPolls false pass.old }
+        requires within { IsSlotFilled pass.old }
         ensures step { Makes pass.old (by_complete result) (when (is_ok result) given) pass.new }
         ensures reply { IfOk result (λ reply. reply ≡ done_of seen.flags.missed) }
         ensures other { IfErr result (λ found. found ≢ seen) }

@@ -4,7 +4,7 @@ ghost use mathlib.Core.List.{IsPrefix};
 ghost use Rattle.rx_ring.specs.Ends.{is_beside, received_list};
 ghost use Rattle.napi_word.specs.View.{received_in};
 ghost use Rattle.napi_word.specs.declared.view.Holds.TheVariants.{Within, Out};
-ghost use Rattle.napi_word.specs.Passes.{view_of, ctx_of, received_of, IsLaid, IsPassOf, Keeps, IsWithin, OwnsSlot, OfItsRing};
+ghost use Rattle.napi_word.specs.Passes.{view_of, ctx_of, received_of, IsLaid, IsPassOf, Keeps, IsSlotFilled, OwnsSlot, OfItsRing};
 
 use crate::table::{Pass, StateTable};
 use crate::view::Holds;
@@ -16,7 +16,7 @@ impl StateTable {
     pub fn slot_out(&self, pass: &mut Pass) -> RxCtx
         requires table { IsPassOf self.now pass.old }
         requires owner { OwnsSlot pass.old }
-        requires within { IsWithin pass.old }
+        requires within { IsSlotFilled pass.old }
         ensures keeps { Keeps pass.old pass.new }
         ensures holds { pass.new.holds ≡ Out }
         ensures ring { OfItsRing pass.old result }

@@ -1,6 +1,6 @@
 //! The kinds of steps: for each, its operation and its move of the slot, by the word that it finds.
-ghost use Rattle.napi_word.specs.Rule.{left_of, right_of, note_of, joined, spent};
-ghost use Rattle.napi_word.specs.Told.{told, exchanged, begun, laid_down};
+ghost use Rattle.napi_word.specs.Rule.{left_of, right_of, note_of, joined, spent_view};
+ghost use Rattle.napi_word.specs.Told.{makes_as_seen, exchanged, table_begun, laid_down};
 ghost use Rattle.napi_word.specs.Surveys.{Surveyed, with_front, but_last, last_alone};
 
 use crate::view::View;
@@ -25,7 +25,7 @@ pub(crate) struct Told<K: Step> {
 }
 
 impl<K: Step> Play<Option<RxCtx>, View> for Told<K> {
-    ghost then = { λ s. told K.operation K.moves };
+    ghost then = { λ s. makes_as_seen K.operation K.moves };
 }
 
 /// A compare-exchange that makes a step if it succeeds, otherwise a look.
@@ -203,9 +203,9 @@ impl Step for Marks {
 pub(crate) struct Asks;
 
 impl Step for Asks {
-    ghost use Rattle.napi_word.specs.Told.{is_busy, busy_op, no_move};
+    ghost use Rattle.napi_word.specs.Told.{shows_busy, busy_op, no_move};
 
-    ghost operation = { λ x. busy_op (is_busy x) x };
+    ghost operation = { λ x. busy_op (shows_busy x) x };
 
     ghost moves = { no_move };
 }
@@ -258,10 +258,10 @@ impl Step for EnablesThreaded {
 }
 
 /// The first seat takes the slot for the controller, and has the strands of all numbers. It is no event.
-pub(crate) struct Begins;
+pub(crate) struct TakesFirstSlot;
 
-impl Play<Option<RxCtx>, View> for Begins {
-    ghost then = { λ s. begun };
+impl Play<Option<RxCtx>, View> for TakesFirstSlot {
+    ghost then = { λ s. table_begun };
 }
 
 /// A pass whose context is out of the slot returns the empty slot, when its table is closed. It is no event.
@@ -295,7 +295,7 @@ pub(crate) struct TakesIn;
 impl Join<View> for TakesIn {
     ghost both = { joined };
 
-    ghost spent = { spent };
+    ghost spent = { spent_view };
 }
 
 /// One pass joins the own strand of another.
@@ -304,7 +304,7 @@ pub(crate) struct TakesFront;
 impl Join<View> for TakesFront {
     ghost both = { with_front };
 
-    ghost spent = { spent };
+    ghost spent = { spent_view };
 }
 
 /// The strand that was joined last becomes a seat of its own again.

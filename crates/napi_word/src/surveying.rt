@@ -3,7 +3,7 @@ ghost use Rattle.std.specs.Prelude.{◌≡◌, [], ◌∷◌};
 ghost use Rattle.napi_model.specs.declared.event.Operation.TheVariants.{Look};
 ghost use Rattle.napi_model.specs.Step.{seen_of};
 ghost use Rattle.napi_word.specs.declared.view.Holds.TheVariants.{Nothing};
-ghost use Rattle.napi_word.specs.View.{controller_of, mine, number_of, state_in};
+ghost use Rattle.napi_word.specs.View.{view_controller, mine, view_number, state_in};
 ghost use Rattle.napi_word.specs.Slot.{stays};
 ghost use Rattle.napi_word.specs.Passes.{view_of, IsPassOf, Makes};
 ghost use Rattle.napi_word.specs.Surveys.{Surveys};
@@ -35,7 +35,8 @@ impl StateTable {
         ensures others { (mine (view_of result.0) ≡ mine (view_of first))
             × (mine (view_of result.1) ≡ mine (view_of second))
             × (mine (view_of result.2) ≡ mine (view_of third)) }
-        ensures surveys { Surveys (controller_of (view_of last.old)) (number_of (view_of last.old))
+        ensures surveys { Surveys (view_controller (view_of last.old))
+            (view_number (view_of last.old))
             result.3
             (first ∷ second ∷ third ∷ last.old ∷ [])
             (result.0 ∷ result.1 ∷ result.2 ∷ last.new ∷ []) }

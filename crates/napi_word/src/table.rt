@@ -1,6 +1,6 @@
 //! The table of an instance, and its passes.
 ghost use Rattle.std.specs.Prelude.{◌≡◌, true, false, Some};
-ghost use Rattle.napi_word.specs.View.{is_pass, ring_of, received_in, Continues};
+ghost use Rattle.napi_word.specs.View.{is_pass, view_ring, received_in, Continues};
 ghost use Rattle.napi_word.specs.Slot.{hold_of, has_slot, owns_slot, ring_in, beside_in, carried_received};
 
 use crate::rule::InOneHistory;
@@ -26,7 +26,7 @@ pub struct Pass {
     ghost is_pass: { is_pass seat.me.0 ≡ true },
     ghost marked: { hold_of seat.me.1 ≡ Some holds },
     ghost right: { owns_slot seat.me.0 ≡ has_slot holds },
-    ghost ring: { ring_in seat.me.1 seat.me.0 ≡ ring_of seat.me.0 },
+    ghost ring: { ring_in seat.me.1 seat.me.0 ≡ view_ring seat.me.0 },
     ghost unmarked: { beside_in seat.me.1 ≡ false },
     ghost received: { Continues (received_in seat.me.0) (carried_received seat.me.1 seat.me.0) },
 }

@@ -4,7 +4,8 @@ use Rattle.std.{proofs.{Common.{sym, ap, ◌∙◌, subst, append_assoc}, lemmas
 use Rattle.rx_ring.specs.{declared.{ends.RxIn.RxIn, packet.Packet.Packet}, Ends.{capacity_of, put_list}}
 use Rattle.{napi_model.specs.declared.event.Operation.Operation, napi_word.specs.declared.table.Pass.Pass}
 use Rattle.napi_calls.specs.{declared.{answers.Sched.Sched, types.Caller.Caller}, Calls.{Disables, Enables, Schedules}, Made.{Made, events}}
-use Rattle.{napi_calls.specs.{Made.looks, Seats.{number_of, own_list}}, poll_interrupts.specs.declared.{acts.Act.Act, worker.Access.Access}}
+use Rattle.{napi_calls.specs.{Made.looks, Seats.{pass_number, own_list}}}
+use Rattle.{poll_interrupts.specs.declared.{acts.Act.Act, worker.Access.Access}}
 use Rattle.poll_interrupts.specs.{declared.worker.{OwnSeats.OwnSeats, Power.{Power, TheVariants.{On, Off}}}, Acts.after_acts, Calls.Acts}
 use Rattle.poll_interrupts.specs.Calls.{AllActs, Arrives, GoesOn, HandsOver, Interrupts, IsSameAccess, Leaves, TurnsOff, TurnsOn, is_on}
 use Rattle.poll_interrupts.specs.{Calls.pass_of, Runs.{Adds, AllAdd, IsDisabling, IsEnabling, IsHandingOver, IsInterrupt, Ledger}}
@@ -19,7 +20,7 @@ use Rattle.poll_interrupts.specs.declared.acts.Act.TheVariants as act
 
 -- between p and q the seat's own events grew by these operations
 abbrev Grew : Pass → List Operation → Pass → Type 0
-Grew p os q = (own_list q ≡ own_list p ++ events (number_of p) os) × (number_of q ≡ number_of p)
+Grew p os q = (own_list q ≡ own_list p ++ events (pass_number p) os) × (pass_number q ≡ pass_number p)
 
 made_grew : (p : Pass) (os : List Operation) (q : Pass) → Made p os q → Grew p os q
 made_grew p os q m = (m.grown, m.seat.number)
@@ -87,8 +88,8 @@ access caller power threaded = record { caller = caller; power = power; threaded
 
 -- whose access it is
 pub record IsOf (w : Whose) (access : Access) (rx : RxIn) : Type 0 where
-  pub caller : number_of access.caller.pass ≡ w.caller
-  pub controller : number_of (pass_of access.power) ≡ w.controller
+  pub caller : pass_number access.caller.pass ≡ w.caller
+  pub controller : pass_number (pass_of access.power) ≡ w.controller
   pub places : capacity_of rx ≡ w.places
 
 -- what was done with the access
@@ -120,7 +121,7 @@ arrives w packet a b before after h power threaded places of = ⊎_elim
       ),
       record {
         caller = asked.2.1 ∙ of.caller;
-        controller = ap (λ p. number_of (pass_of p)) power ∙ of.controller;
+        controller = ap (λ p. pass_number (pass_of p)) power ∙ of.controller;
         places = places ∙ of.places;
       },
     ))
@@ -136,21 +137,21 @@ arrives w packet a b before after h power threaded places of = ⊎_elim
         },
       ),
       record {
-        caller = ap (λ p. number_of p) full.2 ∙ of.caller;
-        controller = ap (λ p. number_of (pass_of p)) power ∙ of.controller;
+        caller = ap (λ p. pass_number p) full.2 ∙ of.caller;
+        controller = ap (λ p. pass_number (pass_of p)) power ∙ of.controller;
         places = places ∙ of.places;
       },
     ))
     h
 
 still_of : (w : Whose) (a b : Access) (before after : RxIn)
-    → number_of b.caller.pass ≡ number_of a.caller.pass → number_of (pass_of b.power) ≡ number_of (pass_of a.power)
+    → pass_number b.caller.pass ≡ pass_number a.caller.pass → pass_number (pass_of b.power) ≡ pass_number (pass_of a.power)
     → capacity_of after ≡ capacity_of before → IsOf w a before → IsOf w b after
 still_of w a b before after caller controller places of = grind (arith, common_steps)
 
 -- the controller's own events grew, and it is on now or isn't
 switched : (w : Whose) (a b : Access) (before after : RxIn) (os : List Operation) (on : Bool)
-    → own_list (pass_of b.power) ≡ own_list (pass_of a.power) ++ events (number_of (pass_of a.power)) os → is_on b.power ≡ on
+    → own_list (pass_of b.power) ≡ own_list (pass_of a.power) ++ events (pass_number (pass_of a.power)) os → is_on b.power ≡ on
     → b.caller ≡ a.caller → b.threaded ≡ a.threaded → put_list after ≡ put_list before → IsOf w a before
     → holds b after ≡ record (holds a before) { controls = own_list (pass_of a.power) ++ events w.controller os; on = on }
 switched w a b before after os on grown now caller threaded put of = grind (arith, common_steps)
@@ -168,7 +169,7 @@ turns_off : (w : Whose) (caller : Caller) (set : Bool) (power : Power) (b : Acce
 turns_off w caller set (On control) b before after h same threaded put places of =
     let grew = disables control.pass (pass_of b.power) h.1 in (
       (grew.0, grew.1, switched w (access caller (On control) set) b before after grew.0 false grew.2.0 h.0 same threaded put of),
-      still_of w (access caller (On control) set) b before after (ap (λ (c : Caller). number_of c.pass) same) grew.2.1 places of,
+      still_of w (access caller (On control) set) b before after (ap (λ (c : Caller). pass_number c.pass) same) grew.2.1 places of,
     )
 turns_off w caller set (Off control) b before after h same threaded put places of = search (rules, disables, still_of, switched)
 
@@ -197,7 +198,7 @@ all_add w answer after d (suc n) a b first last h of = let before = all_add w an
 
 abbrev whose_hold : Access → RxIn → Bool → Whose
 whose_hold a rx thread =
-    record { caller = number_of a.caller.pass; controller = number_of (pass_of a.power); places = capacity_of rx; thread = thread }
+    record { caller = pass_number a.caller.pass; controller = pass_number (pass_of a.power); places = capacity_of rx; thread = thread }
 
 of_itself : (a : Access) (rx : RxIn) (thread : Bool) → IsOf (whose_hold a rx thread) a rx
 of_itself a rx thread = record { caller = refl; controller = refl; places = refl }
@@ -229,7 +230,7 @@ works thread answer after d n seats ends power acted first last turned all calle
     (refl, left) caller refl refl refl made.1 in
     (holds on first, holds acted last, opened.0, made.0, shut.0)
 
-left_same : (power : Power) (q : Pass) → Leaves power q → number_of q ≡ number_of (pass_of power)
+left_same : (power : Power) (q : Pass) → Leaves power q → pass_number q ≡ pass_number (pass_of power)
 left_same power q h = grind (arith, common_steps, disables)
 
 pub same_seats : (seats ends : OwnSeats) (power : Power) (acted : Access)

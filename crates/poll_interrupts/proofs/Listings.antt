@@ -1,7 +1,7 @@
 -- What is pushed for an instance that is handed over.
 use Rattle.std.proofs.{Common.{arith, ◌≡◌, ℕ, List, [], ◌∷◌, ◌++◌, refl, sym, append-nil}, lemmas.Grind.common_steps}
 use Rattle.{std.specs.Prelude.flat_map, napi_model.specs.declared.event.{Event.Event, Operation.Operation}}
-use Rattle.{napi_calls.specs.{Seats.{number_of, own_list}, Made.{Lost, Made, events, looks}}, napi_word.specs.declared.table.Pass.Pass}
+use Rattle.{napi_calls.specs.{Seats.{pass_number, own_list}, Made.{Lost, Made, events, looks}}, napi_word.specs.declared.table.Pass.Pass}
 use Rattle.{poll_list.specs.{declared.list_in.ListIn.ListIn, SharedList.pushed_by}, poll_interrupts.specs.Calls.{Lists, listings}}
 use Rattle.napi_model.specs.declared.event.Call.TheVariants as call
 
@@ -21,7 +21,8 @@ module _ {R : Type 0} {number : ℕ} where
   lists_more {p} {q} {r} {a} {b} {c} h k = grind (arith, common_steps, listings-append)
 
   -- a call that hands nothing over
-  pub lists_none : {p : Pass} {os : List Operation} {q : Pass} (a : ListIn R) → listings number (events (number_of p) os) ≡ [] → Made p os q
+  pub lists_none : {p : Pass} {os : List Operation} {q : Pass} (a : ListIn R) → listings number (events (pass_number p) os) ≡ []
+      → Made p os q
       → Lists number p q a a
   lists_none {p} {os} {q} a none made = grind (arith, common_steps)
 

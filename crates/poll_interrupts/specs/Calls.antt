@@ -2,7 +2,7 @@
 use Rattle.std.specs.Prelude.{◌≡◌, ◌⊎◌, ◌≤◌, ℕ, zero, suc, Bool, true, false, List, [], ◌∷◌, ◌++◌, length, if◌then◌else◌}
 use Rattle.rx_ring.specs.{declared.{ends.RxIn.RxIn, packet.Packet.Packet}, Ends.{SameIn, capacity_of, put_list}}
 use Rattle.{napi_model.specs.declared.{state.Seen.Seen, event.{Event.Event, Operation.Operation}}, napi_word.specs.declared.table.Pass.Pass}
-use Rattle.napi_calls.specs.{declared.answers.Sched.Sched, Calls.{Disables, Enables, Schedules}, Made.Made, Seats.{number_of, own_list}}
+use Rattle.napi_calls.specs.{declared.answers.Sched.Sched, Calls.{Disables, Enables, Schedules}, Made.Made, Seats.{pass_number, own_list}}
 use Rattle.{poll_list.specs.{declared.list_in.ListIn.ListIn, SharedList.pushed_by}, poll_interrupts.specs.declared.acts.Act.Act}
 use Rattle.poll_interrupts.specs.declared.{acts.Act.TheVariants.{Arrive, Disable, Enable, SetThreaded, Nothing}, worker.Access.Access}
 use Rattle.poll_interrupts.specs.{declared.worker.Power.{Power, TheVariants.{On, Off}}, Acts.after_acts}
@@ -40,7 +40,7 @@ listings number (e ∷ es) = (if is_listing e.operation then number ∷ [] else 
 
 -- Between p and q the seat handed its instance to the list as many times as its number was pushed there, and nothing else was.
 pub record Lists {R : Type 0} (number : ℕ) (p q : Pass) (before after : ListIn R) : Type 0 where
-  pub same : list.SameIn before after
+  pub same : list.SameListIn before after
   pub did : List Event
   pub grown : own_list q ≡ own_list p ++ did
   pub pushed : pushed_by after ≡ pushed_by before ++ listings number did
@@ -65,7 +65,7 @@ is_on (Off control) = false
 
 -- the same seats, by their numbers
 abbrev pub IsSameAccess : Access → Access → Type 0
-IsSameAccess a b = (number_of b.caller.pass ≡ number_of a.caller.pass) × (number_of (pass_of b.power) ≡ number_of (pass_of a.power))
+IsSameAccess a b = (pass_number b.caller.pass ≡ pass_number a.caller.pass) × (pass_number (pass_of b.power) ≡ pass_number (pass_of a.power))
 
 -- enabled with this threaded setting, unless it is on
 abbrev pub TurnsOn : Bool → Power → Power → Type 0

@@ -1,7 +1,7 @@
 -- The end of a station.
 use Rattle.std.specs.Prelude.{◌≡◌, ◌+◌, ◌<◌, ◌^◌, length}
 use Rattle.rx_ring.specs.{Ends.put_list, ReceiveRing.{bytes_of, capped}}
-use Rattle.napi_calls.specs.declared.kept.Kept.{Kept}
+use Rattle.napi_calls.specs.declared.kept.DropBomb.{DropBomb}
 use Rattle.poll_interrupts.specs.{declared.{opening.Loose.Loose, station.Finished.Finished}, Closings.IsCallersOf, Runs.IsEnded}
 
 module _ {D : Type 0} where
@@ -15,5 +15,5 @@ module _ {D : Type 0} where
     pub of : IsCallersOf loose.seats loose.poller loose.thread end.closed
     pub ended : IsEnded end.closed (put_list loose.rx) end.totals
 
-  abbrev pub IsKeptFinishOf : {R : Type 0} → Kept R (Loose D) → Finished D → Type 0
+  abbrev pub IsKeptFinishOf : {R : Type 0} → DropBomb R (Loose D) → Finished D → Type 0
   IsKeptFinishOf loose end = IsFinishOf loose.value end

@@ -3,8 +3,8 @@ use Rattle.poll_interrupts.specs.{Runs.{controller_number, poller_number, thread
 use Rattle.poll_interrupts.specs.{declared.opening.{Placed.Placed, Loose.Loose}, Seats.{AreSeatsOf, AreUnused, IsUnused}}
 use Rattle.std.specs.Prelude.{◌≡◌, ◌≤◌, [], vec_len, vec_capacity}
 use Rattle.poll_tasks.specs.Wakers.{Wakes}
-use Rattle.napi_calls.specs.declared.{types.Napi.Napi, kept.Kept.Kept}
-use Rattle.napi_calls.specs.{Seats.number_of, Instance.{IsSeatOf, callers_of, first_of_instance, ring_of_instance}}
+use Rattle.napi_calls.specs.declared.{types.Napi.Napi, kept.DropBomb.DropBomb}
+use Rattle.napi_calls.specs.{Seats.pass_number, Instance.{IsSeatOf, callers_of, first_of_instance, ring_of_instance}}
 use Rattle.rx_ring.specs.{Ends.{IsOneRing, capacity_of, put_list, received_list, ring_name}, declared.ends.{RxCtx.RxCtx, RxIn.RxIn}}
 
 -- its number is 1 to 16, and its ring has 1 to 65536 places
@@ -39,7 +39,7 @@ module _ {D : Type 0} where
   pub record IsPartOf (loose : Loose D) (placed : Placed) : Type 0 where
     pub number : placed.number ≡ loose.number
     pub seats : AreSeatsOf placed.napi loose.seats
-    pub controller : number_of loose.seats.control.pass ≡ controller_number
+    pub controller : pass_number loose.seats.control.pass ≡ controller_number
     pub poller : IsSeatOf placed.napi loose.poller.pass
     pub thread : IsSeatOf placed.napi loose.thread.pass
     pub ring : IsInputOf loose.rx placed.napi
@@ -53,11 +53,11 @@ module _ {D : Type 0} where
     pub wakes : Wakes placed.bell loose.pause
 
   module _ {R : Type 0} where
-    abbrev pub IsKeptLoose : Station D → Kept R (Loose D) → Type 0
+    abbrev pub IsKeptLoose : Station D → DropBomb R (Loose D) → Type 0
     IsKeptLoose station kept = IsLoose station kept.value
 
-    abbrev pub IsKeptPartOf : Kept R (Loose D) → Kept R Placed → Type 0
+    abbrev pub IsKeptPartOf : DropBomb R (Loose D) → DropBomb R Placed → Type 0
     IsKeptPartOf loose placed = IsPartOf loose.value placed.value
 
-    abbrev pub IsKeptSideOf : Kept R (Loose D) → Kept R Placed → Type 0
+    abbrev pub IsKeptSideOf : DropBomb R (Loose D) → DropBomb R Placed → Type 0
     IsKeptSideOf loose placed = IsSideOf loose.value placed.value

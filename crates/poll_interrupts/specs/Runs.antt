@@ -4,9 +4,9 @@ use Rattle.std.specs.Prelude.{if◌then◌else◌, Option}
 use Rattle.rx_ring.specs.{declared.packet.{Packet.Packet, Totals.Totals}, ReceiveRing.totals_of}
 use Rattle.napi_model.specs.declared.{state.Seen.Seen, event.{Prep.Prep, Event.Event, Operation.{Operation, TheVariants.{Look, Schedule}}}}
 use Rattle.napi_model.specs.declared.event.Operation.TheVariants.{Hand, MarkDisable, TakeDisable, Unmark, Enable, SetThreaded}
-use Rattle.{napi_model.specs.Step.opening, napi_calls.specs.{Made.Lost, Packets.own_delivered, Seats.{number_of, own_list}}}
+use Rattle.{napi_model.specs.Step.opening, napi_calls.specs.{Made.Lost, Packets.own_delivered, Seats.{pass_number, own_list}}}
 use Rattle.napi_word.specs.{declared.view.Delivery.Delivery, View.{deliverers, own_deliveries, packets_of}, Slot.givers}
-use Rattle.{napi_calls.specs.{Closed.{Each, IsHistoryOf}, Made.{events, looks, waits}}, poll_interrupts.specs.Closings.seats_in}
+use Rattle.{napi_calls.specs.{Closed.{Each, IsHistoryOf}, Made.{events, looks, take_attempt}}, poll_interrupts.specs.Closings.seats_in}
 use Rattle.poll_interrupts.specs.{declared.{acts.Act.Act, station.Closed.Closed}, Acts.after_acts}
 use mathlib.Core.List.{IsPrefix}
 use Rattle.napi_model.specs.declared.state.Kind.TheVariants as kind
@@ -40,7 +40,7 @@ IsEnabling threaded os = (ts : List (Lost (call.Enable threaded))) × (x : Seen)
 -- `napi_disable`
 abbrev pub IsDisabling : List Operation → Type 0
 IsDisabling os = (ts : List (Option (Lost call.TakeDisable))) × (x : Seen)
-    × (os ≡ (MarkDisable ∷ flat_map waits ts) ++ Look x ∷ TakeDisable true ∷ Unmark ∷ [])
+    × (os ≡ (MarkDisable ∷ flat_map take_attempt ts) ++ Look x ∷ TakeDisable true ∷ Unmark ∷ [])
 
 -- ---- a worker's ledger
 
@@ -129,7 +129,7 @@ pub record IsEnded (closed : Closed) (put : List Packet) (totals : Totals) : Typ
   pub deliverers_are : deliverers deliveries ≡ givers (opening controller_number) history
   pub in_order : IsPrefix (packets_of deliveries) put
   -- each seat's own events are those that it made, and no other seat has one
-  pub own_exact : Each (seats_in closed) (λ p. own_deliveries (number_of p) deliveries ≡ own_delivered p)
+  pub own_exact : Each (seats_in closed) (λ p. own_deliveries (pass_number p) deliveries ≡ own_delivered p)
   pub own_only : (c : ℕ) → controller_number < c → own_deliveries c deliveries ≡ []
   -- the totals are those of what was put and of what was delivered
   pub totals_are : totals ≡ totals_of (record { put = put; received = packets_of deliveries })
@@ -141,7 +141,7 @@ pub record HasRun {D : Type 0} (answer : D → ℕ → Act) (after : D → ℕ �
   pub left : Ledger
   pub works : WorksBy
       (record { caller = worker_number; controller = controller_number; places = places; thread = thread }) answer after d n blank left
-  pub numbers : (number_of closed.worker.value.pass ≡ worker_number) × (number_of closed.control.value.pass ≡ controller_number)
+  pub numbers : (pass_number closed.worker.value.pass ≡ worker_number) × (pass_number closed.control.value.pass ≡ controller_number)
   pub calls_are : own_list closed.worker.value.pass ≡ left.calls
   pub controls_are : own_list closed.control.value.pass ≡ left.controls
   pub ended : IsEnded closed left.put totals

@@ -1,7 +1,7 @@
 -- The contract of a worker, for its own station.
 use Rattle.std.specs.Prelude.{◌≡◌, ℕ, ◌+◌, ◌≤◌, ◌++◌, Bool, false, None, IfSome, is_some, length}
 use Rattle.{poll_tasks.specs.{Asks.WasLet, Stops.IsStop}, rx_ring.specs.{declared.ends.RxIn.RxIn, Ends.SameIn}}
-use Rattle.{rx_ring.specs.Ends.{capacity_of, put_list}, napi_calls.specs.{declared.types.Napi.Napi, Seats.{number_of, own_list}}}
+use Rattle.{rx_ring.specs.Ends.{capacity_of, put_list}, napi_calls.specs.{declared.types.Napi.Napi, Seats.{pass_number, own_list}}}
 use Rattle.poll_interrupts.specs.declared.{acts.Act.Act, worker.{OwnSeats.OwnSeats, InterruptWorker.InterruptWorker}}
 use Rattle.poll_interrupts.specs.Acts.{after_acts}
 use Rattle.poll_interrupts.specs.{Acts.arrivals, Calls.Lists, Runs.{Ledger, Whose, WorksBy}, Seats.AreSeatsOf}
@@ -19,11 +19,11 @@ ledger_of seats rx threaded = record {
 -- the owner of that ledger
 abbrev pub whose : OwnSeats → RxIn → Bool → Whose
 whose seats rx thread =
-    record { caller = number_of seats.caller.pass; controller = number_of seats.control.pass; places = capacity_of rx; thread = thread }
+    record { caller = pass_number seats.caller.pass; controller = pass_number seats.control.pass; places = capacity_of rx; thread = thread }
 
 -- the same numbers
 abbrev pub AreSameSeats : OwnSeats → OwnSeats → Type 0
-AreSameSeats a b = (number_of b.caller.pass ≡ number_of a.caller.pass) × (number_of b.control.pass ≡ number_of a.control.pass)
+AreSameSeats a b = (pass_number b.caller.pass ≡ pass_number a.caller.pass) × (pass_number b.control.pass ≡ pass_number a.control.pass)
 
 -- `answers` is what a gate returns: to which thread, before which act
 module _ {R D G : Type 0} (acts : D → ℕ) (answer : D → ℕ → Act) (after : D → ℕ → D) (answers : ℕ → ℕ → Bool → Type 0) where

@@ -12,7 +12,7 @@ ghost use Rattle.poll_interrupts.specs.Seats.{AreSeatsOf};
 
 use crate::station::{Closed, Finished, Station};
 use crate::worker::OwnSeats;
-use napi_calls::{Caller, Kept, Napi, NewBack};
+use napi_calls::{Caller, DropBomb, Napi, NewBack};
 use poll_tasks::{Bell, Pause};
 use rx_ring::{RxCtx, RxIn, finish, ring};
 use std::alloc::{AllocError, Global};
@@ -175,8 +175,8 @@ fn end<D: Drop>(placed: Placed, loose: Loose<D>) -> Finished<D>
 
 /// Closes instances that no thread has used.
 pub fn shut_all<R: Wait + Drop, D: Drop>(
-    placed: Vec<Kept<R, Placed>>,
-    loose: Vec<Kept<R, Loose<D>>>,
+    placed: Vec<DropBomb<R, Placed>>,
+    loose: Vec<DropBomb<R, Loose<D>>>,
 )
     requires { AllZip IsKeptPartOf (vec_items loose) (vec_items placed) }
 {
@@ -192,8 +192,8 @@ pub fn shut_all<R: Wait + Drop, D: Drop>(
 
 /// Closes all instances, in order, after their threads have ended. Requires room for the results.
 pub fn end_all<R: Wait + Drop, D: Drop>(
-    placed: Vec<Kept<R, Placed>>,
-    loose: Vec<Kept<R, Loose<D>>>,
+    placed: Vec<DropBomb<R, Placed>>,
+    loose: Vec<DropBomb<R, Loose<D>>>,
     room: Vec<Finished<D>>,
 ) -> Vec<Finished<D>>
     requires parts { AllZip IsKeptPartOf (vec_items loose) (vec_items placed) }
@@ -217,7 +217,7 @@ pub fn open_all<R: Wait + Drop + Copy, D: Drop>(
     rt: R,
     alloc: Global,
     stations: Vec<Station<D>>,
-) -> Result<(Vec<Kept<R, Placed>>, Vec<Kept<R, Loose<D>>>), AllocError>
+) -> Result<(Vec<DropBomb<R, Placed>>, Vec<DropBomb<R, Loose<D>>>), AllocError>
     requires stations { All IsStation (vec_items stations) }
     ensures loose { IfOk result (λ r. AllZip IsKeptLoose (vec_items stations) (vec_items r.1)) }
     ensures sides { IfOk result (λ r. AllZip IsKeptSideOf (vec_items r.1) (vec_items r.0)) }
@@ -230,8 +230,8 @@ pub fn open_all<R: Wait + Drop + Copy, D: Drop>(
     for station in stations {
         match open(alloc, station) {
             Ok((one, other)) => {
-                placed.push_reserved(Kept::new(rt, one));
-                loose.push_reserved(Kept::new(rt, other));
+                placed.push_reserved(DropBomb::new(rt, one));
+                loose.push_reserved(DropBomb::new(rt, other));
             }
             Err(error) => {
                 shut_all(placed, loose);

@@ -11,7 +11,7 @@ ghost use Rattle.poll_tasks.specs.Asks.{WasLet};
 ghost use Rattle.poll_tasks.specs.Stops.{IsStop};
 
 use crate::acts::{Act, Device};
-use napi_calls::{Between, Caller, Control, Granted, Kept, Napi, Off, On, Sched};
+use napi_calls::{Between, Caller, Control, DropBomb, Granted, Napi, Off, On, Sched};
 use napi_model::Kind;
 use poll_list::ListIn;
 use poll_tasks::{Bell, Gate, Setting, Stop, Task};
@@ -256,7 +256,7 @@ pub struct InterruptWorker<'t, 'p, 'n, R: Wait + Drop, D, G: Gate> {
     /// The input of the device's receive ring.
     pub rx: RxIn,
     /// Its handles on the instance, which is off.
-    pub seats: Kept<R, OwnSeats>,
+    pub seats: DropBomb<R, OwnSeats>,
     /// Why not all acts were made, if so.
     pub stop: Option<Stop>,
     ghost of: { AreSeatsOf handler.napi.now seats.value },
@@ -304,7 +304,7 @@ impl<'t, 'p, 'n, R: Wait + Copy + Drop, D: Device + Drop, G: Gate> Task
             list,
             device,
             rx,
-            seats: Kept::new(setting.rt, OwnSeats { caller, control }),
+            seats: DropBomb::new(setting.rt, OwnSeats { caller, control }),
             stop,
         }
     }

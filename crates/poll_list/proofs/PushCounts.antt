@@ -4,7 +4,7 @@ use Rattle.std.proofs.Common.{refl, ap, ◌∙◌, subst, inl, inr, ⊎_elim, le
 use Rattle.std.{proofs.lemmas.List.{length-map, nil_from_length, Sums.sum_by-cons, Elements.{All-nil, All-cons}}, specs.List.{sum_by, All}}
 use Rattle.{crossbeam_queue.specs.Passes.view, poll_list.specs.declared.list_rule.{Returned.Returned, EndView.EndView}}
 use Rattle.poll_list.specs.{declared.{list_in.ListIn.ListIn, shared.SharedList.SharedList}, PushOrder.{Push, ids_of, poller, pushes_by}}
-use Rattle.poll_list.specs.{PushOrder.{IsReturned, KnowsOrder, PopsMore, WasEmpty, returned_pushes}, SharedList.{as_returned, number_of}}
+use Rattle.poll_list.specs.{PushOrder.{IsReturned, KnowsOrder, PopsMore, WasEmpty, returned_pushes}, SharedList.{as_returned, end_number}}
 use Rattle.poll_list.specs.SharedList.{own_pushes, popped_by, pushed_by, IsOneOrder}
 use mathlib.Core.{Option.{some, some-ne-none, some-injective}, Logic.dite}
 use native.Mathlib.Decide.{dec_le}
@@ -112,10 +112,10 @@ emptied v w u held fresh same is all_back few short told =
 module _ {R : Type 0} where
   each_end : (ins : List (ListIn R)) (order : List Push)
       → ((k : ℕ) (d : Returned) → get_elem? (map (as_returned {R = R}) ins) k ≡ some d → d.pushed ≡ pushes_by d.number order)
-      → All (λ (end : ListIn R). pushed_by end ≡ pushes_by (number_of end) order) ins
-  each_end [] order h = All-nil (λ (end : ListIn R). pushed_by end ≡ pushes_by (number_of end) order)
+      → All (λ (end : ListIn R). pushed_by end ≡ pushes_by (end_number end) order) ins
+  each_end [] order h = All-nil (λ (end : ListIn R). pushed_by end ≡ pushes_by (end_number end) order)
   each_end (end ∷ ends) order h =
-      All-cons (λ (e : ListIn R). pushed_by e ≡ pushes_by (number_of e) order) end ends (h zero (as_returned end) refl)
+      All-cons (λ (e : ListIn R). pushed_by e ≡ pushes_by (end_number e) order) end ends (h zero (as_returned end) refl)
       (each_end ends order (λ k d e. h (suc k) d e))
 
   -- what a poller to which all ends were returned knows of the one order, after it found the queue empty

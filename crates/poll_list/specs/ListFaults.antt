@@ -2,7 +2,7 @@
 use Rattle.{std.specs.Prelude.ℕ, poll_list.specs.declared.list_fault.ListFault.{ListFault, TheVariants.{BadSize, OutOfMemory, NotAll}}}
 
 -- the number of an error
-abbrev pub number_of : ListFault → ℕ
-number_of BadSize = 1
-number_of OutOfMemory = 2
-number_of NotAll = 3
+abbrev pub list_fault_number : ListFault → ℕ
+list_fault_number BadSize = 1
+list_fault_number OutOfMemory = 2
+list_fault_number NotAll = 3

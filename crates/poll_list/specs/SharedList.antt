@@ -11,8 +11,8 @@ module _ {R : Type 0} where
   pushed_by end = (view end.pass).pushed
 
   -- the ends that push are numbered from 1; the poller is 0
-  abbrev pub number_of : ListIn R → ℕ
-  number_of end = (view end.pass).number
+  abbrev pub end_number : ListIn R → ℕ
+  end_number end = (view end.pass).number
 
   -- the instances that the poller pushed and popped, in order
   abbrev pub own_pushes : SharedList R → List ℕ
@@ -42,11 +42,11 @@ module _ {R : Type 0} where
   AreNewEnds list pushers ins =
       (length ins ≡ pushers)
       × All (λ (end : ListIn R). IsInOf list end × (pushed_by end ≡ [])) ins
-      × ((k : ℕ) (d : ListIn R) → k < pushers → number_of (slice_index_or ins k d) ≡ k + 1)
+      × ((k : ℕ) (d : ListIn R) → k < pushers → end_number (slice_index_or ins k d) ≡ k + 1)
 
   -- the same end of the same list, and the same list, at another time
-  abbrev pub SameIn : ListIn R → ListIn R → Type 0
-  SameIn before after = (after.pass.table_id ≡ before.pass.table_id) × (number_of after ≡ number_of before)
+  abbrev pub SameListIn : ListIn R → ListIn R → Type 0
+  SameListIn before after = (after.pass.table_id ≡ before.pass.table_id) × (end_number after ≡ end_number before)
 
   abbrev pub SameList : SharedList R → SharedList R → Type 0
   SameList before after = (after.pass.table_id ≡ before.pass.table_id) × (pushers_of after ≡ pushers_of before)
@@ -78,7 +78,7 @@ module _ {R : Type 0} where
 
   -- what is known of an end after it is returned
   abbrev pub as_returned : ListIn R → Returned
-  as_returned end = returned_end (number_of end) (pushed_by end)
+  as_returned end = returned_end (end_number end) (pushed_by end)
 
   -- one of these ends has the number
   abbrev pub IsNumbered : ℕ → List (ListIn R) → Type 0
@@ -98,5 +98,5 @@ module _ {R : Type 0} where
     pub all : ids_of order ≡ popped_by list ++ left
     -- it has exactly the pushes of the poller and of each end, each in its own order
     pub by_poller : own_pushes list ≡ pushes_by 0 order
-    pub by_others : All (λ (end : ListIn R). pushed_by end ≡ pushes_by (number_of end) order) ins
+    pub by_others : All (λ (end : ListIn R). pushed_by end ≡ pushes_by (end_number end) order) ins
     pub nobody_else : (number : ℕ) → (number ≡ 0) ⊎ (IsNumbered number ins ⊎ (pushes_by number order ≡ []))

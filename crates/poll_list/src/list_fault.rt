@@ -1,7 +1,7 @@
 //! Why a shared list can't be made or closed.
 
 ghost use Rattle.std.specs.Prelude.{◌≡◌};
-ghost use Rattle.poll_list.specs.ListFaults.{number_of};
+ghost use Rattle.poll_list.specs.ListFaults.{list_fault_number};
 
 use thiserror::Error;
 
@@ -22,7 +22,7 @@ pub enum ListFault {
 impl ListFault {
     /// The number of this error, 1 to 3.
     pub fn number(self) -> u8
-        ensures { result ≡ number_of self }
+        ensures { result ≡ list_fault_number self }
     {
         self as u8
     }

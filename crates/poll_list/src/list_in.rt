@@ -24,12 +24,12 @@ pub struct ListIn<R> {
 
 impl<R: Wait> ListIn<R> {
     ghost use Rattle.std.specs.Prelude.{◌≡◌, [], ◌∷◌, ◌++◌};
-    ghost use Rattle.poll_list.specs.SharedList.{pushed_by, SameIn};
+    ghost use Rattle.poll_list.specs.SharedList.{pushed_by, SameListIn};
 
     /// Appends an instance's number to the list (`list_add_tail` in `____napi_schedule`). If the queue holds 64 numbers, it
     /// waits for the poller to take one.
     pub fn push(&mut self, id: u32)
-        ensures list { SameIn self.old self.new }
+        ensures list { SameListIn self.old self.new }
         ensures pushed { pushed_by self.new ≡ pushed_by self.old ++ id ∷ [] }
     {
         push_waiting(&self.rt, &self.queue, &mut self.pass, id);

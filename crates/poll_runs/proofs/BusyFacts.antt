@@ -1,16 +1,16 @@
 -- The progress of busy polling, round by round, and its end.
 use Rattle.std.proofs.Common.{ℕ, zero, suc, Bool, true, List, [], ◌++◌, length}
 use Rattle.{std.specs.Prelude.nat_lt, napi_model.specs.declared.event.{Call.Call, Operation.{Operation, TheVariants.BusyStop}}}
-use Rattle.poll_runs.specs.{Plan.{Deed, Does, Plan, ends, ◌>>=◌}, declared.bench.{BusyReport.BusyReport, Next.Next}}
-use Rattle.poll_runs.specs.Polling.{BusyPolls, and_poll, busily_from, busy_takes, gives, left_by, makes, no_report, polled_busily, round}
+use Rattle.poll_runs.specs.{Plan.{Action, Does, Plan, ends, ◌>>=◌}, declared.bench.{BusyReport.BusyReport, Next.Next}}
+use Rattle.poll_runs.specs.Polling.{BusyPolls, and_poll, busily_from, busy_takes, gives, left_by, makes, no_report, busy_poll_plan, round}
 use Rattle.poll_runs.{specs.Polling.{rounds_on}, proofs.PlanFacts.{Leads, leads-from, leads-on, leads-to}}
 
-module _ {I P : Type 0} (tries : Call → Operation → List Operation → Type 0) (did : I → List (Deed P) → I → Type 0)
+module _ {I P : Type 0} (tries : Call → Operation → List Operation → Type 0) (did : I → List (Action P) → I → Type 0)
     (nothing : (it : I) → did it [] it)
-    (joins : (a b c : I) (first second : List (Deed P)) → did a first b → did b second c → did a (first ++ second) c)
+    (joins : (a b c : I) (first second : List (Action P)) → did a first b → did b second c → did a (first ++ second) c)
     (bytes : List P → ℕ) (thread : Bool) (weight count : ℕ) (start : I) where
   abbrev whole : Plan P (BusyPolls P)
-  whole = polled_busily bytes thread weight count
+  whole = busy_poll_plan bytes thread weight count
 
   pub begins : (now : I) → Does tries did busy_takes start true now
       → Leads tries did whole start (rounds_on bytes thread weight count no_report) now

@@ -4,7 +4,7 @@ use Rattle.std.proofs.{Common.{length, length-append, drop, refl, sym, ap, subst
 use Rattle.std.{proofs.lemmas.{Bool.Decides.{eqb_tells, leb_tells}, List.append-nil}, specs.Prelude.{◌&&◌, ◌==◌, not, if◌then◌else◌}}
 use Rattle.poll_runs.specs.{Plain.{NothingBehind, OwnPushes, all_held}, Laws.{HasOneOutcome, IsPlainRun}, Run.is_spent, Driven.Going}
 use Rattle.poll_runs.specs.{Turn.HandsOn, Function.{IsGivenBy, Progress, RunIsFunction, after_batch, after_poll, from_batch, run_of}}
-use Rattle.poll_runs.specs.{Function.{run_report, takes_more, IsShownBy, RunIsShown}, Polls.{At, Chain, Poll, arrivals, is_arrival}}
+use Rattle.poll_runs.specs.{Function.{run_report, takes_more, IsShownBy, RunIsShown}, Polls.{At, Chain, Poll, queued_by, is_arrival}}
 use Rattle.poll_runs.{specs.{Polls.{is_repoll, repolled, work_of}, declared.bench.Once.Once}, proofs.PlainFacts.{IsPlainBatch, handed-most}}
 use Rattle.poll_runs.proofs.{PlainFacts.runs-agree, RunFacts.{going-ends, going-poll, going-spliced, going-start}, PollFacts.chain-push}
 use Rattle.poll_runs.proofs.PollFacts.{work-push, arrivals-cons, repolled-cons}
@@ -88,7 +88,7 @@ record Batched {B : Type 0} (relation : B → ℕ → ℕ → Once → B → Typ
   new : List Poll
   more : (after_batch poll budget weight window batch p).polls ≡ p.polls ++ new
   stands : Stands relation budget weight window start bench (after_batch poll budget weight window batch p) (drop (length new) batch)
-      (held ++ arrivals new) (back ++ repolled new)
+      (held ++ queued_by new) (back ++ repolled new)
   whole : is_spent budget window (after_batch poll budget weight window batch p).polls ≡ false → drop (length new) batch ≡ []
 
 batched : {B : Type 0} (relation : B → ℕ → ℕ → Once → B → Type 0) (poll : B → ℕ → ℕ → Once × B) → IsGivenBy relation poll
@@ -134,7 +134,7 @@ batched {B} relation poll given budget weight window start bench (id ∷ batch) 
             same,
             arrivals-cons one rest.new,
             repolled-cons one rest.new,
-            ← append_assoc held (cond (is_arrival one.once.next) (id ∷ []) []) (arrivals rest.new),
+            ← append_assoc held (cond (is_arrival one.once.next) (id ∷ []) []) (queued_by rest.new),
             ← append_assoc back (cond (is_repoll one.once.next) (id ∷ []) []) (repolled rest.new),
           ) rest.stands;
           whole = λ h. rest.whole (rw same at h);
@@ -213,8 +213,8 @@ from-batch : {B : Type 0} (poll : B → ℕ → ℕ → Once × B) (budget weigh
     → (after_batch poll budget weight window batch p).polls ≡ p.polls ++ last
     → from_batch poll budget weight window (suc batches) batch p
     ≡ (if takes_more budget window (after_batch poll budget weight window batch p).polls last
-    then from_batch poll budget weight window batches (arrivals last) (after_batch poll budget weight window batch p)
-    else (after_batch poll budget weight window batch p, (drop (length last) batch ++ arrivals last) ++ repolled last))
+    then from_batch poll budget weight window batches (queued_by last) (after_batch poll budget weight window batch p)
+    else (after_batch poll budget weight window batch p, (drop (length last) batch ++ queued_by last) ++ repolled last))
 unfolding from_batch
 from-batch poll budget weight window batches batch p last h =
     let same : drop (length p.polls) (after_batch poll budget weight window batch p).polls ≡ last = rw h (drop-append_seam p.polls last) in
@@ -235,28 +235,28 @@ runs-on {B} relation poll given budget weight window start bench (suc batches) b
     let b = batched relation poll given budget weight window start bench batch p [] [] s in
     let after = after_batch poll budget weight window batch p in
     rw (from-batch poll budget weight window batches batch p b.new b.more) (by b (takes_more budget window after.polls b.new) refl
-    (λ more next. runs-on relation poll given budget weight window start bench batches (arrivals b.new) after more next))
+    (λ more next. runs-on relation poll given budget weight window start bench batches (queued_by b.new) after more next))
   where
     now : Progress B
     now = after_batch poll budget weight window batch p
 
     by : (b : Batched relation poll budget weight window start bench batch p [] []) (takes : Bool)
         → takes_more budget window now.polls b.new ≡ takes
-        → (window ≤ batches + length now.polls → Stands relation budget weight window start bench now (arrivals b.new) [] []
-        → Outcome relation budget weight window start bench (from_batch poll budget weight window batches (arrivals b.new) now))
+        → (window ≤ batches + length now.polls → Stands relation budget weight window start bench now (queued_by b.new) [] []
+        → Outcome relation budget weight window start bench (from_batch poll budget weight window batches (queued_by b.new) now))
         → Outcome relation budget weight window start bench
-        (if takes then from_batch poll budget weight window batches (arrivals b.new) now
-        else (now, (drop (length b.new) batch ++ arrivals b.new) ++ repolled b.new))
+        (if takes then from_batch poll budget weight window batches (queued_by b.new) now
+        else (now, (drop (length b.new) batch ++ queued_by b.new) ++ repolled b.new))
     by b true e go =
-        let told = takes-tells (is_spent budget window now.polls) (length (repolled b.new) == 0) (length (arrivals b.new) == 0) e in
+        let told = takes-tells (is_spent budget window now.polls) (length (repolled b.new) == 0) (length (queued_by b.new) == 0) e in
         let none = empty-if (repolled b.new) told.1 in
-        let some = longer-than-none (arrivals b.new) (not-empty-if (arrivals b.new) told.2) in
+        let some = longer-than-none (queued_by b.new) (not-empty-if (queued_by b.new) told.2) in
         let size : length now.polls ≡ length p.polls + length b.new = ap length b.more ∙ length-append p.polls b.new in
-        let stands : Stands relation budget weight window start bench now [] (arrivals b.new) [] = rw (b.whole told.0, none) at b.stands in
+        let stands : Stands relation budget weight window start bench now [] (queued_by b.new) [] = rw (b.whole told.0, none) at b.stands in
         go (omega (arith, enough, size, some, handed-most b.new))
-        (next-batch relation budget weight window start bench now (arrivals b.new) told.0 stands).0
+        (next-batch relation budget weight window start bench now (queued_by b.new) told.0 stands).0
     by b false e go =
-        ended relation budget weight window start bench now (drop (length b.new) batch) (arrivals b.new) (repolled b.new) b.stands
+        ended relation budget weight window start bench now (drop (length b.new) batch) (queued_by b.new) (repolled b.new) b.stands
         (λ left. (b.whole left, why (length (repolled b.new) == 0) refl left))
       where
         why : (none : Bool) → (length (repolled b.new) == 0) ≡ none → is_spent budget window now.polls ≡ false
@@ -264,8 +264,8 @@ runs-on {B} relation poll given budget weight window start bench (suc batches) b
         why false n left = inl (not-empty-if (repolled b.new) n)
         why true n left =
             let empty =
-            empty-if (arrivals b.new)
-            (stops-tells (is_spent budget window now.polls) (length (repolled b.new) == 0) (length (arrivals b.new) == 0) e left n) in
+            empty-if (queued_by b.new)
+            (stops-tells (is_spent budget window now.polls) (length (repolled b.new) == 0) (length (queued_by b.new) == 0) e left n) in
             let stands : Stands relation budget weight window start bench now [] [] [] =
             rw (b.whole left, empty, empty-if (repolled b.new) n) at b.stands in
             inr ((next-batch relation budget weight window start bench now [] left stands).1 refl)

@@ -3,7 +3,7 @@ use Rattle.std.proofs.Common.{◌≡◌, ◌≢◌, ◌∙◌, ◌⊎◌, inl, i
 use Rattle.std.proofs.{Common.{take, drop, refl, sym, ap, arith, append_assoc}, Math.Seq.{drop-append_seam, take-add, take-append_seam}}
 use Rattle.std.proofs.lemmas.{List.{append-nil, append_cancel_left, drop-drop, take-append-drop, take-append-le, take_all}, Bool.cases_lt}
 use Rattle.{std.specs.List.{AllByRecursion, concat}, poll_runs.specs.Laws.{FollowEachOther, HasOneOutcome, IsPlainRun, NoOtherArrivals}}
-use Rattle.poll_runs.specs.{Laws.PlainListAfterwards, Plain.{NothingBehind, OwnPushes, all_held}, Polls.{At, Chain, Poll, arrivals, ids}}
+use Rattle.poll_runs.specs.{Laws.PlainListAfterwards, Plain.{NothingBehind, OwnPushes, all_held}, Polls.{At, Chain, Poll, queued_by, ids}}
 use Rattle.poll_runs.specs.{Polls.{is_arrival, is_repoll, repolled}, Run.{AreBatches, IsBatch, is_spent}, declared.bench.Next.Next}
 use Rattle.poll_runs.specs.declared.{bench.{Next.TheVariants.{Absent, Gone, Again, Repoll}, Once.Once}, run.RunReport.RunReport}
 use Rattle.poll_runs.proofs.PollFacts.{arrivals-append, ids-append, length-ids, taken-le, arrivals-cons, repolled-cons}
@@ -15,8 +15,8 @@ IsPlainBatch = IsBatch all_held OwnPushes NothingBehind
 
 -- the entries taken before and a batch together are the initial list and then what the polls queued on it
 batch-whole : (budget window : ℕ) (start : List ℕ) (earlier : List Poll) (batch : List ℕ) → IsPlainBatch budget window start earlier batch
-    → ids earlier ++ batch ≡ start ++ arrivals earlier
-batch-whole budget window start earlier batch b = let own : b.came ≡ arrivals earlier = b.moved in rw (← own) b.whole
+    → ids earlier ++ batch ≡ start ++ queued_by earlier
+batch-whole budget window start earlier batch b = let own : b.came ≡ queued_by earlier = b.moved in rw (← own) b.whole
 
 -- an element at the end of a prefix is part of a longer prefix
 front-at : (xs : List ℕ) (x : ℕ) (ys front rest : List ℕ) → xs ++ x ∷ ys ≡ front ++ rest → length xs < length front
@@ -35,7 +35,7 @@ next-id : (budget window : ℕ) (start : List ℕ) (earlier later : List Poll) (
     → length taken ≤ length earlier
     → AreBatches (IsPlainBatch budget window start) (earlier ++ poll ∷ later) taken batches
     → ids (earlier ++ poll ∷ later) ++ rest ≡ taken ++ concat batches
-    → (more : List ℕ) × (ids earlier ++ poll.id ∷ more ≡ start ++ arrivals earlier)
+    → (more : List ℕ) × (ids earlier ++ poll.id ∷ more ≡ start ++ queued_by earlier)
 next-id budget window start earlier later poll rest taken [] short b front =
     let size : length (ids (earlier ++ poll ∷ later) ++ rest) ≡ length (taken ++ []) = ap length front in
     absurd (omega (
@@ -61,24 +61,24 @@ next-id budget window start earlier later poll rest taken (batch ∷ batches) sh
     same : take (length taken) (earlier ++ poll ∷ later) ≡ first
     same = take-append-le (length taken) earlier (poll ∷ later) short
 
-    whole : taken ++ batch ≡ start ++ arrivals first
+    whole : taken ++ batch ≡ start ++ queued_by first
     whole = rw (same, rw same at b.0) at (batch-whole budget window start (take (length taken) (earlier ++ poll ∷ later)) batch b.1)
 
     polled : ids earlier ++ poll.id ∷ (ids later ++ rest) ≡ (taken ++ batch) ++ concat batches
     polled = sym (rw (ids-append earlier (poll ∷ later)) (append_assoc (ids earlier) (poll.id ∷ ids later) rest))
         ∙ (front ∙ sym (append_assoc taken batch (concat batches)))
 
-    all : arrivals earlier ≡ arrivals first ++ arrivals (drop (length taken) earlier)
-    all = ap arrivals (sym (take-append-drop (length taken) earlier)) ∙ arrivals-append first (drop (length taken) earlier)
+    all : queued_by earlier ≡ queued_by first ++ queued_by (drop (length taken) earlier)
+    all = ap queued_by (sym (take-append-drop (length taken) earlier)) ∙ arrivals-append first (drop (length taken) earlier)
 
-    found : length earlier < length (taken ++ batch) → (more : List ℕ) × (ids earlier ++ poll.id ∷ more ≡ start ++ arrivals earlier)
+    found : length earlier < length (taken ++ batch) → (more : List ℕ) × (ids earlier ++ poll.id ∷ more ≡ start ++ queued_by earlier)
     found inside =
         let part =
         front-at (ids earlier) poll.id (ids later ++ rest) (taken ++ batch) (concat batches) polled
         (omega (arith, inside, length-ids earlier)) in (
-          part.0 ++ arrivals (drop (length taken) earlier),
-          sym (append_assoc (ids earlier) (poll.id ∷ part.0) (arrivals (drop (length taken) earlier)))
-              ∙ (rw (← part.1, whole, all) (append_assoc start (arrivals first) (arrivals (drop (length taken) earlier)))),
+          part.0 ++ queued_by (drop (length taken) earlier),
+          sym (append_assoc (ids earlier) (poll.id ∷ part.0) (queued_by (drop (length taken) earlier)))
+              ∙ (rw (← part.1, whole, all) (append_assoc start (queued_by first) (queued_by (drop (length taken) earlier)))),
         )
 
 -- If one run stopped without a squeeze, another one with the same polls so far makes no further poll: both took the same
@@ -138,7 +138,7 @@ stops budget window start polls later poll taken rest [] (other ∷ others) b o 
     next : IsPlainBatch budget window start polls other
     next = rw same at o.1
 
-    whole : ids polls ++ other ≡ start ++ arrivals polls
+    whole : ids polls ++ other ≡ start ++ queued_by polls
     whole = batch-whole budget window start polls other next
 
 -- no run is a proper prefix of another one
@@ -165,9 +165,9 @@ longer budget window start left kept polls later poll report other run long =
 -- the numbers that were polled, and those left on the list
 pub plain-whole : (budget window : ℕ) (start after : List ℕ) (polls : List Poll) (report : RunReport)
     → (run : IsPlainRun budget window start polls after report)
-    → ids polls ++ (run.rest ++ run.late) ≡ start ++ arrivals polls
+    → ids polls ++ (run.rest ++ run.late) ≡ start ++ queued_by polls
 plain-whole budget window start after polls report run =
-    let own : run.came ≡ arrivals polls = run.moved in
+    let own : run.came ≡ queued_by polls = run.moved in
     rw (← append_assoc (ids polls) run.rest run.late, run.front, ← own) run.joined
 
 -- after the same polls from the same bench, the remaining polls of two runs agree
@@ -236,12 +236,12 @@ runs-agree relation one budget weight window bench list polls others after last 
         step
 
 -- each poll queues its number at most once
-pub handed-most : (polls : List Poll) → length (arrivals polls) + length (repolled polls) ≤ length polls
+pub handed-most : (polls : List Poll) → length (queued_by polls) + length (repolled polls) ≤ length polls
 handed-most [] = omega arith
 handed-most (poll ∷ polls) =
     let by : Bool → List ℕ = λ (b : Bool). cond b (poll.id ∷ []) [] in
-    let a : length (arrivals (poll ∷ polls)) ≡ length (by (is_arrival poll.once.next)) + length (arrivals polls) =
-    ap length (arrivals-cons poll polls) ∙ length-append (by (is_arrival poll.once.next)) (arrivals polls) in
+    let a : length (queued_by (poll ∷ polls)) ≡ length (by (is_arrival poll.once.next)) + length (queued_by polls) =
+    ap length (arrivals-cons poll polls) ∙ length-append (by (is_arrival poll.once.next)) (queued_by polls) in
     let r : length (repolled (poll ∷ polls)) ≡ length (by (is_repoll poll.once.next)) + length (repolled polls) =
     ap length (repolled-cons poll polls) ∙ length-append (by (is_repoll poll.once.next)) (repolled polls) in
     omega (arith, a, r, handed-most polls, one poll.once.next poll.id)
@@ -256,18 +256,18 @@ handed-most (poll ∷ polls) =
 pub list-afterwards : PlainListAfterwards
 list-afterwards budget window start after polls report run = (polled, left, sized)
   where
-    whole : ids polls ++ (run.rest ++ run.late) ≡ start ++ arrivals polls
+    whole : ids polls ++ (run.rest ++ run.late) ≡ start ++ queued_by polls
     whole = plain-whole budget window start after polls report run
 
-    polled : ids polls ≡ take (length polls) (start ++ arrivals polls)
+    polled : ids polls ≡ take (length polls) (start ++ queued_by polls)
     polled = rw (← whole, ← length-ids polls) (sym (take-append_seam (ids polls) (run.rest ++ run.late)))
 
-    left : after ≡ drop (length polls) (start ++ arrivals polls) ++ repolled polls
+    left : after ≡ drop (length polls) (start ++ queued_by polls) ++ repolled polls
     left = rw (← whole, ← length-ids polls, drop-append_seam (ids polls) (run.rest ++ run.late)) run.left
 
     sized : length after ≤ length start
     sized =
-        let all : length (ids polls ++ (run.rest ++ run.late)) ≡ length (start ++ arrivals polls) = ap length whole in
+        let all : length (ids polls ++ (run.rest ++ run.late)) ≡ length (start ++ queued_by polls) = ap length whole in
         let end : length after ≡ length ((run.rest ++ run.late) ++ repolled polls) = ap length run.left in
         omega (
           arith,
@@ -278,17 +278,17 @@ list-afterwards budget window start after polls report run = (polled, left, size
           length-append (ids polls) (run.rest ++ run.late),
           length-append
               (run.rest ++ run.late) (repolled polls),
-          length-append start (arrivals polls),
+          length-append start (queued_by polls),
         )
 
 follow : (budget window : ℕ) (start : List ℕ) (polls : List Poll) (taken batch : List ℕ) (more : List (List ℕ))
-    → taken ++ batch ≡ start ++ arrivals (take (length taken) polls)
+    → taken ++ batch ≡ start ++ queued_by (take (length taken) polls)
     → AreBatches (IsPlainBatch budget window start) polls (taken ++ batch) more
     → FollowEachOther (drop (length taken) polls) batch more
 follow budget window start polls taken batch [] whole b = tt
 follow budget window start polls taken batch (next ∷ more) whole b = (
-  append_cancel_left (taken ++ batch) next (arrivals here)
-      (further ∙ (rw (cut, arrivals-append first here, whole) (sym (append_assoc start (arrivals first) (arrivals here))))),
+  append_cancel_left (taken ++ batch) next (queued_by here)
+      (further ∙ (rw (cut, arrivals-append first here, whole) (sym (append_assoc start (queued_by first) (queued_by here))))),
   rw (drop-drop (length batch) (length taken) polls, ← length-append taken batch)
       (follow budget window start polls (taken ++ batch) next more further b.2),
 )
@@ -299,7 +299,7 @@ follow budget window start polls taken batch (next ∷ more) whole b = (
     here : List Poll
     here = take (length batch) (drop (length taken) polls)
 
-    further : (taken ++ batch) ++ next ≡ start ++ arrivals (take (length (taken ++ batch)) polls)
+    further : (taken ++ batch) ++ next ≡ start ++ queued_by (take (length (taken ++ batch)) polls)
     further = rw b.0 at (batch-whole budget window start (take (length (taken ++ batch)) polls) next b.1)
 
     cut : take (length (taken ++ batch)) polls ≡ first ++ here

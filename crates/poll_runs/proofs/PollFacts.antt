@@ -1,7 +1,7 @@
 -- The effect of one more poll on a list of polls.
 use Rattle.std.proofs.Common.{◌≡◌, ◌∙◌, ℕ, ◌+◌, ◌≤◌, Bool, true, false, cond, List, [], ◌∷◌, ◌++◌, length, take, map, refl, sym, ap, arith}
 use Rattle.std.proofs.lemmas.List.{length-take, map-append, Elements.filter-append, Sums.sum_by-append}
-use Rattle.poll_runs.specs.Polls.{Chain, Poll, arrivals, ids, is_arrival, is_repoll, repolled, work_of}
+use Rattle.poll_runs.specs.Polls.{Chain, Poll, queued_by, ids, is_arrival, is_repoll, repolled, work_of}
 
 pub chain-push : {A B : Type 0} (leads : B → A → B → Type 0) (before : B) (polls : List A) (after last : B) (poll : A)
     → Chain leads before polls after → leads after poll last → Chain leads before (polls ++ poll ∷ []) last
@@ -11,7 +11,7 @@ chain-push leads before (p ∷ polls) after last poll h l = (h.0, h.1, chain-pus
 pub ids-append : (polls more : List Poll) → ids (polls ++ more) ≡ ids polls ++ ids more
 ids-append polls more = map-append (λ (p : Poll). p.id) polls more
 
-pub arrivals-append : (polls more : List Poll) → arrivals (polls ++ more) ≡ arrivals polls ++ arrivals more
+pub arrivals-append : (polls more : List Poll) → queued_by (polls ++ more) ≡ queued_by polls ++ queued_by more
 arrivals-append polls more = rw (filter-append (λ (p : Poll). is_arrival p.once.next) polls more) (map-append (λ (p : Poll). p.id) _ _)
 
 pub repolled-append : (polls more : List Poll) → repolled (polls ++ more) ≡ repolled polls ++ repolled more
@@ -21,15 +21,15 @@ one-id : (b : Bool) (poll : Poll) → map (λ (p : Poll). p.id) (cond b (poll �
 one-id true poll = refl
 one-id false poll = refl
 
-pub arrivals-one : (poll : Poll) → arrivals (poll ∷ []) ≡ cond (is_arrival poll.once.next) (poll.id ∷ []) []
+pub arrivals-one : (poll : Poll) → queued_by (poll ∷ []) ≡ cond (is_arrival poll.once.next) (poll.id ∷ []) []
 arrivals-one poll = one-id (is_arrival poll.once.next) poll
 
 pub repolled-one : (poll : Poll) → repolled (poll ∷ []) ≡ cond (is_repoll poll.once.next) (poll.id ∷ []) []
 repolled-one poll = one-id (is_repoll poll.once.next) poll
 
 pub arrivals-cons : (one : Poll) (polls : List Poll)
-    → arrivals (one ∷ polls) ≡ cond (is_arrival one.once.next) (one.id ∷ []) [] ++ arrivals polls
-arrivals-cons one polls = arrivals-append (one ∷ []) polls ∙ ap (λ (l : List ℕ). l ++ arrivals polls) (arrivals-one one)
+    → queued_by (one ∷ polls) ≡ cond (is_arrival one.once.next) (one.id ∷ []) [] ++ queued_by polls
+arrivals-cons one polls = arrivals-append (one ∷ []) polls ∙ ap (λ (l : List ℕ). l ++ queued_by polls) (arrivals-one one)
 
 pub repolled-cons : (one : Poll) (polls : List Poll)
     → repolled (one ∷ polls) ≡ cond (is_repoll one.once.next) (one.id ∷ []) [] ++ repolled polls

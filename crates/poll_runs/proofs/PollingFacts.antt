@@ -2,9 +2,9 @@
 use Rattle.std.proofs.Common.{◌≡◌, ◌≢◌, ◌∙◌, ℕ, zero, suc, ◌+◌, ◌<◌, ◌≤◌, Bool, true, false, List, [], ◌∷◌, ◌++◌, length}
 use Rattle.std.proofs.{Common.{length-append, ap, refl, sym, arith}, lemmas.{Bool.{eq-eqb, ne_eqb}, List.Sums.sum_by-append}}
 use Rattle.{std.specs.{Prelude.{◌==◌, sum_by}, List.AllByRecursion}, napi_model.specs.declared.event.{Call.Call, Operation.Operation}}
-use Rattle.poll_runs.specs.Plan.{Deed, Does, Plan, ◌>>=◌}
-use Rattle.poll_runs.specs.Polling.{Given, ThreadPolls, followed, polled, polled_by_thread, polls_on, takes}
-use Rattle.poll_runs.specs.Thread.{Continues, IsThreadPolling, is_for_thread, last_next}
+use Rattle.poll_runs.specs.Plan.{Action, Does, Plan, ◌>>=◌}
+use Rattle.poll_runs.specs.Polling.{Given, ThreadPolls, followed, poll_plan, thread_poll_plan, polls_on, takes}
+use Rattle.poll_runs.specs.Thread.{ThreadContinues, IsThreadPolling, is_for_thread, last_next}
 use Rattle.poll_runs.specs.declared.bench.Next.TheVariants.{Absent, Repoll}
 use Rattle.poll_runs.{specs.declared.bench.{Once.Once, ThreadReport.ThreadReport}, proofs.PlanFacts.{Leads, leads-from, leads-on, leads-to}}
 use Rattle.napi_model.specs.declared.state.Kind.TheVariants as kind
@@ -22,7 +22,7 @@ abbrev GoesOn : List Once → Type 0
 GoesOn [] = Unit {0}
 GoesOn (once ∷ more) = is_for_thread (last_next (once ∷ more)) ≡ true
 
-continues-more : (polls : List Once) (once : Once) → Continues polls → GoesOn polls → Continues (polls ++ once ∷ [])
+continues-more : (polls : List Once) (once : Once) → ThreadContinues polls → GoesOn polls → ThreadContinues (polls ++ once ∷ [])
 continues-more [] once c on = tt
 continues-more (first ∷ []) once c on = (on, tt)
 continues-more (first ∷ second ∷ more) once c on = (c.0, continues-more (second ∷ more) once c.1 on)
@@ -43,7 +43,7 @@ lawful-more weight (first ∷ polls) once all is = (all.0, lawful-more weight po
 pub record Polls (weight most : ℕ) (held : Bool) (polls : List Once) (left : ℕ) (report : ThreadReport) : Type 0 where
   pub room : left + length polls ≡ most
   pub each : AllByRecursion (Lawful weight) polls
-  pub continues : Continues polls
+  pub continues : ThreadContinues polls
   pub on : held ≡ true → GoesOn polls
   pub ends : held ≡ false → 1 ≤ left → last_next polls ≢ Repoll
   pub count : report.polls ≡ length polls
@@ -83,7 +83,7 @@ is-last n most (suc left) e =
     ne_eqb (n + 1) most (λ (same : n + 1 ≡ most). absurd (omega (arith, e, same)))
     ∙ sym (ne_eqb (suc left) 0 (λ (z : suc left ≡ 0). cc z))
 
-module _ {I P : Type 0} (tries : Call → Operation → List Operation → Type 0) (did : I → List (Deed P) → I → Type 0) where
+module _ {I P : Type 0} (tries : Call → Operation → List Operation → Type 0) (did : I → List (Action P) → I → Type 0) where
   -- the progress of a thread's polling: the polls made, the packets of the last one, and that the rest of the plan completes
   -- the whole
   pub record Going (thread : Bool) (weight most : ℕ) (start : I) (held : Bool) (now : I) (given : List P) (report : ThreadReport)
@@ -91,12 +91,12 @@ module _ {I P : Type 0} (tries : Call → Operation → List Operation → Type 
     pub polls : List Once
     pub left : ℕ
     pub made : Polls weight most held polls left report
-    pub leads : Leads tries did (polled_by_thread thread weight most) start
+    pub leads : Leads tries did (thread_poll_plan thread weight most) start
         (polls_on thread weight left held (record { polls = polls; packets = given })) now
 
-module _ {I P : Type 0} (tries : Call → Operation → List Operation → Type 0) (did : I → List (Deed P) → I → Type 0)
+module _ {I P : Type 0} (tries : Call → Operation → List Operation → Type 0) (did : I → List (Action P) → I → Type 0)
     (nothing : (it : I) → did it [] it)
-    (joins : (a b c : I) (first second : List (Deed P)) → did a first b → did b second c → did a (first ++ second) c) where
+    (joins : (a b c : I) (first second : List (Action P)) → did a first b → did b second c → did a (first ++ second) c) where
   pub going-start : (thread : Bool) (weight most : ℕ) (start : I) (held : Bool) (now : I) → 1 ≤ most
       → Does tries did (takes kind.Thread) start held now
       → Going tries did thread weight most start held now [] (record { polls = 0; work = 0; next = Absent })
@@ -105,15 +105,15 @@ module _ {I P : Type 0} (tries : Call → Operation → List Operation → Type 
     left = most;
     made = polls-none weight most held;
     leads =
-        leads-on tries did nothing joins (polled_by_thread thread weight most) start (takes kind.Thread)
+        leads-on tries did nothing joins (thread_poll_plan thread weight most) start (takes kind.Thread)
         (λ h. polls_on thread weight most h (record { polls = []; packets = [] })) start now held
-        (leads-from tries did (polled_by_thread thread weight most) start) d;
+        (leads-from tries did (thread_poll_plan thread weight most) start) d;
   }
 
   -- the progress after one more poll and what follows it
   pub going-poll : (thread : Bool) (weight most : ℕ) (start now polled' after : I) (given given' : List P) (report : ThreadReport)
       (once : Once) (held : Bool) → Going tries did thread weight most start true now given report → report.polls < most
-      → Does tries did (polled thread weight) now (record { once = once; packets = given' }) polled'
+      → Does tries did (poll_plan thread weight) now (record { once = once; packets = given' }) polled'
       → Does tries did (followed ((report.polls + 1) == most) once.next) polled' held after
       → Lawful weight once → (held ≡ true → is_for_thread once.next ≡ true)
       → (held ≡ false → ((report.polls + 1) == most) ≡ false → once.next ≢ Repoll)
@@ -123,7 +123,7 @@ module _ {I P : Type 0} (tries : Call → Operation → List Operation → Type 
       by g.left refl g.made g.leads
     where
       by : (left : ℕ) → g.left ≡ left → Polls weight most true g.polls left report
-          → Leads tries did (polled_by_thread thread weight most) start
+          → Leads tries did (thread_poll_plan thread weight most) start
           (polls_on thread weight left true (record { polls = g.polls; packets = given })) now
           → Going tries did thread weight most start held after given' (told report once)
       by zero e made leads = absurd (omega (arith, made.room, made.count, some))
@@ -132,7 +132,7 @@ module _ {I P : Type 0} (tries : Call → Operation → List Operation → Type 
           let on : Given P → Bool → Plan P (ThreadPolls P) =
           λ h b. polls_on thread weight left b (record { polls = g.polls ++ h.once ∷ []; packets = h.packets }) in
           let behind =
-          leads-on tries did nothing joins (polled_by_thread thread weight most) start (polled thread weight)
+          leads-on tries did nothing joins (thread_poll_plan thread weight most) start (poll_plan thread weight)
           (λ h. followed (left == 0) h.once.next >>= on h) now polled' (record { once = once; packets = given' }) leads p in
           record {
             polls = g.polls ++ once ∷ [];
@@ -141,7 +141,7 @@ module _ {I P : Type 0} (tries : Call → Operation → List Operation → Type 
                 polls-more weight most left held g.polls report once made is kept
                 (λ h more. gone h (last ∙ ne_eqb left 0 (λ z. absurd (omega (arith, more, z)))));
             leads =
-                leads-on tries did nothing joins (polled_by_thread thread weight most) start (followed (left == 0) once.next)
+                leads-on tries did nothing joins (thread_poll_plan thread weight most) start (followed (left == 0) once.next)
                 (on (record { once = once; packets = given' })) polled' after held behind (rw last at f);
           }
 
@@ -149,13 +149,13 @@ module _ {I P : Type 0} (tries : Call → Operation → List Operation → Type 
   pub going-ends : (thread : Bool) (weight most : ℕ) (start now : I) (given : List P) (report : ThreadReport)
       → Going tries did thread weight most start false now given report
       → (polls : List Once) × (given' : List P)
-      × Does tries did (polled_by_thread thread weight most) start (record { polls = polls; packets = given' }) now
+      × Does tries did (thread_poll_plan thread weight most) start (record { polls = polls; packets = given' }) now
       × (given' ≡ given) × IsThreadPolling weight most polls report
   unfolding polls_on
   going-ends thread weight most start now given report g = (
     g.polls,
     given,
-    leads-to tries did nothing joins (polled_by_thread thread weight most) start now (record { polls = g.polls; packets = given }) g.leads,
+    leads-to tries did nothing joins (thread_poll_plan thread weight most) start now (record { polls = g.polls; packets = given }) g.leads,
     refl,
     record {
       within = omega (arith, g.made.room);

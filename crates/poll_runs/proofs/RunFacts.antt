@@ -2,9 +2,9 @@
 use Rattle.std.proofs.Common.{◌≡◌, ◌≢◌, ◌∙◌, ◌⊎◌, inl, inr, ℕ, ◌+◌, ◌<◌, ◌≤◌, Bool, true, false, cond, List, [], ◌∷◌, ◌++◌, length}
 use Rattle.std.proofs.{Common.{length-append, take, refl, sym, ap, subst, arith, append_assoc}, lemmas.{Bool.lt-leb, List.append-nil}}
 use Rattle.std.{proofs.{lemmas.List.{take-append-le, take_all, Folds.concat-append}, Math.Nat.eq-or-lt_of_le}, specs.Prelude.{nat_le, ◌||◌}}
-use Rattle.{std.specs.{Prelude.{Option, Some, None, MatchOption}, List.{AllByRecursion, concat}}, poll_runs.specs.Polls.{Poll, arrivals}}
+use Rattle.{std.specs.{Prelude.{Option, Some, None, MatchOption}, List.{AllByRecursion, concat}}, poll_runs.specs.Polls.{Poll, queued_by}}
 use Rattle.poll_runs.specs.{Polls.{ids, is_arrival, is_repoll, repolled, work_of}, Run.{AreBatches, IsBatch, IsRun, is_spent}, Driven.Going}
-use Rattle.poll_runs.specs.{Driven.{IsGoing, IsOver}, Steps.{Begins, has_spent}, Turn.{HandsOn, Refills, Takes, asked_for}}
+use Rattle.poll_runs.specs.{Driven.{IsGoing, IsOver}, Steps.{Begins, has_spent}, Turn.{HandsOn, Refills, TakesBatch, asked_for}}
 use Rattle.poll_runs.specs.declared.{polling_run.PollingRun.PollingRun, run.RunReport.RunReport, bench.Next.{Next, TheVariants.Absent}}
 use Rattle.poll_runs.{specs.declared.bench.Next.TheVariants.{Gone, Again, Repoll}, proofs.PollFacts.{arrivals-append, arrivals-one}}
 use Rattle.poll_runs.proofs.PollFacts.{ids-append, length-ids, repolled-append, repolled-one, taken-le, work-push}
@@ -50,7 +50,7 @@ empties-more (first ∷ batches) batch = omega (arith, empties-more batches batc
 pub going-start : {L : Type 0} (entries : L → List ℕ) (moves : L → List ℕ → List ℕ → ℕ → L → Type 0) (is_all : List ℕ → L → Type 0)
     (budget window : ℕ) (start list : L) (own : List ℕ)
     → 0 < budget → 0 < window
-    → Takes entries moves is_all start own list
+    → TakesBatch entries moves is_all start own list
     → Going entries moves is_all budget window start [] list own [] 0 0
 going-start entries moves is_all budget window start list own money room s = record {
   first = own;
@@ -102,7 +102,7 @@ pub going-spliced : {L : Type 0} (entries : L → List ℕ) (moves : L → List 
     → ((a b c : L) (pushed more came later : List ℕ) (n m : ℕ) → moves a pushed came n b → moves b more later m c
     → moves a (pushed ++ more) (came ++ later) (n + m) c)
     → sum < budget → count < window
-    → Takes entries moves is_all list given after
+    → TakesBatch entries moves is_all list given after
     → Going entries moves is_all budget window start polls list [] [] count sum
     → Filled entries moves is_all budget window start polls after given [] count sum
 going-spliced {L} entries moves is_all budget window start polls list after given count sum joins money room s g = by given refl
@@ -110,10 +110,10 @@ going-spliced {L} entries moves is_all budget window start polls list after give
     taken : ids polls ≡ g.first ++ concat g.further
     taken = sym (append-nil (ids polls)) ∙ g.front
 
-    moved : moves start (arrivals polls) (g.came ++ s.came) (g.found + empties given) after
+    moved : moves start (queued_by polls) (g.came ++ s.came) (g.found + empties given) after
     moved =
-        rw (append-nil (arrivals polls)) at
-        (joins start list after (arrivals polls) [] g.came s.came g.found (empties given) g.moved s.moved)
+        rw (append-nil (queued_by polls)) at
+        (joins start list after (queued_by polls) [] g.came s.came g.found (empties given) g.moved s.moved)
 
     whole : (g.first ++ concat g.further) ++ given ≡ entries start ++ (g.came ++ s.came)
     whole =
@@ -256,7 +256,7 @@ going-poll entries moves is_all has_room budget window start polls list after ow
       found = g.found + 0;
       moved =
           rw (arrivals-append polls (poll ∷ []), arrivals-one poll)
-          (joins start list after (arrivals polls) (cond (is_arrival poll.once.next) (poll.id ∷ []) []) g.came pushed.0 g.found 0 g.moved
+          (joins start list after (queued_by polls) (cond (is_arrival poll.once.next) (poll.id ∷ []) []) g.came pushed.0 g.found 0 g.moved
           pushed.1);
       emptied = omega (arith, g.emptied);
       joined =
@@ -306,8 +306,8 @@ going-ends entries moves is_all budget window start polls list after own repoll 
       front = g.front;
       found = g.found + empties (entries after);
       moved =
-          rw (append-nil (arrivals polls)) at
-          (joins start list after (arrivals polls) [] g.came back.0 g.found (empties (entries after)) g.moved back.1);
+          rw (append-nil (queued_by polls)) at
+          (joins start list after (queued_by polls) [] g.came back.0 g.found (empties (entries after)) g.moved back.1);
       emptied = omega (arith, g.emptied);
       joined =
           rw (← append_assoc (g.first ++ concat g.further) (entries list) back.0, g.joined) (append_assoc (entries start) g.came back.0);

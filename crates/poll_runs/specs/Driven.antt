@@ -1,7 +1,7 @@
 -- The state of a polling run between its polls, for a caller that makes the polls.
 use Rattle.std.specs.Prelude.{◌≡◌, ◌≢◌, ◌⊎◌, ℕ, ◌+◌, ◌<◌, ◌≤◌, ◌==◌, ◌||◌, Bool, false, List, [], ◌∷◌, ◌++◌, length, take}
 use Rattle.std.specs.List.{AllByRecursion}
-use Rattle.{std.specs.List.{concat, list_any}, poll_runs.specs.{Polls.{Poll, arrivals, ids, repolled, work_of}, Run.{AreBatches, IsBatch}}}
+use Rattle.{std.specs.List.{concat, list_any}, poll_runs.specs.{Polls.{Poll, queued_by, ids, repolled, work_of}, Run.{AreBatches, IsBatch}}}
 use Rattle.poll_runs.specs.{Batches.empties_of, Run.is_spent, Turn.asked_for, declared.{bench.Once.Once, polling_run.PollingRun.PollingRun}}
 
 -- the numbers that were taken from the list and not polled yet: the one whose poll is in progress, then the rest
@@ -13,8 +13,8 @@ abbrev pub held : PollingRun → ℕ
 held run = length (asked_for run.asked ++ run.own) + length run.repoll
 
 -- the number is in the run, to be polled or to be put back
-abbrev pub waits : PollingRun → ℕ → Bool
-waits run id = list_any (λ other. other == id) run.own || list_any (λ other. other == id) run.repoll
+abbrev pub in_run : PollingRun → ℕ → Bool
+in_run run id = list_any (λ other. other == id) run.own || list_any (λ other. other == id) run.repoll
 
 -- budget, weight and window don't change
 pub record SameSettings (before after : PollingRun) : Type 0 where
@@ -33,7 +33,7 @@ pub record Going {L : Type 0} (entries : L → List ℕ) (moves : L → List ℕ
   pub not_empty : AllByRecursion (λ batch. batch ≢ []) further
   pub front : ids polls ++ ahead ≡ first ++ concat further
   pub found : ℕ
-  pub moved : moves start (arrivals polls) came found list
+  pub moved : moves start (queued_by polls) came found list
   pub emptied : empties_of (first ∷ further) ≤ found
   pub joined : (first ++ concat further) ++ entries list ≡ entries start ++ came
   pub again : repoll ≡ repolled polls

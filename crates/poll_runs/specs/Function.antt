@@ -1,7 +1,7 @@
 -- The polling run over a list of one thread as a function, for a bench whose polls are a function of the bench, the number and
 -- the weight.
 use Rattle.std.specs.Prelude.{◌≡◌, ◌↔◌, ℕ, zero, suc, ◌≤◌, Bool, ◌&&◌, ◌==◌, not, if◌then◌else◌, List, [], ◌∷◌, ◌++◌, length, drop}
-use Rattle.poll_runs.specs.{Laws.IsPlainRun, Polls.{At, Chain, Poll, arrivals, repolled, work_of}, Run.is_spent, declared.bench.Once.Once}
+use Rattle.poll_runs.specs.{Laws.IsPlainRun, Polls.{At, Chain, Poll, queued_by, repolled, work_of}, Run.is_spent, declared.bench.Once.Once}
 use Rattle.poll_runs.specs.declared.run.RunReport.{RunReport}
 
 -- the progress of a run: the bench, and the polls made
@@ -24,7 +24,7 @@ after_batch poll budget weight window (id ∷ batch) p =
 -- The run takes another batch if budget and window are left, no poll of the last batch asked for a repoll, and some poll of it
 -- queued its number on the list.
 abbrev pub takes_more : ℕ → ℕ → List Poll → List Poll → Bool
-takes_more budget window all last = not (is_spent budget window all) && (length (repolled last) == 0 && not (length (arrivals last) == 0))
+takes_more budget window all last = not (is_spent budget window all) && (length (repolled last) == 0 && not (length (queued_by last) == 0))
 
 -- The run from a batch on, with at most this many batches, and the list afterwards: the unpolled rest of the last batch, what
 -- its polls queued, and the repolls.
@@ -33,8 +33,8 @@ from_batch poll budget weight window zero batch p = (p, batch)
 from_batch poll budget weight window (suc batches) batch p =
     let after = after_batch poll budget weight window batch p in
     let last = drop (length p.polls) after.polls in
-    if takes_more budget window after.polls last then from_batch poll budget weight window batches (arrivals last) after
-    else (after, (drop (length last) batch ++ arrivals last) ++ repolled last)
+    if takes_more budget window after.polls last then from_batch poll budget weight window batches (queued_by last) after
+    else (after, (drop (length last) batch ++ queued_by last) ++ repolled last)
 
 -- a run over all entries of the list; it polls at most `window` batches, because each further one follows a poll
 abbrev pub run_of : {B : Type 0} → (B → ℕ → ℕ → Once × B) → ℕ → ℕ → ℕ → B → List ℕ → Progress B × List ℕ

@@ -1,7 +1,7 @@
 -- Laws of runs over a list of one thread.
 use Rattle.std.specs.Prelude.{◌≡◌, ℕ, ◌≤◌, List, [], ◌∷◌, ◌++◌, length, take, drop}
 use Rattle.poll_runs.specs.Plain.{NothingBehind, OwnPushes}
-use Rattle.poll_runs.specs.{Plain.all_held, Polls.{At, Chain, Poll, arrivals, ids, repolled}, Run.IsRun, declared.bench.Once.Once}
+use Rattle.poll_runs.specs.{Plain.all_held, Polls.{At, Chain, Poll, queued_by, ids, repolled}, Run.IsRun, declared.bench.Once.Once}
 use Rattle.poll_runs.specs.declared.run.RunReport.{RunReport}
 
 -- a run over a list of one thread
@@ -12,14 +12,14 @@ IsPlainRun = IsRun all_held OwnPushes NothingBehind
 abbrev pub FollowEachOther : List Poll → List ℕ → List (List ℕ) → Type 0
 FollowEachOther polls batch [] = Unit
 FollowEachOther polls batch (next ∷ more) =
-    (next ≡ arrivals (take (length batch) polls)) × FollowEachOther (drop (length batch) polls) next more
+    (next ≡ queued_by (take (length batch) polls)) × FollowEachOther (drop (length batch) polls) next more
 
 -- law: on a list of one thread, the only arrivals are those of the run's own polls
 abbrev pub NoOtherArrivals : Type 0
 NoOtherArrivals =
     (budget window : ℕ) (start after : List ℕ) (polls : List Poll) (report : RunReport)
     → (run : IsPlainRun budget window start polls after report)
-    → (run.first ≡ start) × FollowEachOther polls run.first run.further × (run.came ≡ arrivals polls)
+    → (run.first ≡ start) × FollowEachOther polls run.first run.further × (run.came ≡ queued_by polls)
 
 -- law: the numbers polled are a prefix of the initial list followed by the polls' own arrivals; the rest of it is on the list
 -- afterwards, before the repolls, and the list isn't longer than before
@@ -27,8 +27,8 @@ abbrev pub PlainListAfterwards : Type 0
 PlainListAfterwards =
     (budget window : ℕ) (start after : List ℕ) (polls : List Poll) (report : RunReport)
     → IsPlainRun budget window start polls after report
-    → (ids polls ≡ take (length polls) (start ++ arrivals polls))
-    × (after ≡ drop (length polls) (start ++ arrivals polls) ++ repolled polls)
+    → (ids polls ≡ take (length polls) (start ++ queued_by polls))
+    × (after ≡ drop (length polls) (start ++ queued_by polls) ++ repolled polls)
     × (length after ≤ length start)
 
 -- a poll has one outcome: the same poll of the same bench returns the same result and leaves the same bench

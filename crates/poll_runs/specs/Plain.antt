@@ -14,8 +14,8 @@ abbrev pub NothingBehind : List ℕ → List ℕ → Type 0
 NothingBehind taken after = Unit
 
 -- at most 64 entries are in the list and in the poller's own lists together
-abbrev pub HasRoom : List ℕ → ℕ → Type 0
-HasRoom list more = length list + more ≤ 64
+abbrev pub HasListRoom : List ℕ → ℕ → Type 0
+HasListRoom list more = length list + more ≤ 64
 
 abbrev pub CanPush : List ℕ → Type 0
 CanPush list = length list < 64

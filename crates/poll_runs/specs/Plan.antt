@@ -22,18 +22,18 @@ acts o plan >>= next = acts o (plan >>= next)
 polls weight go >>= next = polls weight (λ packets. go packets >>= next)
 
 -- an action: an operation, or a poll of this weight that returned these packets
-pub data Deed (P : Type 0) : Type 0 where
-  made : Operation → Deed P
-  gave : ℕ → List P → Deed P
+pub data Action (P : Type 0) : Type 0 where
+  made : Operation → Action P
+  gave : ℕ → List P → Action P
 
 -- the operations among these actions
-abbrev pub operations : {P : Type 0} → List (Deed P) → List Operation
+abbrev pub operations : {P : Type 0} → List (Action P) → List Operation
 operations [] = []
 operations (made o ∷ deeds) = o ∷ operations deeds
 operations (gave weight packets ∷ deeds) = operations deeds
 
 -- the packets that these actions returned, concatenated
-abbrev pub given : {P : Type 0} → List (Deed P) → List P
+abbrev pub given : {P : Type 0} → List (Action P) → List P
 given [] = []
 given (made o ∷ deeds) = given deeds
 given (gave weight packets ∷ deeds) = packets ++ given deeds
@@ -48,18 +48,18 @@ Answers c o = call_of o ≡ c
 -- `tries c o os`: the call c results in o, by the operations os, the last attempt being o
 module _ {P : Type 0} (tries : Call → Operation → List Operation → Type 0) where
   -- with these actions, the plan has this result
-  abbrev pub Follows : {A : Type 0} → Plan P A → List (Deed P) → A → Type 0
+  abbrev pub Follows : {A : Type 0} → Plan P A → List (Action P) → A → Type 0
   Follows (ends a) deeds answer = (deeds ≡ []) × (answer ≡ a)
   Follows (asks c go) deeds answer =
-      (o : Operation) × (os : List Operation) × (rest : List (Deed P))
+      (o : Operation) × (os : List Operation) × (rest : List (Action P))
       × Answers c o × tries c o os × Follows (go o) rest answer × (deeds ≡ map made os ++ rest)
   Follows (acts o plan) deeds answer =
-      (os : List Operation) × (rest : List (Deed P))
+      (os : List Operation) × (rest : List (Action P))
       × tries (call_of o) o os × Follows plan rest answer × (deeds ≡ map made os ++ rest)
   Follows (polls weight go) deeds answer =
-      (packets : List P) × (rest : List (Deed P))
+      (packets : List P) × (rest : List (Action P))
       × (length packets ≤ weight) × Follows (go packets) rest answer × (deeds ≡ gave weight packets ∷ rest)
 
   -- some actions lead from the one state to the other, and with them the plan has this result
-  abbrev pub Does : {I A : Type 0} → (I → List (Deed P) → I → Type 0) → Plan P A → I → A → I → Type 0
-  Does did plan before answer after = (deeds : List (Deed P)) × did before deeds after × Follows plan deeds answer
+  abbrev pub Does : {I A : Type 0} → (I → List (Action P) → I → Type 0) → Plan P A → I → A → I → Type 0
+  Does did plan before answer after = (deeds : List (Action P)) × did before deeds after × Follows plan deeds answer

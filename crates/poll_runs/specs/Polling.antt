@@ -48,8 +48,8 @@ module _ {P : Type 0} where
   -- ---- single calls
 
   -- reads the flags
-  abbrev pub looks : Plan P Flags
-  looks = asks call.Look (λ o. ends (flags_in o))
+  abbrev pub reads_flags : Plan P Flags
+  reads_flags = asks call.Look (λ o. ends (flags_in o))
 
   -- takes the instance from the list, or from its thread's queue
   abbrev pub takes : Kind → Plan P Bool
@@ -80,7 +80,7 @@ module _ {P : Type 0} where
     _ ← makes (Hand kind.List)
     ends kind.List
   handed true = do
-    flags ← looks
+    flags ← reads_flags
     _ ← makes (Hand (kind_for flags))
     ends (kind_for flags)
 
@@ -103,8 +103,8 @@ module _ {P : Type 0} where
     if off then completed thread else ends Repoll
 
   -- one poll of an instance that its poller owns (`__napi_poll`)
-  abbrev pub polled : Bool → ℕ → Plan P (Given P)
-  polled thread weight = do
+  abbrev pub poll_plan : Bool → ℕ → Plan P (Given P)
+  poll_plan thread weight = do
     packets ← gives weight
     next ← ended thread (length packets == weight)
     ends (record { once = record { work = length packets; next = next }; packets = packets })
@@ -119,13 +119,13 @@ module _ {P : Type 0} where
   abbrev pub found : Bool → ℕ → Bool → Plan P (Given P)
   found thread weight false = ends (record { once = record { work = 0; next = Absent }; packets = [] })
   found thread weight true = do
-    given ← polled thread weight
+    given ← poll_plan thread weight
     _ ← let_go given.once.next
     ends given
 
   -- takes the instance from the list and polls it once, if it is there
-  abbrev pub polled_once : Bool → ℕ → Plan P (Given P)
-  polled_once thread weight = do
+  abbrev pub poll_once_plan : Bool → ℕ → Plan P (Given P)
+  poll_once_plan thread weight = do
     taken ← takes kind.List
     found thread weight taken
 
@@ -152,13 +152,13 @@ module _ {P : Type 0} (thread : Bool) (weight : ℕ) where
   polls_on left false before = ends before
   polls_on zero true before = ends before
   polls_on (suc left) true before = do
-    given ← polled thread weight
+    given ← poll_plan thread weight
     held ← followed (left == 0) given.once.next
     polls_on left held (record { polls = before.polls ++ given.once ∷ []; packets = given.packets })
 
   -- the thread takes the instance that was queued for it, and polls it at most this many times
-  abbrev pub polled_by_thread : ℕ → Plan P (ThreadPolls P)
-  polled_by_thread most = do
+  abbrev pub thread_poll_plan : ℕ → Plan P (ThreadPolls P)
+  thread_poll_plan most = do
     held ← takes kind.Thread
     polls_on most held (record { polls = []; packets = [] })
 
@@ -224,7 +224,7 @@ module _ {P : Type 0} (bytes : List P → ℕ) (thread : Bool) (weight : ℕ) wh
   busily_from count true = rounds_on count no_report
 
   -- takes the instance if it is idle, polls it for this many rounds, and once more
-  abbrev pub polled_busily : ℕ → Plan P (BusyPolls P)
-  polled_busily count = do
+  abbrev pub busy_poll_plan : ℕ → Plan P (BusyPolls P)
+  busy_poll_plan count = do
     taken ← busy_takes
     busily_from count taken

@@ -38,8 +38,8 @@ abbrev pub ids : List Poll → List ℕ
 ids polls = map (λ poll. poll.id) polls
 
 -- the numbers that these polls queued on the list, in order
-abbrev pub arrivals : List Poll → List ℕ
-arrivals polls = ids (filter (λ poll. is_arrival poll.once.next) polls)
+abbrev pub queued_by : List Poll → List ℕ
+queued_by polls = ids (filter (λ poll. is_arrival poll.once.next) polls)
 
 -- the numbers for which these polls asked for a repoll, in order
 abbrev pub repolled : List Poll → List ℕ

@@ -2,7 +2,7 @@
 -- pushed and what arrived between two times, and that no entry was left in it).
 use Rattle.std.specs.Prelude.{◌≡◌, ◌≢◌, ◌⊎◌, ℕ, ◌+◌, ◌<◌, ◌≤◌, Bool, ◌||◌, nat_le, false, List, [], ◌∷◌, ◌++◌, length, take}
 use Rattle.std.specs.List.{AllByRecursion}
-use Rattle.{std.specs.List.concat, poll_runs.specs.{Polls.{Poll, arrivals, ids, repolled, work_of}, declared.run.RunReport.RunReport}}
+use Rattle.{std.specs.List.concat, poll_runs.specs.{Polls.{Poll, queued_by, ids, repolled, work_of}, declared.run.RunReport.RunReport}}
 use Rattle.poll_runs.specs.Batches.{empties, empties_of}
 
 -- A batch that a run takes after these polls consists of all entries of the list: together with the entries taken before, which
@@ -13,7 +13,7 @@ pub record IsBatch {L : Type 0} (entries : L → List ℕ) (moves : L → List �
   pub when : L
   pub came : List ℕ
   pub found : ℕ
-  pub moved : moves start (arrivals earlier) came found when
+  pub moved : moves start (queued_by earlier) came found when
   -- entries were taken until the list was found empty, or 64 were taken
   pub emptied : empties batch ≤ found
   pub whole : ids earlier ++ batch ≡ entries start ++ came
@@ -46,7 +46,7 @@ pub record IsRun {L : Type 0} (entries : L → List ℕ) (moves : L → List ℕ
   pub front : ids polls ++ rest ≡ first ++ concat further
   -- the batches and the late arrivals together are the initial list followed by the arrivals
   pub found : ℕ
-  pub moved : moves start (arrivals polls) came found after
+  pub moved : moves start (queued_by polls) came found after
   -- how often, at least, the list was found empty: by each batch, and when the rest was put back; each time at least once,
   -- unless 64 entries were taken first
   pub emptied : empties_of (first ∷ further) + empties (entries after) ≤ found

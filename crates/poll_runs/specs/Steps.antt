@@ -1,6 +1,6 @@
 -- The effect of each call on a run and on its list, for a caller that makes the polls.
 use Rattle.std.specs.Prelude.{◌≡◌, ℕ, nat_le, ◌||◌, Bool, List, [], ◌∷◌, Option, None, MatchOption}
-use Rattle.poll_runs.specs.Turn.{Refills, Takes}
+use Rattle.poll_runs.specs.Turn.{Refills, TakesBatch}
 use Rattle.poll_runs.specs.declared.polling_run.PollingRun.{PollingRun}
 
 -- the work so far reaches the budget, or the number of polls the window
@@ -18,7 +18,7 @@ pub record HoldsNothing (run : PollingRun) : Type 0 where
 -- a run begins with the entries of one splice, and no polls
 pub record Begins {L : Type 0} (entries : L → List ℕ) (moves : L → List ℕ → List ℕ → ℕ → L → Type 0) (is_all : List ℕ → L → Type 0)
     (before : L) (run : PollingRun) (after : L) : Type 0 where
-  pub takes : Takes entries moves is_all before run.own after
+  pub takes : TakesBatch entries moves is_all before run.own after
   pub repoll : run.repoll ≡ []
   pub polls : run.polls ≡ 0
   pub work : run.work ≡ 0

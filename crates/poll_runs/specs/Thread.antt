@@ -18,10 +18,10 @@ last_next (once ∷ []) = once.next
 last_next (once ∷ (second ∷ more)) = last_next (second ∷ more)
 
 -- each poll but the last leaves the instance to the thread
-abbrev pub Continues : List Once → Type 0
-Continues [] = Unit
-Continues (once ∷ []) = Unit
-Continues (once ∷ (second ∷ more)) = (is_for_thread once.next ≡ true) × Continues (second ∷ more)
+abbrev pub ThreadContinues : List Once → Type 0
+ThreadContinues [] = Unit
+ThreadContinues (once ∷ []) = Unit
+ThreadContinues (once ∷ (second ∷ more)) = (is_for_thread once.next ≡ true) × ThreadContinues (second ∷ more)
 
 -- A thread's polling, by these polls. There are fewer than `most` only if the last one didn't leave the instance to the thread,
 -- or a take found nothing. After a repoll there is no take, because the thread still owns the instance.
@@ -29,7 +29,7 @@ pub record IsThreadPolling (weight most : ℕ) (polls : List Once) (report : Thr
   pub within : length polls ≤ most
   -- a take that finds nothing isn't a poll
   pub each : AllByRecursion (λ once. (once.work ≤ weight) × (once.next ≢ Absent)) polls
-  pub continues : Continues polls
+  pub continues : ThreadContinues polls
   pub fewer : length polls < most → last_next polls ≢ Repoll
   pub count : report.polls ≡ length polls
   pub sum : report.work ≡ sum_by (λ once. once.work) polls

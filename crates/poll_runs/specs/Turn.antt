@@ -8,7 +8,7 @@ asked_for None = []
 asked_for (Some id) = id ∷ []
 
 -- one splice: the entries that it takes, and the list afterwards
-pub record Takes {L : Type 0} (entries : L → List ℕ) (moves : L → List ℕ → List ℕ → ℕ → L → Type 0) (is_all : List ℕ → L → Type 0)
+pub record TakesBatch {L : Type 0} (entries : L → List ℕ) (moves : L → List ℕ → List ℕ → ℕ → L → Type 0) (is_all : List ℕ → L → Type 0)
     (before : L) (given : List ℕ) (after : L) : Type 0 where
   pub came : List ℕ
   pub moved : moves before [] came (empties given) after
@@ -19,7 +19,7 @@ pub record Takes {L : Type 0} (entries : L → List ℕ) (moves : L → List ℕ
 -- one splice, and the room that it leaves
 pub record Splices {L : Type 0} (entries : L → List ℕ) (moves : L → List ℕ → List ℕ → ℕ → L → Type 0) (is_all : List ℕ → L → Type 0)
     (has_room : L → ℕ → Type 0) (before : L) (given : List ℕ) (after : L) : Type 0 where
-  pub takes : Takes entries moves is_all before given after
+  pub takes : TakesBatch entries moves is_all before given after
   pub most : length given ≤ 64
   pub room : has_room after (length given)
 
@@ -31,7 +31,7 @@ Refills entries moves is_all has_room [] list (id ∷ repoll) filled after = (fi
 Refills entries moves is_all has_room [] list [] filled after = Splices entries moves is_all has_room list filled after
 
 -- one push, what arrived, and the room that it takes
-pub record Pushes {L : Type 0} (entries : L → List ℕ) (moves : L → List ℕ → List ℕ → ℕ → L → Type 0) (has_room : L → ℕ → Type 0)
+pub record PushesOne {L : Type 0} (entries : L → List ℕ) (moves : L → List ℕ → List ℕ → ℕ → L → Type 0) (has_room : L → ℕ → Type 0)
     (before : L) (id : ℕ) (after : L) : Type 0 where
   pub came : List ℕ
   pub moved : moves before (id ∷ []) came 0 after
@@ -40,5 +40,5 @@ pub record Pushes {L : Type 0} (entries : L → List ℕ) (moves : L → List �
 
 -- a number is pushed if its poll queued it on the list; otherwise the list is unchanged
 abbrev pub HandsOn : {L : Type 0} → (L → List ℕ) → (L → List ℕ → List ℕ → ℕ → L → Type 0) → (L → ℕ → Type 0) → L → Bool → ℕ → L → Type 0
-HandsOn entries moves has_room before true id after = Pushes entries moves has_room before id after
+HandsOn entries moves has_room before true id after = PushesOne entries moves has_room before id after
 HandsOn entries moves has_room before false id after = after ≡ before

@@ -2,7 +2,7 @@
 
 ghost use Rattle.std.specs.Prelude.{◌≡◌, ◌≢◌, ◌≤◌, ◌<◌, ◌+◌, ◌^◌, List, MatchBool, nat_lt};
 ghost use Rattle.poll_runs.specs.Plan.{Does};
-ghost use Rattle.poll_runs.specs.Polling.{HasLast, left_by, polled_busily, round};
+ghost use Rattle.poll_runs.specs.Polling.{HasLast, left_by, busy_poll_plan, round};
 ghost use Rattle.poll_runs.specs.declared.bench.Next.TheVariants.{Absent};
 
 use crate::bench::{BusyReport, Next};
@@ -93,7 +93,7 @@ pub fn poll_busy_of<I: BusyInstance>(
     requires weight { (1 ≤ weight) × (weight ≤ 64) }
     ensures does { (given : List I.Packet)
         × Does I.tries I.did
-        (polled_busily I.bytes_in (I.thread instance.old) weight rounds) instance.old
+        (busy_poll_plan I.bytes_in (I.thread instance.old) weight rounds) instance.old
         (record { report = result; packets = given }) instance.new
         × HasLast I.has result.next packets.old given packets.new }
     ensures rests { I.rests instance.new }

@@ -6,7 +6,7 @@ ghost use Rattle.poll_runs.specs.Batches.{empties};
 ghost use Rattle.poll_runs.specs.Run.{IsRun};
 ghost use Rattle.poll_runs.specs.Steps.{Asks, Begins, HoldsNothing, has_spent};
 ghost use Rattle.poll_runs.specs.Turn.{HandsOn, Refills};
-ghost use Rattle.poll_runs.specs.Driven.{IsGoing, IsOver, SameSettings, and_poll, held, waits};
+ghost use Rattle.poll_runs.specs.Driven.{IsGoing, IsOver, SameSettings, and_poll, held, in_run};
 
 use crate::bench::{Next, Once};
 use crate::list::PollList;
@@ -186,7 +186,7 @@ impl PollingRun {
 
     /// Returns whether the run holds this number: to be polled, or to be put back.
     pub fn is_waiting(&self, id: u32) -> bool
-        ensures { result ≡ waits self.now id }
+        ensures { result ≡ in_run self.now id }
     {
         self.own.ids().contains(&id) || self.repoll.ids().contains(&id)
     }

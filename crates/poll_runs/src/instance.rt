@@ -6,7 +6,7 @@ ghost use Rattle.napi_model.specs.declared.event.Operation.{Operation};
 ghost use Rattle.napi_model.specs.declared.event.Done.TheVariants.{Held};
 ghost use Rattle.napi_model.specs.declared.event.Operation.TheVariants.{BusyStop, Complete, Hand};
 ghost use Rattle.napi_model.specs.declared.state.Kind.TheVariants.{List as ToList};
-ghost use Rattle.poll_runs.specs.Plan.{Deed, Does};
+ghost use Rattle.poll_runs.specs.Plan.{Action, Does};
 ghost use Rattle.poll_runs.specs.Polling.{busy_takes, completed, disabling, gives, makes, next_of, takes};
 
 use napi_model::Kind;
@@ -33,7 +33,7 @@ pub trait Instance {
     ghost tries: { Call → Operation → List Operation → Type 0 };
 
     /// `did before actions after`: these actions lead from one state to the other.
-    ghost did: { Self → List (Deed Self.Packet) → Self → Type 0 };
+    ghost did: { Self → List (Action Self.Packet) → Self → Type 0 };
 
     /// `has packets given`: the buffer holds exactly these packets.
     ghost has: { Self.Packets → List Self.Packet → Type 0 };
@@ -78,11 +78,11 @@ pub trait Instance {
     ghost nothing: { (it : Self) → did it [] it };
 
     /// Actions compose.
-    ghost joins: { (a b c : Self) (first second : List (Deed Self.Packet)) → did a first b
+    ghost joins: { (a b c : Self) (first second : List (Action Self.Packet)) → did a first b
         → did b second c → did a (first ++ second) c };
 
     /// Whether it has a thread doesn't change.
-    ghost same: { (before after : Self) (deeds : List (Deed Self.Packet)) → did before deeds after
+    ghost same: { (before after : Self) (deeds : List (Action Self.Packet)) → did before deeds after
         → thread after ≡ thread before };
 }
 

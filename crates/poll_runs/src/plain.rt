@@ -2,7 +2,7 @@
 
 ghost use Rattle.std.specs.Prelude.{◌≡◌, ◌≤◌, List, ℕ, [], length, refl};
 ghost use Rattle.std.proofs.Common.{rules};
-ghost use Rattle.poll_runs.specs.Plain.{CanPush, HasRoom, NothingBehind, OwnPushes, all_held};
+ghost use Rattle.poll_runs.specs.Plain.{CanPush, HasListRoom, NothingBehind, OwnPushes, all_held};
 
 use crate::list::PollList;
 use crate::soft::SoftList;
@@ -48,7 +48,7 @@ impl PollList for PlainList {
 
     ghost can_push = { CanPush };
 
-    ghost has_room = { HasRoom };
+    ghost has_room = { HasListRoom };
 
     fn push(&mut self, id: u32) {
         self.entries.append(id);

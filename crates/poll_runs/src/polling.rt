@@ -2,7 +2,7 @@
 
 ghost use Rattle.std.specs.Prelude.{◌≡◌, ◌≢◌, ◌==◌, ◌≤◌, false, true, List, MatchBool};
 ghost use Rattle.poll_runs.specs.Plan.{Does};
-ghost use Rattle.poll_runs.specs.Polling.{HasLast, ended, followed, let_go, next_of, polled, polled_by_thread, polled_once};
+ghost use Rattle.poll_runs.specs.Polling.{HasLast, ended, followed, let_go, next_of, poll_plan, thread_poll_plan, poll_once_plan};
 ghost use Rattle.poll_runs.specs.Polls.{is_repoll};
 ghost use Rattle.poll_runs.specs.Thread.{IsThreadPolling, is_for_thread};
 ghost use Rattle.poll_runs.specs.declared.bench.Next.TheVariants.{Absent, Repoll};
@@ -41,7 +41,7 @@ fn poll_held<I: Instance>(instance: &mut I, weight: u32, packets: &mut I::Packet
     requires hand { I.in_hand instance.old }
     requires weight { (1 ≤ weight) × (weight ≤ 64) }
     ensures does { (given : List I.Packet)
-        × Does I.tries I.did (polled (I.thread instance.old) weight) instance.old
+        × Does I.tries I.did (poll_plan (I.thread instance.old) weight) instance.old
         (record { once = result; packets = given }) instance.new
         × I.has packets.new given }
     ensures there { result.next ≢ Absent }
@@ -72,7 +72,7 @@ pub fn poll_once_of<I: Instance>(instance: &mut I, weight: u32, packets: &mut I:
     requires rests { I.rests instance.old }
     requires weight { (1 ≤ weight) × (weight ≤ 64) }
     ensures does { (given : List I.Packet)
-        × Does I.tries I.did (polled_once (I.thread instance.old) weight) instance.old
+        × Does I.tries I.did (poll_once_plan (I.thread instance.old) weight) instance.old
         (record { once = result; packets = given }) instance.new
         × HasLast I.has result.next packets.old given packets.new }
     ensures rests { I.rests instance.new }
@@ -123,7 +123,7 @@ pub fn poll_thread_of<I: Instance>(
     requires weight { (1 ≤ weight) × (weight ≤ 64) }
     requires most { (1 ≤ most) × (most ≤ 131072) }
     ensures does { (polls : List Once) × (given : List I.Packet)
-        × Does I.tries I.did (polled_by_thread (I.thread instance.old) weight most)
+        × Does I.tries I.did (thread_poll_plan (I.thread instance.old) weight most)
         instance.old
         (record { polls = polls; packets = given }) instance.new
         × HasLast I.has result.next packets.old given packets.new

@@ -3,7 +3,7 @@ use Rattle.std.proofs.Common.{◌≡◌, ◌∙◌, ℕ, zero, suc, ◌<◌, Boo
 use Rattle.std.{proofs.Common.{set, get_or, arith}, specs.{Prelude.{◌==◌, IsSome, MatchOption, position}, List.AllByRecursion}}
 use Rattle.poll_runs.specs.Polls.{At, Chain, Poll}
 use Rattle.poll_runs.specs.declared.bench.Once.{Once}
-use Rattle.{napi_calls.specs.declared.kept.Kept.Kept, poll_seats.specs.SeatKeeping.{AreSameSeats, IsSameSeat}}
+use Rattle.{napi_calls.specs.declared.kept.DropBomb.DropBomb, poll_seats.specs.SeatKeeping.{AreSameSeats, IsSameSeat}}
 use Rattle.poll_seats.specs.declared.{seat.Seat.Seat, list_poller.{SeatBench.SeatBench, ListPoller.ListPoller}}
 use Rattle.poll_seats.specs.declared.thread_poller.ThreadPoller.{ThreadPoller}
 use Rattle.poll_seats.specs.SeatBenches.{IsNowhere, IsPolledAt}
@@ -13,7 +13,7 @@ use Rattle.poll_seats.specs.{SeatBenches.PollsSeat, Serving.IsServed, Turns.{Tur
 pub seat_stays : (x : Seat) → IsSameSeat x x
 seat_stays x = record { number = refl; napi = refl; thread = refl; caller = λ s. s }
 
-pub seats_stay : {R : Type 0} (l : List (Kept R Seat)) → AreSameSeats l l
+pub seats_stay : {R : Type 0} (l : List (DropBomb R Seat)) → AreSameSeats l l
 seats_stay [] = tt
 seats_stay (x ∷ xs) = (seat_stays x.value, seats_stay xs)
 
@@ -22,7 +22,7 @@ pub seat_joins : (x y z : Seat) → IsSameSeat x y → IsSameSeat y z → IsSame
 seat_joins x y z p q =
     record { number = q.number ∙ p.number; napi = q.napi ∙ p.napi; thread = q.thread ∙ p.thread; caller = λ s. q.caller (p.caller s) }
 
-pub seats_join : {R : Type 0} (a b c : List (Kept R Seat)) → AreSameSeats a b → AreSameSeats b c → AreSameSeats a c
+pub seats_join : {R : Type 0} (a b c : List (DropBomb R Seat)) → AreSameSeats a b → AreSameSeats b c → AreSameSeats a c
 seats_join [] [] [] p q = tt
 seats_join [] [] (z ∷ c) p q = absurd q
 seats_join [] (y ∷ b) c p q = absurd p
@@ -31,14 +31,14 @@ seats_join (x ∷ a) (y ∷ b) [] p q = absurd q
 seats_join (x ∷ a) (y ∷ b) (z ∷ c) p q = (seat_joins x.value y.value z.value p.0 q.0, seats_join a b c p.1 q.1)
 
 -- callers that were present are present again
-pub still_there : {R : Type 0} (a b : List (Kept R Seat)) → AreSameSeats a b → AllByRecursion (λ s. IsSome s.value.caller) a
+pub still_there : {R : Type 0} (a b : List (DropBomb R Seat)) → AreSameSeats a b → AllByRecursion (λ s. IsSome s.value.caller) a
     → AllByRecursion (λ s. IsSome s.value.caller) b
 still_there [] [] p there = tt
 still_there (x ∷ a) (y ∷ b) p there = (p.0.caller there.0, still_there a b p.1 there.1)
 still_there a b p there = absurd p
 
 -- one seat was polled
-pub seats_set : {R : Type 0} (l : List (Kept R Seat)) (k : ℕ) (x y : Kept R Seat) → k < length l → get_or l k x ≡ x
+pub seats_set : {R : Type 0} (l : List (DropBomb R Seat)) (k : ℕ) (x y : DropBomb R Seat) → k < length l → get_or l k x ≡ x
     → IsSameSeat x.value y.value → AreSameSeats l (set l k y)
 seats_set [] k x y b e s = absurd (omega arith)
 seats_set (a ∷ l) zero x y b e s = (subst (λ z. IsSameSeat z.value y.value) (sym e) s, seats_stay l)
@@ -55,21 +55,21 @@ poll_keeps_at (Some place) weight once before after p =
     (seats_set (vec_items before.seats) place p.was p.now p.within p.there p.same)
 
 -- the poll of an instance at which there is a seat, and of one at which there is none
-pub polls_there : {R : Type 0} (seen : List (Kept R Seat)) (before : SeatBench R) (id weight : ℕ) (once : Once)
+pub polls_there : {R : Type 0} (seen : List (DropBomb R Seat)) (before : SeatBench R) (id weight : ℕ) (once : Once)
     (after : SeatBench R) (place : ℕ)
     → seen ≡ vec_items before.seats → Some place ≡ position (λ seat. seat.value.number == id) seen
     → IsPolledAt before weight once after place
     → PollsSeat before id weight once after
 polls_there {R} seen before id weight once after place s e p =
     subst (λ at. MatchOption at (IsNowhere before once after) (IsPolledAt before weight once after))
-    (e ∙ ap (λ l. position (λ (seat : Kept R Seat). seat.value.number == id) l) s) p
+    (e ∙ ap (λ l. position (λ (seat : DropBomb R Seat). seat.value.number == id) l) s) p
 
-pub polls_nowhere : {R : Type 0} (seen : List (Kept R Seat)) (before : SeatBench R) (id weight : ℕ) (once : Once) (after : SeatBench R)
+pub polls_nowhere : {R : Type 0} (seen : List (DropBomb R Seat)) (before : SeatBench R) (id weight : ℕ) (once : Once) (after : SeatBench R)
     → seen ≡ vec_items before.seats → None ≡ position (λ seat. seat.value.number == id) seen → IsNowhere before once after
     → PollsSeat before id weight once after
 polls_nowhere {R} seen before id weight once after s e p =
     subst (λ at. MatchOption at (IsNowhere before once after) (IsPolledAt before weight once after))
-    (e ∙ ap (λ l. position (λ (seat : Kept R Seat). seat.value.number == id) l) s) p
+    (e ∙ ap (λ l. position (λ (seat : DropBomb R Seat). seat.value.number == id) l) s) p
 
 -- a run preserves the seats
 pub run_keeps : {R : Type 0} (weight : ℕ) (polls : List Poll) (before after : SeatBench R) → Chain (At PollsSeat weight) before polls after
@@ -77,7 +77,7 @@ pub run_keeps : {R : Type 0} (weight : ℕ) (polls : List Poll) (before after : 
 run_keeps {R} weight [] before after c =
     subst (λ (x : SeatBench R). AreSameSeats (vec_items before.seats) (vec_items x.seats)) (sym c) (seats_stay (vec_items before.seats))
 run_keeps {R} weight (p ∷ polls) before after c =
-    let one = poll_keeps_at (position (λ (seat : Kept R Seat). seat.value.number == p.id)
+    let one = poll_keeps_at (position (λ (seat : DropBomb R Seat). seat.value.number == p.id)
     (vec_items before.seats)) weight p.once before c.0 c.1 in
     seats_join (vec_items before.seats) (vec_items c.0.seats) (vec_items after.seats) one (run_keeps weight polls c.0 after c.2)
 

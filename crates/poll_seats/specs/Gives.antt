@@ -1,5 +1,5 @@
 -- What a poller's thread, and the thread of an instance, return.
-use Rattle.{poll_list.specs.declared.shared.SharedList.SharedList, napi_calls.specs.declared.{kept.Kept.Kept, types.Caller.Caller}}
+use Rattle.{poll_list.specs.declared.shared.SharedList.SharedList, napi_calls.specs.declared.{kept.DropBomb.DropBomb, types.Caller.Caller}}
 use Rattle.poll_tasks.specs.{Asks.IsAsked, Stops.IsStop, declared.pace.Pace.Pace}
 use Rattle.poll_list.specs.declared.list_in.ListIn.{ListIn}
 use Rattle.std.specs.Prelude.{◌≡◌, ◌⊎◌, ℕ, ◌+◌, Bool, true, false, List, Some, None, IfSome, IsSome, vec_items}
@@ -18,7 +18,7 @@ module _ {R : Type 0} where
   -- The poller with this number started, which its gate allowed, and took its turns, one after the other, each a run by this
   -- pace: over this list, and from its seats as they were to these.
   pub record IsPolledBy (asked : ℕ → Type 0) (pace : Pace) (number : ℕ) (list : SharedList R) (before after : List
-      (Kept R Seat)) : Type 0 where
+      (DropBomb R Seat)) : Type 0 where
     pub first : ListPoller R
     pub last : ListPoller R
     pub started : asked (poller_name number)

@@ -1,7 +1,8 @@
 -- The effect of a seat's polls on its caller.
 use Rattle.std.specs.Prelude.{◌≡◌, ◌||◌, ℕ, Bool, true, List, [], ◌∷◌, Option, Some, None, length, if◌then◌else◌}
 use Rattle.{rx_ring.specs.declared.packet.Packet.Packet, napi_calls.specs.{declared.types.Caller.Caller, Dealt.Delivers, Made.Made}}
-use Rattle.poll_runs.specs.{Plan.{Deed, Follows, given, operations}, Polling.{polled_by_thread, polled_once}, Polls.{is_arrival, is_repoll}}
+use Rattle.poll_runs.specs.{Plan.{Action, Follows, given, operations}, Polling.{thread_poll_plan, poll_once_plan}}
+use Rattle.poll_runs.specs.{Polls.{is_arrival, is_repoll}}
 use Rattle.poll_runs.specs.{Thread.IsThreadPolling, declared.bench.{Next.{Next, TheVariants.Absent}, Once.Once, ThreadReport.ThreadReport}}
 use Rattle.poll_shared.specs.Tries.{Tries}
 
@@ -11,8 +12,8 @@ abbrev pub Polls : Bool → ℕ → Option Caller → Once → List Packet → O
 Polls thread weight None once packets after = (once.work ≡ 0) × (once.next ≡ Absent)
 Polls thread weight (Some before) once packets None = ⊥
 Polls thread weight (Some before) once packets (Some after) =
-    (deeds : List (Deed Packet)) × Made before.pass (operations deeds) after.pass
-    × Follows Tries (polled_once thread weight) deeds (record { once = once; packets = packets })
+    (deeds : List (Action Packet)) × Made before.pass (operations deeds) after.pass
+    × Follows Tries (poll_once_plan thread weight) deeds (record { once = once; packets = packets })
     × Delivers before.pass packets after.pass × (once.work ≡ length packets) × (once.next ≡ Absent → packets ≡ [])
 
 -- The polling by the instance's thread, at most so many times. Its caller delivers exactly what the polls returned; the batch
@@ -21,8 +22,8 @@ abbrev pub PollsByThread : ℕ → ℕ → Option Caller → ThreadReport → Li
 PollsByThread weight most None report packets after = (report.polls ≡ 0) × (report.next ≡ Absent)
 PollsByThread weight most (Some before) report packets None = ⊥
 PollsByThread weight most (Some before) report packets (Some after) =
-    (polls : List Once) × (deeds : List (Deed Packet)) × Made before.pass (operations deeds) after.pass
-    × Follows Tries (polled_by_thread true weight most) deeds (record { polls = polls; packets = packets })
+    (polls : List Once) × (deeds : List (Action Packet)) × Made before.pass (operations deeds) after.pass
+    × Follows Tries (thread_poll_plan true weight most) deeds (record { polls = polls; packets = packets })
     × Delivers before.pass (given deeds) after.pass × IsThreadPolling weight most polls report
 
 -- the instance goes to the list: it was handed to it, or is to be polled again

@@ -1,14 +1,14 @@
 -- The effect of a poll on a poller's seats.
 use Rattle.std.specs.Prelude.{◌≡◌, ◌==◌, ◌<◌, ℕ, length, get_or, set, position, is_some, vec_items, MatchOption}
 use Rattle.{poll_runs.specs.declared.bench.{Next.TheVariants.Absent, Once.Once}, poll_seats.specs.declared.seat.Seat.Seat}
-use Rattle.napi_calls.specs.declared.kept.Kept.{Kept}
+use Rattle.napi_calls.specs.declared.kept.DropBomb.{DropBomb}
 use Rattle.poll_seats.specs.{declared.list_poller.SeatBench.SeatBench, Polled.Polls, SeatKeeping.IsSameSeat}
 
 module _ {R : Type 0} where
   -- only the seat at this place was polled, once, with this weight and this result
   pub record IsPolledAt (before : SeatBench R) (weight : ℕ) (once : Once) (after : SeatBench R) (place : ℕ) : Type 0 where
-    pub was : Kept R Seat
-    pub now : Kept R Seat
+    pub was : DropBomb R Seat
+    pub now : DropBomb R Seat
     pub within : place < length (vec_items before.seats)
     pub there : get_or (vec_items before.seats) place was ≡ was
     pub same : IsSameSeat was.value now.value
@@ -24,6 +24,6 @@ module _ {R : Type 0} where
   -- one poll of the instance with this number, with this weight and this result
   abbrev pub PollsSeat : SeatBench R → ℕ → ℕ → Once → SeatBench R → Type 0
   PollsSeat before id weight once after =
-      MatchOption (position (λ (seat : Kept R Seat). seat.value.number == id) (vec_items before.seats))
+      MatchOption (position (λ (seat : DropBomb R Seat). seat.value.number == id) (vec_items before.seats))
       (IsNowhere before once after)
       (IsPolledAt before weight once after)

@@ -1,6 +1,6 @@
 -- A poller's seats stay at their instances.
 use Rattle.std.specs.{Prelude.{◌≡◌, List, IsSome}, List.AllZip}
-use Rattle.{napi_calls.specs.declared.kept.Kept.Kept, poll_seats.specs.declared.seat.Seat.Seat}
+use Rattle.{napi_calls.specs.declared.kept.DropBomb.DropBomb, poll_seats.specs.declared.seat.Seat.Seat}
 
 -- the seat is at the same instance, with the same waker, and its caller is present again
 pub record IsSameSeat (a b : Seat) : Type 0 where
@@ -9,5 +9,5 @@ pub record IsSameSeat (a b : Seat) : Type 0 where
   pub thread : b.thread ≡ a.thread
   pub caller : IsSome a.caller → IsSome b.caller
 
-abbrev pub AreSameSeats : {R : Type 0} → List (Kept R Seat) → List (Kept R Seat) → Type 0
+abbrev pub AreSameSeats : {R : Type 0} → List (DropBomb R Seat) → List (DropBomb R Seat) → Type 0
 AreSameSeats = AllZip (λ a b. IsSameSeat a.value b.value)

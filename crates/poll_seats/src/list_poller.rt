@@ -5,7 +5,7 @@ ghost use Rattle.poll_tasks.specs.Paces.{IsLawful};
 
 use crate::poller::Serves;
 use crate::seat::Seat;
-use napi_calls::Kept;
+use napi_calls::DropBomb;
 use poll_list::SharedList;
 use poll_runs::{Bench, BusyReport, Next, Once, RunReport, ThreadReport, run_softirq};
 use poll_tasks::Pace;
@@ -17,12 +17,12 @@ use std::sync::Wait;
 pub struct SeatBench<'n, R: Wait + Drop> {
     rt: R,
     /// The seats.
-    pub seats: Vec<Kept<R, Seat<'n>>>,
+    pub seats: Vec<DropBomb<R, Seat<'n>>>,
     batch: Batch,
 }
 
 // Returns the place of the seat at the instance with this number.
-fn find<'n, R: Wait + Drop>(seats: &[Kept<R, Seat<'n>>], number: u32) -> Option<usize>
+fn find<'n, R: Wait + Drop>(seats: &[DropBomb<R, Seat<'n>>], number: u32) -> Option<usize>
     ensures { result ≡ position (λ seat. seat.value.number == number) seats.now }
 {
     seats.iter().position(|seat| seat.value.number == number)
@@ -68,7 +68,7 @@ impl<'n, R: Wait + Drop> ListPoller<'n, R> {
     ghost use Rattle.poll_seats.specs.Turns.{RunsOnce};
 
     /// Creates the poller of this list, with these seats.
-    pub fn new(rt: R, list: SharedList<R>, seats: Vec<Kept<R, Seat<'n>>>, pace: Pace) -> Self
+    pub fn new(rt: R, list: SharedList<R>, seats: Vec<DropBomb<R, Seat<'n>>>, pace: Pace) -> Self
         requires { IsLawful pace }
         ensures list { result.list ≡ list }
         ensures seats { vec_items result.seat_bench.seats ≡ vec_items seats.entry }
@@ -86,7 +86,7 @@ impl<'n, R: Wait + Drop> ListPoller<'n, R> {
     }
 
     /// Returns the seats.
-    pub fn leave(self) -> Vec<Kept<R, Seat<'n>>>
+    pub fn leave(self) -> Vec<DropBomb<R, Seat<'n>>>
         ensures { result ≡ self.entry.seat_bench.seats }
     {
         let ListPoller {

@@ -7,7 +7,7 @@ ghost use Rattle.poll_seats.specs.Polled.{handed_on};
 
 use crate::poller::Serves;
 use crate::seat::Seat;
-use napi_calls::Kept;
+use napi_calls::DropBomb;
 use napi_model::Kind;
 use poll_list::ListIn;
 use poll_runs::Next;
@@ -21,7 +21,7 @@ pub struct ThreadPoller<'p, 'n, R: Wait + Drop> {
     /// The runtime, which waits.
     pub rt: R,
     /// The handle that polls as the instance's thread. It has a waker if the instance has a thread.
-    pub seat: Kept<R, Seat<'n>>,
+    pub seat: DropBomb<R, Seat<'n>>,
     /// The list that gets the instance if the thread may not poll it again, or if THREADED was cleared.
     pub list: ListIn<R>,
     /// The waker of that list's poller.

@@ -4,12 +4,12 @@ use Rattle.std.proofs.Common.{ap, refl, sym, append-nil, append_assoc}
 use Rattle.rx_ring.specs.{declared.{packet.Packet.Packet, ends.RxCtx.RxCtx}, Ends.{GivesNext, received_list}}
 use Rattle.napi_model.specs.declared.event.Operation.{Operation}
 use Rattle.napi_word.specs.{declared.table.Pass.Pass, View.{own_deliveries, packets_of}}
-use Rattle.napi_calls.specs.{Made.Made, Packets.{GivesBack, HoldsOn, IsFresh, own_delivered, polled}, Seats.number_of, Dealt.Delivers}
+use Rattle.napi_calls.specs.{Made.Made, Packets.{GivesBack, HoldsOn, IsFresh, own_delivered, polled}, Seats.pass_number, Dealt.Delivers}
 use Rattle.napi_calls.{specs.declared.types.Caller.Caller, proofs.Dealing.{delivers_back, polled_none}}
-use Rattle.poll_runs.specs.{Plan.{Deed, Does, Plan, gave, given, made, operations}, Polling.{HasLast, gives}}
+use Rattle.poll_runs.specs.{Plan.{Action, Does, Plan, gave, given, made, operations}, Polling.{HasLast, gives}}
 use Rattle.poll_runs.specs.declared.bench.Next.{Next, TheVariants.Absent}
-use Rattle.poll_shared.specs.declared.seat.{Hold.{Hold, TheVariants.{Gone, Rests}}, Seat.Seat}
-use Rattle.poll_shared.specs.{Seat.{GivesEach, MadeBy, SeatDid, ctx_of, packets_by, pass_of}, Tries.{Makes, Tries}}
+use Rattle.poll_shared.specs.declared.seat.{HandleState.{HandleState, TheVariants.{Gone, Rests}}, SharedHandle.SharedHandle}
+use Rattle.poll_shared.specs.{Seat.{GivesEach, MadeBy, SeatDid, handle_ctx, packets_by, handle_pass}, Tries.{PlanMakes, Tries}}
 use Rattle.poll_shared.proofs.TriesFacts.{IsMade, begun, given-none, operations-made}
 
 -- ---- the packets of the owner of the context: those delivered, and those polled since
@@ -25,12 +25,13 @@ pub polled_packets : (p q : Pass) (x y : RxCtx) (batch : List Packet) → q ≡ 
 polled_packets p q x y batch same more =
     (λ i. packets_of (own_delivered (same i)) ++ more i) ∙ sym (append_assoc (packets_of (own_delivered p)) (polled p x) batch)
 
-pub held_packets : (p q : Pass) (x y : RxCtx) → HoldsOn p q → number_of q ≡ number_of p → y ≡ x → Polled q y ≡ Polled p x ++ []
+pub held_packets : (p q : Pass) (x y : RxCtx) → HoldsOn p q → pass_number q ≡ pass_number p → y ≡ x → Polled q y ≡ Polled p x ++ []
 held_packets p q x y h num same =
     (λ i. packets_of (own_deliveries (num i) (h.deliveries i)) ++ drop (length (h.received i)) (received_list (same i)))
     ∙ sym (append-nil (Polled p x))
 
-pub back_packets : (p q : Pass) (x : RxCtx) → GivesBack p x q → number_of q ≡ number_of p → packets_of (own_delivered q) ≡ Polled p x ++ []
+pub back_packets : (p q : Pass) (x : RxCtx) → GivesBack p x q → pass_number q ≡ pass_number p
+    → packets_of (own_delivered q) ≡ Polled p x ++ []
 back_packets p q x g num = delivers_back p q x g num ∙ sym (append-nil (Polled p x))
 
 -- a cleared batch has exactly what was added
@@ -58,31 +59,34 @@ gives-none (o ∷ os) x y some = gives-any o os x y
 
 module _ {R : Type 0} where
   -- the seat whose caller went into a call and came out of it
-  abbrev pub Back : Seat R → Hold → Seat R → Hold → Seat R → Type 0
+  abbrev pub Back : SharedHandle R → HandleState → SharedHandle R → HandleState → SharedHandle R → Type 0
   Back s before gone after t = (s.hold ≡ before) × (gone ≡ record s { hold = Gone }) × (t ≡ record gone { hold = after })
 
-  pub seat_did : (s : Seat R) (before : Hold) (gone : Seat R) (after : Hold) (t : Seat R) (deeds : List (Deed Packet))
-      → Back s before gone after t → MadeBy (operations deeds) (pass_of before) (pass_of after)
-      → packets_by after ≡ packets_by before ++ given deeds → GivesEach (ctx_of before) deeds (ctx_of after) → SeatDid s deeds t
+  pub seat_did : (s : SharedHandle R) (before : HandleState) (gone : SharedHandle R) (after : HandleState) (t : SharedHandle R)
+      (deeds : List (Action Packet))
+      → Back s before gone after t → MadeBy (operations deeds) (handle_pass before) (handle_pass after)
+      → packets_by after ≡ packets_by before ++ given deeds → GivesEach (handle_ctx before) deeds (handle_ctx after) → SeatDid s deeds t
   seat_did s before gone after t deeds b m g e =
       rw (b.2, b.1) (record { thread = refl; made = rw b.0 m; gave = rw b.0 g; each = rw b.0 e })
 
   -- a call that polls nothing
-  pub seat_does : {A : Type 0} (plan : Plan Packet A) (s : Seat R) (before : Hold) (gone : Seat R) (after : Hold) (t : Seat R) (p q : Pass)
-      (os : List Operation) (a : A) → Back s before gone after t → pass_of before ≡ Some p → pass_of after ≡ Some q → IsMade plan
-      → Made p os q → Makes plan os a → packets_by after ≡ packets_by before ++ [] → Does Tries SeatDid plan s a t
+  pub seat_does : {A : Type 0} (plan : Plan Packet A) (s : SharedHandle R) (before : HandleState) (gone : SharedHandle R)
+      (after : HandleState) (t : SharedHandle R) (p q : Pass)
+      (os : List Operation) (a : A) → Back s before gone after t → handle_pass before ≡ Some p → handle_pass after ≡ Some q → IsMade plan
+      → Made p os q → PlanMakes plan os a → packets_by after ≡ packets_by before ++ [] → Does Tries SeatDid plan s a t
   seat_does plan s before gone after t p q os a b was is first m f none =
       let some : os ≢ [] = rw operations-made at (begun plan (map made os) a first f) in (
         map made os,
         seat_did s before gone after t (map made os) b (rw (operations-made, was, is) (made-by os p q some m)) (rw given-none none)
-            (gives-none os (ctx_of before) (ctx_of after) some),
+            (gives-none os (handle_ctx before) (handle_ctx after) some),
         f,
       )
 
   -- a poll, which makes no operation
-  pub seat_gives : (s : Seat R) (before : Hold) (gone : Seat R) (after : Hold) (t : Seat R) (x y : RxCtx) (weight : ℕ)
-      (packets : List Packet) → Back s before gone after t → pass_of after ≡ pass_of before → ctx_of before ≡ Some x
-      → ctx_of after ≡ Some y → GivesNext weight x y packets → packets_by after ≡ packets_by before ++ packets
+  pub seat_gives : (s : SharedHandle R) (before : HandleState) (gone : SharedHandle R) (after : HandleState) (t : SharedHandle R)
+      (x y : RxCtx) (weight : ℕ)
+      (packets : List Packet) → Back s before gone after t → handle_pass after ≡ handle_pass before → handle_ctx before ≡ Some x
+      → handle_ctx after ≡ Some y → GivesNext weight x y packets → packets_by after ≡ packets_by before ++ packets
       → Does Tries SeatDid (gives weight) s packets t
   seat_gives s before gone after t x y weight packets b same was is next more = (
     gave weight packets ∷ [],
@@ -91,7 +95,7 @@ module _ {R : Type 0} where
   )
 
   -- what was done from one caller to the next: the operations made, and the packets delivered
-  pub rises : {A : Type 0} (plan : Plan Packet A) (s t : Seat R) (b c : Caller) (a : A) → IsMade plan
+  pub rises : {A : Type 0} (plan : Plan Packet A) (s t : SharedHandle R) (b c : Caller) (a : A) → IsMade plan
       → (d : Does Tries SeatDid plan s a t) → s.hold ≡ Rests b → t.hold ≡ Rests c
       → Made b.pass (operations d.0) c.pass × Delivers b.pass (given d.0) c.pass
   rises plan s t b c a first d was is = (

@@ -5,11 +5,11 @@ use Rattle.{rx_ring.specs.declared.packet.Packet.Packet, napi_word.specs.declare
 use Rattle.napi_calls.{specs.Made.Made, proofs.Making.more}
 use Rattle.napi_model.specs.{Step.call_of, declared.{state.{Kind.Kind, Seen.Seen}, event.Call.Call}}
 use Rattle.napi_model.specs.declared.event.Operation.{Operation, TheVariants.{Look, Hand, Complete, BusyTake, BusyStop}}
-use Rattle.poll_runs.specs.Plan.{Answers, Deed, Follows, Plan, ends, asks, acts, polls, given, made, operations, ◌>>=◌}
+use Rattle.poll_runs.specs.Plan.{Answers, Action, Follows, Plan, ends, asks, acts, polls, given, made, operations, ◌>>=◌}
 use Rattle.poll_runs.specs.declared.bench.Next.{Next, TheVariants.{Absent, Gone, Again, Repoll}}
 use Rattle.poll_runs.specs.Polling.{Given, completed, completed_by, ended, flags_in, found, handed, is_again, is_taken, kind_for}
-use Rattle.poll_runs.{specs.Polling.{let_go, makes, polled_once}, proofs.PlanFacts.follows-then}
-use Rattle.poll_shared.specs.Tries.{Makes, Tries, TriesFor}
+use Rattle.poll_runs.{specs.Polling.{let_go, makes, poll_once_plan}, proofs.PlanFacts.follows-then}
+use Rattle.poll_shared.specs.Tries.{PlanMakes, Tries, TriesFor}
 use Rattle.napi_model.specs.declared.event.Done.TheVariants as done
 use Rattle.napi_model.specs.declared.event.Call.TheVariants as call
 
@@ -32,11 +32,11 @@ IsMade (asks c go) = Unit {0}
 IsMade (acts o plan) = Unit {0}
 IsMade plan = ⊥
 
-made-some : (os : List Operation) (rest deeds : List (Deed Packet)) → os ≢ [] → deeds ≡ map made os ++ rest → operations deeds ≢ []
+made-some : (os : List Operation) (rest deeds : List (Action Packet)) → os ≢ [] → deeds ≡ map made os ++ rest → operations deeds ≢ []
 made-some [] rest deeds some e = absurd (some refl)
 made-some (o ∷ os) rest deeds some e = rw e (λ none. cc)
 
-pub begun : {A : Type 0} (plan : Plan Packet A) (deeds : List (Deed Packet)) (a : A) → IsMade plan → Follows Tries plan deeds a
+pub begun : {A : Type 0} (plan : Plan Packet A) (deeds : List (Action Packet)) (a : A) → IsMade plan → Follows Tries plan deeds a
     → operations deeds ≢ []
 begun (ends a) deeds b is f = absurd is
 begun (asks c go) deeds a is f = made-some f.1 f.2 deeds (tried-some c f.0 f.1 f.4) f.6
@@ -47,7 +47,7 @@ pub operations-made : (os : List Operation) → operations {P = Packet} (map mad
 operations-made [] = refl
 operations-made (o ∷ os) = ap (λ (l : List Operation). o ∷ l) (operations-made os)
 
-given-made : (os : List Operation) (rest : List (Deed Packet)) → given (map made os ++ rest) ≡ given rest
+given-made : (os : List Operation) (rest : List (Action Packet)) → given (map made os ++ rest) ≡ given rest
 given-made [] rest = refl
 given-made (o ∷ os) rest = given-made os rest
 
@@ -59,28 +59,28 @@ given-none (o ∷ os) = given-none os
 
 -- a single call
 pub asked : {A : Type 0} (c : Call) (read : Operation → A) (o : Operation) (os : List Operation) → Answers c o → Tries c o os
-    → Makes (asks c (λ o. ends (read o))) os (read o)
+    → PlanMakes (asks c (λ o. ends (read o))) os (read o)
 asked c read o os a t = (o, os, [], a, t, (refl, refl), sym (append-nil (map made os)))
 
-pub acted : (o : Operation) (os : List Operation) → Tries (call_of o) o os → Makes (makes o) os tt
+pub acted : (o : Operation) (os : List Operation) → Tries (call_of o) o os → PlanMakes (makes o) os tt
 acted o os t = (os, [], t, (refl, refl), sym (append-nil (map made os)))
 
-pub handed-by : (x : Seen) (k : Kind) → k ≡ kind_for x.flags → Makes (handed true) (Look x ∷ Hand k ∷ []) k
+pub handed-by : (x : Seen) (k : Kind) → k ≡ kind_for x.flags → PlanMakes (handed true) (Look x ∷ Hand k ∷ []) k
 handed-by x k e =
     let o = Hand (kind_for x.flags) in
     rw e (Look x, Look x ∷ [], made o ∷ [], refl, refl, (o ∷ [], [], refl, (refl, refl), refl), refl)
 
-pub handed-some : (thread : Bool) (os : List Operation) (k : Kind) → Makes (handed thread) os k → os ≢ []
+pub handed-some : (thread : Bool) (os : List Operation) (k : Kind) → PlanMakes (handed thread) os k → os ≢ []
 handed-some false os k m = rw operations-made at (begun (handed false) (map made os) k tt m)
 handed-some true os k m = rw operations-made at (begun (handed true) (map made os) k tt m)
 
 pub completed-released : (thread : Bool) (os : List Operation) → TriesFor call.Complete (Complete done.Released ∷ []) os
-    → Makes (completed thread) os Gone
+    → PlanMakes (completed thread) os Gone
 completed-released thread os t = (Complete done.Released, os, [], refl, t, (refl, refl), sym (append-nil (map made os)))
 
 -- a completion after a missed request is followed by queueing the instance
 pub completed-again : (thread : Bool) (os ps : List Operation) (k : Kind) → TriesFor call.Complete (Complete done.Again ∷ []) os
-    → Makes (handed thread) ps k → Makes (completed thread) (os ++ ps) (Again k)
+    → PlanMakes (handed thread) ps k → PlanMakes (completed thread) (os ++ ps) (Again k)
 completed-again thread os ps k t m = (
   Complete done.Again,
   os,
@@ -112,7 +112,7 @@ keeps-then are is (asks c go) next k h = λ o. keeps-then are is (go o) next (k 
 keeps-then are is (acts o plan) next k h = keeps-then are is plan next k h
 keeps-then are is (polls weight go) next k h = absurd k
 
-kept : {A : Type 0} (is : A → Type 0) (plan : Plan Packet A) (deeds : List (Deed Packet)) (a : A) → Keeps is plan
+kept : {A : Type 0} (is : A → Type 0) (plan : Plan Packet A) (deeds : List (Action Packet)) (a : A) → Keeps is plan
     → Follows Tries plan deeds a → (given deeds ≡ []) × is a
 kept is (ends a) deeds b k f = (ap given f.0, rw f.1 k)
 kept is (asks c go) deeds a k f =
@@ -150,12 +150,12 @@ let-go-keeps packets Repoll g t = t
 let-go-keeps packets next g t = t
 
 -- all packets of the plan are those of its poll
-pub once-tells : (thread : Bool) (weight : ℕ) (deeds : List (Deed Packet)) (g : Given Packet)
-    → Follows Tries (polled_once thread weight) deeds g
+pub once-tells : (thread : Bool) (weight : ℕ) (deeds : List (Action Packet)) (g : Given Packet)
+    → Follows Tries (poll_once_plan thread weight) deeds g
     → (given deeds ≡ g.packets) × (g.once.work ≡ length g.packets) × (g.once.next ≡ Absent → g.packets ≡ [])
 once-tells thread weight deeds g f = rw (f.6, given-made) (by (is_taken f.0) f.2 f.5)
   where
-    by : (taken : Bool) (rest : List (Deed Packet)) → Follows Tries (found thread weight taken) rest g
+    by : (taken : Bool) (rest : List (Action Packet)) → Follows Tries (found thread weight taken) rest g
         → (given rest ≡ g.packets) × (g.once.work ≡ length g.packets) × (g.once.next ≡ Absent → g.packets ≡ [])
     by false rest f = rw (f.0, f.1) (refl, refl, λ e. refl)
     by true rest f =

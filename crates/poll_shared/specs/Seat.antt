@@ -3,22 +3,23 @@ use Rattle.std.specs.Prelude.{◌≡◌, List, [], ◌∷◌, ◌++◌, Option, 
 use Rattle.rx_ring.specs.{Ends.GivesNext, declared.{ends.RxCtx.RxCtx, packet.Packet.Packet}}
 use Rattle.{napi_model.specs.declared.event.Operation.Operation, napi_word.specs.{declared.table.Pass.Pass, View.packets_of}}
 use Rattle.napi_calls.specs.{declared.types.Napi.Napi, Instance.IsSeatOf, Made.Made, Packets.{own_delivered, polled}}
-use Rattle.{poll_runs.specs.Plan.{Deed, gave, given, made, operations}, poll_shared.specs.declared.seat.{Hold.Hold, Seat.Seat}}
-use Rattle.poll_shared.specs.declared.seat.Hold.TheVariants.{Rests, Polls, PollsBusily, Gone}
+use Rattle.{poll_runs.specs.Plan.{Action, gave, given, made, operations}}
+use Rattle.{poll_shared.specs.declared.seat.{HandleState.HandleState, SharedHandle.SharedHandle}}
+use Rattle.poll_shared.specs.declared.seat.HandleState.TheVariants.{Rests, Polls, PollsBusily, Gone}
 
-abbrev pub pass_of : Hold → Option Pass
-pass_of (Rests c) = Some c.pass
-pass_of (Polls w) = Some w.pass
-pass_of (PollsBusily b) = Some b.pass
-pass_of Gone = None
+abbrev pub handle_pass : HandleState → Option Pass
+handle_pass (Rests c) = Some c.pass
+handle_pass (Polls w) = Some w.pass
+handle_pass (PollsBusily b) = Some b.pass
+handle_pass Gone = None
 
-abbrev pub ctx_of : Hold → Option RxCtx
-ctx_of (Polls w) = Some w.ctx
-ctx_of (PollsBusily b) = Some b.ctx
-ctx_of _ = None
+abbrev pub handle_ctx : HandleState → Option RxCtx
+handle_ctx (Polls w) = Some w.ctx
+handle_ctx (PollsBusily b) = Some b.ctx
+handle_ctx _ = None
 
 -- the packets that its caller polled so far: those that it delivered, and then those that it polled since it took the context
-abbrev pub packets_by : Hold → List Packet
+abbrev pub packets_by : HandleState → List Packet
 packets_by (Rests c) = packets_of (own_delivered c.pass)
 packets_by (Polls w) = packets_of (own_delivered w.pass) ++ polled w.pass w.ctx
 packets_by (PollsBusily b) = packets_of (own_delivered b.pass) ++ polled b.pass b.ctx
@@ -32,38 +33,38 @@ MadeBy (o ∷ os) _ _ = ⊥
 
 -- each poll returned the context's next packets, at least those known and at most its weight; the effect of an operation on the
 -- context is stated by its call
-abbrev pub GivesEach : Option RxCtx → List (Deed Packet) → Option RxCtx → Type 0
+abbrev pub GivesEach : Option RxCtx → List (Action Packet) → Option RxCtx → Type 0
 GivesEach x [] y = y ≡ x
 GivesEach x (made o ∷ deeds) y = (next : Option RxCtx) × GivesEach next deeds y
 GivesEach (Some x) (gave weight packets ∷ deeds) y =
     (next : RxCtx) × GivesNext weight x next packets × GivesEach (Some next) deeds y
 GivesEach None (gave weight packets ∷ deeds) y = ⊥
 
-abbrev pub IsRest : Napi → Hold → Type 0
+abbrev pub IsRest : Napi → HandleState → Type 0
 IsRest napi (Rests c) = IsSeatOf napi c.pass
 IsRest napi _ = ⊥
 
-abbrev pub IsInHand : Napi → Hold → Type 0
+abbrev pub IsInHand : Napi → HandleState → Type 0
 IsInHand napi (Polls w) = IsSeatOf napi w.pass
 IsInHand napi _ = ⊥
 
-abbrev pub IsInBusyHand : Napi → Hold → Type 0
+abbrev pub IsInBusyHand : Napi → HandleState → Type 0
 IsInBusyHand napi (PollsBusily b) = IsSeatOf napi b.pass
 IsInBusyHand napi _ = ⊥
 
 module _ {R : Type 0} where
-  abbrev pub seat_rests : Seat R → Type 0
+  abbrev pub seat_rests : SharedHandle R → Type 0
   seat_rests s = IsRest s.napi.now s.hold
 
-  abbrev pub seat_in_hand : Seat R → Type 0
+  abbrev pub seat_in_hand : SharedHandle R → Type 0
   seat_in_hand s = IsInHand s.napi.now s.hold
 
-  abbrev pub seat_in_busy : Seat R → Type 0
+  abbrev pub seat_in_busy : SharedHandle R → Type 0
   seat_in_busy s = IsInBusyHand s.napi.now s.hold
 
   -- this seat took these actions: it made the operations, and polled the packets
-  pub record SeatDid (s : Seat R) (deeds : List (Deed Packet)) (t : Seat R) : Type 0 where
+  pub record SeatDid (s : SharedHandle R) (deeds : List (Action Packet)) (t : SharedHandle R) : Type 0 where
     pub thread : t.thread ≡ s.thread
-    pub made : MadeBy (operations deeds) (pass_of s.hold) (pass_of t.hold)
+    pub made : MadeBy (operations deeds) (handle_pass s.hold) (handle_pass t.hold)
     pub gave : packets_by t.hold ≡ packets_by s.hold ++ given deeds
-    pub each : GivesEach (ctx_of s.hold) deeds (ctx_of t.hold)
+    pub each : GivesEach (handle_ctx s.hold) deeds (handle_ctx t.hold)

@@ -20,5 +20,5 @@ Tries call.BusyTake (Look x) os = (ts : List (Lost call.BusyTake)) × (os ≡ fl
 Tries c o os = os ≡ o ∷ []
 
 -- by these operations, and no polls, the plan has this result
-abbrev pub Makes : {A : Type 0} → Plan Packet A → List Operation → A → Type 0
-Makes plan os answer = Follows Tries plan (map made os) answer
+abbrev pub PlanMakes : {A : Type 0} → Plan Packet A → List Operation → A → Type 0
+PlanMakes plan os answer = Follows Tries plan (map made os) answer

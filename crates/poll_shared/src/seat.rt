@@ -7,7 +7,7 @@ ghost use Rattle.napi_calls.specs.Instance.{IsSeatOf};
 ghost use Rattle.napi_calls.specs.Made.{Made};
 ghost use Rattle.napi_calls.specs.Packets.{Quiet, polled};
 ghost use Rattle.poll_runs.specs.Polling.{completed, handed, kind_for, next_of};
-ghost use Rattle.poll_shared.specs.Tries.{Makes};
+ghost use Rattle.poll_shared.specs.Tries.{PlanMakes};
 
 use napi_calls::{Busy, Caller, Completed, Granted, Napi, Polling};
 use napi_model::{Flags, Kind};
@@ -17,19 +17,19 @@ use std::mem;
 use std::sync::Wait;
 
 /// The caller's state. It is `Gone` only within a call.
-pub(crate) enum Hold {
+pub(crate) enum HandleState {
     Rests(Caller),
     Polls(Polling),
     PollsBusily(Busy),
     Gone,
 }
 
-/// A handle by which a caller polls as an [`Instance`] does. It is linear: [`rise`](Seat::rise) returns the caller.
-pub(crate) struct Seat<'a, R> {
+/// A handle by which a caller polls as an [`Instance`] does. It is linear: [`rise`](SharedHandle::rise) returns the caller.
+pub(crate) struct SharedHandle<'a, R> {
     pub(crate) rt: &'a R,
     pub(crate) napi: &'a Napi,
     pub(crate) thread: bool,
-    pub(crate) hold: Hold,
+    pub(crate) hold: HandleState,
 }
 
 // Returns the instance's own thread if THREADED is set, otherwise the list.
@@ -48,7 +48,7 @@ fn kind_for(flags: Flags) -> Kind
 pub fn hand_over(napi: &Napi, mut granted: Granted, thread: bool) -> (Caller, Kind)
     requires { IsSeatOf napi.now granted.pass }
     ensures made { (os : List Operation) × Made granted.pass os result.0.pass
-        × Makes (handed thread) os result.1 }
+        × PlanMakes (handed thread) os result.1 }
     ensures packets { Quiet granted.pass result.0.pass }
 {
     if !thread {
@@ -69,7 +69,7 @@ pub fn complete<R: Wait>(
 ) -> (Caller, Option<Kind>)
     requires { IsSeatOf napi.now polling.pass }
     ensures made { (os : List Operation) × Made polling.pass os result.0.pass
-        × Makes (completed thread) os (next_of result.1) }
+        × PlanMakes (completed thread) os (next_of result.1) }
     ensures packets { Delivers polling.pass (polled polling.pass polling.ctx) result.0.pass }
 {
     match polling.complete(rt, napi) {
@@ -81,24 +81,24 @@ pub fn complete<R: Wait>(
     }
 }
 
-impl<'a, R: Wait> Seat<'a, R> {
+impl<'a, R: Wait> SharedHandle<'a, R> {
     ghost use Rattle.std.specs.Prelude.{◌≡◌};
     ghost use Rattle.poll_shared.specs.Seat.{seat_in_busy, seat_in_hand, seat_rests};
-    ghost use Rattle.poll_shared.specs.declared.seat.Hold.TheVariants.{Rests, Polls, PollsBusily, Gone};
+    ghost use Rattle.poll_shared.specs.declared.seat.HandleState.TheVariants.{Rests, Polls, PollsBusily, Gone};
 
     /// Returns the caller, which doesn't poll any more.
     pub(crate) fn rise(self) -> Caller
         requires { seat_rests self }
         ensures { self.entry.hold ≡ Rests result }
     {
-        let Seat {
+        let SharedHandle {
             rt: _,
             napi: _,
             thread: _,
             hold,
         } = self;
         match hold {
-            Hold::Rests(caller) => caller,
+            HandleState::Rests(caller) => caller,
             _ => unreachable!(),
         }
     }
@@ -109,8 +109,8 @@ impl<'a, R: Wait> Seat<'a, R> {
         ensures was { self.old.hold ≡ Rests result }
         ensures gone { self.new ≡ record self.old { hold = Gone } }
     {
-        match mem::replace(&mut self.hold, Hold::Gone) {
-            Hold::Rests(caller) => caller,
+        match mem::replace(&mut self.hold, HandleState::Gone) {
+            HandleState::Rests(caller) => caller,
             _ => unreachable!(),
         }
     }
@@ -121,8 +121,8 @@ impl<'a, R: Wait> Seat<'a, R> {
         ensures was { self.old.hold ≡ Polls result }
         ensures gone { self.new ≡ record self.old { hold = Gone } }
     {
-        match mem::replace(&mut self.hold, Hold::Gone) {
-            Hold::Polls(polling) => polling,
+        match mem::replace(&mut self.hold, HandleState::Gone) {
+            HandleState::Polls(polling) => polling,
             _ => unreachable!(),
         }
     }
@@ -133,25 +133,25 @@ impl<'a, R: Wait> Seat<'a, R> {
         ensures was { self.old.hold ≡ PollsBusily result }
         ensures gone { self.new ≡ record self.old { hold = Gone } }
     {
-        match mem::replace(&mut self.hold, Hold::Gone) {
-            Hold::PollsBusily(busy) => busy,
+        match mem::replace(&mut self.hold, HandleState::Gone) {
+            HandleState::PollsBusily(busy) => busy,
             _ => unreachable!(),
         }
     }
 
     // Puts the result of the call back.
-    fn put(&mut self, hold: Hold)
+    fn put(&mut self, hold: HandleState)
         requires { self.old.hold ≡ Gone }
         ensures { self.new ≡ record self.old { hold = hold } }
     {
         match mem::replace(&mut self.hold, hold) {
-            Hold::Gone => {}
+            HandleState::Gone => {}
             _ => unreachable!(),
         }
     }
 }
 
-impl<'a, R: Wait> Instance for Seat<'a, R> {
+impl<'a, R: Wait> Instance for SharedHandle<'a, R> {
     ghost use Rattle.poll_shared.specs.Seat.{SeatDid, seat_in_hand, seat_rests};
     ghost use Rattle.poll_shared.specs.SeatLaws.{seat_joins, seat_nothing};
     ghost use Rattle.poll_shared.specs.Tries.{Tries};
@@ -175,11 +175,11 @@ impl<'a, R: Wait> Instance for Seat<'a, R> {
     fn take(&mut self, kind: Kind) -> bool {
         match self.caller().take(self.napi, kind) {
             Ok(polling) => {
-                self.put(Hold::Polls(polling));
+                self.put(HandleState::Polls(polling));
                 true
             }
             Err(caller) => {
-                self.put(Hold::Rests(caller));
+                self.put(HandleState::Rests(caller));
                 false
             }
         }
@@ -188,26 +188,26 @@ impl<'a, R: Wait> Instance for Seat<'a, R> {
     fn poll(&mut self, weight: u32, batch: &mut Batch) -> u32 {
         let mut polling = self.polling();
         let work = polling.poll(weight as usize, batch);
-        self.put(Hold::Polls(polling));
+        self.put(HandleState::Polls(polling));
         work as u32
     }
 
     fn is_disabling(&mut self) -> bool {
         let mut polling = self.polling();
         let seen = polling.look(self.napi);
-        self.put(Hold::Polls(polling));
+        self.put(HandleState::Polls(polling));
         seen.flags.disable
     }
 
     fn requeue(&mut self) {
         let caller = self.polling().requeue(self.napi);
-        self.put(Hold::Rests(caller));
+        self.put(HandleState::Rests(caller));
     }
 
     fn complete(&mut self) -> Option<Kind> {
         let polling = self.polling();
         let (caller, again) = complete(self.rt, self.napi, polling, self.thread);
-        self.put(Hold::Rests(caller));
+        self.put(HandleState::Rests(caller));
         again
     }
 
@@ -218,7 +218,7 @@ impl<'a, R: Wait> Instance for Seat<'a, R> {
     ghost same = { λ before after deeds did. did.thread };
 }
 
-impl<'a, R: Wait> BusyInstance for Seat<'a, R> {
+impl<'a, R: Wait> BusyInstance for SharedHandle<'a, R> {
     ghost use Rattle.rx_ring.specs.ReceiveRing.{bytes_of};
     ghost use Rattle.poll_shared.specs.Seat.{seat_in_busy};
 
@@ -229,11 +229,11 @@ impl<'a, R: Wait> BusyInstance for Seat<'a, R> {
     fn busy_take(&mut self) -> bool {
         match self.caller().busy(self.rt, self.napi) {
             Ok(busy) => {
-                self.put(Hold::PollsBusily(busy));
+                self.put(HandleState::PollsBusily(busy));
                 true
             }
             Err(caller) => {
-                self.put(Hold::Rests(caller));
+                self.put(HandleState::Rests(caller));
                 false
             }
         }
@@ -242,19 +242,19 @@ impl<'a, R: Wait> BusyInstance for Seat<'a, R> {
     fn busy_poll(&mut self, weight: u32, batch: &mut Batch) -> u32 {
         let mut busy = self.busy();
         let work = busy.poll(weight as usize, batch);
-        self.put(Hold::PollsBusily(busy));
+        self.put(HandleState::PollsBusily(busy));
         work as u32
     }
 
     fn hold(&mut self) {
         let mut busy = self.busy();
         busy.complete_held(self.napi);
-        self.put(Hold::PollsBusily(busy));
+        self.put(HandleState::PollsBusily(busy));
     }
 
     fn stop(&mut self) {
         let polling = self.busy().stop(self.rt, self.napi);
-        self.put(Hold::Polls(polling));
+        self.put(HandleState::Polls(polling));
     }
 
     fn bytes_of(batch: &Batch) -> u64 {

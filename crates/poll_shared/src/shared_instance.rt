@@ -1,8 +1,8 @@
 //! The polling of one instance that threads share.
 
 ghost use Rattle.std.specs.Prelude.{◌≡◌, ◌≤◌, true, [], List, length};
-ghost use Rattle.poll_runs.specs.Plan.{Deed, Follows, given, operations};
-ghost use Rattle.poll_runs.specs.Polling.{polled_busily, polled_by_thread, polled_once};
+ghost use Rattle.poll_runs.specs.Plan.{Action, Follows, given, operations};
+ghost use Rattle.poll_runs.specs.Polling.{busy_poll_plan, thread_poll_plan, poll_once_plan};
 ghost use Rattle.poll_runs.specs.Thread.{IsThreadPolling};
 ghost use Rattle.poll_runs.specs.declared.bench.Once.{Once};
 ghost use Rattle.poll_runs.specs.declared.bench.Next.TheVariants.{Absent};
@@ -14,7 +14,7 @@ ghost use Rattle.napi_calls.specs.Made.{Made};
 ghost use Rattle.napi_calls.specs.Seats.{SameSeat};
 ghost use Rattle.poll_shared.specs.Tries.{Tries};
 
-use crate::seat::{Hold, Seat};
+use crate::seat::{HandleState, SharedHandle};
 use napi_calls::{Caller, Napi};
 use poll_runs::{BusyReport, Next, Once, ThreadReport, poll_busy_of, poll_once_of, poll_thread_of};
 use rx_ring::Batch;
@@ -38,9 +38,9 @@ pub fn poll_instance<R: Wait>(
     requires seat { IsSeatOf napi.now caller.pass }
     requires weight { (1 ≤ weight) × (weight ≤ 64) }
     ensures seat { SameSeat caller.pass result.0.pass }
-    ensures made { (deeds : List (Deed Packet))
+    ensures made { (deeds : List (Action Packet))
         × Made caller.pass (operations deeds) result.0.pass
-        × Follows Tries (polled_once thread weight) deeds
+        × Follows Tries (poll_once_plan thread weight) deeds
         (record { once = result.1; packets = batch.new.items }) }
     ensures packets { Delivers caller.pass batch.new.items result.0.pass }
     ensures absent { result.1.next ≡ Absent → batch.new.items ≡ [] }
@@ -48,11 +48,11 @@ pub fn poll_instance<R: Wait>(
     ensures bound { result.1.work ≤ weight }
 {
     batch.clear();
-    let mut seat = Seat {
+    let mut seat = SharedHandle {
         rt,
         napi,
         thread,
-        hold: Hold::Rests(caller),
+        hold: HandleState::Rests(caller),
     };
     let once = poll_once_of(&mut seat, weight, batch);
     (seat.rise(), once)
@@ -76,19 +76,19 @@ pub fn poll_instance_by_thread<R: Wait>(
     requires weight { (1 ≤ weight) × (weight ≤ 64) }
     requires most { (1 ≤ most) × (most ≤ 131072) }
     ensures seat { SameSeat caller.pass result.0.pass }
-    ensures polls { (polls : List Once) × (deeds : List (Deed Packet))
+    ensures polls { (polls : List Once) × (deeds : List (Action Packet))
         × Made caller.pass (operations deeds) result.0.pass
-        × Follows Tries (polled_by_thread true weight most) deeds
+        × Follows Tries (thread_poll_plan true weight most) deeds
         (record { polls = polls; packets = batch.new.items })
         × Delivers caller.pass (given deeds) result.0.pass
         × IsThreadPolling weight most polls result.1 }
 {
     batch.clear();
-    let mut seat = Seat {
+    let mut seat = SharedHandle {
         rt,
         napi,
         thread: true,
-        hold: Hold::Rests(caller),
+        hold: HandleState::Rests(caller),
     };
     let report = poll_thread_of(&mut seat, weight, most, batch);
     (seat.rise(), report)
@@ -114,18 +114,18 @@ pub fn busy_instance<R: Wait>(
     requires rounds { (1 ≤ rounds) × (rounds ≤ 65535) }
     requires weight { (1 ≤ weight) × (weight ≤ 64) }
     ensures seat { SameSeat caller.pass result.0.pass }
-    ensures polls { (deeds : List (Deed Packet))
+    ensures polls { (deeds : List (Action Packet))
         × Made caller.pass (operations deeds) result.0.pass
-        × Follows Tries (polled_busily bytes_of true weight rounds) deeds
+        × Follows Tries (busy_poll_plan bytes_of true weight rounds) deeds
         (record { report = result.1; packets = batch.new.items })
         × Delivers caller.pass (given deeds) result.0.pass }
 {
     batch.clear();
-    let mut seat = Seat {
+    let mut seat = SharedHandle {
         rt,
         napi,
         thread: true,
-        hold: Hold::Rests(caller),
+        hold: HandleState::Rests(caller),
     };
     let report = poll_busy_of(&mut seat, rounds, weight, batch);
     (seat.rise(), report)

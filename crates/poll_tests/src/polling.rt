@@ -26,7 +26,7 @@ const fn once(work: u32, next: Next) -> Once {
 }
 
 /// A disabled instance, with its two callers and packets of these sizes in its ring.
-struct Bed {
+struct PollBed {
     input: RxIn,
     napi: Napi,
     first: Caller,
@@ -51,7 +51,7 @@ fn pop(rt: &impl Abort, napi: &Napi, callers: &mut Vec<Caller>) -> Caller
     caller
 }
 
-fn make_bed(rt: &impl Abort, alloc: Global, capacity: usize, bytes: &[u32]) -> Bed
+fn make_bed(rt: &impl Abort, alloc: Global, capacity: usize, bytes: &[u32]) -> PollBed
     ensures { (ctx : RxCtx) × (ring_of_instance result.napi ≡ ring_name ctx)
         × IsOneRing result.input ctx }
 {
@@ -77,7 +77,7 @@ fn make_bed(rt: &impl Abort, alloc: Global, capacity: usize, bytes: &[u32]) -> B
         panic!(rt; "a third caller")
     };
     callers.destroy_empty();
-    Bed {
+    PollBed {
         input,
         napi,
         first,
@@ -134,7 +134,7 @@ fn closed(
 
 #[test]
 fn an_instance_on_the_list_that_is_being_disabled(rt: HostRuntime) -> Result<(), Fail> {
-    let Bed {
+    let PollBed {
         input,
         napi,
         first,
@@ -165,7 +165,7 @@ fn an_instance_on_the_list_that_is_being_disabled(rt: HostRuntime) -> Result<(),
 fn play_by_thread<R: Abort + Wait>(rt: &R, alloc: Global, most: u32, want: ThreadReport, left: Once)
     requires { (1 ≤ most) × (most ≤ 131072) }
 {
-    let Bed {
+    let PollBed {
         input: _,
         napi,
         first,
@@ -207,7 +207,7 @@ fn a_thread_polls_until_no_repoll_is_asked(rt: HostRuntime) {
 
 #[test]
 fn busy_polling_gives_the_next_packets_and_hands_over(rt: HostRuntime) -> Result<(), Fail> {
-    let Bed {
+    let PollBed {
         input: _,
         napi,
         first,

@@ -9,12 +9,12 @@ use std::test::Fail;
 
 /// Cards with this many packets in all.
 #[derive(Drop)]
-struct Cards {
+struct RunCards {
     /// The packets that no poll returned.
     packets: u32,
 }
 
-impl Bench for Cards {
+impl Bench for RunCards {
     ghost use Rattle.std.specs.Prelude.{⊤};
 
     ghost polls = { λ _ _ _ _ _. ⊤ };
@@ -54,7 +54,7 @@ fn a_list_gives_its_first(rt: HostRuntime) {
 fn a_run_over_a_list_of_one_thread(rt: HostRuntime) {
     let mut list = PlainList::new();
     list.push(3);
-    let mut bench = Cards { packets: 65 };
+    let mut bench = RunCards { packets: 65 };
     let report = run_softirq(&mut list, &mut bench, 300, 64, 1024);
     let wanted = RunReport {
         polls: 1,
@@ -84,7 +84,7 @@ fn a_run_over_a_list_that_threads_share(rt: HostRuntime) -> Result<(), Fail> {
     assert_eq!(rt; list.splice(&mut taken), 2);
     assert_eq!(rt; taken.ids(), [5, 6].as_slice());
     list.put_back(&taken, &SoftList::new());
-    let mut bench = Cards { packets: 1 };
+    let mut bench = RunCards { packets: 1 };
     assert_eq!(rt; run_softirq(&mut list, &mut bench, 300, 64, 1024).polls, 2);
     Ok(())
 }
@@ -121,7 +121,7 @@ fn poll_in_each_way<B: Bench>(bench: &mut B) -> (Once, ThreadReport, BusyReport)
 
 #[test]
 fn a_bench_of_a_list_has_no_other_polls(rt: HostRuntime) {
-    let mut cards = Cards { packets: 10 };
+    let mut cards = RunCards { packets: 10 };
     let (once, by_thread, busily) = poll_in_each_way(&mut cards);
     assert_eq!(rt; once.work, 2);
     assert_eq!(rt; (by_thread, busily), (ThreadReport::NONE, BusyReport::NONE));

@@ -1,6 +1,6 @@
 -- What the pollers of a run hold of its instances.
 use Rattle.poll_workers.specs.Outcomes.{AreSeatsAt, IsSeatWith, Outcome, TakesNext}
-use Rattle.napi_calls.specs.declared.kept.Kept.{Kept}
+use Rattle.napi_calls.specs.declared.kept.DropBomb.{DropBomb}
 use Rattle.std.proofs.Common.{◌≡◌, ◌≢◌, ℕ, suc, ◌-◌, ◌%◌, ◌<◌, Bool, true, false, cond, List, []}
 use Rattle.std.proofs.Common.{length, map, vec_items, sym, append-nil, append_assoc, arith, get_or}
 use Rattle.std.proofs.lemmas.{Bool.{eqb-true, ne_eqb}, List.{get_or_default, length-set, map-append}}
@@ -22,26 +22,26 @@ not_other pollers number k n own ne =
 -- ---- the seats of a poller
 
 -- they went to its stations so far, and are among the remaining ones
-pub record HasGiven {R D G : Type 0} (pollers : ℕ) (before : List (Vec (Kept R Seat))) (did : List (Outcome R D G))
-    (left : List (InterruptWorker R D G)) (k : ℕ) (turned : Vec (Kept R Seat)) : Type 0 where
+pub record HasGiven {R D G : Type 0} (pollers : ℕ) (before : List (Vec (DropBomb R Seat))) (did : List (Outcome R D G))
+    (left : List (InterruptWorker R D G)) (k : ℕ) (turned : Vec (DropBomb R Seat)) : Type 0 where
   pub rest : AreSeatsAt pollers left k turned
-  pub gone : (d : Vec (Kept R Seat))
+  pub gone : (d : Vec (DropBomb R Seat))
       → map (λ o. o.poller) (filter (λ o. is_own k pollers o.worker.handler.number) did) ++ vec_items turned ≡ vec_items (get_or before k d)
 
-pub none_given : {R D G : Type 0} (pollers : ℕ) (before : List (Vec (Kept R Seat))) (left : List (InterruptWorker R D G))
+pub none_given : {R D G : Type 0} (pollers : ℕ) (before : List (Vec (DropBomb R Seat))) (left : List (InterruptWorker R D G))
     → EachAt (AreSeatsAt pollers left) before → EachAt (HasGiven {R = R} {D = D} {G = G} pollers before [] left) before
 none_given {R} {D} {G} pollers before left each k d low = record {
   rest = each k d low;
-  gone = λ e. ap (λ (t : Vec (Kept R Seat)). vec_items t) (get_or_default before k d e low);
+  gone = λ e. ap (λ (t : Vec (DropBomb R Seat)). vec_items t) (get_or_default before k d e low);
 }
 
-pub given_at : {R D G : Type 0} (pollers : ℕ) (before : List (Vec (Kept R Seat))) (did : List (Outcome R D G))
-    (all left : List (InterruptWorker R D G)) (polled : List (Vec (Kept R Seat)))
+pub given_at : {R D G : Type 0} (pollers : ℕ) (before : List (Vec (DropBomb R Seat))) (did : List (Outcome R D G))
+    (all left : List (InterruptWorker R D G)) (polled : List (Vec (DropBomb R Seat)))
     → all ≡ left → EachAt (HasGiven pollers before did all) polled → EachAt (HasGiven pollers before did left) polled
 given_at pollers before did all left polled e each k d low =
     subst (λ l. HasGiven pollers before did l k (get_or polled k d)) e (each k d low)
 
-pub all_given : {R D G : Type 0} (pollers : ℕ) (before after : List (Vec (Kept R Seat))) (did : List (Outcome R D G))
+pub all_given : {R D G : Type 0} (pollers : ℕ) (before after : List (Vec (DropBomb R Seat))) (did : List (Outcome R D G))
     → length after ≡ length before → EachAt (HasGiven pollers before did []) after
     → EachAt (λ k turned. map (λ o. o.poller) (filter (λ o. is_own k pollers o.worker.handler.number) did) ≡ vec_items turned) before
 all_given {R} {D} {G} pollers before after did long each k d low =
@@ -51,28 +51,28 @@ all_given {R} {D} {G} pollers before after did long each k d low =
     (sym (zip_nil {A = InterruptWorker R D G} (λ p kept. IsSeatWith p kept) (vec_items (get_or after k d)) h.rest))
     ∙ h.gone d
 
-module _ {R D G : Type 0} (pollers : ℕ) (before : List (Vec (Kept R Seat))) (did : List (Outcome R D G)) (place : InterruptWorker R D G)
+module _ {R D G : Type 0} (pollers : ℕ) (before : List (Vec (DropBomb R Seat))) (did : List (Outcome R D G)) (place : InterruptWorker R D G)
     (left : List (InterruptWorker R D G)) where
-  abbrev Goes : InterruptWorker R D G → Kept R Seat → Type 0
+  abbrev Goes : InterruptWorker R D G → DropBomb R Seat → Type 0
   Goes p kept = IsSeatWith p kept
 
   abbrev own_left : ℕ → List (InterruptWorker R D G)
   own_left k = filter (λ (p : InterruptWorker R D G). is_own k pollers p.handler.number) left
 
-  own_first : (k : ℕ) (was : Vec (Kept R Seat)) → is_own k pollers place.handler.number ≡ true
+  own_first : (k : ℕ) (was : Vec (DropBomb R Seat)) → is_own k pollers place.handler.number ≡ true
       → HasGiven pollers before did (place ∷ left) k was → AllZip Goes (place ∷ own_left k) (vec_items was)
   own_first k was own h = subst (λ b. AllZip Goes (cond b (place ∷ own_left k) (own_left k)) (vec_items was)) own h.rest
 
   -- there is one for the current station, and it is at its instance
-  pub some_left : (polled : List (Vec (Kept R Seat))) (k : ℕ) (was : Vec (Kept R Seat))
+  pub some_left : (polled : List (Vec (DropBomb R Seat))) (k : ℕ) (was : Vec (DropBomb R Seat))
       → is_own k pollers place.handler.number ≡ true → k < length polled → EachAt (HasGiven pollers before did (place ∷ left)) polled
       → get_or polled k was ≡ was → suc (length (own_left k)) ≡ length (vec_items was)
   some_left polled k was own within each there =
       zip_long Goes (place ∷ own_left k) (vec_items was)
       (own_first k was own (subst (λ t. HasGiven pollers before did (place ∷ left) k t) there (each k was within)))
 
-  pub next_at : (polled : List (Vec (Kept R Seat))) (k : ℕ) (caller : Kept R Seat)
-      (after : List (Vec (Kept R Seat)))
+  pub next_at : (polled : List (Vec (DropBomb R Seat))) (k : ℕ) (caller : DropBomb R Seat)
+      (after : List (Vec (DropBomb R Seat)))
       → is_own k pollers place.handler.number ≡ true → k < length polled → EachAt (HasGiven pollers before did (place ∷ left)) polled
       → TakesNext polled k caller after → IsSeatWith place caller
   next_at polled k caller after own within each t =
@@ -83,7 +83,7 @@ module _ {R D G : Type 0} (pollers : ℕ) (before : List (Vec (Kept R Seat))) (d
     abbrev by : ℕ → Outcome R D G → Bool
     by k o = is_own k pollers o.worker.handler.number
 
-    given_own : (k : ℕ) (was now : Vec (Kept R Seat)) → is_own k pollers place.handler.number ≡ true
+    given_own : (k : ℕ) (was now : Vec (DropBomb R Seat)) → is_own k pollers place.handler.number ≡ true
         → HasGiven pollers before did (place ∷ left) k was → vec_items was ≡ o.poller ∷ vec_items now
         → HasGiven pollers before (did ++ o ∷ []) left k now
     given_own k was now own h first = record {
@@ -95,7 +95,7 @@ module _ {R D G : Type 0} (pollers : ℕ) (before : List (Vec (Kept R Seat))) (d
           ∙ ap (λ l. map (λ o. o.poller) (filter (by k) did) ++ l) (sym first) ∙ h.gone d;
     }
 
-    given_other : (k : ℕ) (x : Vec (Kept R Seat)) → is_own k pollers place.handler.number ≡ false
+    given_other : (k : ℕ) (x : Vec (DropBomb R Seat)) → is_own k pollers place.handler.number ≡ false
         → HasGiven pollers before did (place ∷ left) k x → HasGiven pollers before (did ++ o ∷ []) left k x
     given_other k x others h = record {
       rest = subst (λ b. AllZip Goes (cond b (place ∷ own_left k) (own_left k)) (vec_items x)) others h.rest;
@@ -105,7 +105,7 @@ module _ {R D G : Type 0} (pollers : ℕ) (before : List (Vec (Kept R Seat))) (d
     }
 
     -- the next one goes to the current station
-    pub given_more : (polled : List (Vec (Kept R Seat))) (k : ℕ) (after : List (Vec (Kept R Seat)))
+    pub given_more : (polled : List (Vec (DropBomb R Seat))) (k : ℕ) (after : List (Vec (DropBomb R Seat)))
         → is_own k pollers place.handler.number ≡ true → k < length polled → EachAt (HasGiven pollers before did (place ∷ left)) polled
         → TakesNext polled k o.poller after → EachAt (HasGiven pollers before (did ++ o ∷ []) left) after
     given_more polled k after own within each t =

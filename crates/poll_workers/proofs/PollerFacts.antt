@@ -4,7 +4,7 @@ use Rattle.std.proofs.Common.{length, ap, sym, subst, get_or, arith, append-nil}
 use Rattle.std.{proofs.{Common.{cond, vec_items}, lemmas.List.length-set}, specs.{Global.Vec, Prelude.{filter, vec_capacity}}}
 use Rattle.poll_tasks.proofs.ListFacts.{each_set, filter_fewer, filter_more}
 use Rattle.{poll_interrupts.specs.Deals.is_own, poll_workers.proofs.EndFacts.not_other}
-use Rattle.{napi_calls.specs.declared.kept.Kept.Kept, poll_seats.specs.declared.seat.Seat.Seat}
+use Rattle.{napi_calls.specs.declared.kept.DropBomb.DropBomb, poll_seats.specs.declared.seat.Seat.Seat}
 use Rattle.poll_workers.specs.Spreads.{AreEndsOf, HaveOwn, IsEndOf, TakesSeat}
 use Rattle.std.proofs.Common.{All, set, zero, suc}
 use Rattle.poll_list.specs.declared.{list_in.ListIn.ListIn, shared.SharedList.SharedList}
@@ -12,16 +12,16 @@ use Rattle.poll_tasks.specs.{Tasks.IsAt, declared.signals.Bell.Bell}
 use Rattle.poll_interrupts.specs.Deals.{poller_by}
 use Rattle.std.proofs.lemmas.Bool.{eqb-true}
 
-module _ {R : Type 0} (count pollers : ℕ) (sat : List (Kept R Seat)) (seats : List (Vec (Kept R Seat))) (k : ℕ)
+module _ {R : Type 0} (count pollers : ℕ) (sat : List (DropBomb R Seat)) (seats : List (Vec (DropBomb R Seat))) (k : ℕ)
     (have : HaveOwn count pollers sat seats) (within : k < length seats) where
-  abbrev by : ℕ → Kept R Seat → Bool
+  abbrev by : ℕ → DropBomb R Seat → Bool
   by n s = is_own n pollers s.value.number
 
-  abbrev Own : List (Kept R Seat) → ℕ → Vec (Kept R Seat) → Type 0
+  abbrev Own : List (DropBomb R Seat) → ℕ → Vec (DropBomb R Seat) → Type 0
   Own l n own = (vec_items own ≡ filter (by n) l) × (count ≤ vec_capacity own)
 
   -- there is room for one more
-  pub has_room : (own : Vec (Kept R Seat)) → get_or seats k own ≡ own → length sat < count
+  pub has_room : (own : Vec (DropBomb R Seat)) → get_or seats k own ≡ own → length sat < count
       → length (vec_items own) < vec_capacity own
   has_room own there few =
       let p = subst (λ t. Own sat k t) there (have k own within) in
@@ -30,7 +30,7 @@ module _ {R : Type 0} (count pollers : ℕ) (sat : List (Kept R Seat)) (seats : 
       omega (arith, long, fewer, few, p.1)
 
   -- one more was given to its poller
-  pub one_more : (seat : Kept R Seat) (after : List (Vec (Kept R Seat))) → is_own k pollers seat.value.number ≡ true
+  pub one_more : (seat : DropBomb R Seat) (after : List (Vec (DropBomb R Seat))) → is_own k pollers seat.value.number ≡ true
       → TakesSeat seats k seat after
       → HaveOwn count pollers (sat ++ seat ∷ []) after
   one_more seat after own t =
@@ -47,7 +47,7 @@ module _ {R : Type 0} (count pollers : ℕ) (sat : List (Kept R Seat)) (seats : 
         (let c = t.capacity in omega (arith, c, p.1)),
       )
 
-      other : (n : ℕ) (x : Vec (Kept R Seat)) → n ≢ k → Own sat n x → Own (sat ++ seat ∷ []) n x
+      other : (n : ℕ) (x : Vec (DropBomb R Seat)) → n ≢ k → Own sat n x → Own (sat ++ seat ∷ []) n x
       other n x ne q = (
         q.0 ∙ sym (filter_more (by n) sat seat
             ∙ ap (λ b. filter (by n) sat ++ cond b (seat ∷ []) []) (not_other pollers seat.value.number k n own ne)

@@ -25,8 +25,8 @@ use Rattle.poll_seats.specs.{Serving.IsServed, Turns.{TurnsAlone, TurnsByRun, ha
 use Rattle.poll_seats.specs.declared.{seat.Seat.Seat, poller.Poller.Poller, list_poller.ListPoller.ListPoller}
 use Rattle.poll_seats.specs.declared.thread_poller.ThreadPoller.{ThreadPoller}
 use Rattle.poll_seats.{specs.Gives.{IsPolled}, proofs.SeatFacts.{seats_stay, seat_stays, served_alone, served_keeps}}
-use Rattle.napi_calls.specs.declared.{kept.Kept.Kept, types.{Caller.Caller, Napi.Napi}}
-use Rattle.napi_calls.specs.{Instance.IsSeatOf, Seats.{number_of, own_list}}
+use Rattle.napi_calls.specs.declared.{kept.DropBomb.DropBomb, types.{Caller.Caller, Napi.Napi}}
+use Rattle.napi_calls.specs.{Instance.IsSeatOf, Seats.{pass_number, own_list}}
 use Rattle.poll_workers.specs.Courses.{ArePolled, Course, HasPolled, HasTurned, HaveRun, IsCourse, IsCrew, IsFreshSeat, Pushes, TakesTurns}
 use Rattle.poll_workers.specs.{Courses.TurnsIfThread, Finishes.{IsFinished, IsWorkedOf}, Spreads.{AreEndsOf, ArePollers, IsEndOf}}
 use Rattle.poll_workers.specs.Spreads.{IsJobAt, IsKeptJobOf, IsKeptSeatFor, IsKeptThreadFor, IsNewEnd, IsPoller, IsSeatAt, IsThreadAt}
@@ -49,8 +49,8 @@ capped_small n h = omega arith
 
 -- the state of a station's worker after all its acts
 module _ {R D G : Type 0} (acts : D → ℕ) (answer : D → ℕ → Act) (after : D → ℕ → D) (answers : ℕ → ℕ → Bool → Type 0)
-    (lists : List (SharedList R)) (pollers : ℕ) (station : Station D) (loose : Kept R (Loose D)) (worked : InterruptWorker R D G)
-    (poller : Kept R Seat) (thread : OwnThread R G) (left : Loose D) (end : Finished D) (opened : IsLoose station loose.value)
+    (lists : List (SharedList R)) (pollers : ℕ) (station : Station D) (loose : DropBomb R (Loose D)) (worked : InterruptWorker R D G)
+    (poller : DropBomb R Seat) (thread : OwnThread R G) (left : Loose D) (end : Finished D) (opened : IsLoose station loose.value)
     (made : IsWorkedOf acts answer after answers lists pollers loose worked) (whole : worked.stop ≡ None)
     (taken : IsLeftBy worked poller thread left) (ended : IsFinishOf left end) where
   run_of : HasRun answer after station.capacity station.thread station.device (acts station.device) end.closed end.totals
@@ -63,10 +63,10 @@ module _ {R D G : Type 0} (acts : D → ℕ) (answer : D → ℕ → Act) (after
       let left = ledger_of seats worked.rx (done.run whole).0 in
       let w : Whose =
       record { caller = worker_number; controller = controller_number; places = station.capacity; thread = station.thread } in
-      let number : number_of work.seats.value.caller.pass ≡ worker_number =
-      ap (λ (s : OwnSeats). number_of s.caller.pass) made.seats ∙ new.caller.number_is in
-      let controller : number_of work.seats.value.control.pass ≡ controller_number =
-      ap (λ (s : OwnSeats). number_of s.control.pass) made.seats ∙ new.number in
+      let number : pass_number work.seats.value.caller.pass ≡ worker_number =
+      ap (λ (s : OwnSeats). pass_number s.caller.pass) made.seats ∙ new.caller.number_is in
+      let controller : pass_number work.seats.value.control.pass ≡ controller_number =
+      ap (λ (s : OwnSeats). pass_number s.control.pass) made.seats ∙ new.number in
       let same_whose : whose work.seats.value work.rx (loose.value.has_thread) ≡ w = λ i. record {
         caller = number i;
         controller = controller i;
@@ -91,8 +91,8 @@ module _ {R D G : Type 0} (acts : D → ℕ) (answer : D → ℕ → Act) (after
         left = left;
         works = subst (λ (l : Ledger). WorksBy w answer after station.device (acts station.device) l left) nothing by_device;
         numbers = (
-          ap (λ p. number_of p) as_worker ∙ done.same.0 ∙ number,
-          ap (λ p. number_of p) as_control ∙ done.same.1 ∙ controller,
+          ap (λ p. pass_number p) as_worker ∙ done.same.0 ∙ number,
+          ap (λ p. pass_number p) as_control ∙ done.same.1 ∙ controller,
         );
         calls_are = ap (λ p. own_list p) as_worker;
         controls_are = ap (λ p. own_list p) as_control;
@@ -153,11 +153,11 @@ module _ {R D G : Type 0} (acts : D → ℕ) (answer : D → ℕ → Act) (after
     (asked : ℕ → Type 0) (pace : Pace) (lists : List (SharedList R)) (pollers : ℕ) where
   -- the worker of this station ended in this state, and so did its thread
   abbrev Works : Station D → InterruptWorker R D G → Type 0
-  Works station worked = (loose : Kept R (Loose D)) × IsKeptLoose station loose
+  Works station worked = (loose : DropBomb R (Loose D)) × IsKeptLoose station loose
       × IsWorkedOf acts answer after answers lists pollers loose worked
 
   abbrev Turns : Station D → OwnThread R G → Type 0
-  Turns station thread = (loose : Kept R (Loose D)) × IsKeptLoose station loose × HasTurned asked pace lists pollers loose thread
+  Turns station thread = (loose : DropBomb R (Loose D)) × IsKeptLoose station loose × HasTurned asked pace lists pollers loose thread
 
   abbrev IsLeft : Outcome R D G → Type 0
   IsLeft o = IsLeftBy o.worker o.poller o.thread o.loose.value
@@ -236,8 +236,8 @@ pub each_of : {A : Type 0} (P : A → Type 0) (xs : List A) → All P xs → All
 each_of P [] h = tt
 each_of P (x ∷ xs) h = (h 0 x (omega arith), each_of P xs (λ k d b. h (suc k) d (omega arith)))
 
-fresh_of : {R D : Type 0} (station : Station D) (seat : Kept R Seat)
-    → (loose : Kept R (Loose D)) × IsKeptLoose station loose × IsKeptSeatFor loose seat → IsFreshSeat station seat
+fresh_of : {R D : Type 0} (station : Station D) (seat : DropBomb R Seat)
+    → (loose : DropBomb R (Loose D)) × IsKeptLoose station loose × IsKeptSeatFor loose seat → IsFreshSeat station seat
 fresh_of station seat (loose, opened, for) =
     record {
       number = for.number ∙ opened.same_number;
@@ -256,7 +256,8 @@ crew_is R asked pace lists pollers number (c ∷ cs) turns = turns (λ e. absurd
 
 -- what the threads of a run return if none failed
 module _ {R D G : Type 0} (acts : D → ℕ) (answer : D → ℕ → Act) (after : D → ℕ → D) (answers : G → ℕ → ℕ → Bool → Type 0)
-    (setting : Setting R G) (lists : List (SharedList R)) (pollers : ℕ) (stations : List (Station D)) (loose left : List (Kept R (Loose D)))
+    (setting : Setting R G) (lists : List (SharedList R)) (pollers : ℕ) (stations : List (Station D))
+    (loose left : List (DropBomb R (Loose D)))
     (opened : AllZip IsKeptLoose stations loose) (ran : HaveRun acts answer after answers setting lists pollers loose left)
     (ends : List (Finished D)) (finish : AllZip IsKeptFinishOf left ends) where
   abbrev asked : ℕ → Type 0
@@ -293,7 +294,7 @@ module _ {R D G : Type 0} (acts : D → ℕ) (answer : D → ℕ → Act) (after
     after = vec_items p.served.seat_bench.seats;
     from = fresh;
     turns = has.turns did (λ none. some (zip_empty _ _ _ (zip_flip _ _ _ fresh) none));
-    to = subst (λ l. AllZip (λ (c : Course D) (seat : Kept R Seat). seat.value.caller ≡ Some c.end.closed.poller.value) own l) back
+    to = subst (λ l. AllZip (λ (c : Course D) (seat : DropBomb R Seat). seat.value.caller ≡ Some c.end.closed.poller.value) own l) back
         (zip_to_mapped (λ o. o.poller) _ own _ (zip_same _ _ _ _ (λ c o h. h.0) beside));
   })
     where
@@ -379,7 +380,7 @@ some_is {x = x} e = ap (λ o. unwrap_or o x) e
 
 module _ {R D G : Type 0} (acts : D → ℕ) (answer : D → ℕ → Act) (after : D → ℕ → D) (may_shut : Type 0)
     (answers : G → ℕ → ℕ → Bool → Type 0) (setting : Setting R G) (lists : List (SharedList R)) (bells : List Bell) where
-  worked_of : (loose : Kept R (Loose D)) (job done : InterruptWorker R D G) → IsKeptJobOf setting loose job → IsWiredJob lists bells job
+  worked_of : (loose : DropBomb R (Loose D)) (job done : InterruptWorker R D G) → IsKeptJobOf setting loose job → IsWiredJob lists bells job
       → IsWorked acts answer after may_shut answers job done
       → IsWorkedOf acts answer after (answers setting.gate.now) lists (length bells) loose done
   worked_of loose job done given wired made = record {
@@ -398,33 +399,34 @@ module _ {R D G : Type 0} (acts : D → ℕ) (answer : D → ℕ → Act) (after
       IsDone : (ℕ → ℕ → Bool → Type 0) → Bool → ℕ → Type 0
       IsDone asks thread number = IsDoneBy acts answer after asks job.handler.napi.now thread number job done
 
-  pub all_worked : (loose : List (Kept R (Loose D))) (jobs done : List (InterruptWorker R D G)) → AllZip (IsKeptJobOf setting) loose jobs
+  pub all_worked : (loose : List (DropBomb R (Loose D))) (jobs done : List (InterruptWorker R D G))
+      → AllZip (IsKeptJobOf setting) loose jobs
       → AllByRecursion (IsWiredJob lists bells) jobs → AllZip (IsWorked acts answer after may_shut answers) jobs done
       → AllZip (IsWorkedOf acts answer after (answers setting.gate.now) lists (length bells)) loose done
   all_worked loose jobs done given wired made =
       zip_same _ _ _ _ (λ l d h. worked_of l h.0 d h.1.0 h.1.1 h.2) (zip_both _ _ _ _ _ (zip_right _ _ _ _ given wired) made)
 
   -- the worker came back at the instance that stayed with the caller
-  pub record IsBackAt (placed : Kept R Placed) (done : InterruptWorker R D G) : Type 0 where
+  pub record IsBackAt (placed : DropBomb R Placed) (done : InterruptWorker R D G) : Type 0 where
     pub number : done.handler.number ≡ placed.value.number
     pub napi : done.handler.napi.now ≡ placed.value.napi
     pub seats : AreSeatsOf placed.value.napi done.seats.value
-    pub controller : number_of done.seats.value.control.pass ≡ controller_number
+    pub controller : pass_number done.seats.value.control.pass ≡ controller_number
     pub ring : IsInputOf done.rx placed.value.napi
     pub home : IsHome placed.value
 
-  back_at : (placed : Kept R Placed) (loose : Kept R (Loose D)) (job done : InterruptWorker R D G) → IsKeptSideOf loose placed
+  back_at : (placed : DropBomb R Placed) (loose : DropBomb R (Loose D)) (job done : InterruptWorker R D G) → IsKeptSideOf loose placed
       → IsKeptJobOf setting loose job → IsJobAt placed job → IsWorked acts answer after may_shut answers job done → IsBackAt placed done
   back_at placed loose job done side given at made = record {
     number = ap (λ (h : InterruptHandler R). h.number) made.same_handler ∙ given.same_number ∙ sym side.part.number;
     napi = ap (λ (h : InterruptHandler R). h.napi.now) made.same_handler ∙ at;
     seats = subst (λ (n : Napi). AreSeatsOf n done.seats.value) at made.is.seats;
-    controller = made.is.same.1 ∙ ap (λ (s : OwnSeats). number_of s.control.pass) given.same_seats ∙ side.part.controller;
+    controller = made.is.same.1 ∙ ap (λ (s : OwnSeats). pass_number s.control.pass) given.same_seats ∙ side.part.controller;
     ring = same_ring loose.value.rx job.rx done.rx placed.value.napi given.same_rx made.is.ring side.part.ring;
     home = side.part.home;
   }
 
-  pub all_back_at : (placed : List (Kept R Placed)) (loose : List (Kept R (Loose D))) (jobs done : List (InterruptWorker R D G))
+  pub all_back_at : (placed : List (DropBomb R Placed)) (loose : List (DropBomb R (Loose D))) (jobs done : List (InterruptWorker R D G))
       → AllZip IsKeptSideOf loose placed → AllZip (IsKeptJobOf setting) loose jobs → AllZip IsJobAt placed jobs
       → AllZip (IsWorked acts answer after may_shut answers) jobs done → AllZip IsBackAt placed done
   all_back_at placed loose jobs done sides given at made =
@@ -438,19 +440,19 @@ module _ {R D G : Type 0} (acts : D → ℕ) (answer : D → ℕ → Act) (after
 
   -- ---- the parts after the threads have ended
 
-  part_of : (placed : Kept R Placed) (o : Outcome R D G) → IsBackAt placed o.worker
+  part_of : (placed : DropBomb R Placed) (o : Outcome R D G) → IsBackAt placed o.worker
       → IsLeftBy o.worker o.poller o.thread o.loose.value → IsKeptPartOf o.loose placed
   part_of placed o back taken = record {
     number = sym (taken.number ∙ back.number);
     seats = subst (λ (s : OwnSeats). AreSeatsOf placed.value.napi s) (sym taken.seats) back.seats;
-    controller = ap (λ (s : OwnSeats). number_of s.control.pass) taken.seats ∙ back.controller;
+    controller = ap (λ (s : OwnSeats). pass_number s.control.pass) taken.seats ∙ back.controller;
     poller = subst (λ (n : Napi). IsSeatOf n o.loose.value.poller.pass) back.napi taken.poller_of;
     thread = subst (λ (n : Napi). IsSeatOf n o.loose.value.thread.pass) back.napi taken.thread_of;
     ring = subst (λ (r : RxIn). IsInputOf r placed.value.napi) (sym taken.rx) back.ring;
     home = back.home;
   }
 
-  parts_of : (placed : List (Kept R Placed)) (all : List (Outcome R D G)) → AllZip IsBackAt placed (map (λ o. o.worker) all)
+  parts_of : (placed : List (DropBomb R Placed)) (all : List (Outcome R D G)) → AllZip IsBackAt placed (map (λ o. o.worker) all)
       → AllByRecursion (λ (o : Outcome R D G). IsLeftBy o.worker o.poller o.thread o.loose.value) all
       → AllZip IsKeptPartOf (map (λ o. o.loose) all) placed
   parts_of [] [] back taken = tt
@@ -458,8 +460,8 @@ module _ {R D G : Type 0} (acts : D → ℕ) (answer : D → ℕ → Act) (after
   parts_of (p ∷ ps) [] back taken = absurd back
   parts_of (p ∷ ps) (o ∷ os) back taken = (part_of p o back.0 taken.0, parts_of ps os back.1 taken.1)
 
-  pub all_parts : (placed : List (Kept R Placed)) (workers : List (InterruptWorker R D G)) (seats : List (Vec (Kept R Seat)))
-      (threads : List (OwnThread R G)) (left : List (Kept R (Loose D))) → AllZip IsBackAt placed workers
+  pub all_parts : (placed : List (DropBomb R Placed)) (workers : List (InterruptWorker R D G)) (seats : List (Vec (DropBomb R Seat)))
+      (threads : List (OwnThread R G)) (left : List (DropBomb R (Loose D))) → AllZip IsBackAt placed workers
       → AreLeftBy workers seats threads left → AllZip IsKeptPartOf left placed
   all_parts placed workers seats threads left back by =
       subst (λ l. AllZip IsKeptPartOf l placed) by.loose_are
@@ -467,7 +469,7 @@ module _ {R D G : Type 0} (acts : D → ℕ) (answer : D → ℕ → Act) (after
 
   -- ---- the pollers
 
-  seat_with : (placed : Kept R Placed) (done : InterruptWorker R D G) (seat after : Kept R Seat) → IsBackAt placed done
+  seat_with : (placed : DropBomb R Placed) (done : InterruptWorker R D G) (seat after : DropBomb R Seat) → IsBackAt placed done
       → IsSeatAt placed seat → IsSameSeat seat.value after.value → IsSeatWith done after
   seat_with placed done seat after back at same = record {
     napi = ap (λ b. b.now) same.napi ∙ at.napi ∙ sym back.napi;
@@ -484,8 +486,8 @@ module _ {R D G : Type 0} (acts : D → ℕ) (answer : D → ℕ → Act) (after
           (sym same) (seats_stay _)
       keeps b a (inr served) = served_keeps b a served
 
-  module _ (n : ℕ) (placed : List (Kept R Placed)) (loose : List (Kept R (Loose D))) (workers : List (InterruptWorker R D G))
-      (sat : List (Kept R Seat)) (pollers polled : List (OwnPoller R G))
+  module _ (n : ℕ) (placed : List (DropBomb R Placed)) (loose : List (DropBomb R (Loose D))) (workers : List (InterruptWorker R D G))
+      (sat : List (DropBomb R Seat)) (pollers polled : List (OwnPoller R G))
       (back : AllZip IsBackAt placed workers) (at : AllZip IsSeatAt placed sat) (for : AllZip IsKeptSeatFor loose sat)
       (have : ArePollers setting bells n sat pollers)
       (did : AllZip (IsPolled has_no_seat TurnsByRun may_shut answers) pollers polled)
@@ -495,14 +497,15 @@ module _ {R D G : Type 0} (acts : D → ℕ) (answer : D → ℕ → Act) (after
       pub has : HasPolled (IsAsked answers setting.gate.now) setting.pace lists n loose k poller
 
     came_back : (k : ℕ) (after before : OwnPoller R G) → IsAt pollers k before
-        → IsPoller setting bells (filter (λ (s : Kept R Seat). is_own k n s.value.number) sat) k before
+        → IsPoller setting bells (filter (λ (s : DropBomb R Seat). is_own k n s.value.number) sat) k before
         → IsPolled has_no_seat TurnsByRun may_shut answers before after → CameBack k after
     came_back k after before at_k p did =
         let by : ℕ → Bool = λ m. is_own k n m in
-        let own : List (Kept R Seat) = filter (λ (s : Kept R Seat). by s.value.number) sat in
+        let own : List (DropBomb R Seat) = filter (λ (s : DropBomb R Seat). by s.value.number) sat in
         let ends = vec_items after.served.seat_bench.seats in
         let same : AreSameSeats own ends = subst (λ l. AreSameSeats l ends) p.seats_are (polled_keeps before after did) in
-        let Beside : InterruptWorker R D G → Kept R Seat → Type 0 = λ w s. (place : Kept R Placed) × IsBackAt place w × IsSeatAt place s in
+        let Beside : InterruptWorker R D G → DropBomb R Seat
+        → Type 0 = λ w s. (place : DropBomb R Placed) × IsBackAt place w × IsSeatAt place s in
         let both : AllZip Beside workers sat = zip_both _ _ _ _ _ (zip_flip _ _ _ back) at in
         let places : AllZip Beside (filter (λ (w : InterruptWorker R D G). by w.handler.number) workers) own =
         zip_filtered Beside _ _ workers sat (λ w s h. ap by (h.1.number ∙ sym h.2.number)) both in
@@ -533,7 +536,7 @@ module _ {R D G : Type 0} (acts : D → ℕ) (answer : D → ℕ → Act) (after
     all_came : (k : ℕ) (d : OwnPoller R G) → k < length polled → CameBack k (get_or polled k d)
     all_came k d low =
         let Mine : ℕ → OwnPoller R G → Type 0 =
-        λ k p. IsAt pollers k p × IsPoller setting bells (filter (λ (s : Kept R Seat). is_own k n s.value.number) sat) k p in
+        λ k p. IsAt pollers k p × IsPoller setting bells (filter (λ (s : DropBomb R Seat). is_own k n s.value.number) sat) k p in
         let h = each_zip Mine (IsPolled has_no_seat TurnsByRun may_shut answers) pollers polled did
         (λ k d low. ((low, sym (get_or_default pollers k d (get_or pollers k d) low)), have k d low)) k d low in
         came_back k (get_or polled k d) h.0 h.1.0 h.1.1 h.2
@@ -548,7 +551,7 @@ module _ {R D G : Type 0} (acts : D → ℕ) (answer : D → ℕ → Act) (after
 
   -- ---- the threads of instances
 
-  thread_with : (placed : Kept R Placed) (done : InterruptWorker R D G) (before after : OwnThread R G) → IsBackAt placed done
+  thread_with : (placed : DropBomb R Placed) (done : InterruptWorker R D G) (before after : OwnThread R G) → IsBackAt placed done
       → IsThreadAt placed before → IsPolled has_no_thread TurnsAlone may_shut answers before after → IsThreadWith done after
   thread_with placed done before after back at p = seat_with placed done before.served.seat after.served.seat back at.seat
       (keeps before.served after.served p.kept)
@@ -557,7 +560,7 @@ module _ {R D G : Type 0} (acts : D → ℕ) (answer : D → ℕ → Act) (after
       keeps b a (inl same) = subst (λ (x : ThreadPoller R). IsSameSeat b.seat.value x.seat.value) (sym same) (seat_stays b.seat.value)
       keeps b a (inr served) = served_alone b a served
 
-  pub all_threads_with : (placed : List (Kept R Placed)) (workers : List (InterruptWorker R D G)) (sides threads : List (OwnThread R G))
+  pub all_threads_with : (placed : List (DropBomb R Placed)) (workers : List (InterruptWorker R D G)) (sides threads : List (OwnThread R G))
       → AllZip IsBackAt placed workers → AllZip IsThreadAt placed sides
       → AllZip (IsPolled has_no_thread TurnsAlone may_shut answers) sides threads → AllZip IsThreadWith workers threads
   all_threads_with placed workers sides threads back at did =
@@ -565,7 +568,7 @@ module _ {R D G : Type 0} (acts : D → ℕ) (answer : D → ℕ → Act) (after
       (zip_both _ _ _ _ _ (zip_both _ _ _ _ _ (zip_flip _ _ _ back) at) did)
 
   -- and these took their turns
-  turned_by : (loose : Kept R (Loose D)) (side thread : OwnThread R G) (has : Bool) → is_some side.served.seat.value.thread ≡ has
+  turned_by : (loose : DropBomb R (Loose D)) (side thread : OwnThread R G) (has : Bool) → is_some side.served.seat.value.thread ≡ has
       → IsKeptThreadFor setting loose side → IsWiredSide lists bells side
       → IsPolled has_no_thread TurnsAlone may_shut answers side thread → thread.stop ≡ None
       → (after : Caller) → thread.served.seat.value.caller ≡ Some after
@@ -591,7 +594,8 @@ module _ {R D G : Type 0} (acts : D → ℕ) (answer : D → ℕ → Act) (after
         },
       )
 
-  pub all_turned : (loose : List (Kept R (Loose D))) (sides threads : List (OwnThread R G)) → AllZip (IsKeptThreadFor setting) loose sides
+  pub all_turned : (loose : List (DropBomb R (Loose D))) (sides threads : List (OwnThread R G))
+      → AllZip (IsKeptThreadFor setting) loose sides
       → AllByRecursion (IsWiredSide lists bells) sides → AllZip (IsPolled has_no_thread TurnsAlone may_shut answers) sides threads
       → AllZip (HasTurned (IsAsked answers setting.gate.now) setting.pace lists (length bells)) loose threads
   all_turned loose sides threads for wired did =

@@ -6,7 +6,8 @@ use Rattle.poll_seats.specs.declared.{poller.Poller.Poller, list_poller.ListPoll
 use Rattle.poll_interrupts.specs.declared.worker.InterruptWorker.{InterruptWorker}
 use Rattle.poll_list.specs.{SharedList.{IsInOf, IsNewList, pushed_by}, declared.{list_in.ListIn.ListIn, shared.SharedList.SharedList}}
 use Rattle.std.specs.Prelude.{◌≡◌, ◌≢◌, ℕ, ◌<◌, Bool, List, [], ◌∷◌, Some, None, filter, is_some, length, map, MatchBool, vec_items}
-use Rattle.{std.specs.List.{All, AllByRecursion, AllZip}, napi_calls.specs.{Seats.own_list, declared.{kept.Kept.Kept, types.Caller.Caller}}}
+use Rattle.{std.specs.List.{All, AllByRecursion, AllZip}}
+use Rattle.{napi_calls.specs.{Seats.own_list, declared.{kept.DropBomb.DropBomb, types.Caller.Caller}}}
 use Rattle.poll_interrupts.specs.{Seats.IsUnused, Calls.listings, Deals.{is_dealt, is_own, poller_by}}
 use Rattle.poll_interrupts.specs.{declared.{opening.Loose.Loose, acts.Act.Act, station.{Finished.Finished, Station.Station}}, Runs.HasRun}
 use Rattle.poll_interrupts.specs.Runs.{poller_number, thread_number}
@@ -23,7 +24,7 @@ pub record Course (D : Type 0) : Type 0 where
 
 -- the poller's seat at a station before its first turn: it has the station's number, has a waker exactly if the station has a
 -- thread, and no call was made by it
-pub record IsFreshSeat {R D : Type 0} (station : Station D) (seat : Kept R Seat) : Type 0 where
+pub record IsFreshSeat {R D : Type 0} (station : Station D) (seat : DropBomb R Seat) : Type 0 where
   pub number : seat.value.number ≡ station.number
   pub thread : is_some seat.value.thread ≡ station.thread
   pub caller : Caller
@@ -31,7 +32,7 @@ pub record IsFreshSeat {R D : Type 0} (station : Station D) (seat : Kept R Seat)
   pub unused : IsUnused poller_number caller
 
 -- and after its last one
-abbrev pub IsSpentSeat : {R : Type 0} → Caller → Kept R Seat → Type 0
+abbrev pub IsSpentSeat : {R : Type 0} → Caller → DropBomb R Seat → Type 0
 IsSpentSeat caller seat = seat.value.caller ≡ Some caller
 
 -- The worker of the station with this number, whose caller this was at the end, pushed into the list of its own poller: the
@@ -58,8 +59,8 @@ module _ (R : Type 0) (asked : ℕ → Type 0) (pace : Pace) (lists : List (Shar
     pub there : IsAt lists number list
     pub ends : ℕ
     pub new : IsNewList ends list
-    pub before : List (Kept R Seat)
-    pub after : List (Kept R Seat)
+    pub before : List (DropBomb R Seat)
+    pub after : List (DropBomb R Seat)
     pub from : AllZip (λ course seat. IsFreshSeat course.station seat) courses before
     pub turns : IsPolledBy asked pace number list before after
     pub to : AllZip (λ course seat. IsSpentSeat course.end.closed.poller.value seat) courses after
@@ -95,8 +96,8 @@ module _ (R : Type 0) (asked : ℕ → Type 0) (pace : Pace) {D : Type 0} (acts 
 
 module _ {R D G : Type 0} (asked : ℕ → Type 0) (pace : Pace) (lists : List (SharedList R)) (pollers : ℕ) where
   -- the poller took its turns, if it has seats, from those at its own instances to those that it returned
-  pub record HasPolled (loose : List (Kept R (Loose D))) (number : ℕ) (poller : Poller R G (ListPoller R)) : Type 0 where
-    pub before : List (Kept R Seat)
+  pub record HasPolled (loose : List (DropBomb R (Loose D))) (number : ℕ) (poller : Poller R G (ListPoller R)) : Type 0 where
+    pub before : List (DropBomb R Seat)
     pub list : SharedList R
     pub there : IsAt lists number list
     pub ends : ℕ
@@ -105,13 +106,13 @@ module _ {R D G : Type 0} (asked : ℕ → Type 0) (pace : Pace) (lists : List (
     pub turns : poller.stop ≡ None → before ≢ [] → IsPolledBy asked pace number list before (vec_items poller.served.seat_bench.seats)
 
   -- an instance's thread took its turns, unless the run ended early
-  abbrev pub HasTurned : Kept R (Loose D) → Poller R G (ThreadPoller R) → Type 0
+  abbrev pub HasTurned : DropBomb R (Loose D) → Poller R G (ThreadPoller R) → Type 0
   HasTurned loose thread = (after : Caller) → thread.served.seat.value.caller ≡ Some after → thread.stop ≡ None
       → TurnsIfThread R asked pace lists pollers loose.value.has_thread loose.value.number loose.value.thread after
 
 -- All threads of a run ended, none of them early: these are the parts of the instances that they returned.
 pub record HaveRun {R D G : Type 0} (acts : D → ℕ) (answer : D → ℕ → Act) (after : D → ℕ → D) (answers : G → ℕ → ℕ → Bool → Type 0)
-    (setting : Setting R G) (lists : List (SharedList R)) (pollers : ℕ) (loose left : List (Kept R (Loose D))) : Type 0 where
+    (setting : Setting R G) (lists : List (SharedList R)) (pollers : ℕ) (loose left : List (DropBomb R (Loose D))) : Type 0 where
   pub workers : List (InterruptWorker R D G)
   pub polled : List (Poller R G (ListPoller R))
   pub threads : List (Poller R G (ThreadPoller R))

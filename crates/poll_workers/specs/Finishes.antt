@@ -1,7 +1,8 @@
 -- What is true of a finished run.
 use Rattle.std.specs.Prelude.{◌≡◌, ℕ, ◌+◌, ◌≤◌, Bool, length}
 use Rattle.{poll_tasks.specs.Asks.WasLet, rx_ring.specs.ReceiveRing.{bytes_of, capped}}
-use Rattle.{napi_calls.specs.declared.{kept.Kept.Kept, types.Napi.Napi}, poll_interrupts.specs.declared.{acts.Act.Act, opening.Loose.Loose}}
+use Rattle.{napi_calls.specs.declared.{kept.DropBomb.DropBomb, types.Napi.Napi}}
+use Rattle.{poll_interrupts.specs.declared.{acts.Act.Act, opening.Loose.Loose}}
 use Rattle.poll_interrupts.specs.declared.{worker.InterruptWorker.InterruptWorker, station.{Finished.Finished, Station.Station}}
 use Rattle.poll_interrupts.specs.{Acts.{after_acts, arrivals}, Runs.HasRun, Works.IsDoneBy, Deals.poller_by}
 use Rattle.{poll_list.specs.declared.shared.SharedList.SharedList, poll_workers.specs.Spreads.IsEndOf, std.specs.Prelude.List}
@@ -20,7 +21,8 @@ module _ {D : Type 0} (acts : D → ℕ) (answer : D → ℕ → Act) (after : D
     pub run : HasRun answer after station.capacity station.thread station.device (acts station.device) end.closed end.totals
 
   -- The state in which the worker of a station ended; it pushed into the list of its poller.
-  pub record IsWorkedOf {R G : Type 0} (lists : List (SharedList R)) (pollers : ℕ) (loose : Kept R (Loose D)) (done : InterruptWorker R D G)
+  pub record IsWorkedOf {R G : Type 0} (lists : List (SharedList R)) (pollers : ℕ) (loose : DropBomb R (Loose D))
+      (done : InterruptWorker R D G)
       : Type 0 where
     pub napi : Napi
     pub before : InterruptWorker R D G

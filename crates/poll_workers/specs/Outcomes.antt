@@ -1,13 +1,13 @@
 -- What the threads of a run hold of the instances.
 use Rattle.std.specs.Prelude.{◌≡◌, ℕ, List, ◌∷◌, IsSome, Some, filter, length, map, slice_index_or, slice_set, vec_items}
 use Rattle.{std.specs.{Global.Vec, List.{AllByRecursion, AllZip}}, poll_tasks.specs.Tasks.EachAt, poll_interrupts.specs.Deals.is_own}
-use Rattle.napi_calls.specs.{declared.kept.Kept.Kept, Instance.IsSeatOf}
+use Rattle.napi_calls.specs.{declared.kept.DropBomb.DropBomb, Instance.IsSeatOf}
 use Rattle.poll_interrupts.specs.declared.{opening.Loose.Loose, worker.InterruptWorker.InterruptWorker}
 use Rattle.poll_seats.specs.declared.{seat.Seat.Seat, poller.Poller.Poller, thread_poller.ThreadPoller.ThreadPoller}
 
 module _ {R D G : Type 0} where
   -- a seat with its caller, at the instance of the worker
-  pub record IsSeatWith (worker : InterruptWorker R D G) (seat : Kept R Seat) : Type 0 where
+  pub record IsSeatWith (worker : InterruptWorker R D G) (seat : DropBomb R Seat) : Type 0 where
     pub napi : seat.value.napi.now ≡ worker.handler.napi.now
     pub caller : IsSome seat.value.caller
 
@@ -15,12 +15,12 @@ module _ {R D G : Type 0} where
   IsThreadWith worker thread = IsSeatWith worker thread.served.seat
 
   -- a poller's seats are at its own instances, in order
-  abbrev pub AreSeatsAt : ℕ → List (InterruptWorker R D G) → ℕ → Vec (Kept R Seat) → Type 0
+  abbrev pub AreSeatsAt : ℕ → List (InterruptWorker R D G) → ℕ → Vec (DropBomb R Seat) → Type 0
   AreSeatsAt pollers workers k own =
       AllZip IsSeatWith (filter (λ worker. is_own k pollers worker.handler.number) workers) (vec_items own)
 
   -- the device, the ring's input and the seats are the worker's, and the callers those of the poller and of the thread
-  pub record IsLeftBy (worker : InterruptWorker R D G) (poller : Kept R Seat) (thread : Poller R G (ThreadPoller R)) (loose : Loose D)
+  pub record IsLeftBy (worker : InterruptWorker R D G) (poller : DropBomb R Seat) (thread : Poller R G (ThreadPoller R)) (loose : Loose D)
       : Type 0 where
     pub number : loose.number ≡ worker.handler.number
     pub device : loose.device ≡ worker.device
@@ -32,10 +32,11 @@ module _ {R D G : Type 0} where
     pub thread_of : IsSeatOf worker.handler.napi.now loose.thread.pass
 
 -- the next of a poller's seats was taken
-pub record TakesNext {R : Type 0} (before : List (Vec (Kept R Seat))) (k : ℕ) (seat : Kept R Seat) (after : List (Vec (Kept R Seat)))
+pub record TakesNext {R : Type 0} (before : List (Vec (DropBomb R Seat))) (k : ℕ) (seat : DropBomb R Seat)
+    (after : List (Vec (DropBomb R Seat)))
     : Type 0 where
-  pub was : Vec (Kept R Seat)
-  pub now : Vec (Kept R Seat)
+  pub was : Vec (DropBomb R Seat)
+  pub now : Vec (DropBomb R Seat)
   pub there : slice_index_or before k was ≡ was
   pub first : vec_items was ≡ seat ∷ vec_items now
   pub rest : after ≡ slice_set before k now
@@ -43,14 +44,14 @@ pub record TakesNext {R : Type 0} (before : List (Vec (Kept R Seat))) (k : ℕ) 
 -- the threads of one instance, and what they hold of it
 pub record Outcome (R D G : Type 0) : Type 0 where
   pub worker : InterruptWorker R D G
-  pub poller : Kept R Seat
+  pub poller : DropBomb R Seat
   pub thread : Poller R G (ThreadPoller R)
-  pub loose : Kept R (Loose D)
+  pub loose : DropBomb R (Loose D)
 
 module _ {R D G : Type 0} where
   -- the same for all instances, in order, each with the next of the seats of its poller
-  pub record AreLeftBy (workers : List (InterruptWorker R D G)) (seats : List (Vec (Kept R Seat)))
-      (threads : List (Poller R G (ThreadPoller R))) (loose : List (Kept R (Loose D))) : Type 0 where
+  pub record AreLeftBy (workers : List (InterruptWorker R D G)) (seats : List (Vec (DropBomb R Seat)))
+      (threads : List (Poller R G (ThreadPoller R))) (loose : List (DropBomb R (Loose D))) : Type 0 where
     pub all : List (Outcome R D G)
     pub workers_are : map (λ o. o.worker) all ≡ workers
     pub threads_are : map (λ o. o.thread) all ≡ threads

@@ -6,7 +6,7 @@ use Rattle.poll_list.specs.{SharedList.{IsInOf, IsNewList, pushed_by}, declared.
 use Rattle.{std.specs.List.All}
 use Rattle.{poll_tasks.specs.{Wakers.Wakes, declared.signals.Bell.Bell}, poll_interrupts.specs.Deals.{is_own, poller_by}}
 use Rattle.{poll_tasks.specs.Tasks.{EachAt, IsAt}, poll_workers.specs.declared.pollers.Begin.Begin}
-use Rattle.{napi_calls.specs.declared.{kept.Kept.Kept, types.Caller.Caller}, poll_tasks.specs.declared.pace.Setting.Setting}
+use Rattle.{napi_calls.specs.declared.{kept.DropBomb.DropBomb, types.Caller.Caller}, poll_tasks.specs.declared.pace.Setting.Setting}
 use Rattle.poll_interrupts.specs.declared.{opening.{Placed.Placed, Loose.Loose}, worker.InterruptWorker.InterruptWorker}
 use Rattle.poll_seats.specs.declared.{seat.Seat.Seat, poller.Poller.Poller, list_poller.ListPoller.ListPoller}
 use Rattle.poll_seats.specs.{declared.thread_poller.ThreadPoller.ThreadPoller, Gives.{poller_name, thread_name}}
@@ -22,20 +22,20 @@ module _ {R D G : Type 0} where
     pub same_seats : job.seats.value ≡ loose.seats
     pub thread : is_some job.handler.thread ≡ loose.has_thread
 
-  abbrev pub IsKeptJobOf : Setting R G → Kept R (Loose D) → InterruptWorker R D G → Type 0
+  abbrev pub IsKeptJobOf : Setting R G → DropBomb R (Loose D) → InterruptWorker R D G → Type 0
   IsKeptJobOf setting loose job = IsJobOf setting loose.value job
 
-  abbrev pub IsJobAt : Kept R Placed → InterruptWorker R D G → Type 0
+  abbrev pub IsJobAt : DropBomb R Placed → InterruptWorker R D G → Type 0
   IsJobAt placed job = job.handler.napi.now ≡ placed.value.napi
 
 module _ {R D : Type 0} where
   -- the seat has the number and this caller, and has a waker exactly if there is a thread
-  pub record IsSeatFor (loose : Loose D) (caller : Caller) (seat : Kept R Seat) : Type 0 where
+  pub record IsSeatFor (loose : Loose D) (caller : Caller) (seat : DropBomb R Seat) : Type 0 where
     pub number : seat.value.number ≡ loose.number
     pub thread : is_some seat.value.thread ≡ loose.has_thread
     pub caller_is : seat.value.caller ≡ Some caller
 
-  abbrev pub IsKeptSeatFor : Kept R (Loose D) → Kept R Seat → Type 0
+  abbrev pub IsKeptSeatFor : DropBomb R (Loose D) → DropBomb R Seat → Type 0
   IsKeptSeatFor loose seat = IsSeatFor loose.value loose.value.poller seat
 
   module _ {G : Type 0} where
@@ -46,19 +46,19 @@ module _ {R D : Type 0} where
       pub named : side.name ≡ thread_name loose.number
       pub seat : IsSeatFor loose loose.thread side.served.seat
 
-    abbrev pub IsKeptThreadFor : Setting R G → Kept R (Loose D) → Poller R G (ThreadPoller R) → Type 0
+    abbrev pub IsKeptThreadFor : Setting R G → DropBomb R (Loose D) → Poller R G (ThreadPoller R) → Type 0
     IsKeptThreadFor setting loose side = IsThreadFor setting loose.value side
 
 module _ {R : Type 0} where
   -- it is at the instance, and has the waker of its thread, if there is one
-  pub record IsSeatAt (placed : Kept R Placed) (seat : Kept R Seat) : Type 0 where
+  pub record IsSeatAt (placed : DropBomb R Placed) (seat : DropBomb R Seat) : Type 0 where
     pub number : seat.value.number ≡ placed.value.number
     pub napi : seat.value.napi.now ≡ placed.value.napi
     pub bell : IfSome seat.value.thread (λ b. b.now ≡ placed.value.bell)
     pub caller : IsSome seat.value.caller
 
   -- the thread's seat is at the instance, whose waker wakes the thread
-  pub record IsThreadAt {G : Type 0} (placed : Kept R Placed) (side : Poller R G (ThreadPoller R)) : Type 0 where
+  pub record IsThreadAt {G : Type 0} (placed : DropBomb R Placed) (side : Poller R G (ThreadPoller R)) : Type 0 where
     pub seat : IsSeatAt placed side.served.seat
     pub bell : side.bell.now ≡ placed.value.bell
     pub wakes : Wakes side.bell.now side.pause
@@ -93,15 +93,16 @@ IsBegin begin = (ends : ℕ) × IsNewList ends begin.list
 
 module _ {R : Type 0} where
   -- each of so many pollers has its own seats, and room for so many
-  abbrev pub HaveOwn : ℕ → ℕ → List (Kept R Seat) → List (Vec (Kept R Seat)) → Type 0
+  abbrev pub HaveOwn : ℕ → ℕ → List (DropBomb R Seat) → List (Vec (DropBomb R Seat)) → Type 0
   HaveOwn count pollers seats =
-      EachAt (λ k own. (vec_items own ≡ filter (λ (s : Kept R Seat). is_own k pollers s.value.number) seats) × (count ≤ vec_capacity own))
+      EachAt (λ k own. (vec_items own ≡ filter (λ (s : DropBomb R Seat). is_own k pollers s.value.number) seats)
+      × (count ≤ vec_capacity own))
 
   -- a poller has one more seat
-  pub record TakesSeat (before : List (Vec (Kept R Seat))) (poller : ℕ) (seat : Kept R Seat) (after : List (Vec
-      (Kept R Seat))) : Type 0 where
-    pub was : Vec (Kept R Seat)
-    pub now : Vec (Kept R Seat)
+  pub record TakesSeat (before : List (Vec (DropBomb R Seat))) (poller : ℕ) (seat : DropBomb R Seat) (after : List (Vec
+      (DropBomb R Seat))) : Type 0 where
+    pub was : Vec (DropBomb R Seat)
+    pub now : Vec (DropBomb R Seat)
     pub there : slice_index_or before poller was ≡ was
     pub more : vec_items now ≡ vec_items was ++ seat ∷ []
     pub capacity : vec_capacity now ≡ vec_capacity was
@@ -110,7 +111,7 @@ module _ {R : Type 0} where
 module _ {R G : Type 0} where
   -- The poller with this number has what all threads share, the waker of this number, which wakes it, a new list, and these
   -- seats.
-  pub record IsPoller (setting : Setting R G) (bells : List Bell) (seats : List (Kept R Seat)) (number : ℕ)
+  pub record IsPoller (setting : Setting R G) (bells : List Bell) (seats : List (DropBomb R Seat)) (number : ℕ)
       (poller : Poller R G (ListPoller R)) : Type 0 where
     pub has : poller.setting.now ≡ setting
     pub paced : poller.served.pace ≡ setting.pace
@@ -121,6 +122,6 @@ module _ {R G : Type 0} where
     pub seats_are : vec_items poller.served.seat_bench.seats ≡ seats
 
   -- the same for all of so many pollers, each with its own seats
-  abbrev pub ArePollers : Setting R G → List Bell → ℕ → List (Kept R Seat) → List (Poller R G (ListPoller R)) → Type 0
+  abbrev pub ArePollers : Setting R G → List Bell → ℕ → List (DropBomb R Seat) → List (Poller R G (ListPoller R)) → Type 0
   ArePollers setting bells pollers seats =
-      EachAt (λ k poller. IsPoller setting bells (filter (λ (s : Kept R Seat). is_own k pollers s.value.number) seats) k poller)
+      EachAt (λ k poller. IsPoller setting bells (filter (λ (s : DropBomb R Seat). is_own k pollers s.value.number) seats) k poller)

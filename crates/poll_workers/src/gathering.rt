@@ -8,7 +8,7 @@ ghost use Rattle.poll_workers.specs.Outcomes.{AreLeftBy, AreSeatsAt, IsLeftBy, I
 
 use crate::pollers::OwnPoller;
 use crate::spreading::OwnThread;
-use napi_calls::Kept;
+use napi_calls::DropBomb;
 use poll_interrupts::{InterruptWorker, Loose, poller_of};
 use poll_seats::{Poller, Seat, ThreadPoller};
 use poll_tasks::{Gate, Tasks};
@@ -24,7 +24,7 @@ pub(crate) type RunTasks<'t, 'p, 'n, R, D, G> = Tasks<
 // The parts of one instance, as its threads hold them.
 fn leave<'t, 'p, 'n, R: Wait + Drop, D: Drop, G: Gate>(
     worker: InterruptWorker<'t, 'p, 'n, R, D, G>,
-    poller: Kept<R, Seat<'n>>,
+    poller: DropBomb<R, Seat<'n>>,
     thread: OwnThread<'t, 'p, 'n, R, G>,
 ) -> Loose<D>
     requires poller { IsSeatWith worker poller }
@@ -71,8 +71,8 @@ fn leave<'t, 'p, 'n, R: Wait + Drop, D: Drop, G: Gate>(
 /// Returns the seats of all pollers. Requires room for them.
 pub(crate) fn seats_left<'t, 'p, 'n, R: Wait + Drop, G: Gate>(
     pollers: Vec<OwnPoller<'t, 'p, 'n, R, G>>,
-    room: Vec<Vec<Kept<R, Seat<'n>>>>,
-) -> Vec<Vec<Kept<R, Seat<'n>>>>
+    room: Vec<Vec<DropBomb<R, Seat<'n>>>>,
+) -> Vec<Vec<DropBomb<R, Seat<'n>>>>
     requires { HasRoom (vec_len pollers) room }
     ensures { map (λ p. p.served.seat_bench.seats) (vec_items pollers.entry) ≡ vec_items result }
 {
@@ -94,11 +94,12 @@ pub(crate) fn seats_left<'t, 'p, 'n, R: Wait + Drop, G: Gate>(
 
 // Returns the next of a poller's seats.
 fn next_of<'n, R: Wait + Drop>(
-    seats: &mut Vec<Vec<Kept<R, Seat<'n>>>>,
+    seats: &mut Vec<Vec<DropBomb<R, Seat<'n>>>>,
     poller: usize,
-) -> Kept<R, Seat<'n>>
+) -> DropBomb<R, Seat<'n>>
     requires within { poller < vec_len seats.old }
-    requires some { (own : Vec (Kept _ _)) → slice_index_or (vec_items seats.old) poller own ≡ own
+    requires some { (own : Vec (DropBomb _ _))
+        → slice_index_or (vec_items seats.old) poller own ≡ own
         → 1 ≤ vec_len own }
     ensures { TakesNext (vec_items seats.old) poller result (vec_items seats.new) }
 {
@@ -109,10 +110,10 @@ fn next_of<'n, R: Wait + Drop>(
 pub(crate) fn gather<'t, 'p, 'n, R: Wait + Drop + Copy, D: Drop, G: Gate>(
     rt: R,
     workers: Vec<InterruptWorker<'t, 'p, 'n, R, D, G>>,
-    seats: Vec<Vec<Kept<R, Seat<'n>>>>,
+    seats: Vec<Vec<DropBomb<R, Seat<'n>>>>,
     threads: Vec<OwnThread<'t, 'p, 'n, R, G>>,
-    room: Vec<Kept<R, Loose<D>>>,
-) -> Vec<Kept<R, Loose<D>>>
+    room: Vec<DropBomb<R, Loose<D>>>,
+) -> Vec<DropBomb<R, Loose<D>>>
     requires some { 1 ≤ vec_len seats }
     requires seats { EachAt (AreSeatsAt (length (vec_items seats)) (vec_items workers))
         (vec_items seats) }
@@ -131,7 +132,7 @@ pub(crate) fn gather<'t, 'p, 'n, R: Wait + Drop + Copy, D: Drop, G: Gate>(
             unreachable!()
         };
         let seat = next_of(&mut seats, poller_of(worker.handler.number, count));
-        loose.push_reserved(Kept::new(rt, leave(worker, seat, side)));
+        loose.push_reserved(DropBomb::new(rt, leave(worker, seat, side)));
     }
     loose
 }

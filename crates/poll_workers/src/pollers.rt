@@ -3,7 +3,7 @@
 ghost use Rattle.std.specs.Prelude.{◌≡◌, ◌≤◌, ◌<◌, ◌+◌, ℕ, [], List, IfOk, length, map, slice_index_or, vec_items, vec_len, vec_capacity};
 ghost use Rattle.std.specs.Global.{Vec};
 ghost use Rattle.std.specs.List.{All, AllByRecursion, AllZip};
-ghost use Rattle.napi_calls.specs.declared.kept.Kept.{Kept};
+ghost use Rattle.napi_calls.specs.declared.kept.DropBomb.{DropBomb};
 ghost use Rattle.poll_seats.specs.declared.seat.Seat.{Seat};
 ghost use Rattle.poll_tasks.specs.Tasks.{HasRoom};
 ghost use Rattle.poll_list.specs.declared.shared.SharedList.{SharedList};
@@ -11,7 +11,7 @@ ghost use Rattle.poll_tasks.specs.Wakers.{Wakes};
 ghost use Rattle.poll_tasks.specs.Paces.{IsLawful};
 ghost use Rattle.poll_workers.specs.Spreads.{AreEndsOf, ArePollers, HaveOwn, IsBegin, IsEndOf, IsNewEnd, TakesSeat};
 
-use napi_calls::Kept;
+use napi_calls::DropBomb;
 use poll_list::{ListIn, SharedList, shared_list};
 use poll_seats::{ListPoller, Poller, Seat};
 use poll_tasks::{Bell, Gate, Pause, Setting};
@@ -98,7 +98,7 @@ pub(crate) fn seats_of<'n, R: Wait + Drop + Copy>(
     alloc: Global,
     pollers: usize,
     count: usize,
-) -> Result<Vec<Vec<Kept<R, Seat<'n>>>>, AllocError>
+) -> Result<Vec<Vec<DropBomb<R, Seat<'n>>>>, AllocError>
     ensures seats { IfOk result (λ r. (n : ℕ) → HaveOwn count n [] (vec_items r)) }
     ensures len { IfOk result (λ r. length (vec_items r) ≡ pollers) }
 {
@@ -111,12 +111,13 @@ pub(crate) fn seats_of<'n, R: Wait + Drop + Copy>(
 
 /// Gives a poller one more seat. Requires room for it.
 pub(crate) fn seat_at<'n, R: Wait + Drop>(
-    seats: &mut Vec<Vec<Kept<R, Seat<'n>>>>,
+    seats: &mut Vec<Vec<DropBomb<R, Seat<'n>>>>,
     poller: usize,
-    seat: Kept<R, Seat<'n>>,
+    seat: DropBomb<R, Seat<'n>>,
 )
     requires within { poller < length (vec_items seats.old) }
-    requires room { (own : Vec (Kept _ _)) → slice_index_or (vec_items seats.old) poller own ≡ own
+    requires room { (own : Vec (DropBomb _ _))
+        → slice_index_or (vec_items seats.old) poller own ≡ own
         → vec_len own < vec_capacity own }
     ensures { TakesSeat (vec_items seats.old) poller seat.entry (vec_items seats.new) }
 {
@@ -150,7 +151,7 @@ pub(crate) fn pollers_of<'t, 'p, 'n, R: Wait + Drop + Copy, G: Gate>(
     setting: &'t Setting<'t, R, G>,
     bells: &'p [Bell],
     begins: Vec<Begin<R>>,
-    seats: Vec<Vec<Kept<R, Seat<'n>>>>,
+    seats: Vec<Vec<DropBomb<R, Seat<'n>>>>,
     room: Vec<OwnPoller<'t, 'p, 'n, R, G>>,
 ) -> Vec<OwnPoller<'t, 'p, 'n, R, G>>
     requires bells { length (vec_items begins) ≡ length bells.now }
@@ -160,7 +161,7 @@ pub(crate) fn pollers_of<'t, 'p, 'n, R: Wait + Drop + Copy, G: Gate>(
     requires begins { AllByRecursion IsBegin (vec_items begins) }
     requires wakes { AllZip (λ bell begin. Wakes bell begin.pause) bells.now (vec_items begins) }
     requires pace { IsLawful setting.now.pace }
-    ensures pollers { (count n : ℕ) (sat : List (Kept _ Seat))
+    ensures pollers { (count n : ℕ) (sat : List (DropBomb _ Seat))
         → HaveOwn count n sat (vec_items seats.entry)
         → ArePollers setting.now bells.now n sat (vec_items result) }
     ensures lists { map (λ p. p.served.list) (vec_items result)

@@ -21,7 +21,7 @@ use crate::fault::WorkFault;
 use crate::gathering::{RunTasks, gather, seats_left};
 use crate::pollers::{Begins, begins_of, pollers_of, seats_of};
 use crate::spreading::{Parts, spread};
-use napi_calls::Kept;
+use napi_calls::DropBomb;
 use poll_interrupts::{
     Device, Finished, Loose, Placed, Station, end_all, open_all, shut_all, worker_stop,
 };
@@ -32,15 +32,15 @@ use std::sync::Wait;
 use std::thread::Threads;
 
 // The parts of the instances after the threads have ended, and why the run ended early, if so.
-type Ended<R, D> = (Vec<Kept<R, Loose<D>>>, Option<Stop>);
+type Ended<R, D> = (Vec<DropBomb<R, Loose<D>>>, Option<Stop>);
 
 // Room for what goes to the threads of so many pollers and stations, for the threads, and for their results.
 struct Rooms<'n, R: Wait + Drop, P: Task, W: Task, S: Task, D> {
     pollers: Vec<P>,
     parts: Parts<'n, R, W, S>,
     spawned: Tasks<Spawned<P>, Spawned<W>, Spawned<S>>,
-    seats: Vec<Vec<Kept<R, Seat<'n>>>>,
-    left: Vec<Kept<R, Loose<D>>>,
+    seats: Vec<Vec<DropBomb<R, Seat<'n>>>>,
+    left: Vec<DropBomb<R, Loose<D>>>,
 }
 
 fn rooms_of<'n, R, P, W, S, D>(
@@ -107,9 +107,9 @@ fn run_threads<'t, 'p, 'n, R, D, G>(
     alloc: Global,
     bells: &'p [Bell],
     begins: Begins<R>,
-    placed: &'n [Kept<R, Placed>],
-    loose: Vec<Kept<R, Loose<D>>>,
-) -> Result<Ended<R, D>, Vec<Kept<R, Loose<D>>>>
+    placed: &'n [DropBomb<R, Placed>],
+    loose: Vec<DropBomb<R, Loose<D>>>,
+) -> Result<Ended<R, D>, Vec<DropBomb<R, Loose<D>>>>
 where
     R: Threads + Wait + Copy + Drop + Send + Sync,
     D: Device + Drop + Send,

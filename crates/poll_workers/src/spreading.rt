@@ -5,14 +5,14 @@ ghost use Rattle.std.specs.List.{All, AllByRecursion, AllZip};
 ghost use Rattle.napi_calls.specs.Instance.{IsSeatOf};
 ghost use Rattle.poll_list.specs.declared.shared.SharedList.{SharedList};
 ghost use Rattle.poll_seats.specs.declared.seat.Seat.{Seat};
-ghost use Rattle.napi_calls.specs.declared.kept.Kept.{Kept};
+ghost use Rattle.napi_calls.specs.declared.kept.DropBomb.{DropBomb};
 ghost use Rattle.poll_interrupts.specs.Opens.{IsKeptSideOf, IsSideOf};
 ghost use Rattle.poll_tasks.specs.Paces.{IsLawful};
 ghost use Rattle.poll_workers.specs.Spreads.{AreEndsOf, HaveOwn, IsJobAt, IsJobOf, IsKeptJobOf, IsKeptSeatFor, IsKeptThreadFor, IsSeatAt, IsSeatFor, IsThreadAt, IsThreadFor, IsWiredJob, IsWiredSide};
 ghost use Rattle.poll_tasks.specs.Tasks.{HasRoom, IsAt};
 
 use crate::pollers::{seat_at, two_ends};
-use napi_calls::{Caller, Kept};
+use napi_calls::{Caller, DropBomb};
 use poll_interrupts::{InterruptHandler, InterruptWorker, Loose, Placed, poller_of};
 use poll_list::ListIn;
 use poll_seats::{Poller, Seat, ThreadPoller};
@@ -23,7 +23,7 @@ use std::sync::Wait;
 /// What goes to the threads of a run: the seats for its pollers, its workers, and the threads of its instances.
 #[derive(Drop)]
 pub(crate) struct Parts<'n, R: Wait + Drop, W, S> {
-    pub(crate) seats: Vec<Vec<Kept<R, Seat<'n>>>>,
+    pub(crate) seats: Vec<Vec<DropBomb<R, Seat<'n>>>>,
     pub(crate) workers: Vec<W>,
     pub(crate) threads: Vec<S>,
 }
@@ -90,7 +90,7 @@ fn seat_of<'n, R: Wait + Drop + Copy>(
     placed: &'n Placed,
     number: u32,
     caller: Caller,
-) -> Kept<R, Seat<'n>>
+) -> DropBomb<R, Seat<'n>>
     requires { IsSeatOf placed.now.napi caller.pass }
     ensures number { result.value.number ≡ number }
     ensures napi { result.value.napi.now ≡ placed.now.napi }
@@ -98,7 +98,7 @@ fn seat_of<'n, R: Wait + Drop + Copy>(
     ensures bell { IfSome result.value.thread (λ b. b.now ≡ placed.now.bell) }
     ensures caller { result.value.caller ≡ Some caller }
 {
-    Kept::new(
+    DropBomb::new(
         rt,
         Seat {
             number,
@@ -113,12 +113,12 @@ fn seat_of<'n, R: Wait + Drop + Copy>(
 fn split<'t, 'p, 'n, R: Wait + Drop + Copy, D: Drop, G: Gate>(
     setting: &'t Setting<'t, R, G>,
     bell: &'p Bell,
-    placed: &'n Kept<R, Placed>,
+    placed: &'n DropBomb<R, Placed>,
     loose: Loose<D>,
     ends: (ListIn<R>, ListIn<R>),
 ) -> (
     InterruptWorker<'t, 'p, 'n, R, D, G>,
-    Kept<R, Seat<'n>>,
+    DropBomb<R, Seat<'n>>,
     OwnThread<'t, 'p, 'n, R, G>,
 )
     requires side { IsSideOf loose placed.now.value }
@@ -148,7 +148,7 @@ fn split<'t, 'p, 'n, R: Wait + Drop + Copy, D: Drop, G: Gate>(
         list,
         device,
         rx,
-        seats: Kept::new(rt, seats),
+        seats: DropBomb::new(rt, seats),
         stop: None,
     };
     let seat = seat_of(rt, &placed.value, number, poller);
@@ -175,8 +175,8 @@ fn split<'t, 'p, 'n, R: Wait + Drop + Copy, D: Drop, G: Gate>(
 pub(crate) fn spread<'t, 'p, 'n, R: Wait + Drop + Copy, D: Drop, G: Gate>(
     setting: &'t Setting<'t, R, G>,
     bells: &'p [Bell],
-    placed: &'n [Kept<R, Placed>],
-    loose: Vec<Kept<R, Loose<D>>>,
+    placed: &'n [DropBomb<R, Placed>],
+    loose: Vec<DropBomb<R, Loose<D>>>,
     ends: Vec<Vec<ListIn<R>>>,
     room: RunParts<'t, 'p, 'n, R, D, G>,
 ) -> RunParts<'t, 'p, 'n, R, D, G>
@@ -198,7 +198,7 @@ pub(crate) fn spread<'t, 'p, 'n, R: Wait + Drop + Copy, D: Drop, G: Gate>(
         → AllByRecursion (IsWiredJob lists bells.now) (vec_items result.workers) }
     ensures wired_threads { (lists : List (SharedList _)) → AreEndsOf lists (vec_items ends)
         → AllByRecursion (IsWiredSide lists bells.now) (vec_items result.threads) }
-    ensures seats { (sat : List (Kept _ Seat)) × AllZip IsSeatAt placed.now sat
+    ensures seats { (sat : List (DropBomb _ Seat)) × AllZip IsSeatAt placed.now sat
         × AllZip IsKeptSeatFor (vec_items loose) sat
         × HaveOwn (vec_len loose) (length bells.now) sat (vec_items result.seats) }
     ensures len { length (vec_items result.seats) ≡ length bells.now }

@@ -3,8 +3,8 @@ pub use Rattle.device_rows.specs.Trace
 pub use Rattle.replay_words.specs.Defaults
 pub use Rattle.replay_words.specs.Refusals
 pub use Rattle.replay_words.specs.Words
-pub use Rattle.replay_words.specs.declared.mode.Mode
-pub use Rattle.replay_words.specs.declared.settings.Settings
+pub use Rattle.replay_words.specs.declared.mode.ReplayMode
+pub use Rattle.replay_words.specs.declared.settings.ReplaySettings
 pub use Rattle.replay_words.specs.declared.words.WordFault
 pub use Rattle.replay_text.specs.Fault
 pub use Rattle.replay_text.specs.Outside

@@ -5,14 +5,14 @@ use Rattle.replay_text.specs.{Outside.IsOutside, declared.fault.ReplayFault.Repl
 use Rattle.replay_text.specs.declared.fault.ReplayFault.TheVariants.{Trace, Pending, RingTooSmall, GateShut, OutputFailed, SpawnFailed}
 use Rattle.device_rows.specs.declared.fault.TraceFault.TheVariants.{BadHeader, BadFields, BadNumber, BadEvent, OutOfRange, UnknownDevice}
 use Rattle.device_rows.specs.declared.fault.TraceFault.TheVariants.{OpenTwice, WrongState, TooManyRows, ReadFailed, OutOfMemory}
-use Rattle.replay_c.specs.Faults.{fault_status, trace_status}
+use Rattle.replay_c.specs.Faults.{fault_status, trace_c_status}
 
 never : (fault : ReplayFault) → IsOutside fault → fault_status fault ≡ 120 → ⊥
 never (Trace fault) (inl failed) bad =
-    let read : 112 ≡ 120 = subst (λ (f : TraceFault). trace_status f ≡ 120) failed.0 bad in
+    let read : 112 ≡ 120 = subst (λ (f : TraceFault). trace_c_status f ≡ 120) failed.0 bad in
     omega (arith, read)
 never (Trace fault) (inr failed) bad =
-    let memory : 112 ≡ 120 = subst (λ (f : TraceFault). trace_status f ≡ 120) failed.0 bad in
+    let memory : 112 ≡ 120 = subst (λ (f : TraceFault). trace_c_status f ≡ 120) failed.0 bad in
     omega (arith, memory)
 never (Pending row) outside bad = outside
 never (RingTooSmall device needs) outside bad = outside
@@ -24,7 +24,7 @@ pub theirs : (fault : ReplayFault) (Is : Type 0) → IsOutside fault ⊎ Is → 
 theirs fault Is (inl outside) bad = absurd (never fault outside bad)
 theirs fault Is (inr is) bad = is
 
-trace-memory : (fault : TraceFault) → trace_status fault ≢ 120 → trace_status fault ≡ 112
+trace-memory : (fault : TraceFault) → trace_c_status fault ≢ 120 → trace_c_status fault ≡ 112
 trace-memory BadHeader other = absurd (other refl)
 trace-memory (BadFields row) other = absurd (other refl)
 trace-memory (BadNumber row) other = absurd (other refl)

@@ -2,18 +2,19 @@
 use Rattle.{std.specs.Prelude.ℕ, replay_text.specs.declared.fault.ReplayFault.{ReplayFault, TheVariants.{Trace, Pending, OutputFailed}}}
 use Rattle.device_rows.specs.declared.fault.TraceFault.{TraceFault, TheVariants.{BadHeader, BadFields, BadNumber, BadEvent, OutOfRange}}
 use Rattle.device_rows.specs.declared.fault.TraceFault.TheVariants.{UnknownDevice, OpenTwice, WrongState, TooManyRows, ReadFailed}
-use Rattle.{device_rows.specs.declared.fault.TraceFault.TheVariants.OutOfMemory, replay_c.specs.Status.{BAD_TRACE, OUT_OF_MEMORY}}
+use Rattle.{device_rows.specs.declared.fault.TraceFault.TheVariants.OutOfMemory}
+use Rattle.{replay_c.specs.Status.{REPLAY_BAD_TRACE, REPLAY_OUT_OF_MEMORY}}
 
 -- an error that doesn't come from the trace is that of an allocation
-abbrev pub trace_status : TraceFault → ℕ
-trace_status ReadFailed = OUT_OF_MEMORY
-trace_status OutOfMemory = OUT_OF_MEMORY
-trace_status _ = BAD_TRACE
+abbrev pub trace_c_status : TraceFault → ℕ
+trace_c_status ReadFailed = REPLAY_OUT_OF_MEMORY
+trace_c_status OutOfMemory = REPLAY_OUT_OF_MEMORY
+trace_c_status _ = REPLAY_BAD_TRACE
 
 abbrev pub fault_status : ReplayFault → ℕ
-fault_status (Trace fault) = trace_status fault
-fault_status OutputFailed = OUT_OF_MEMORY
-fault_status _ = BAD_TRACE
+fault_status (Trace fault) = trace_c_status fault
+fault_status OutputFailed = REPLAY_OUT_OF_MEMORY
+fault_status _ = REPLAY_BAD_TRACE
 
 -- the row that an error names, or 0
 abbrev pub trace_row : TraceFault → ℕ
@@ -27,7 +28,7 @@ trace_row (WrongState row) = row
 trace_row TooManyRows = 100001
 trace_row _ = 0
 
-abbrev pub row_of : ReplayFault → ℕ
-row_of (Trace fault) = trace_row fault
-row_of (Pending row) = row
-row_of _ = 0
+abbrev pub fault_row : ReplayFault → ℕ
+fault_row (Trace fault) = trace_row fault
+fault_row (Pending row) = row
+fault_row _ = 0

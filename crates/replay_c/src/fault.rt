@@ -1,8 +1,8 @@
 //! Errors of a trace, as numbers.
 
 ghost use Rattle.std.specs.Prelude.{◌≡◌};
-ghost use Rattle.replay_c.specs.Status.{BAD_TRACE};
-ghost use Rattle.replay_c.specs.Faults.{fault_status, row_of, trace_row};
+ghost use Rattle.replay_c.specs.Status.{REPLAY_BAD_TRACE};
+ghost use Rattle.replay_c.specs.Faults.{fault_status, fault_row, trace_row};
 
 use crate::status;
 use device_rows::TraceFault;
@@ -39,7 +39,7 @@ fn trace_row(fault: &TraceFault) -> u32
 
 // Returns the row that an error names, or 0.
 pub(crate) fn row_of(fault: &ReplayFault) -> u32
-    ensures { result ≡ row_of fault.now }
+    ensures { result ≡ fault_row fault.now }
 {
     match fault {
         ReplayFault::Trace(fault) => trace_row(fault),

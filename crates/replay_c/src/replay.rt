@@ -3,15 +3,15 @@
 ghost use Rattle.std.specs.Prelude.{◌≡◌, ◌≢◌, ◌<◌, ◌≤◌, ◌⊎◌, ◌↔◌, ℕ, List, Ok, Err, IfOk, IfErr, length, take};
 ghost use Rattle.replay_text.specs.Outside.{IsOutside};
 ghost use Rattle.replay_rows.specs.Answer.{replay_of};
-ghost use Rattle.replay_c.specs.Status.{OK, OUT_OF_MEMORY, BAD_WEIGHT, NO_ROOM, BAD_BUDGET, BAD_TRACE};
+ghost use Rattle.replay_c.specs.Status.{REPLAY_OK, REPLAY_OUT_OF_MEMORY, REPLAY_BAD_WEIGHT, REPLAY_NO_ROOM, REPLAY_BAD_BUDGET, REPLAY_BAD_TRACE};
 ghost use Rattle.replay_c.specs.Faults.{fault_status};
-ghost use Rattle.replay_c.specs.Replay.{Asks, HasWeight, HasBudget, IsReport, IsFault, Lacks, LacksMemory, Tells};
+ghost use Rattle.replay_c.specs.Replay.{AreSettingsOf, HasWeight, HasBudget, IsReplayReport, IsReplayFault, Lacks, LacksMemory, ReportsFault};
 
 use crate::fault::{fault_status, row_of};
 use crate::status;
 use replay_rows::replay_serial;
 use replay_text::ReplayFault;
-use replay_words::Settings;
+use replay_words::ReplaySettings;
 use std::alloc::Global;
 
 /// The settings of a replay: `struct fq_settings`.
@@ -39,22 +39,22 @@ pub struct FqReplayed {
 }
 
 // Returns the settings with these numbers, or the status of the first that is out of its range.
-fn asked_by(settings: &FqSettings) -> Result<Settings, u32>
+fn asked_by(settings: &FqSettings) -> Result<ReplaySettings, u32>
     ensures asked { IfOk result
-        (λ s. Asks settings.now s × HasWeight settings.now × HasBudget settings.now) }
+        (λ s. AreSettingsOf settings.now s × HasWeight settings.now × HasBudget settings.now) }
     ensures refused { IfErr result (λ status. Lacks settings.now status) }
 {
     if settings.weight == 0 || settings.weight > 64 {
         return Err(status::BAD_WEIGHT);
     }
-    match Settings::new(1, settings.budget, settings.weight, settings.window) {
+    match ReplaySettings::new(1, settings.budget, settings.weight, settings.window) {
         Some(asked) => Ok(asked),
         None => Err(status::BAD_BUDGET),
     }
 }
 
 // Returns the report of a trace.
-fn report_of(alloc: Global, settings: &Settings, trace: &[u8]) -> Result<Vec<u8>, ReplayFault>
+fn report_of(alloc: Global, settings: &ReplaySettings, trace: &[u8]) -> Result<Vec<u8>, ReplayFault>
     ensures report { IfOk result (λ text. replay_of settings.now trace.now ≡ Ok text.items) }
     ensures fault { IfErr result
         (λ fault. IsOutside fault ⊎ (replay_of settings.now trace.now ≡ Err fault)) }
@@ -68,10 +68,11 @@ fn report_of(alloc: Global, settings: &Settings, trace: &[u8]) -> Result<Vec<u8>
 
 // Puts a report into the caller's array, if that has room for all of it.
 fn put_report(text: &[u8], report: &mut [u8], replayed: &mut FqReplayed) -> u32
-    ensures ok { result ≡ OK → take replayed.new.length report.new ≡ text.now }
-    ensures no_room { result ≢ OK → (result ≡ NO_ROOM) × (length report.old < length text.now) }
+    ensures ok { result ≡ REPLAY_OK → take replayed.new.length report.new ≡ text.now }
+    ensures no_room { result ≢ REPLAY_OK → (result ≡ REPLAY_NO_ROOM)
+        × (length report.old < length text.now) }
     ensures length { replayed.new.length ≡ length text.now }
-    ensures kept { result ≢ OK → report.new ≡ report.old }
+    ensures kept { result ≢ REPLAY_OK → report.new ≡ report.old }
     ensures faultless { (replayed.new.fault ≡ replayed.old.fault)
         × (replayed.new.row ≡ replayed.old.row) }
 {
@@ -86,8 +87,8 @@ fn put_report(text: &[u8], report: &mut [u8], replayed: &mut FqReplayed) -> u32
 // Reports an error of the trace by its numbers.
 fn tell(fault: &ReplayFault, replayed: &mut FqReplayed) -> u32
     ensures status { result ≡ fault_status fault.now }
-    ensures told { result ≡ BAD_TRACE → Tells fault.now replayed.new }
-    ensures untold { result ≢ BAD_TRACE → replayed.new ≡ replayed.old }
+    ensures told { result ≡ REPLAY_BAD_TRACE → ReportsFault fault.now replayed.new }
+    ensures untold { result ≢ REPLAY_BAD_TRACE → replayed.new ≡ replayed.old }
 {
     let status = fault_status(fault);
     if status == status::BAD_TRACE {
@@ -112,22 +113,27 @@ pub extern "C" fn fq_replay(
     replayed: &mut FqReplayed,
 ) -> u32
     // What is written is the report of the bytes of the trace with these settings, and an error is theirs.
-    ensures written { result ≡ OK
-        → IsReport settings.now trace.now (take replayed.new.length report.new) }
-    ensures no_room { result ≡ NO_ROOM → (text : List ℕ) × IsReport settings.now trace.now text
+    ensures written { result ≡ REPLAY_OK
+        → IsReplayReport settings.now trace.now (take replayed.new.length report.new) }
+    ensures no_room { result ≡ REPLAY_NO_ROOM
+        → (text : List ℕ) × IsReplayReport settings.now trace.now text
         × (replayed.new.length ≡ length text) × (length report.old < length text) }
-    ensures fault { result ≡ BAD_TRACE → (fault : ReplayFault)
-        × IsFault settings.now trace.now fault × Tells fault replayed.new }
-    ensures memory { result ≢ OK → result ≢ NO_ROOM → result ≢ BAD_TRACE → result ≢ BAD_WEIGHT
-        → result ≢ BAD_BUDGET → (result ≡ OUT_OF_MEMORY) × LacksMemory settings.now trace.now }
+    ensures fault { result ≡ REPLAY_BAD_TRACE → (fault : ReplayFault)
+        × IsReplayFault settings.now trace.now fault × ReportsFault fault replayed.new }
+    ensures memory { result ≢ REPLAY_OK → result ≢ REPLAY_NO_ROOM → result ≢ REPLAY_BAD_TRACE
+        → result ≢ REPLAY_BAD_WEIGHT
+        → result ≢ REPLAY_BAD_BUDGET → (result ≡ REPLAY_OUT_OF_MEMORY)
+        × LacksMemory settings.now trace.now }
 
     // Settings are rejected exactly if they are out of their ranges; then, and after every error, nothing is written.
-    ensures weight { (result ≡ BAD_WEIGHT) ↔ ¬ HasWeight settings.now }
-    ensures budget { (result ≡ BAD_BUDGET) ↔ (HasWeight settings.now × ¬ HasBudget settings.now) }
-    ensures kept { result ≢ OK → report.new ≡ report.old }
+    ensures weight { (result ≡ REPLAY_BAD_WEIGHT) ↔ ¬ HasWeight settings.now }
+    ensures budget { (result ≡ REPLAY_BAD_BUDGET)
+        ↔ (HasWeight settings.now × ¬ HasBudget settings.now) }
+    ensures kept { result ≢ REPLAY_OK → report.new ≡ report.old }
     // What is returned besides the status is of the report or of the error, and otherwise 0.
-    ensures faultless { result ≢ BAD_TRACE → (replayed.new.fault ≡ 0) × (replayed.new.row ≡ 0) }
-    ensures no_report { result ≢ OK → result ≢ NO_ROOM → replayed.new.length ≡ 0 }
+    ensures faultless { result ≢ REPLAY_BAD_TRACE
+        → (replayed.new.fault ≡ 0) × (replayed.new.row ≡ 0) }
+    ensures no_report { result ≢ REPLAY_OK → result ≢ REPLAY_NO_ROOM → replayed.new.length ≡ 0 }
 {
     *replayed = FqReplayed {
         length: 0,

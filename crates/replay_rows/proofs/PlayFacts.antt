@@ -3,18 +3,18 @@ use Rattle.std.proofs.Common.{◌≡◌, ◌∙◌, ℕ, zero, suc, ◌+◌, ◌
 use Rattle.std.proofs.{Common.{append_assoc, take, drop, get_or, ap, refl, sym, arith}, lemmas.List.{length-take, take_more}}
 use Rattle.std.specs.Prelude.{◌⊎◌, IfErr, Result, if◌then◌else◌}
 use Rattle.device_transmit.specs.Transmits.{Transmits}
-use Rattle.{device_rows.specs.declared.row.Row.Row, replay_rows.specs.Replay.{after_row, after_rows, is_early, start, after_all}}
+use Rattle.{device_rows.specs.declared.row.Row.Row, replay_rows.specs.Replay.{after_row, after_rows, is_early, start, after_all_rows}}
 use Rattle.replay_rows.specs.{Report.{report_of, serial_report}, Transmits.{after_transmit, after_transmits, transmits_of}}
 use Rattle.{replay_rows.specs.ReplayState.ReplayState, replay_text.specs.declared.fault.ReplayFault.{ReplayFault, TheVariants.OutputFailed}}
-use Rattle.replay_text.specs.{declared.fault.ReplayFault.TheVariants.Pending, Outside.IsWantOfMemory}
-use Rattle.replay_words.specs.declared.settings.Settings.{Settings}
+use Rattle.replay_text.specs.{declared.fault.ReplayFault.TheVariants.Pending, Outside.IsReplayOutOfMemory}
+use Rattle.replay_words.specs.declared.settings.ReplaySettings.{ReplaySettings}
 
 -- the remaining rows, after those before them were processed
-then_rows : Settings → ℕ → List Row → Result ReplayState ReplayFault → Result ReplayState ReplayFault
+then_rows : ReplaySettings → ℕ → List Row → Result ReplayState ReplayFault → Result ReplayState ReplayFault
 then_rows s n rows (Ok w) = after_rows s n rows w
 then_rows s n rows (Err fault) = Err fault
 
-after_rows-append : (s : Settings) (n m : ℕ) (xs ys : List Row) (w : ReplayState) → m ≡ n + length xs
+after_rows-append : (s : ReplaySettings) (n m : ℕ) (xs ys : List Row) (w : ReplayState) → m ≡ n + length xs
     → after_rows s n (xs ++ ys) w ≡ then_rows s m ys (after_rows s n xs w)
 unfolding then_rows
 after_rows-append s n m [] ys w e = let at : m ≡ n = omega arith in rw at refl
@@ -35,7 +35,7 @@ split-at (row ∷ rows) (suc i) d below =
     rw next (ap (λ (l : List Row). row ∷ l) (split-at rows i d (omega (arith, below))))
 
 -- one more row that isn't early
-pub played-more : (s : Settings) (rows : List Row) (i : ℕ) (d : Row) (old new : ReplayState) → i < length rows
+pub played-more : (s : ReplaySettings) (rows : List Row) (i : ℕ) (d : Row) (old new : ReplayState) → i < length rows
     → after_rows s 1 (take i rows) start ≡ Ok old
     → is_early (get_or rows i d).event (get_or rows i d).device old ≡ false → new ≡ after_row s (i + 1) (get_or rows i d) old
     → after_rows s 1 (take (i + 1) rows) start ≡ Ok new
@@ -46,9 +46,9 @@ played-more s rows i d old new below before on_time step =
     ap (λ (l : List Row). after_rows s 1 l start) (take_more rows i d below) ∙ appended ∙ rw (before, on_time, step) refl
 
 -- an early row ends the replay
-pub played-early : (s : Settings) (rows : List Row) (i : ℕ) (d : Row) (old : ReplayState) → i < length rows
+pub played-early : (s : ReplaySettings) (rows : List Row) (i : ℕ) (d : Row) (old : ReplayState) → i < length rows
     → after_rows s 1 (take i rows) start ≡ Ok old
-    → is_early (get_or rows i d).event (get_or rows i d).device old ≡ true → after_all s rows ≡ Err (Pending (i + 1))
+    → is_early (get_or rows i d).event (get_or rows i d).device old ≡ true → after_all_rows s rows ≡ Err (Pending (i + 1))
 unfolding then_rows
 played-early s rows i d old below before early =
     let row : Row = get_or rows i d in
@@ -67,12 +67,12 @@ pub after_transmits-more : (rows : List Row) (all : Transmits) (i : ℕ) (d : Ro
 after_transmits-more rows all i d below = rw (take_more rows i d below) (after_transmits-push (take i rows) (get_or rows i d) all)
 
 -- if the rows have an error, so has their report
-pub report-early : (s : Settings) (rows : List Row) (fault : ReplayFault) → after_all s rows ≡ Err fault → (version : ℕ)
+pub report-early : (s : ReplaySettings) (rows : List Row) (fault : ReplayFault) → after_all_rows s rows ≡ Err fault → (version : ℕ)
     → serial_report s version rows ≡ Err fault
 report-early s rows fault early version = ap (report_of version (transmits_of rows)) early
 
 -- the only error of rows is an early enable
-rows-fault : (s : Settings) (n : ℕ) (rows : List Row) (w : ReplayState) (fault : ReplayFault) → after_rows s n rows w ≡ Err fault
+rows-fault : (s : ReplaySettings) (n : ℕ) (rows : List Row) (w : ReplayState) (fault : ReplayFault) → after_rows s n rows w ≡ Err fault
     → (m : ℕ) × (fault ≡ Pending m)
 rows-fault s n [] w fault e = absurd (cc e)
 rows-fault s n (row ∷ rows) w fault e = by (is_early row.event row.device w) (rows-fault s (n + 1) rows (after_row s n row w) fault) e
@@ -83,18 +83,18 @@ rows-fault s n (row ∷ rows) w fault e = by (is_early row.event row.device w) (
     by false rest e = rest e
 
 -- and so is that of their report
-report_written : (s : Settings) (version : ℕ) (rows : List Row) → serial_report s version rows ≡ Err OutputFailed → ⊥
-report_written s version rows e = by (after_all s rows) refl e
+report_written : (s : ReplaySettings) (version : ℕ) (rows : List Row) → serial_report s version rows ≡ Err OutputFailed → ⊥
+report_written s version rows e = by (after_all_rows s rows) refl e
   where
-    by : (r : Result ReplayState ReplayFault) → after_all s rows ≡ r → report_of version (transmits_of rows) r ≡ Err OutputFailed → ⊥
+    by : (r : Result ReplayState ReplayFault) → after_all_rows s rows ≡ r → report_of version (transmits_of rows) r ≡ Err OutputFailed → ⊥
     by (Ok w) is e = cc e
     by (Err fault) is e =
         let early = rows-fault s 1 rows start fault is in
         let failed : fault ≡ OutputFailed = cc e in
         cc (sym early.1 ∙ failed)
 
-pub unwritten : {A : Type 0} (s : Settings) (version : ℕ) (rows : List Row) (r : Result A ReplayFault)
-    → IfErr r (λ fault. IsWantOfMemory fault ⊎ (serial_report s version rows ≡ Err fault))
+pub unwritten : {A : Type 0} (s : ReplaySettings) (version : ℕ) (rows : List Row) (r : Result A ReplayFault)
+    → IfErr r (λ fault. IsReplayOutOfMemory fault ⊎ (serial_report s version rows ≡ Err fault))
     → IfErr r (λ fault. fault ≡ OutputFailed → ⊥)
 unwritten s version rows (Ok a) h = tt
 unwritten s version rows (Err fault) h = λ failed. elim h [

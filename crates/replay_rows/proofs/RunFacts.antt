@@ -2,37 +2,40 @@
 -- on it.
 use Rattle.std.proofs.Common.{◌≡◌, ℕ, ◌+◌, ◌≤◌, cond, List, [], ◌∷◌, ◌++◌, length, length-append, take, drop, ap, refl, arith}
 use Rattle.{std.{proofs.lemmas.List.{length-drop, length-take, Sums.sum_by-cons}, specs.Prelude.sum_by}, device_bench.specs.Bench.ArePolls}
-use Rattle.{device_bench.specs.{Bench.{Devices, polled_at}, Waiting.leaves}, device_transmit.specs.Transmits.{Keeps, Transmits}}
-use Rattle.poll_runs.specs.{Function.run_report, Laws.IsPlainRun, Polls.{At, Chain, Poll, arrivals, ids, is_arrival, is_repoll, repolled}}
+use Rattle.{device_bench.specs.{Bench.{BenchDevices, polled_at}, Waiting.leaves}}
+use Rattle.{device_transmit.specs.Transmits.{KeepsTransmits, Transmits}}
+use Rattle.poll_runs.specs.{Function.run_report, Laws.IsPlainRun, Polls.{At, Chain, Poll, queued_by, ids, is_arrival, is_repoll, repolled}}
 use Rattle.poll_runs.specs.declared.{bench.{Next.{Next, TheVariants.{Absent, Gone, Again, Repoll}}, Once.Once}, run.RunReport.RunReport}
 use Rattle.poll_runs.proofs.{FunctionFacts.run-is-shown, PlainFacts.list-afterwards, PollFacts.{arrivals-append, arrivals-one, length-ids}}
-use Rattle.{poll_runs.proofs.PollFacts.{repolled-append, repolled-one}, replay_rows.specs.Run.run_of}
-use Rattle.replay_words.specs.declared.settings.Settings.{Settings}
+use Rattle.{poll_runs.proofs.PollFacts.{repolled-append, repolled-one}, replay_rows.specs.Run.replay_run}
+use Rattle.replay_words.specs.declared.settings.ReplaySettings.{ReplaySettings}
 use Rattle.napi_model.specs.declared.state.Kind.TheVariants as kind
 
-abbrev pub Leads : {B : Type 0} → (B → ℕ → ℕ → Once → B → Type 0) → Settings → B → List Poll → B → Type 0
+abbrev pub Leads : {B : Type 0} → (B → ℕ → ℕ → Once → B → Type 0) → ReplaySettings → B → List Poll → B → Type 0
 Leads relation s before polls after = Chain (At relation s.weight) before polls after
 
-pub transmits-stay : {B : Type 0} (devices : B → Devices) (shows : B → Transmits → Type 0) (waiting : B → ℕ)
+pub transmits-stay : {B : Type 0} (devices : B → BenchDevices) (shows : B → Transmits → Type 0) (waiting : B → ℕ)
     (relation : B → ℕ → ℕ → Once → B → Type 0)
-    → ArePolls devices shows waiting relation → (s : Settings) (before after : B) (polls : List Poll) → Leads relation s before polls after
-    → Keeps shows before after
+    → ArePolls devices shows waiting relation → (s : ReplaySettings) (before after : B) (polls : List Poll)
+    → Leads relation s before polls after
+    → KeepsTransmits shows before after
 transmits-stay devices shows waiting relation are s before after [] leads all shown = rw leads shown
 transmits-stay devices shows waiting relation are s before after (poll ∷ polls) leads all shown =
     let is = are before leads.0 poll.id s.weight poll.once leads.1 in
     transmits-stay devices shows waiting relation are s leads.0 after polls leads.2 all (is.transmits all shown)
 
 -- a run over the devices and a list of one thread
-pub record IsRunOf (s : Settings) (devices : Devices) (list : List ℕ) (after : Devices) (left : List ℕ) (report : RunReport) : Type 0 where
-  pub devices_after : after ≡ (run_of s devices list).0.bench
-  pub list_after : left ≡ (run_of s devices list).1
-  pub reported : report ≡ run_report s.budget s.window (run_of s devices list).0.polls
+pub record IsRunOf (s : ReplaySettings) (devices : BenchDevices) (list : List ℕ) (after : BenchDevices) (left : List ℕ)
+    (report : RunReport) : Type 0 where
+  pub devices_after : after ≡ (replay_run s devices list).0.bench
+  pub list_after : left ≡ (replay_run s devices list).1
+  pub reported : report ≡ run_report s.budget s.window (replay_run s devices list).0.polls
 
 -- by the law of runs on a view of the bench, its devices
-pub only-run : {B : Type 0} (devices : B → Devices) (shows : B → Transmits → Type 0) (waiting : B → ℕ)
+pub only-run : {B : Type 0} (devices : B → BenchDevices) (shows : B → Transmits → Type 0) (waiting : B → ℕ)
     (relation : B → ℕ → ℕ → Once → B → Type 0)
     → ArePolls devices shows waiting relation
-    → (s : Settings) (before after : B) (list left : List ℕ) (polls : List Poll) (report : RunReport)
+    → (s : ReplaySettings) (before after : B) (list left : List ℕ) (polls : List Poll) (report : RunReport)
     → Leads relation s before polls after → IsPlainRun s.budget s.window list polls left report
     → IsRunOf s (devices before) list (devices after) left report
 only-run devices shows waiting relation are s before after list left polls report leads run =
@@ -46,9 +49,10 @@ only-run devices shows waiting relation are s before after list left polls repor
 leavers : List Poll → ℕ
 leavers polls = sum_by (λ poll. leaves poll.once.next) polls
 
-waits-less : {B : Type 0} (devices : B → Devices) (shows : B → Transmits → Type 0) (waiting : B → ℕ)
+waits-less : {B : Type 0} (devices : B → BenchDevices) (shows : B → Transmits → Type 0) (waiting : B → ℕ)
     (relation : B → ℕ → ℕ → Once → B → Type 0)
-    → ArePolls devices shows waiting relation → (s : Settings) (before after : B) (polls : List Poll) → Leads relation s before polls after
+    → ArePolls devices shows waiting relation → (s : ReplaySettings) (before after : B) (polls : List Poll)
+    → Leads relation s before polls after
     → waiting before ≤ waiting after + leavers polls
 unfolding leavers
 waits-less devices shows waiting relation are s before after [] leads = rw leads (omega arith)
@@ -71,31 +75,31 @@ one-goes id (Again kind.List) = refl
 one-goes id (Again kind.Thread) = refl
 
 -- each poll's number is queued again, gets a repoll, or leaves
-each-goes : (polls : List Poll) → length (arrivals polls) + length (repolled polls) + leavers polls ≡ length polls
+each-goes : (polls : List Poll) → length (queued_by polls) + length (repolled polls) + leavers polls ≡ length polls
 unfolding leavers
 each-goes [] = refl
 each-goes (poll ∷ polls) =
-    let arrives : arrivals (poll ∷ polls) ≡ arrivals (poll ∷ []) ++ arrivals polls = arrivals-append (poll ∷ []) polls in
+    let arrives : queued_by (poll ∷ polls) ≡ queued_by (poll ∷ []) ++ queued_by polls = arrivals-append (poll ∷ []) polls in
     let repolls : repolled (poll ∷ polls) ≡ repolled (poll ∷ []) ++ repolled polls = repolled-append (poll ∷ []) polls in
     rw (arrives, repolls, arrivals-one poll, repolled-one poll)
     (omega (
       arith,
-      length-append (cond (is_arrival poll.once.next) (poll.id ∷ []) []) (arrivals polls),
+      length-append (cond (is_arrival poll.once.next) (poll.id ∷ []) []) (queued_by polls),
       length-append (cond (is_repoll poll.once.next) (poll.id ∷ []) []) (repolled polls),
       one-goes poll.id poll.once.next,
       sum_by-cons (λ (p : Poll). leaves p.once.next) poll polls,
       each-goes polls,
     ))
 
-pub run-room : {B : Type 0} (devices : B → Devices) (shows : B → Transmits → Type 0) (waiting : B → ℕ)
+pub run-room : {B : Type 0} (devices : B → BenchDevices) (shows : B → Transmits → Type 0) (waiting : B → ℕ)
     (relation : B → ℕ → ℕ → Once → B → Type 0)
     → ArePolls devices shows waiting relation
-    → (s : Settings) (before after : B) (list left : List ℕ) (polls : List Poll) (report : RunReport)
+    → (s : ReplaySettings) (before after : B) (list left : List ℕ) (polls : List Poll) (report : RunReport)
     → Leads relation s before polls after → IsPlainRun s.budget s.window list polls left report → length list ≤ waiting before
     → length left ≤ waiting after
 run-room devices shows waiting relation are s before after list left polls report leads run room =
     let afterwards = list-afterwards s.budget s.window list left polls report run in
-    let all : List ℕ = list ++ arrivals polls in
+    let all : List ℕ = list ++ queued_by polls in
     let polled : length (ids polls) ≡ length (take (length polls) all) = ap length afterwards.0 in
     let rest : length left ≡ length (drop (length polls) all ++ repolled polls) = ap length afterwards.1 in
     omega (
@@ -106,7 +110,7 @@ run-room devices shows waiting relation are s before after list left polls repor
       length-ids polls,
       length-take (length polls) all,
       length-drop (length polls) all,
-      length-append list (arrivals polls),
+      length-append list (queued_by polls),
       length-append (drop (length polls) all) (repolled polls),
       each-goes polls,
       waits-less devices shows waiting relation are s before after polls leads,

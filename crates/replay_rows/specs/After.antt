@@ -3,29 +3,29 @@ use Rattle.std.specs.Prelude.{◌≡◌, ℕ, Bool, List, [], Option, None, Resu
 use Rattle.device_transmit.specs.Transmits.{Transmits, is_used}
 use Rattle.{device_places.specs.Places.at, device_bench.specs.DeviceBench.{ShowsTransmits, devices_of}}
 use Rattle.{device_bench.specs.declared.counts.DeviceCounts.DeviceCounts, device_rows.specs.declared.row.Row.Row}
-use Rattle.replay_rows.specs.{Played.state_in, Replay.after_all, Report.{counts_of, polled_by}, Transmits.transmits_of}
-use Rattle.replay_rows.specs.{ReplayState.ReplayState, declared.{line.Line.Line, serial_replay.SerialReplay.SerialReplay}}
-use Rattle.{replay_text.specs.declared.fault.ReplayFault.ReplayFault, replay_words.specs.declared.settings.Settings.Settings}
+use Rattle.replay_rows.specs.{Played.replay_state, Replay.after_all_rows, Report.{reported_counts, last_poll_by}, Transmits.transmits_of}
+use Rattle.replay_rows.specs.{ReplayState.ReplayState, declared.{line.PollRecord.PollRecord, serial_replay.SerialReplay.SerialReplay}}
+use Rattle.{replay_text.specs.declared.fault.ReplayFault.ReplayFault, replay_words.specs.declared.settings.ReplaySettings.ReplaySettings}
 
-pub record IsAfter (s : Settings) (rows : List Row) (n : ℕ) (r : SerialReplay) : Type 0 where
-  pub state : after_all s (take n rows) ≡ Ok (state_in devices_of r.replay)
+pub record IsAfter (s : ReplaySettings) (rows : List Row) (n : ℕ) (r : SerialReplay) : Type 0 where
+  pub state : after_all_rows s (take n rows) ≡ Ok (replay_state devices_of r.replay)
   pub transmits : ShowsTransmits r.replay.bench (transmits_of (take n rows))
 
 -- what the report of the first n rows shows of a device
-abbrev pub counts_in : Result ReplayState ReplayFault → Transmits → ℕ → Option DeviceCounts
-counts_in (Ok w) transmits device = counts_of w transmits device
-counts_in (Err fault) transmits device = None
+abbrev pub device_counts_in : Result ReplayState ReplayFault → Transmits → ℕ → Option DeviceCounts
+device_counts_in (Ok w) transmits device = reported_counts w transmits device
+device_counts_in (Err fault) transmits device = None
 
-abbrev pub counts_after : Settings → List Row → ℕ → ℕ → Option DeviceCounts
-counts_after s rows n device = counts_in (after_all s (take n rows)) (transmits_of (take n rows)) device
+abbrev pub counts_after : ReplaySettings → List Row → ℕ → ℕ → Option DeviceCounts
+counts_after s rows n device = device_counts_in (after_all_rows s (take n rows)) (transmits_of (take n rows)) device
 
 -- whether it shows the device's transmit side
 abbrev pub is_used_after : List Row → ℕ → ℕ → Bool
 is_used_after rows n device = is_used (at device (transmits_of (take n rows)))
 
 -- what row n did by the report of the first n rows, if it polled
-abbrev pub polled_in : Result ReplayState ReplayFault → ℕ → Option Line
-polled_in (Ok w) n = polled_by n w
+abbrev pub polled_in : Result ReplayState ReplayFault → ℕ → Option PollRecord
+polled_in (Ok w) n = last_poll_by n w
 polled_in (Err fault) n = None
 
 -- the poll list after the first n rows
@@ -33,8 +33,8 @@ abbrev pub list_in : Result ReplayState ReplayFault → List ℕ
 list_in (Ok w) = w.list
 list_in (Err fault) = []
 
-abbrev pub list_after : Settings → List Row → ℕ → List ℕ
-list_after s rows n = list_in (after_all s (take n rows))
+abbrev pub list_after : ReplaySettings → List Row → ℕ → List ℕ
+list_after s rows n = list_in (after_all_rows s (take n rows))
 
-abbrev pub polled_after : Settings → List Row → ℕ → Option Line
-polled_after s rows n = polled_in (after_all s (take n rows)) n
+abbrev pub polled_after : ReplaySettings → List Row → ℕ → Option PollRecord
+polled_after s rows n = polled_in (after_all_rows s (take n rows)) n

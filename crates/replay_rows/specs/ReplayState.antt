@@ -1,10 +1,10 @@
 -- A replay as plain data.
-use Rattle.{std.specs.Prelude.{ℕ, List}, device_bench.specs.Bench.Devices, replay_rows.specs.declared.line.Line.Line}
+use Rattle.{std.specs.Prelude.{ℕ, List}, device_bench.specs.Bench.BenchDevices, replay_rows.specs.declared.line.PollRecord.PollRecord}
 
 pub record ReplayState : Type 0 where
   -- the devices that were opened
-  pub devices : Devices
+  pub devices : BenchDevices
   -- the numbers on the poll list, the next one first
   pub list : List ℕ
   -- a line for each row that polled, in order
-  pub lines : List Line
+  pub lines : List PollRecord

@@ -4,15 +4,16 @@ use Rattle.std.specs.Prelude.{codes, decimal, flat_map, if◌then◌else◌, sum
 use Rattle.device_transmit.specs.Transmits.{Transmits, is_used}
 use Rattle.{device_places.specs.Places.at, device_transmit.specs.Transmits.tx_counts_of, device_bench.specs.Bench.{attached, counts_at}}
 use Rattle.device_bench.specs.declared.counts.{DeviceCounts.DeviceCounts, DeviceState.{DeviceState, TheVariants.{On, Off, Pending}}}
-use Rattle.{device_rows.specs.declared.row.Row.Row, replay_rows.specs.{Replay.after_all, Transmits.transmits_of}}
+use Rattle.{device_rows.specs.declared.row.Row.Row, replay_rows.specs.{Replay.after_all_rows, Transmits.transmits_of}}
 use Rattle.replay_rows.specs.ReplayState.{ReplayState}
-use Rattle.replay_rows.specs.declared.{report.RunTotals.RunTotals, line.Line.{Line, TheVariants.{Softirq, Kthread}}}
-use Rattle.{replay_rows.specs.declared.line.Line.TheVariants.Busy, replay_text.specs.{declared.fault.ReplayFault.ReplayFault, Lines.ended}}
+use Rattle.replay_rows.specs.declared.{report.RunTotals.RunTotals, line.PollRecord.{PollRecord, TheVariants.{Softirq, Kthread}}}
+use Rattle.{replay_rows.specs.declared.line.PollRecord.TheVariants.Busy}
+use Rattle.{replay_text.specs.{declared.fault.ReplayFault.ReplayFault, Lines.with_newline}}
 use Rattle.{replay_text.specs.Lines.{flag, tx_lines, words}, poll_runs.specs.declared.run.RunReport.RunReport}
-use Rattle.replay_words.specs.declared.settings.Settings.{Settings}
+use Rattle.replay_words.specs.declared.settings.ReplaySettings.{ReplaySettings}
 
 -- what a row that polls did
-abbrev pub poll_line : Line → List ℕ
+abbrev pub poll_line : PollRecord → List ℕ
 poll_line (Softirq row run) = words (codes "softirq" ∷ decimal row ∷ codes "polls" ∷ decimal run.polls ∷ codes "work" ∷ decimal run.work
     ∷ codes "squeezed" ∷ decimal (flag run.squeezed) ∷ [])
 poll_line (Kthread row device report) =
@@ -49,7 +50,7 @@ napi_line version number counts =
 abbrev pub device_lines : ℕ → ℕ → Bool → Option DeviceCounts → List ℕ
 device_lines version number used None = []
 device_lines version number used (Some counts) =
-    ended (device_line number counts) ++ (ended (napi_line version number counts) ++ tx_lines number used counts.tx)
+    with_newline (device_line number counts) ++ (with_newline (napi_line version number counts) ++ tx_lines number used counts.tx)
 
 -- the numbers, each preceded by a space
 abbrev pub spaced : List ℕ → List ℕ
@@ -59,14 +60,14 @@ abbrev pub list_line : List ℕ → List ℕ
 list_line numbers = codes "list" ++ spaced numbers
 
 -- a number of a run; a thread's polling isn't a run, nor is busy polling
-abbrev pub of_run : (RunReport → ℕ) → Line → ℕ
+abbrev pub of_run : (RunReport → ℕ) → PollRecord → ℕ
 of_run number (Softirq row run) = number run
 of_run number (Kthread row device report) = 0
 of_run number (Busy row device report) = 0
 
 -- opened devices, runs, and sums over the runs
-abbrev pub totals_of : ℕ → List Line → RunTotals
-totals_of devices lines = record {
+abbrev pub run_totals : ℕ → List PollRecord → RunTotals
+run_totals devices lines = record {
   devices = devices;
   runs = sum_by (of_run (λ run. 1)) lines;
   polls = sum_by (of_run (λ run. run.polls)) lines;
@@ -79,25 +80,25 @@ total_line totals = words (codes "total" ∷ codes "devices" ∷ decimal totals.
     ∷ codes "polls" ∷ decimal totals.polls ∷ codes "work" ∷ decimal totals.work ∷ codes "squeezed" ∷ decimal totals.squeezed ∷ [])
 
 -- what the report shows of device n
-abbrev pub counts_of : ReplayState → Transmits → ℕ → Option DeviceCounts
-counts_of w transmits n = counts_at (at n w.devices) (tx_counts_of (at n transmits))
+abbrev pub reported_counts : ReplayState → Transmits → ℕ → Option DeviceCounts
+reported_counts w transmits n = counts_at (at n w.devices) (tx_counts_of (at n transmits))
 
 -- what row n did, if it is the last one that polled
-abbrev pub row_of : Line → ℕ
-row_of (Softirq row run) = row
-row_of (Kthread row device report) = row
-row_of (Busy row device report) = row
+abbrev pub record_row : PollRecord → ℕ
+record_row (Softirq row run) = row
+record_row (Kthread row device report) = row
+record_row (Busy row device report) = row
 
-abbrev pub if_of_row : ℕ → Option Line → Option Line
+abbrev pub if_of_row : ℕ → Option PollRecord → Option PollRecord
 if_of_row n None = None
-if_of_row n (Some line) = if row_of line == n then Some line else None
+if_of_row n (Some line) = if record_row line == n then Some line else None
 
-abbrev pub polled_by : ℕ → ReplayState → Option Line
-polled_by n w = if_of_row n (slice_get w.lines (length w.lines - 1))
+abbrev pub last_poll_by : ℕ → ReplayState → Option PollRecord
+last_poll_by n w = if_of_row n (slice_get w.lines (length w.lines - 1))
 
 -- the lines of device n
 abbrev pub lines_of : ℕ → ReplayState → Transmits → ℕ → List ℕ
-lines_of version w transmits n = device_lines version n (is_used (at n transmits)) (counts_of w transmits n)
+lines_of version w transmits n = device_lines version n (is_used (at n transmits)) (reported_counts w transmits n)
 
 -- those of the devices whose numbers are below n, by increasing number
 unfoldable pub lines_below : (ℕ → List ℕ) → ℕ → List ℕ
@@ -105,21 +106,21 @@ lines_below device zero = []
 lines_below device (suc n) = lines_below device n ++ device n
 
 -- The line of each row that polled, in order; the lines of each device, by increasing number; the poll list; the totals.
-unfoldable pub text_by : List Line → (ℕ → List ℕ) → List ℕ → ℕ → List ℕ
-text_by lines device list devices = flat_map (λ line. ended (poll_line line)) lines
+unfoldable pub text_by : List PollRecord → (ℕ → List ℕ) → List ℕ → ℕ → List ℕ
+text_by lines device list devices = flat_map (λ line. with_newline (poll_line line)) lines
     ++ (lines_below device 17
-    ++ (ended (list_line list)
-    ++ ended (total_line (totals_of devices lines))))
+    ++ (with_newline (list_line list)
+    ++ with_newline (total_line (run_totals devices lines))))
 
 -- the text of a replay as plain data
-abbrev pub text_of : ℕ → ReplayState → Transmits → List ℕ
-text_of version w transmits = text_by w.lines (lines_of version w transmits) w.list (attached w.devices)
+abbrev pub serial_text : ℕ → ReplayState → Transmits → List ℕ
+serial_text version w transmits = text_by w.lines (lines_of version w transmits) w.list (attached w.devices)
 
 -- the serial report: the text for the state after the rows of a trace of this version, or the error of the first enable row
 -- that is early
 abbrev pub report_of : ℕ → Transmits → Result ReplayState ReplayFault → Result (List ℕ) ReplayFault
-report_of version transmits (Ok w) = Ok (text_of version w transmits)
+report_of version transmits (Ok w) = Ok (serial_text version w transmits)
 report_of version transmits (Err fault) = Err fault
 
-abbrev pub serial_report : Settings → ℕ → List Row → Result (List ℕ) ReplayFault
-serial_report s version rows = report_of version (transmits_of rows) (after_all s rows)
+abbrev pub serial_report : ReplaySettings → ℕ → List Row → Result (List ℕ) ReplayFault
+serial_report s version rows = report_of version (transmits_of rows) (after_all_rows s rows)

@@ -2,10 +2,10 @@
 use Rattle.std.specs.Prelude.{List, [], ◌∷◌}
 use Rattle.device_transmit.specs.{Transmits.Transmits, Transmit.{after_finish, after_tx}}
 use Rattle.{device_transmit.specs.Transmit.opened_transmit, device_places.specs.Places.{added, changed, empty}}
-use Rattle.device_rows.specs.declared.{event.Event.{Event, TheVariants.{Opened, Tx, Finish}}, row.Row.Row}
+use Rattle.device_rows.specs.declared.{event.RowEvent.{RowEvent, TheVariants.{Opened, Tx, Finish}}, row.Row.Row}
 
 -- the effect of a row, by its event
-abbrev pub transmits_by : Event → Row → Transmits → Transmits
+abbrev pub transmits_by : RowEvent → Row → Transmits → Transmits
 transmits_by Opened row all = added row.device (opened_transmit row.value row.moment) all
 transmits_by Tx row all = changed (after_tx row.value) row.device all
 transmits_by Finish row all = changed (after_finish row.value row.moment) row.device all

@@ -12,7 +12,7 @@ mod serial;
 mod serial_replay;
 mod whole;
 
-pub use line::Line;
+pub use line::PollRecord;
 pub use report::{add_numbers, state_word};
 pub use serial::replay_serial;
 pub use serial_replay::SerialReplay;

@@ -4,7 +4,7 @@ use poll_runs::{BusyReport, RunReport, ThreadReport};
 
 /// The effect of one row that polls.
 #[derive(Clone, Copy)]
-pub enum Line {
+pub enum PollRecord {
     /// A softirq row: its number, and its run over the poll list.
     Softirq {
         row: u32,
@@ -25,17 +25,17 @@ pub enum Line {
 }
 
 ghost use Rattle.std.specs.Prelude.{◌≡◌};
-ghost use Rattle.replay_rows.specs.Report.{row_of};
+ghost use Rattle.replay_rows.specs.Report.{record_row};
 
-impl Line {
+impl PollRecord {
     /// The number of the row.
     pub fn row(&self) -> u32
-        ensures { result ≡ row_of self.now }
+        ensures { result ≡ record_row self.now }
     {
         match self {
-            Line::Softirq { row, .. } => *row,
-            Line::Kthread { row, .. } => *row,
-            Line::Busy { row, .. } => *row,
+            PollRecord::Softirq { row, .. } => *row,
+            PollRecord::Kthread { row, .. } => *row,
+            PollRecord::Busy { row, .. } => *row,
         }
     }
 }

@@ -4,27 +4,27 @@ ghost use Rattle.std.specs.Prelude.{◌≡◌, ◌≢◌, ◌⊎◌, ◌+◌, �
 ghost use Rattle.device_places.specs.Places.{empty};
 ghost use Rattle.device_rows.specs.Trace.{AcceptedAfter};
 ghost use Rattle.replay_rows.specs.Answer.{LeavesDevices};
-ghost use Rattle.replay_rows.specs.Report.{device_line, device_lines, held_part, list_line, napi_line, of_run, poll_line, serial_report, spaced, state_word, total_line, totals_of};
-ghost use Rattle.replay_text.specs.Lines.{ended, flag, tx_line};
-ghost use Rattle.replay_text.specs.Outside.{IsWantOfMemory};
+ghost use Rattle.replay_rows.specs.Report.{device_line, device_lines, held_part, list_line, napi_line, of_run, poll_line, serial_report, spaced, state_word, total_line, run_totals};
+ghost use Rattle.replay_text.specs.Lines.{with_newline, flag, tx_line};
+ghost use Rattle.replay_text.specs.Outside.{IsReplayOutOfMemory};
 ghost use Rattle.replay_text.specs.declared.fault.ReplayFault.TheVariants.{OutputFailed};
 
-use crate::line::Line;
+use crate::line::PollRecord;
 use crate::replay::{Replay, room_for_lines};
 use device_bench::{DeviceCounts, DeviceState, ReplayBench};
-use device_places::PLACES;
+use device_places::TABLE_LEN;
 use device_rows::Row;
 use poll_runs::PollList;
 use replay_text::{ReplayFault, add_transmit};
-use replay_words::Settings;
+use replay_words::ReplaySettings;
 use std::alloc::{AllocError, Global};
 use std::fmt;
 
 // Appends the line of each row that polled.
-fn add_lines(text: &mut String, lines: &[Line]) -> Result<(), AllocError>
+fn add_lines(text: &mut String, lines: &[PollRecord]) -> Result<(), AllocError>
     ensures { OnOk result
         (string_bytes text.new ≡ string_bytes text.old
-        ++ flat_map (λ line. ended (poll_line line)) lines.now) }
+        ++ flat_map (λ line. with_newline (poll_line line)) lines.now) }
 {
     for line in lines {
         add_line(text, line)?;
@@ -32,12 +32,12 @@ fn add_lines(text: &mut String, lines: &[Line]) -> Result<(), AllocError>
     Ok(())
 }
 
-fn add_line(text: &mut String, line: &Line) -> Result<(), AllocError>
+fn add_line(text: &mut String, line: &PollRecord) -> Result<(), AllocError>
     ensures { OnOk result
-        (string_bytes text.new ≡ string_bytes text.old ++ ended (poll_line line.now)) }
+        (string_bytes text.new ≡ string_bytes text.old ++ with_newline (poll_line line.now)) }
 {
     match line {
-        Line::Softirq { row, run } => writeln!(
+        PollRecord::Softirq { row, run } => writeln!(
             text,
             "softirq {} polls {} work {} squeezed {}",
             row,
@@ -45,7 +45,7 @@ fn add_line(text: &mut String, line: &Line) -> Result<(), AllocError>
             run.work,
             u8::from(run.squeezed)
         )?,
-        Line::Kthread {
+        PollRecord::Kthread {
             row,
             device,
             report,
@@ -54,7 +54,7 @@ fn add_line(text: &mut String, line: &Line) -> Result<(), AllocError>
             "kthread {} device {} polls {} work {}",
             row, device, report.polls, report.work
         )?,
-        Line::Busy {
+        PollRecord::Busy {
             row,
             device,
             report,
@@ -99,7 +99,8 @@ pub fn state_word(state: DeviceState) -> &'static str
 
 fn add_device_line(text: &mut String, number: u32, counts: &DeviceCounts) -> Result<(), AllocError>
     ensures { OnOk result
-        (string_bytes text.new ≡ string_bytes text.old ++ ended (device_line number counts.now)) }
+        (string_bytes text.new ≡ string_bytes text.old
+        ++ with_newline (device_line number counts.now)) }
 {
     writeln!(
         text,
@@ -135,7 +136,7 @@ fn add_napi_line(
 ) -> Result<(), AllocError>
     ensures { OnOk result
         (string_bytes text.new ≡ string_bytes text.old
-        ++ ended (napi_line version number counts.now)) }
+        ++ with_newline (napi_line version number counts.now)) }
 {
     write!(
         text,
@@ -156,7 +157,7 @@ fn add_napi_line(
 // Appends the line of the poll list.
 fn add_list(text: &mut String, list: &[u32]) -> Result<(), AllocError>
     ensures { OnOk result
-        (string_bytes text.new ≡ string_bytes text.old ++ ended (list_line list.now)) }
+        (string_bytes text.new ≡ string_bytes text.old ++ with_newline (list_line list.now)) }
 {
     text.push_str("list")?;
     add_numbers(text, list)?;
@@ -206,7 +207,7 @@ impl fmt::Display for RunTotals {
 
 impl RunTotals {
     // Adds the run of a softirq row; a thread's polling isn't a run, nor is busy polling.
-    fn add(&mut self, line: &Line)
+    fn add(&mut self, line: &PollRecord)
         requires { (self.old.runs < 2 ^ 63) × (self.old.polls < 2 ^ 63) × (self.old.work < 2 ^ 63)
             × (self.old.squeezed < 2 ^ 63) }
         ensures devices { self.new.devices ≡ self.old.devices }
@@ -220,7 +221,7 @@ impl RunTotals {
         ensures most { (self.new.polls ≤ self.old.polls + 4294967295)
             × (self.new.work ≤ self.old.work + 4294967295) }
     {
-        if let Line::Softirq { run, .. } = line {
+        if let PollRecord::Softirq { run, .. } = line {
             self.runs += 1;
             self.polls += u64::from(run.polls);
             self.work += u64::from(run.work);
@@ -229,9 +230,9 @@ impl RunTotals {
     }
 
     /// Returns the sums over these rows.
-    pub(crate) fn of(devices: usize, lines: &[Line]) -> RunTotals
+    pub(crate) fn of(devices: usize, lines: &[PollRecord]) -> RunTotals
         requires { length lines.now ≤ 100000 }
-        ensures { result ≡ totals_of devices lines.now }
+        ensures { result ≡ run_totals devices lines.now }
     {
         let mut totals = RunTotals {
             devices,
@@ -250,7 +251,7 @@ impl RunTotals {
 // Appends the last line.
 fn add_totals(text: &mut String, totals: &RunTotals) -> Result<(), AllocError>
     ensures { OnOk result
-        (string_bytes text.new ≡ string_bytes text.old ++ ended (total_line totals.now)) }
+        (string_bytes text.new ≡ string_bytes text.old ++ with_newline (total_line totals.now)) }
 {
     writeln!(text, "{totals}")?;
     Ok(())
@@ -259,17 +260,17 @@ fn add_totals(text: &mut String, totals: &RunTotals) -> Result<(), AllocError>
 impl<B: ReplayBench> Replay<B> {
     ghost use Rattle.std.specs.Prelude.{◌≡◌, ◌++◌, IfOk, OnOk, string_bytes};
     ghost use Rattle.device_transmit.specs.Transmits.{Transmits};
-    ghost use Rattle.replay_rows.specs.Played.{state_in};
+    ghost use Rattle.replay_rows.specs.Played.{replay_state};
     ghost use Rattle.replay_rows.specs.Replay.{start};
-    ghost use Rattle.replay_rows.specs.Report.{lines_below, lines_of, text_of};
+    ghost use Rattle.replay_rows.specs.Report.{lines_below, lines_of, serial_text};
 
     // Appends the lines of each device, by increasing number.
     fn add_devices(&self, version: u32, text: &mut String) -> Result<(), AllocError>
         ensures { (all : Transmits) → B.shows self.now.bench all
             → OnOk result (string_bytes text.new ≡ string_bytes text.old
-            ++ lines_below (lines_of version (state_in B.devices self.now) all) 17) }
+            ++ lines_below (lines_of version (replay_state B.devices self.now) all) 17) }
     {
-        for number in 0..PLACES {
+        for number in 0..TABLE_LEN {
             if self.bench.is_attached(number) {
                 let used = self.bench.uses_transmit(number);
                 add_device(text, version, number, used, &self.bench.counts(number))?;
@@ -283,7 +284,8 @@ impl<B: ReplayBench> Replay<B> {
     fn report(&self, alloc: Global, version: u32) -> Result<String, AllocError>
         requires { length self.now.lines.items ≤ 100000 }
         ensures { (all : Transmits) → B.shows self.now.bench all → IfOk result
-            (λ text. string_bytes text ≡ text_of version (state_in B.devices self.now) all) }
+            (λ text. string_bytes text ≡ serial_text version (replay_state B.devices self.now)
+            all) }
     {
         let mut text = String::new(alloc);
         add_lines(&mut text, self.lines.as_slice())?;
@@ -301,17 +303,17 @@ impl<B: ReplayBench> Replay<B> {
     fn report_rows(
         &mut self,
         alloc: Global,
-        settings: &Settings,
+        settings: &ReplaySettings,
         version: u32,
         rows: &[Row],
     ) -> Result<String, ReplayFault>
         requires accepted { AcceptedAfter [] rows.now }
         requires count { length rows.now ≤ 100000 }
-        requires start { state_in B.devices self.old ≡ start }
+        requires start { replay_state B.devices self.old ≡ start }
         requires transmits { B.shows self.old.bench empty }
         ensures report { IfOk result
             (λ text. serial_report settings.now version rows.now ≡ Ok (string_bytes text)) }
-        ensures fault { IfErr result (λ fault. IsWantOfMemory fault
+        ensures fault { IfErr result (λ fault. IsReplayOutOfMemory fault
             ⊎ (serial_report settings.now version rows.now ≡ Err fault)) }
         ensures played { IfOk result
             (λ text. LeavesDevices settings.now rows.now (B.devices self.new.bench)) }
@@ -329,7 +331,7 @@ impl<B: ReplayBench> Replay<B> {
 pub(crate) fn report_on<B: ReplayBench>(
     alloc: Global,
     bench: B,
-    settings: &Settings,
+    settings: &ReplaySettings,
     version: u32,
     rows: &[Row],
 ) -> (B, Result<String, ReplayFault>)
@@ -339,7 +341,7 @@ pub(crate) fn report_on<B: ReplayBench>(
     requires transmits { B.shows bench empty }
     ensures report { IfOk result.1
         (λ text. serial_report settings.now version rows.now ≡ Ok (string_bytes text)) }
-    ensures fault { IfErr result.1 (λ fault. IsWantOfMemory fault
+    ensures fault { IfErr result.1 (λ fault. IsReplayOutOfMemory fault
         ⊎ (serial_report settings.now version rows.now ≡ Err fault)) }
     ensures unwritten { IfErr result.1 (λ fault. fault ≢ OutputFailed) }
     ensures played { IfOk result.1

@@ -2,13 +2,13 @@
 
 ghost use Rattle.std.specs.Prelude.{◌≡◌, Ok, Err, IfErr, OnOk};
 ghost use Rattle.replay_text.specs.Outside.{IsOutside};
-ghost use Rattle.replay_text.specs.Written.{IsFaultBy, Leaves, Writes};
+ghost use Rattle.replay_text.specs.Written.{IsFaultBy, LeavesText, Writes};
 ghost use Rattle.replay_rows.specs.Answer.{replay_of};
 
 use crate::whole::replay_on;
 use device_bench::SerialBench;
 use replay_text::ReplayFault;
-use replay_words::Settings;
+use replay_words::ReplaySettings;
 use std::alloc::Global;
 use std::io::{Read, Write};
 
@@ -20,7 +20,7 @@ pub fn replay_serial<R: Read + Drop, W: Write>(
     alloc: Global,
     reader: R,
     writer: &mut W,
-    settings: &Settings,
+    settings: &ReplaySettings,
 ) -> Result<(), ReplayFault>
     // What is written is the report of the rows of the bytes read, and nothing else.
     ensures written { OnOk result (Writes (λ bytes text. replay_of settings.now bytes ≡ Ok text)
@@ -31,7 +31,7 @@ pub fn replay_serial<R: Read + Drop, W: Write>(
         (λ bytes fault. replay_of settings.now bytes ≡ Err fault) (R.remaining reader)) }
 
     // If the output failed, less than the whole report was written, and after each other error nothing.
-    ensures output { IfErr result (Leaves (λ bytes text. replay_of settings.now bytes ≡ Ok text)
+    ensures output { IfErr result (LeavesText (λ bytes text. replay_of settings.now bytes ≡ Ok text)
         (R.remaining reader) (W.contents writer.old) (W.contents writer.new)) }
 {
     let bench = SerialBench::new(alloc)?;

@@ -1,11 +1,11 @@
 //! A replay on one thread, row by row.
 
-use crate::line::Line;
+use crate::line::PollRecord;
 use crate::replay::{Replay, room_for_lines};
 use device_bench::{DeviceCounts, ReplayBench, SerialBench};
 use device_rows::Row;
 use replay_text::ReplayFault;
-use replay_words::Settings;
+use replay_words::ReplaySettings;
 use std::alloc::{AllocError, Global};
 
 /// A replay on one thread that processes the rows one by one, and shows the state after each.
@@ -18,15 +18,15 @@ impl SerialReplay {
     ghost use Rattle.std.specs.Prelude.{◌≡◌, ◌⊎◌, ◌≤◌, ◌<◌, ◌+◌, ℕ, [], List, Err, IfOk, IfErr, OnOk, length};
     ghost use Rattle.device_rows.specs.Trace.{AcceptedAfter};
     ghost use Rattle.device_rows.specs.declared.row.Row.{Row};
-    ghost use Rattle.replay_words.specs.declared.settings.Settings.{Settings};
+    ghost use Rattle.replay_words.specs.declared.settings.ReplaySettings.{ReplaySettings};
     ghost use Rattle.replay_rows.specs.After.{IsAfter, counts_after, is_used_after, list_after, polled_after};
-    ghost use Rattle.replay_rows.specs.Replay.{after_all};
-    ghost use Rattle.replay_text.specs.Outside.{IsWantOfMemory};
+    ghost use Rattle.replay_rows.specs.Replay.{after_all_rows};
+    ghost use Rattle.replay_text.specs.Outside.{IsReplayOutOfMemory};
 
     /// Returns a replay before its first row, with room for the lines of these rows.
     pub fn new(alloc: Global, rows: &[Row]) -> Result<SerialReplay, AllocError>
         ensures { IfOk result
-            (λ replay. (s : Settings) (rows : List Row) → IsAfter s rows 0 replay) }
+            (λ replay. (s : ReplaySettings) (rows : List Row) → IsAfter s rows 0 replay) }
     {
         Ok(SerialReplay {
             replay: Replay::new(SerialBench::new(alloc)?, room_for_lines(alloc, rows)?),
@@ -37,7 +37,7 @@ impl SerialReplay {
     pub fn play_row(
         &mut self,
         alloc: Global,
-        settings: &Settings,
+        settings: &ReplaySettings,
         rows: &[Row],
         index: usize,
     ) -> Result<(), ReplayFault>
@@ -47,7 +47,8 @@ impl SerialReplay {
         requires after { IsAfter settings.now rows.now index self.old }
         ensures after { OnOk result (IsAfter settings.now rows.now (index + 1) self.new) }
         ensures fault { IfErr result
-            (λ fault. IsWantOfMemory fault ⊎ (after_all settings.now rows.now ≡ Err fault)) }
+            (λ fault. IsReplayOutOfMemory fault
+            ⊎ (after_all_rows settings.now rows.now ≡ Err fault)) }
     {
         self.replay
             .play(alloc, settings, index as u32 + 1, &rows[index])?;
@@ -56,7 +57,7 @@ impl SerialReplay {
 
     /// Returns what the report of the rows so far shows of a device, or `None` if there is no such device.
     pub fn counts(&self, device: u32) -> Option<DeviceCounts>
-        ensures { (s : Settings) (rows : List Row) (n : ℕ) → IsAfter s rows n self.now
+        ensures { (s : ReplaySettings) (rows : List Row) (n : ℕ) → IsAfter s rows n self.now
             → result ≡ counts_after s rows n device }
     {
         if !self.replay.bench.is_attached(device) {
@@ -68,7 +69,7 @@ impl SerialReplay {
     /// Returns whether the report of the rows so far shows the device's transmit side, which is so after its first tx or done
     /// row.
     pub fn uses_transmit(&self, device: u32) -> bool
-        ensures { (s : Settings) (rows : List Row) (n : ℕ) → IsAfter s rows n self.now
+        ensures { (s : ReplaySettings) (rows : List Row) (n : ℕ) → IsAfter s rows n self.now
             → result ≡ is_used_after rows n device }
     {
         self.replay.bench.uses_transmit(device)
@@ -76,15 +77,15 @@ impl SerialReplay {
 
     /// The numbers on the poll list, the next one first.
     pub fn list(&self) -> &[u32]
-        ensures { (s : Settings) (rows : List Row) (n : ℕ) → IsAfter s rows n self.now
+        ensures { (s : ReplaySettings) (rows : List Row) (n : ℕ) → IsAfter s rows n self.now
             → result.now ≡ list_after s rows n }
     {
         self.replay.list.ids()
     }
 
     /// Returns what the row with this number did, if it is the last one processed, and polled.
-    pub fn polled(&self, number: u32) -> Option<Line>
-        ensures { (s : Settings) (rows : List Row) → IsAfter s rows number self.now
+    pub fn polled(&self, number: u32) -> Option<PollRecord>
+        ensures { (s : ReplaySettings) (rows : List Row) → IsAfter s rows number self.now
             → result ≡ polled_after s rows number }
     {
         match self.replay.lines.last() {

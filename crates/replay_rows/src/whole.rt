@@ -3,14 +3,14 @@
 ghost use Rattle.std.specs.Prelude.{◌≡◌, Ok, Err, IfErr, OnOk};
 ghost use Rattle.device_places.specs.Places.{empty};
 ghost use Rattle.replay_text.specs.Outside.{IsOutside};
-ghost use Rattle.replay_text.specs.Written.{IsFaultBy, Leaves, Writes};
+ghost use Rattle.replay_text.specs.Written.{IsFaultBy, LeavesText, Writes};
 ghost use Rattle.replay_rows.specs.Answer.{Plays, replay_of};
 
 use crate::report::report_on;
 use device_bench::ReplayBench;
 use device_rows::read_trace;
 use replay_text::{ReplayFault, write_text};
-use replay_words::Settings;
+use replay_words::ReplaySettings;
 use std::alloc::Global;
 use std::io::{Read, Write};
 
@@ -23,7 +23,7 @@ pub fn replay_on<B: ReplayBench, R: Read + Drop, W: Write>(
     bench: B,
     reader: R,
     writer: &mut W,
-    settings: &Settings,
+    settings: &ReplaySettings,
 ) -> (B, Result<(), ReplayFault>)
     requires devices { B.devices bench ≡ empty }
     requires transmits { B.shows bench empty }
@@ -37,7 +37,8 @@ pub fn replay_on<B: ReplayBench, R: Read + Drop, W: Write>(
         (λ bytes fault. replay_of settings.now bytes ≡ Err fault) (R.remaining reader)) }
 
     // If the output failed, less than the whole report was written, and after each other error nothing.
-    ensures output { IfErr result.1 (Leaves (λ bytes text. replay_of settings.now bytes ≡ Ok text)
+    ensures output { IfErr result.1 (LeavesText
+        (λ bytes text. replay_of settings.now bytes ≡ Ok text)
         (R.remaining reader) (W.contents writer.old) (W.contents writer.new)) }
 
     // The bench has the devices in the state after the rows of the bytes read.

@@ -3,7 +3,8 @@
 use device_model::TraceFault;
 use poll_engine::OpenGate;
 use replay::{
-    Mode, ReplayFault, Settings, fault_line, replay_serial, replay_shared, replay_threads, status,
+    ReplayFault, ReplayMode, ReplaySettings, fault_line, replay_serial, replay_shared,
+    replay_threads, status,
 };
 use replay_text::{ProgramFault, end_by};
 use std::alloc::Global;
@@ -14,24 +15,24 @@ use std::test::Fail;
 use std::thread::Threads;
 use test_ends::{FailingReader, FailingWriter, ONE_PACKET, ONE_PACKET_REPORT, ONE_PACKET_THREADS};
 
-pub(crate) const MODES: [(Mode, &str); 3] = [
-    (Mode::Serial, ONE_PACKET_REPORT),
-    (Mode::Shared, ONE_PACKET_REPORT),
-    (Mode::Threads, ONE_PACKET_THREADS),
+pub(crate) const MODES: [(ReplayMode, &str); 3] = [
+    (ReplayMode::Serial, ONE_PACKET_REPORT),
+    (ReplayMode::Shared, ONE_PACKET_REPORT),
+    (ReplayMode::Threads, ONE_PACKET_THREADS),
 ];
 
 pub(crate) fn replay_in<P: Threads + Wait + Sync, R: Read + Drop, W: Write>(
     rt: &P,
     alloc: Global,
-    mode: Mode,
+    mode: ReplayMode,
     reader: R,
     writer: &mut W,
-    settings: &Settings,
+    settings: &ReplaySettings,
 ) -> Result<(), ReplayFault> {
     match mode {
-        Mode::Serial => replay_serial(alloc, reader, writer, settings),
-        Mode::Shared => replay_shared(rt, alloc, reader, writer, settings),
-        Mode::Threads => {
+        ReplayMode::Serial => replay_serial(alloc, reader, writer, settings),
+        ReplayMode::Shared => replay_shared(rt, alloc, reader, writer, settings),
+        ReplayMode::Threads => {
             let polled = replay_threads(rt, alloc, reader, writer, settings, &OpenGate)?;
             drop(polled);
             Ok(())
@@ -53,7 +54,7 @@ fn failing_reads(rt: HostRuntime) {
                 mode,
                 reader,
                 &mut report,
-                &Settings::default(),
+                &ReplaySettings::default(),
             );
             if before < reads {
                 assert_eq!(rt;
@@ -82,7 +83,7 @@ fn failing_writes(rt: HostRuntime) {
                 mode,
                 ONE_PACKET.as_bytes(),
                 &mut writer,
-                &Settings::default(),
+                &ReplaySettings::default(),
             );
             if before < writes {
                 assert_eq!(rt;
@@ -110,7 +111,7 @@ fn faulty_traces(rt: HostRuntime) {
             mode,
             text.as_bytes(),
             &mut writer,
-            &Settings::default(),
+            &ReplaySettings::default(),
         );
         assert_eq!(rt;
             answer,

@@ -2,7 +2,7 @@
 
 use crate::failing::{MODES, replay_in};
 use device_model::{TraceFault, read_trace};
-use replay::{ReplayFault, Settings};
+use replay::{ReplayFault, ReplaySettings};
 use std::test::Fail;
 use test_ends::LongReader;
 
@@ -43,7 +43,7 @@ fn long_blank(rt: HostRuntime) -> Result<(), Fail> {
             mode,
             reader,
             &mut text,
-            &Settings::default(),
+            &ReplaySettings::default(),
         );
         assert_eq!(rt; answer, Ok(()));
         assert_eq!(rt; text.as_slice(), report.as_bytes());
@@ -87,7 +87,7 @@ fn long_fields(rt: HostRuntime) {
                 mode,
                 reader,
                 &mut text,
-                &Settings::default(),
+                &ReplaySettings::default(),
             );
             assert_eq!(rt; answer, Err(ReplayFault::Trace(fault)));
             assert!(rt; text.is_empty());

@@ -3,7 +3,7 @@
 use crate::failing::{MODES, replay_in};
 use crate::worked::{ONE, joined};
 use device_model::TraceFault;
-use replay::{Mode, ReplayFault, Settings};
+use replay::{ReplayFault, ReplayMode, ReplaySettings};
 use std::alloc::{AllocError, Global};
 use std::process::Abort;
 use std::sync::Wait;
@@ -145,16 +145,16 @@ total devices 1 runs 0 polls 0 work 0 squeezed 0
 }
 
 // Returns the report of a prefix without an error.
-fn report_of(alloc: Global, mode: Mode, last: Last) -> Result<String, AllocError> {
+fn report_of(alloc: Global, mode: ReplayMode, last: Last) -> Result<String, AllocError> {
     let rows = last.rows();
     match mode {
-        Mode::Threads if rows == 0 => String::from_str(alloc, "total devices 0\n"),
-        Mode::Threads => {
+        ReplayMode::Threads if rows == 0 => String::from_str(alloc, "total devices 0\n"),
+        ReplayMode::Threads => {
             let packets = last.packets();
             let bytes = last.packet_bytes();
             format!(in alloc; "device 1 arrived {packets} bytes {bytes}\ntotal devices 1\n")
         }
-        Mode::Serial | Mode::Shared => match rows {
+        ReplayMode::Serial | ReplayMode::Shared => match rows {
             0 => String::from_str(
                 alloc,
                 "list\ntotal devices 0 runs 0 polls 0 work 0 squeezed 0\n",
@@ -170,7 +170,7 @@ fn report_of(alloc: Global, mode: Mode, last: Last) -> Result<String, AllocError
 fn every_prefix<P: Threads + Wait + Abort + Sync>(
     rt: &P,
     alloc: Global,
-    mode: Mode,
+    mode: ReplayMode,
 ) -> Result<(), Fail> {
     let text = joined(alloc, &ROWS)?;
     let bytes = text.as_bytes();
@@ -182,7 +182,14 @@ fn every_prefix<P: Threads + Wait + Abort + Sync>(
             None => (Ok(()), report_of(alloc, mode, last)?),
         };
         let mut report = Vec::new(alloc);
-        let answer = replay_in(rt, alloc, mode, prefix, &mut report, &Settings::default());
+        let answer = replay_in(
+            rt,
+            alloc,
+            mode,
+            prefix,
+            &mut report,
+            &ReplaySettings::default(),
+        );
         assert_eq!(rt; answer, wanted.0, "{end} bytes");
         assert_eq!(rt; report.as_slice(), wanted.1.as_bytes(), "{end} bytes");
     }
@@ -191,17 +198,17 @@ fn every_prefix<P: Threads + Wait + Abort + Sync>(
 
 #[test]
 fn serial(rt: HostRuntime) -> Result<(), Fail> {
-    every_prefix(&rt, rt.alloc(), Mode::Serial)
+    every_prefix(&rt, rt.alloc(), ReplayMode::Serial)
 }
 
 #[test]
 fn shared(rt: HostRuntime) -> Result<(), Fail> {
-    every_prefix(&rt, rt.alloc(), Mode::Shared)
+    every_prefix(&rt, rt.alloc(), ReplayMode::Shared)
 }
 
 #[test]
 fn threads(rt: HostRuntime) -> Result<(), Fail> {
-    every_prefix(&rt, rt.alloc(), Mode::Threads)
+    every_prefix(&rt, rt.alloc(), ReplayMode::Threads)
 }
 
 // A byte that begins no character isn't an event.
@@ -216,7 +223,7 @@ fn byte_255(rt: HostRuntime) {
             mode,
             text.as_slice(),
             &mut report,
-            &Settings::default(),
+            &ReplaySettings::default(),
         );
         let fault = TraceFault::BadEvent { row: 2 };
         assert_eq!(rt; answer, Err(ReplayFault::Trace(fault)));

@@ -1,7 +1,7 @@
 //! Whole replays on instances that threads could share, compared with those on one thread.
 
 use crate::worked::joined;
-use replay::{ReplayFault, Settings, replay_serial, replay_shared};
+use replay::{ReplayFault, ReplaySettings, replay_serial, replay_shared};
 use std::alloc::{AllocError, Global};
 use std::test::Fail;
 use test_ends::HEADER;
@@ -114,7 +114,7 @@ fn front_of(alloc: Global, rows: &str, count: usize) -> Result<String, AllocErro
 fn shared_as_serial_behind_each_row(rt: HostRuntime) -> Result<(), Fail> {
     for trace in &TRACES {
         let (budget, weight, window) = trace.polling;
-        let settings = Settings::new(1, budget, weight, window).ok_or("in range")?;
+        let settings = ReplaySettings::new(1, budget, weight, window).ok_or("in range")?;
         let rows = joined(rt.alloc(), trace.rows)?;
         for count in 0..=rows.as_str().lines().count() {
             let text = front_of(rt.alloc(), rows.as_str(), count)?;
@@ -138,7 +138,7 @@ fn shared_as_serial_behind_each_row(rt: HostRuntime) -> Result<(), Fail> {
 #[test]
 fn fault_in_mid_trace(rt: HostRuntime) {
     let text = "moment,device,event,value\n0,1,open,4\n1,1,rx,100\n2,1,disable,0\n3,1,enable,0\n";
-    let settings = Settings::default();
+    let settings = ReplaySettings::default();
     let mut report = Vec::new(rt.alloc());
     let answer = replay_shared(&rt, rt.alloc(), text.as_bytes(), &mut report, &settings);
     assert_eq!(rt; answer, Err(ReplayFault::Pending { row: 4 }));

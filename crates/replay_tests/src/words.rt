@@ -1,6 +1,6 @@
 //! Tests of the command line.
 
-use replay::{Mode, Settings, WordFault, parse_words, word_line, word_status};
+use replay::{ReplayMode, ReplaySettings, WordFault, parse_words, word_line, word_status};
 use std::alloc::Global;
 use std::test::Fail;
 
@@ -11,7 +11,7 @@ where
     WordFault::OutOfMemory
 }
 
-fn parse(alloc: Global, words: &[&str]) -> Result<(Mode, Settings), WordFault> {
+fn parse(alloc: Global, words: &[&str]) -> Result<(ReplayMode, ReplaySettings), WordFault> {
     let mut given = Vec::new(alloc);
     for word in words {
         let word = String::from_str(alloc, *word).map_err(out_of_memory)?;
@@ -26,9 +26,9 @@ fn serial(
     budget: u32,
     weight: u32,
     window: u32,
-) -> Result<(Mode, Settings), WordFault> {
-    let settings = Settings::new(pollers, budget, weight, window).ok_or(WordFault::Usage)?;
-    Ok((Mode::Serial, settings))
+) -> Result<(ReplayMode, ReplaySettings), WordFault> {
+    let settings = ReplaySettings::new(pollers, budget, weight, window).ok_or(WordFault::Usage)?;
+    Ok((ReplayMode::Serial, settings))
 }
 
 #[test]
@@ -40,9 +40,9 @@ fn usual_ones(rt: HostRuntime) {
 fn each_mode(rt: HostRuntime) -> Result<(), WordFault> {
     let (_, usual) = parse(rt.alloc(), &[])?;
     let modes = [
-        ("serial", Mode::Serial),
-        ("shared", Mode::Shared),
-        ("threads", Mode::Threads),
+        ("serial", ReplayMode::Serial),
+        ("shared", ReplayMode::Shared),
+        ("threads", ReplayMode::Threads),
     ];
     for (word, mode) in modes {
         assert_eq!(rt; parse(rt.alloc(), &["--mode", word]), Ok((mode, usual)));

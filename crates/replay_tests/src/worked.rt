@@ -2,7 +2,7 @@
 //! the reports are written to memory.
 
 use crate::failing::{MODES, replay_in};
-use replay::{Mode, ReplayFault, Settings, fault_line, status};
+use replay::{ReplayFault, ReplayMode, ReplaySettings, fault_line, status};
 use std::alloc::{AllocError, Global};
 use std::process::Abort;
 use std::sync::Wait;
@@ -485,12 +485,12 @@ fn play<P: Abort + Threads + Wait + Sync>(
     rt: &P,
     alloc: Global,
     case: &Case,
-    mode: Mode,
+    mode: ReplayMode,
     pollers: u32,
     wanted: &str,
 ) -> Result<(), Fail> {
     let text = joined(alloc, case.trace)?;
-    let settings = Settings::new(pollers, case.budget, 64, case.window).ok_or("in range")?;
+    let settings = ReplaySettings::new(pollers, case.budget, 64, case.window).ok_or("in range")?;
     let mut report = Vec::new(alloc);
     let answer = replay_in(rt, alloc, mode, text.as_bytes(), &mut report, &settings);
     let told = answers(alloc, answer, report.as_slice(), wanted)?;
@@ -501,14 +501,14 @@ fn play<P: Abort + Threads + Wait + Sync>(
 #[test]
 fn each_case(rt: HostRuntime) -> Result<(), Fail> {
     for case in &CASES {
-        play(&rt, rt.alloc(), case, Mode::Serial, 1, case.report)?;
-        play(&rt, rt.alloc(), case, Mode::Shared, 1, case.report)?;
+        play(&rt, rt.alloc(), case, ReplayMode::Serial, 1, case.report)?;
+        play(&rt, rt.alloc(), case, ReplayMode::Shared, 1, case.report)?;
         for pollers in [1, 2, 8] {
             play(
                 &rt,
                 rt.alloc(),
                 case,
-                Mode::Threads,
+                ReplayMode::Threads,
                 pollers,
                 case.with_threads,
             )?;
@@ -529,7 +529,7 @@ fn faults(rt: HostRuntime) -> Result<(), Fail> {
                 mode,
                 text.as_bytes(),
                 &mut report,
-                &Settings::default(),
+                &ReplaySettings::default(),
             );
             assert!(rt; answer.is_err());
             let told = answers(rt.alloc(), answer, report.as_slice(), line)?;

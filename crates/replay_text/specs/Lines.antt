@@ -9,8 +9,8 @@ words (word ∷ []) = word
 words (word ∷ next ∷ more) = word ++ (32 ∷ words (next ∷ more))
 
 -- each line ends with a line feed
-abbrev pub ended : List ℕ → List ℕ
-ended line = line ++ codes "\n"
+abbrev pub with_newline : List ℕ → List ℕ
+with_newline line = line ++ codes "\n"
 
 abbrev pub flag : Bool → ℕ
 flag b = if b then 1 else 0
@@ -23,4 +23,4 @@ tx_line number counts = words (codes "tx" ∷ decimal number ∷ codes "sent" �
 
 -- only if it had a row
 abbrev pub tx_lines : ℕ → Bool → TxCounts → List ℕ
-tx_lines number used counts = if used then ended (tx_line number counts) else []
+tx_lines number used counts = if used then with_newline (tx_line number counts) else []

@@ -1,13 +1,13 @@
 -- Errors that don't come from the text.
 use Rattle.std.specs.Prelude.{◌≡◌}
-use Rattle.device_rows.specs.{Failures.IsRefused, Source.IsReadFailure}
+use Rattle.device_rows.specs.{Failures.IsTraceOutOfMemory, Source.IsReadFailure}
 use Rattle.{device_rows.specs.declared.fault.TraceFault.TheVariants.OutOfMemory, replay_text.specs.Stops.HasStopped}
 use Rattle.replay_text.specs.declared.fault.ReplayFault.{ReplayFault, TheVariants.{Trace, Pending, RingTooSmall, GateShut, OutputFailed}}
 use Rattle.replay_text.specs.declared.fault.ReplayFault.TheVariants.{SpawnFailed}
 
 -- out of memory
-abbrev pub IsWantOfMemory : ReplayFault → Type 0
-IsWantOfMemory fault = (fault ≡ Trace OutOfMemory) × IsRefused
+abbrev pub IsReplayOutOfMemory : ReplayFault → Type 0
+IsReplayOutOfMemory fault = (fault ≡ Trace OutOfMemory) × IsTraceOutOfMemory
 
 -- the reader, an allocation or the writer failed; a replay that starts no thread has no errors of threads
 abbrev pub IsOutside : ReplayFault → Type 0

@@ -4,17 +4,18 @@ use Rattle.std.specs.{Prelude.{◌≡◌, ◌⊎◌, ℕ, List, ◌++◌, Option
 use Rattle.replay_text.specs.{Stops.HasStopped, Written.{AppendsPart, IsFaultBy, LeavesBy}}
 use Rattle.replay_text.specs.declared.{fault.ReplayFault.{ReplayFault, TheVariants.OutputFailed}}
 use Rattle.replay_text.specs.declared.program.ProgramFault.{ProgramFault, TheVariants.{Words, Run}}
-use Rattle.{device_rows.specs.Failures.IsRefused, replay_words.specs.{Refusals.IsRefused as IsRefusedWords, Words.line_of as word_line}}
-use Rattle.replay_words.specs.{Words.status_of as word_status, declared.words.WordFault.TheVariants.{Usage, OutOfMemory}}
+use Rattle.{device_rows.specs.Failures.IsTraceOutOfMemory}
+use Rattle.{replay_words.specs.{Refusals.IsArgsOutOfMemory as IsRefusedWords, Words.word_fault_line as word_line}}
+use Rattle.replay_words.specs.{Words.word_fault_status as word_status, declared.words.WordFault.TheVariants.{Usage, OutOfMemory}}
 
 -- the message on standard error, and the exit status
-abbrev pub line_of : {F : Type 0} → (F → List ℕ) → ProgramFault F → List ℕ
-line_of line (Words fault) = word_line fault
-line_of line (Run fault) = line fault ++ codes "\n"
+abbrev pub program_fault_line : {F : Type 0} → (F → List ℕ) → ProgramFault F → List ℕ
+program_fault_line line (Words fault) = word_line fault
+program_fault_line line (Run fault) = line fault ++ codes "\n"
 
-abbrev pub status_of : {F : Type 0} → (F → ℕ) → ProgramFault F → ℕ
-status_of status (Words fault) = word_status fault
-status_of status (Run fault) = status fault
+abbrev pub program_fault_status : {F : Type 0} → (F → ℕ) → ProgramFault F → ℕ
+program_fault_status status (Words fault) = word_status fault
+program_fault_status status (Run fault) = status fault
 
 -- the text is one that the bytes have under the settings of the arguments
 abbrev pub IsTextBy : {A : Type 0} → (A → Type 0) → (A → List ℕ → List ℕ → Type 0) → List ℕ → List ℕ → Type 0
@@ -30,8 +31,9 @@ IsFaultOf {A} Refused AskedFor CanBe (Run fault) = (asked : A) × AskedFor asked
 -- because the writer stopped or an allocation failed.
 pub record EndsBy {F : Type 0} (line_in : F → List ℕ) (status_in : F → ℕ) (fault : ProgramFault F) (old new : Option (List ℕ)) (code : ℕ)
     : Type 0 where
-  pub status : code ≡ status_of status_in fault
-  pub line : Appends old new (line_of line_in fault) ⊎ (AppendsPart old new (line_of line_in fault) × (HasStopped ⊎ IsRefused))
+  pub status : code ≡ program_fault_status status_in fault
+  pub line : Appends old new (program_fault_line line_in fault)
+      ⊎ (AppendsPart old new (program_fault_line line_in fault) × (HasStopped ⊎ IsTraceOutOfMemory))
 
 -- if the output failed, a part of a text of the bytes read was written, and after each other error nothing
 abbrev pub LeavesOutput : (List ℕ → List ℕ → Type 0) → Option (List ℕ) → Option (List ℕ) → Option (List ℕ)

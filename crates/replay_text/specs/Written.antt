@@ -23,5 +23,5 @@ WritesPart IsText input old new = (bytes : List ℕ) → input ≡ Some bytes �
 abbrev pub LeavesBy : {F : Type 0} → F → (List ℕ → List ℕ → Type 0) → Option (List ℕ) → Option (List ℕ) → Option (List ℕ) → F → Type 0
 LeavesBy failed IsText input old new fault = (fault ≡ failed → WritesPart IsText input old new) × (fault ≢ failed → Keeps old new)
 
-abbrev pub Leaves : (List ℕ → List ℕ → Type 0) → Option (List ℕ) → Option (List ℕ) → Option (List ℕ) → ReplayFault → Type 0
-Leaves IsText = LeavesBy OutputFailed IsText
+abbrev pub LeavesText : (List ℕ → List ℕ → Type 0) → Option (List ℕ) → Option (List ℕ) → Option (List ℕ) → ReplayFault → Type 0
+LeavesText IsText = LeavesBy OutputFailed IsText

@@ -1,7 +1,7 @@
 //! Why a replay has no report.
 
 ghost use Rattle.std.specs.Prelude.{◌≡◌, IfOk, string_bytes};
-ghost use Rattle.replay_text.specs.Fault.{line_of, number_of, status_of};
+ghost use Rattle.replay_text.specs.Fault.{replay_fault_line, replay_fault_number, replay_fault_status};
 
 use crate::program::Fault;
 use device_rows::TraceFault;
@@ -45,9 +45,9 @@ impl From<TraceFault> for ReplayFault {
 }
 
 impl From<AllocError> for ReplayFault {
-    ghost use Rattle.replay_text.specs.Outside.{IsWantOfMemory};
+    ghost use Rattle.replay_text.specs.Outside.{IsReplayOutOfMemory};
 
-    ghost from_gives = { λ _ fault. IsWantOfMemory fault };
+    ghost from_gives = { λ _ fault. IsReplayOutOfMemory fault };
 
     fn from(_: AllocError) -> ReplayFault {
         ReplayFault::Trace(TraceFault::OutOfMemory)
@@ -57,7 +57,7 @@ impl From<AllocError> for ReplayFault {
 impl ReplayFault {
     /// The number of this error.
     pub fn number(self) -> u8
-        ensures { result ≡ number_of self }
+        ensures { result ≡ replay_fault_number self }
     {
         match self {
             ReplayFault::Trace(fault) => fault.number(),
@@ -103,9 +103,9 @@ struct FaultLine<'a>(&'a ReplayFault);
 
 impl fmt::Display for FaultLine<'_> {
     ghost use Rattle.std.specs.Prelude.{Some};
-    ghost use Rattle.replay_text.specs.Fault.{line_of};
+    ghost use Rattle.replay_text.specs.Fault.{replay_fault_line};
 
-    ghost output = { λ line. Some (line_of line.0.now) };
+    ghost output = { λ line. Some (replay_fault_line line.0.now) };
 
     fn fmt<W: fmt::Write>(&self, f: &mut fmt::Formatter<W>) -> fmt::Result {
         match self.0 {
@@ -128,7 +128,7 @@ ghost use Rattle.std.specs.Prelude.{◌++◌, codes};
 
 /// Returns the message of an error for standard error, including the line feed. Fails only if an allocation fails.
 pub fn fault_line(alloc: Global, fault: &ReplayFault) -> Result<String, AllocError>
-    ensures { IfOk result (λ line. string_bytes line ≡ line_of fault.now ++ codes "\n") }
+    ensures { IfOk result (λ line. string_bytes line ≡ replay_fault_line fault.now ++ codes "\n") }
 {
     format!(in alloc; "{}\n", FaultLine(fault))
 }
@@ -136,7 +136,7 @@ pub fn fault_line(alloc: Global, fault: &ReplayFault) -> Result<String, AllocErr
 /// Returns the exit status of an error: 2 for the trace's own errors, 3 for a ring that is too small, 4 if an allocation, the
 /// output or the workers failed.
 pub fn status(fault: &ReplayFault) -> u8
-    ensures { result ≡ status_of fault.now }
+    ensures { result ≡ replay_fault_status fault.now }
 {
     match fault {
         ReplayFault::Trace(TraceFault::OutOfMemory)
@@ -149,11 +149,11 @@ pub fn status(fault: &ReplayFault) -> u8
 }
 
 impl Fault for ReplayFault {
-    ghost use Rattle.replay_text.specs.Fault.{line_of, status_of};
+    ghost use Rattle.replay_text.specs.Fault.{replay_fault_line, replay_fault_status};
 
-    ghost line = { line_of };
+    ghost line = { replay_fault_line };
 
-    ghost status = { status_of };
+    ghost status = { replay_fault_status };
 
     fn line(&self, alloc: Global) -> Result<String, AllocError> {
         fault_line(alloc, self)

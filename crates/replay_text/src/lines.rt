@@ -2,7 +2,7 @@
 
 ghost use Rattle.std.specs.Prelude.{◌≡◌, ◌++◌, IfErr, OnErr, OnOk, false, string_bytes, true};
 ghost use Rattle.std.specs.Io.KnownBytes.{Appends};
-ghost use Rattle.replay_text.specs.Lines.{ended, tx_line};
+ghost use Rattle.replay_text.specs.Lines.{with_newline, tx_line};
 ghost use Rattle.replay_text.specs.Stops.{HasStopped};
 ghost use Rattle.replay_text.specs.Written.{AppendsPart};
 ghost use Rattle.replay_text.specs.declared.fault.ReplayFault.TheVariants.{OutputFailed};
@@ -15,7 +15,8 @@ use std::io::{ErrorKind, Write};
 /// Appends the line of a device's transmit side. Fails only if an allocation fails.
 pub fn add_transmit(text: &mut String, number: u32, counts: &TxCounts) -> Result<(), AllocError>
     ensures { OnOk result
-        (string_bytes text.new ≡ string_bytes text.old ++ ended (tx_line number counts.now)) }
+        (string_bytes text.new ≡ string_bytes text.old
+        ++ with_newline (tx_line number counts.now)) }
 {
     writeln!(
         text,

@@ -3,8 +3,8 @@
 ghost use Rattle.std.specs.Prelude.{◌≡◌, ◌≢◌, ◌⊎◌, ◌++◌, ℕ, IfOk, List, codes, false, string_bytes, true};
 ghost use Rattle.std.specs.Io.KnownBytes.{Appends};
 ghost use Rattle.std.specs.Process.{exit_status};
-ghost use Rattle.device_rows.specs.Failures.{IsRefused};
-ghost use Rattle.replay_text.specs.Program.{EndsBy, line_of, status_of};
+ghost use Rattle.device_rows.specs.Failures.{IsTraceOutOfMemory};
+ghost use Rattle.replay_text.specs.Program.{EndsBy, program_fault_line, program_fault_status};
 ghost use Rattle.replay_text.specs.Stops.{HasStopped};
 ghost use Rattle.replay_text.specs.Written.{AppendsPart};
 
@@ -58,10 +58,11 @@ pub fn given_words(rt: &HostRuntime) -> Result<Vec<String>, WordFault> {
 #[tactic(auto, using(crate::proofs::OutFacts::none_out))]
 fn tell<F: Fault, E: Write>(alloc: Global, fault: &ProgramFault<F>, errors: &mut E) -> bool
     ensures told { result ≡ true
-        → Appends (E.contents errors.old) (E.contents errors.new) (line_of F.line fault.now) }
+        → Appends (E.contents errors.old) (E.contents errors.new)
+        (program_fault_line F.line fault.now) }
     ensures untold { result ≡ false → AppendsPart (E.contents errors.old) (E.contents errors.new)
-        (line_of F.line fault.now) }
-    ensures stopped { result ≡ false → HasStopped ⊎ IsRefused }
+        (program_fault_line F.line fault.now) }
+    ensures stopped { result ≡ false → HasStopped ⊎ IsTraceOutOfMemory }
 {
     match fault {
         ProgramFault::Words(fault) => write_out(errors, word_line(fault).as_bytes()),

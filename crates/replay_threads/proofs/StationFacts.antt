@@ -5,20 +5,24 @@ use Rattle.std.proofs.Common.{Bool, true, false, Some, None, List, [], ◌∷◌
 use Rattle.std.{proofs.{Common.{arith, flat_map}, Math.Nat.min-eq_left}, specs.{List.{All, AllZip, find, range_with_len}, Prelude.◌==◌}}
 use Rattle.std.specs.{Prelude.{Result, IfOk, OnOk, vec_items, filter, map, nat_lt, option_map, sum_by}, Global.Vec}
 use Rattle.poll_interrupts.specs.{Runs.HasRun, declared.station.{Station.Station, Finished.Finished}}
-use Rattle.device_rows.{proofs.Accepted.accepted-at, specs.{Row.value_fits, Trace.AcceptedAfter, declared.{row.Row.Row, event.Event.Event}}}
+use Rattle.device_rows.{proofs.Accepted.accepted-at}
+use Rattle.device_rows.{specs.{Row.value_fits, Trace.AcceptedAfter, declared.{row.Row.Row, event.RowEvent.RowEvent}}}
 use Rattle.{poll_tasks.{proofs.Zips.zip_push, specs.Refusals.IsRefused}, rx_ring.specs.ReceiveRing.capped}
 use Rattle.device_script.proofs.{Rows.{filter-long, find-among, find-here, find-more, range-more}, ScriptFacts.{acts-made, arrivals-are}}
 use Rattle.device_script.specs.Script.{has_thread, is_act_of, is_open, is_rx, opening_of, openings_of, rx_of, script_of}
-use Rattle.{device_script.specs.ScriptShown.{Script, acts, after, answer}, poll_workers.specs.declared.fault.WorkFault.WorkFault}
-use Rattle.{poll_workers.specs.{Finishes.IsFinished, Courses.{ArePolled, pace_of}}, replay_words.specs.declared.settings.Settings.Settings}
+use Rattle.{device_script.specs.ScriptShown.{Script, acts, script_after, answer}, poll_workers.specs.declared.fault.WorkFault.WorkFault}
+use Rattle.{poll_workers.specs.{Finishes.IsFinished, Courses.{ArePolled, pace_of}}}
+use Rattle.{replay_words.specs.declared.settings.ReplaySettings.ReplaySettings}
 use Rattle.replay_text.specs.declared.fault.ReplayFault.{ReplayFault, TheVariants.{OutputFailed, RingTooSmall}}
-use Rattle.replay_threads.specs.{ThreadsReport.{arrived, bytes, device_lines, is_opened, opened}, Stations.{AreRunBy, IsEndOf, IsStationOf}}
-use Rattle.replay_threads.specs.{Stations.{end_lines, is_small, polled_of, small_fault}, Answer.{IsOutside, IsPolled, IsToldAs, overflows}}
+use Rattle.replay_threads.specs.{ThreadsReport.{arrived, bytes, threads_device_lines, is_opened, opened_devices}}
+use Rattle.replay_threads.specs.{Stations.{AreRunBy, IsStationEnd, IsStationOf}}
+use Rattle.replay_threads.specs.{Stations.{end_lines, is_small, polled_of, small_fault}}
+use Rattle.replay_threads.specs.{Answer.{IsThreadsOutside, IsPolledDevice, IsToldAs, overflows}}
 use Rattle.poll_workers.specs.declared.fault.WorkFault.TheVariants as work
 
 -- ---- what follows for a row's numbers if it is accepted
 
-value-small : (e : Event) (v : ℕ) → value_fits e v ≡ true → v ≤ 65536
+value-small : (e : RowEvent) (v : ℕ) → value_fits e v ≡ true → v ≤ 65536
 value-small e v h = grind (arith, common_steps)
 
 abbrev IsSmall : Row → Type 0
@@ -98,11 +102,12 @@ capped-small n h = min-eq_left (omega (arith, h))
 -- the result of its run, for the device afterwards
 run-of : {rows : List Row} {device : ℕ} (station : Station Script) (end : Finished Script) → IsStationOf rows device station
     → end.device ≡ record station.device { made = length station.device.rows }
-    → HasRun answer after station.capacity station.thread station.device (acts station.device) end.closed end.totals
-    → HasRun answer after end.device.opening.value (has_thread end.device.rows) (record end.device { made = 0 })
+    → HasRun answer script_after station.capacity station.thread station.device (acts station.device) end.closed end.totals
+    → HasRun answer script_after end.device.opening.value (has_thread end.device.rows) (record end.device { made = 0 })
     (length end.device.rows) end.closed end.totals
 run-of station end of ended run =
-    let H : ℕ → Bool → Script → ℕ → Type 0 = λ places thread script n. HasRun answer after places thread script n end.closed end.totals in
+    let H : ℕ → Bool → Script → ℕ → Type 0 =
+    λ places thread script n. HasRun answer script_after places thread script n end.closed end.totals in
     let opening : end.device.opening ≡ station.device.opening = ap (λ (s : Script). s.opening) ended in
     let acted : end.device.rows ≡ station.device.rows = ap (λ (s : Script). s.rows) ended in
     let fresh : station.device ≡ record end.device { made = 0 } =
@@ -122,7 +127,7 @@ not-small places packets h = grind (arith, common_steps)
 end-of : (answers : ℕ → ℕ → Bool → Type 0) (rows : List Row) (device : ℕ) (station : Station Script) (end : Finished Script)
     → AcceptedAfter [] rows → length rows ≤ 100000
     → IsStationOf rows device station → is_small station ≡ false
-    → IsFinished acts answer after answers station end → IsEndOf rows device end
+    → IsFinished acts answer script_after answers station end → IsStationEnd rows device end
 end-of answers rows device station end accepted few of enough finished =
     let made : end.device ≡ record station.device { made = length station.device.rows } =
     finished.made ∙ acts-made station.device (acts station.device) of.its_made in
@@ -149,8 +154,8 @@ pub ends-of : (answers : ℕ → ℕ → Bool → Type 0) (rows : List Row) (dev
     (ends : List (Finished Script))
     → AcceptedAfter [] rows → length rows ≤ 100000
     → AllZip (IsStationOf rows) devices stations → find is_small stations ≡ None
-    → AllZip (IsFinished acts answer after answers) stations ends
-    → AllZip (IsEndOf rows) devices ends
+    → AllZip (IsFinished acts answer script_after answers) stations ends
+    → AllZip (IsStationEnd rows) devices ends
 ends-of answers rows [] [] [] accepted few of enough finished = tt
 ends-of answers rows [] [] (e ∷ es) accepted few of enough finished = absurd finished
 ends-of answers rows [] (s ∷ ss) ends accepted few of enough finished = absurd of
@@ -159,7 +164,8 @@ ends-of answers rows (d ∷ ds) (s ∷ ss) [] accepted few of enough finished = 
 ends-of answers rows (d ∷ ds) (s ∷ ss) (e ∷ es) accepted few of enough finished =
     by (is_small s) refl (λ rest. ends-of answers rows ds ss es accepted few of.1 rest finished.1)
   where
-    by : (b : Bool) → is_small s ≡ b → (find is_small ss ≡ None → AllZip (IsEndOf rows) ds es) → AllZip (IsEndOf rows) (d ∷ ds) (e ∷ es)
+    by : (b : Bool) → is_small s ≡ b → (find is_small ss ≡ None → AllZip (IsStationEnd rows) ds es)
+        → AllZip (IsStationEnd rows) (d ∷ ds) (e ∷ es)
     by true small go = absurd (let none = rw small at enough in cc none)
     by false large go = (end-of answers rows d s e accepted few of.0 large finished.0, go (rw large at enough))
 
@@ -171,16 +177,16 @@ none-small stations h = grind (arith, common_steps)
 pub ends-if-ok : (answers : ℕ → ℕ → Bool → Type 0) (rows : List Row) (stations : List (Station Script))
     (answered : Result (Vec (Finished Script)) ReplayFault)
     → AcceptedAfter [] rows → length rows ≤ 100000
-    → AllZip (IsStationOf rows) (opened rows) stations → small_fault stations ≡ None
-    → IfOk answered (λ all. AllZip (IsFinished acts answer after answers) stations (vec_items all))
-    → IfOk answered (λ all. AllZip (IsEndOf rows) (opened rows) (vec_items all))
+    → AllZip (IsStationOf rows) (opened_devices rows) stations → small_fault stations ≡ None
+    → IfOk answered (λ all. AllZip (IsFinished acts answer script_after answers) stations (vec_items all))
+    → IfOk answered (λ all. AllZip (IsStationEnd rows) (opened_devices rows) (vec_items all))
 ends-if-ok answers rows stations answered accepted few of none ends = grind (arith, common_steps, ends-of, none-small)
 
-pub run-if-ok : (R : Type 0) (asked : ℕ → Type 0) (settings : Settings) (rows : List Row) (stations : List (Station Script))
+pub run-if-ok : (R : Type 0) (asked : ℕ → Type 0) (settings : ReplaySettings) (rows : List Row) (stations : List (Station Script))
     (answered : Result (Vec (Finished Script)) ReplayFault)
-    → AllZip (IsStationOf rows) (opened rows) stations
+    → AllZip (IsStationOf rows) (opened_devices rows) stations
     → IfOk answered
-    (λ all. ArePolled R asked (pace_of settings.budget settings.weight settings.window) acts answer after settings.pollers stations
+    (λ all. ArePolled R asked (pace_of settings.budget settings.weight settings.window) acts answer script_after settings.pollers stations
     (vec_items all))
     → IfOk answered (λ all. AreRunBy R asked settings rows (vec_items all))
 run-if-ok R asked settings rows stations answered of polled = grind (arith, common_steps)
@@ -190,7 +196,7 @@ rings-if-ok answered p = grind (arith, common_steps)
 
 -- an error that is passed on unchanged doesn't come from the text
 pub told-outside : (may_shut : Type 0) (fault : WorkFault) (told : ReplayFault) → (fault ≡ work.GateShut → may_shut)
-    → (fault ≡ work.SpawnFailed → IsRefused) → IsToldAs fault told → IsOutside may_shut told
+    → (fault ≡ work.SpawnFailed → IsRefused) → IsToldAs fault told → IsThreadsOutside may_shut told
 told-outside may_shut fault told gate spawn is = grind (arith, common_steps)
 
 -- nor is it an error of the output, and neither is that of a ring which is too small
@@ -203,11 +209,12 @@ small-unwritten stations fault is failed = grind (arith, common_steps)
 
 -- ---- the report
 
-lines-of : (rows : List Row) (device : ℕ) (end : Finished Script) → IsEndOf rows device end → device_lines rows device ≡ end_lines end
+lines-of : (rows : List Row) (device : ℕ) (end : Finished Script) → IsStationEnd rows device end
+    → threads_device_lines rows device ≡ end_lines end
 lines-of rows device end h = grind (arith, common_steps)
 
-pub all-lines : (rows : List Row) (devices : List ℕ) (ends : List (Finished Script)) → AllZip (IsEndOf rows) devices ends
-    → (flat_map (device_lines rows) devices ≡ flat_map end_lines ends) × (length devices ≡ length ends)
+pub all-lines : (rows : List Row) (devices : List ℕ) (ends : List (Finished Script)) → AllZip (IsStationEnd rows) devices ends
+    → (flat_map (threads_device_lines rows) devices ≡ flat_map end_lines ends) × (length devices ≡ length ends)
 all-lines rows [] [] h = (refl, refl)
 all-lines rows [] (e ∷ es) h = absurd h
 all-lines rows (d ∷ ds) [] h = absurd h
@@ -215,8 +222,8 @@ all-lines rows (d ∷ ds) (e ∷ es) h = grind (arith, common_steps, lines-of, a
 
 -- ---- what was polled
 
-pub all-polled : (rows : List Row) (devices : List ℕ) (ends : List (Finished Script)) → AllZip (IsEndOf rows) devices ends
-    → AllZip (IsPolled rows) devices (map polled_of ends)
+pub all-polled : (rows : List Row) (devices : List ℕ) (ends : List (Finished Script)) → AllZip (IsStationEnd rows) devices ends
+    → AllZip (IsPolledDevice rows) devices (map polled_of ends)
 all-polled rows [] [] h = tt
 all-polled rows [] (e ∷ es) h = absurd h
 all-polled rows (d ∷ ds) [] h = absurd h

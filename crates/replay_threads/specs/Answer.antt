@@ -1,12 +1,13 @@
 -- The result of a run of a text with threads: the threads report of its rows, or its first error.
 use Rattle.std.specs.{Prelude.{◌≡◌, ℕ, ◌+◌, List, Bool, Option, Some, None, Result, Ok, Err, length, map, nat_lt, option_map}, List.find}
 use Rattle.poll_interrupts.specs.{declared.station.{Closed.Closed, Finished.Finished}, Runs.HasRun}
-use Rattle.replay_words.specs.declared.settings.Settings.{Settings}
+use Rattle.replay_words.specs.declared.settings.ReplaySettings.{ReplaySettings}
 use Rattle.device_rows.specs.{Trace.{records_of, trace_of}, declared.{TraceFault.TraceFault, row.Row.Row}}
-use Rattle.{poll_tasks.specs.Refusals.IsRefused, replay_threads.specs.{ThreadsReport.{arrived, opened, threads_report}, Stations.AreRunBy}}
+use Rattle.{poll_tasks.specs.Refusals.IsRefused}
+use Rattle.{replay_threads.specs.{ThreadsReport.{arrived, opened_devices, threads_report}, Stations.AreRunBy}}
 use Rattle.{replay_threads.specs.{Stations.polled_of, declared.polled.Polled.Polled}, poll_workers.specs.declared.fault.WorkFault.WorkFault}
-use Rattle.device_script.specs.{ScriptShown.{Script, after, answer}, Script.{has_thread, opening_of, script_of}}
-use Rattle.{rx_ring.specs.declared.packet.Totals.Totals, replay_text.specs.Outside.{IsWantOfMemory, IsOutside as IsSerialOutside}}
+use Rattle.device_script.specs.{ScriptShown.{Script, script_after, answer}, Script.{has_thread, opening_of, script_of}}
+use Rattle.{rx_ring.specs.declared.packet.Totals.Totals, replay_text.specs.Outside.{IsReplayOutOfMemory, IsOutside as IsSerialOutside}}
 use Rattle.replay_text.specs.declared.fault.ReplayFault.{ReplayFault, TheVariants.{GateShut, RingTooSmall, SpawnFailed, Trace}}
 use Rattle.poll_workers.specs.declared.fault.WorkFault.TheVariants as work
 
@@ -21,28 +22,28 @@ overflows rows device = nat_lt (places_by (opening_of device rows)) (arrived dev
 
 -- the first device whose ring is too small
 abbrev pub ring_fault : List Row → Option ReplayFault
-ring_fault rows = option_map (λ device. RingTooSmall device (arrived device rows)) (find (overflows rows) (opened rows))
+ring_fault rows = option_map (λ device. RingTooSmall device (arrived device rows)) (find (overflows rows) (opened_devices rows))
 
 abbrev pub unless_small : Option ReplayFault → List ℕ → Result (List ℕ) ReplayFault
 unless_small None text = Ok text
 unless_small (Some fault) text = Err fault
 
-abbrev pub answer_of : Result (List Row) TraceFault → Result (List ℕ) ReplayFault
-answer_of (Ok rows) = unless_small (ring_fault rows) (threads_report rows)
-answer_of (Err fault) = Err (Trace fault)
+abbrev pub threads_result : Result (List Row) TraceFault → Result (List ℕ) ReplayFault
+threads_result (Ok rows) = unless_small (ring_fault rows) (threads_report rows)
+threads_result (Err fault) = Err (Trace fault)
 
 abbrev pub threads_of : List ℕ → Result (List ℕ) ReplayFault
-threads_of bytes = answer_of (trace_of (records_of bytes))
+threads_of bytes = threads_result (trace_of (records_of bytes))
 
 -- the reader, an allocation, the writer or a thread failed; or the gate stopped the run, if it may
-abbrev pub IsOutside : Type 0 → ReplayFault → Type 0
-IsOutside may_shut GateShut = may_shut
-IsOutside may_shut SpawnFailed = IsRefused
-IsOutside may_shut fault = IsSerialOutside fault
+abbrev pub IsThreadsOutside : Type 0 → ReplayFault → Type 0
+IsThreadsOutside may_shut GateShut = may_shut
+IsThreadsOutside may_shut SpawnFailed = IsRefused
+IsThreadsOutside may_shut fault = IsSerialOutside fault
 
 -- the error of a run, as the replay reports it
 abbrev pub IsToldAs : WorkFault → ReplayFault → Type 0
-IsToldAs work.OutOfMemory told = IsWantOfMemory told
+IsToldAs work.OutOfMemory told = IsReplayOutOfMemory told
 IsToldAs work.GateShut told = told ≡ GateShut
 IsToldAs work.SpawnFailed told = told ≡ SpawnFailed
 
@@ -53,21 +54,21 @@ pub record IsDeviceOf (rows : List Row) (device : ℕ) (script : Script) : Type 
   pub made : script.made ≡ 0
 
 -- the packets of a device that were polled, and those left, are the packets that arrived there, with its own acts
-pub record IsPolled (rows : List Row) (device : ℕ) (polled : Polled) : Type 0 where
+pub record IsPolledDevice (rows : List Row) (device : ℕ) (polled : Polled) : Type 0 where
   pub same_device : polled.device ≡ device
   pub sum : polled.polled + polled.left ≡ arrived device rows
   pub script : Script
   pub is : IsDeviceOf rows device script
   pub closed : Closed
   pub totals : Totals
-  pub run : HasRun answer after script.opening.value (has_thread script.rows) script (length script.rows) closed totals
+  pub run : HasRun answer script_after script.opening.value (has_thread script.rows) script (length script.rows) closed totals
   pub counts : (polled.polled ≡ totals.polled) × (polled.left ≡ totals.left)
 
 -- what is reported of a run was done by as many pollers as the settings say, with their numbers
-abbrev pub IsRunBy : Type 0 → (ℕ → Type 0) → Settings → List Row → List Polled → Type 0
+abbrev pub IsRunBy : Type 0 → (ℕ → Type 0) → ReplaySettings → List Row → List Polled → Type 0
 IsRunBy R asked settings rows told = (ends : List (Finished Script)) × AreRunBy R asked settings rows ends × (told ≡ map polled_of ends)
 
 -- the same for the rows of the bytes read
-abbrev pub RanBy : Type 0 → (ℕ → Type 0) → Settings → Option (List ℕ) → List Polled → Type 0
+abbrev pub RanBy : Type 0 → (ℕ → Type 0) → ReplaySettings → Option (List ℕ) → List Polled → Type 0
 RanBy R asked settings input told =
     (bytes : List ℕ) → input ≡ Some bytes → (rows : List Row) × (trace_of (records_of bytes) ≡ Ok rows) × IsRunBy R asked settings rows told

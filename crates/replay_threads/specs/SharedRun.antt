@@ -1,9 +1,10 @@
 -- What a replay in shared mode did, besides its report.
-use Rattle.{std.specs.Prelude.{ℕ, List, Option}, device_places.specs.Places.Places, rx_ring.specs.declared.packet.Totals.Totals}
-use Rattle.device_bench.specs.{Bench.Devices, Ending.AllEnded}
-use Rattle.{device_shared.specs.Ending.IsEnded, replay_rows.specs.Answer.Plays, replay_words.specs.declared.settings.Settings.Settings}
+use Rattle.{std.specs.Prelude.{ℕ, List, Option}, device_places.specs.Places.DeviceTable, rx_ring.specs.declared.packet.Totals.Totals}
+use Rattle.device_bench.specs.{Bench.BenchDevices, Ending.AllEnded}
+use Rattle.{device_shared.specs.Ending.IsSideClosed, replay_rows.specs.Answer.Plays}
+use Rattle.{replay_words.specs.declared.settings.ReplaySettings.ReplaySettings}
 
 -- The rows of the bytes read were processed on instances that threads could share. Each was closed in the state after its rows,
 -- with the one history of all calls on it, and all packets in its ring were polled.
-abbrev pub RanShared : Settings → Option (List ℕ) → Type 0
-RanShared s input = (devices : Devices) × (ends : Places Totals) × Plays s input devices × AllEnded IsEnded devices ends
+abbrev pub RanShared : ReplaySettings → Option (List ℕ) → Type 0
+RanShared s input = (devices : BenchDevices) × (ends : DeviceTable Totals) × Plays s input devices × AllEnded IsSideClosed devices ends

@@ -1,10 +1,12 @@
 -- The stations of the devices that the rows open, and the result of a run on them.
-use Rattle.{poll_interrupts.specs.{Runs.HasRun, declared.station.{Finished.Finished, Station.Station}}, replay_text.specs.Lines.ended}
+use Rattle.{poll_interrupts.specs.{Runs.HasRun, declared.station.{Finished.Finished, Station.Station}}}
+use Rattle.{replay_text.specs.Lines.with_newline}
 use Rattle.{replay_text.specs.declared.fault.ReplayFault.{ReplayFault, TheVariants.RingTooSmall}, device_rows.specs.declared.row.Row.Row}
-use Rattle.replay_threads.specs.{ThreadsReport.{arrived, arrived_line, bytes, opened, side_lines}, declared.polled.Polled.Polled}
+use Rattle.replay_threads.specs.{ThreadsReport.{arrived, arrived_line, bytes, opened_devices, side_lines}, declared.polled.Polled.Polled}
 use Rattle.std.specs.{List.{AllZip, find}, Prelude.{◌≡◌, ℕ, ◌+◌, ◌++◌, Bool, List, Option, Some, length, nat_lt, option_map}}
-use Rattle.{replay_words.specs.declared.settings.Settings.Settings, poll_workers.specs.Courses.{ArePolled, pace_of}}
-use Rattle.device_script.specs.{ScriptShown.{Script, acts, after, answer, side_of}, Script.{has_thread, opening_of, rx_of, script_of}}
+use Rattle.{replay_words.specs.declared.settings.ReplaySettings.ReplaySettings, poll_workers.specs.Courses.{ArePolled, pace_of}}
+use Rattle.device_script.specs.{ScriptShown.{Script, acts, script_after, answer, side_of}}
+use Rattle.device_script.specs.{Script.{has_thread, opening_of, rx_of, script_of}}
 
 -- the station of a device, before its acts
 pub record IsStationOf (rows : List Row) (device : ℕ) (station : Station Script) : Type 0 where
@@ -16,7 +18,7 @@ pub record IsStationOf (rows : List Row) (device : ℕ) (station : Station Scrip
   pub its_thread : station.thread ≡ has_thread (script_of device rows)
 
 -- and after them, if its ring had room for each packet
-pub record IsEndOf (rows : List Row) (device : ℕ) (end : Finished Script) : Type 0 where
+pub record IsStationEnd (rows : List Row) (device : ℕ) (end : Finished Script) : Type 0 where
   pub its_number : end.number ≡ device
   pub its_opening : opening_of device rows ≡ Some end.device.opening
   pub its_rows : end.device.rows ≡ script_of device rows
@@ -24,19 +26,20 @@ pub record IsEndOf (rows : List Row) (device : ℕ) (end : Finished Script) : Ty
   pub its_put : end.totals.put ≡ arrived device rows
   pub its_bytes : end.totals.bytes ≡ bytes device rows
   pub sum : end.totals.polled + end.totals.left ≡ end.totals.put
-  pub its_run : HasRun answer after end.device.opening.value (has_thread end.device.rows) (record end.device { made = 0 })
+  pub its_run : HasRun answer script_after end.device.opening.value (has_thread end.device.rows) (record end.device { made = 0 })
       (length end.device.rows) end.closed end.totals
 
 -- The devices that the rows open ran and were polled, by as many pollers as the settings say, with the settings' numbers.
-pub record AreRunBy (R : Type 0) (asked : ℕ → Type 0) (settings : Settings) (rows : List Row) (ends : List (Finished Script)) : Type 0 where
-  pub stations : List (Station Script)
-  pub are : AllZip (IsStationOf rows) (opened rows) stations
-  pub polled : ArePolled R asked
-      (pace_of settings.budget settings.weight settings.window) acts answer after settings.pollers stations ends
+pub record AreRunBy (R : Type 0) (asked : ℕ → Type 0) (settings : ReplaySettings) (rows : List Row) (ends : List (Finished Script)) : Type 0
+  where
+    pub stations : List (Station Script)
+    pub are : AllZip (IsStationOf rows) (opened_devices rows) stations
+    pub polled : ArePolled R asked
+        (pace_of settings.budget settings.weight settings.window) acts answer script_after settings.pollers stations ends
 
 -- its lines of the report
 abbrev pub end_lines : Finished Script → List ℕ
-end_lines end = ended (arrived_line end.number end.totals.put end.totals.bytes)
+end_lines end = with_newline (arrived_line end.number end.totals.put end.totals.bytes)
     ++ side_lines end.number (side_of end.device)
 
 -- the first station whose ring has less room than packets that arrive there

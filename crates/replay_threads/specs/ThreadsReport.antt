@@ -2,14 +2,14 @@
 -- depend on polls, and so on no thread. See docs/FORMATS.md, "The report".
 use Rattle.std.specs.Prelude.{ℕ, Bool, List, [], ◌∷◌, ◌++◌, Option, Some, None, codes, decimal, filter, flat_map, is_some, length, sum_by}
 use Rattle.{std.specs.List.range_with_len, device_rows.specs.declared.row.Row.Row, device_transmit.specs.Transmit.{TransmitView, tx_counts}}
-use Rattle.{replay_text.specs.Lines.{ended, tx_lines, words}, device_script.specs.Script.{opening_of, rx_of, script_of, side_after}}
+use Rattle.{replay_text.specs.Lines.{with_newline, tx_lines, words}, device_script.specs.Script.{opening_of, rx_of, script_of, side_after}}
 
 abbrev pub is_opened : List Row → ℕ → Bool
 is_opened rows device = is_some (opening_of device rows)
 
 -- the devices that the rows open, by increasing number
-unfoldable pub opened : List Row → List ℕ
-opened rows = filter (is_opened rows) (range_with_len 1 16)
+unfoldable pub opened_devices : List Row → List ℕ
+opened_devices rows = filter (is_opened rows) (range_with_len 1 16)
 
 -- ---- packets
 
@@ -34,12 +34,13 @@ side_lines_by device (Some opening) rows = side_lines device (side_after opening
 
 -- ---- the report
 
-abbrev pub device_lines : List Row → ℕ → List ℕ
-device_lines rows device = ended (arrived_line device (arrived device rows) (bytes device rows))
+abbrev pub threads_device_lines : List Row → ℕ → List ℕ
+threads_device_lines rows device = with_newline (arrived_line device (arrived device rows) (bytes device rows))
     ++ side_lines_by device (opening_of device rows) (script_of device rows)
 
-abbrev pub total_line : ℕ → List ℕ
-total_line devices = words (codes "total" ∷ codes "devices" ∷ decimal devices ∷ [])
+abbrev pub threads_total_line : ℕ → List ℕ
+threads_total_line devices = words (codes "total" ∷ codes "devices" ∷ decimal devices ∷ [])
 
 unfoldable pub threads_report : List Row → List ℕ
-threads_report rows = flat_map (device_lines rows) (opened rows) ++ ended (total_line (length (opened rows)))
+threads_report rows = flat_map (threads_device_lines rows) (opened_devices rows)
+    ++ with_newline (threads_total_line (length (opened_devices rows)))

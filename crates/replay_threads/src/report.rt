@@ -3,9 +3,9 @@
 ghost use Rattle.std.specs.Prelude.{◌≡◌, ◌++◌, IfOk, List, OnOk, flat_map, length, string_bytes, vec_items};
 ghost use Rattle.std.specs.List.{AllZip};
 ghost use Rattle.device_rows.specs.declared.row.Row.{Row};
-ghost use Rattle.replay_threads.specs.Stations.{IsEndOf, end_lines};
-ghost use Rattle.replay_threads.specs.ThreadsReport.{arrived_line, opened, threads_report, total_line};
-ghost use Rattle.replay_text.specs.Lines.{ended};
+ghost use Rattle.replay_threads.specs.Stations.{IsStationEnd, end_lines};
+ghost use Rattle.replay_threads.specs.ThreadsReport.{arrived_line, opened_devices, threads_report, threads_total_line};
+ghost use Rattle.replay_text.specs.Lines.{with_newline};
 
 use device_script::ScriptDevice;
 use poll_workers::Finished;
@@ -39,7 +39,8 @@ fn add_ends(text: &mut String, ends: &[Finished<ScriptDevice>]) -> Result<(), Al
 
 fn add_total(text: &mut String, devices: usize) -> Result<(), AllocError>
     ensures { OnOk result
-        (string_bytes text.new ≡ string_bytes text.old ++ ended (total_line devices)) }
+        (string_bytes text.new ≡ string_bytes text.old
+        ++ with_newline (threads_total_line devices)) }
 {
     writeln!(text, "total devices {devices}")?;
     Ok(())
@@ -50,7 +51,7 @@ pub(crate) fn report_of(
     alloc: Global,
     ends: &[Finished<ScriptDevice>],
 ) -> Result<String, AllocError>
-    ensures { (rows : List Row) → AllZip (IsEndOf rows) (opened rows) ends.now
+    ensures { (rows : List Row) → AllZip (IsStationEnd rows) (opened_devices rows) ends.now
         → IfOk result (λ text. string_bytes text ≡ threads_report rows) }
 {
     let mut text = String::new(alloc);

@@ -2,14 +2,14 @@
 
 ghost use Rattle.std.specs.Prelude.{◌≡◌, Ok, Err, IfErr, OnOk};
 ghost use Rattle.replay_text.specs.Outside.{IsOutside};
-ghost use Rattle.replay_text.specs.Written.{IsFaultBy, Leaves, Writes};
+ghost use Rattle.replay_text.specs.Written.{IsFaultBy, LeavesText, Writes};
 ghost use Rattle.replay_rows.specs.Answer.{replay_of};
 ghost use Rattle.replay_threads.specs.SharedRun.{RanShared};
 
 use device_shared::SharedBench;
 use replay_rows::replay_on;
 use replay_text::ReplayFault;
-use replay_words::Settings;
+use replay_words::ReplaySettings;
 use std::alloc::Global;
 use std::io::{Read, Write};
 use std::sync::Wait;
@@ -24,7 +24,7 @@ pub fn replay_shared<H: Wait + Copy + Drop, R: Read + Drop, W: Write>(
     alloc: Global,
     reader: R,
     writer: &mut W,
-    settings: &Settings,
+    settings: &ReplaySettings,
 ) -> Result<(), ReplayFault>
     // What is written is the report of the rows of the bytes read, and nothing else.
     ensures written { OnOk result (Writes (λ bytes text. replay_of settings.now bytes ≡ Ok text)
@@ -34,7 +34,7 @@ pub fn replay_shared<H: Wait + Copy + Drop, R: Read + Drop, W: Write>(
     ensures fault { IfErr result (IsFaultBy IsOutside
         (λ bytes fault. replay_of settings.now bytes ≡ Err fault) (R.remaining reader)) }
     // If the output failed, less than the whole report was written, and after each other error nothing.
-    ensures output { IfErr result (Leaves (λ bytes text. replay_of settings.now bytes ≡ Ok text)
+    ensures output { IfErr result (LeavesText (λ bytes text. replay_of settings.now bytes ≡ Ok text)
         (R.remaining reader) (W.contents writer.old) (W.contents writer.new)) }
     // The rows were processed on shared instances, each of which was closed afterwards.
     ensures run { OnOk result (RanShared settings.now (R.remaining reader)) }

@@ -11,19 +11,19 @@ ghost use Rattle.poll_workers.specs.Courses.{ArePolled, pace_of};
 ghost use Rattle.poll_workers.specs.Finishes.{IsFinished};
 ghost use Rattle.poll_workers.specs.Numbers.{have_distinct_numbers};
 ghost use Rattle.poll_interrupts.specs.Opens.{IsStation};
-ghost use Rattle.replay_threads.specs.Answer.{IsOutside, IsToldAs, ring_fault};
+ghost use Rattle.replay_threads.specs.Answer.{IsThreadsOutside, IsToldAs, ring_fault};
 ghost use Rattle.device_script.specs.Script.{opening_of, rx_of, script_of};
-ghost use Rattle.device_script.specs.ScriptShown.{acts, after, answer};
-ghost use Rattle.replay_threads.specs.Stations.{AreRunBy, IsEndOf, IsStationOf, is_small, small_fault};
+ghost use Rattle.device_script.specs.ScriptShown.{acts, script_after, answer};
+ghost use Rattle.replay_threads.specs.Stations.{AreRunBy, IsStationEnd, IsStationOf, is_small, small_fault};
 ghost use Rattle.replay_text.specs.declared.fault.ReplayFault.TheVariants.{OutputFailed};
-ghost use Rattle.replay_threads.specs.ThreadsReport.{is_opened, opened};
+ghost use Rattle.replay_threads.specs.ThreadsReport.{is_opened, opened_devices};
 
-use device_places::PLACES;
+use device_places::TABLE_LEN;
 use device_rows::Row;
 use device_script::{ScriptDevice, opening_of, openings_of, scripts_of, take_script};
 use poll_workers::{Finished, Gate, Station, WorkFault, run_workers};
 use replay_text::ReplayFault;
-use replay_words::Settings;
+use replay_words::ReplaySettings;
 use std::alloc::{AllocError, Global};
 use std::sync::Wait;
 use std::thread::Threads;
@@ -84,13 +84,13 @@ fn stations_of(alloc: Global, rows: &[Row]) -> Result<Vec<Station<ScriptDevice>>
     requires accepted { AcceptedAfter [] rows.now }
     requires count { length rows.now ≤ 100000 }
     ensures stations { IfOk result
-        (λ stations. AllZip (IsStationOf rows.now) (opened rows.now) (vec_items stations)) }
+        (λ stations. AllZip (IsStationOf rows.now) (opened_devices rows.now) (vec_items stations)) }
     ensures lawful { IfOk result (λ stations. All IsStation (vec_items stations)) }
 {
     let openings = openings_of(alloc, rows)?;
     let mut scripts = scripts_of(alloc, rows)?;
-    let mut stations = Vec::with_capacity(alloc, PLACES as usize)?;
-    for number in 1..PLACES {
+    let mut stations = Vec::with_capacity(alloc, TABLE_LEN as usize)?;
+    for number in 1..TABLE_LEN {
         let script = take_script(alloc, &mut scripts, number as usize - 1);
         add_station(alloc, &openings, number, script, &mut stations)?;
     }
@@ -130,7 +130,7 @@ fn work_fault(fault: WorkFault) -> ReplayFault
 }
 
 // Returns the settings' budget, weight and window.
-fn pace_of(settings: &Settings) -> (u32, u32, u32)
+fn pace_of(settings: &ReplaySettings) -> (u32, u32, u32)
     ensures { result ≡ (settings.now.budget, settings.now.weight, settings.now.window) }
 {
     (settings.budget, settings.weight, settings.window)
@@ -141,7 +141,7 @@ fn run_stations<P, G>(
     rt: &P,
     alloc: Global,
     stations: Vec<Station<ScriptDevice>>,
-    settings: &Settings,
+    settings: &ReplaySettings,
     gate: &G,
 ) -> Result<Vec<Finished<ScriptDevice>>, ReplayFault>
 where
@@ -150,13 +150,15 @@ where
     requires stations { All IsStation (vec_items stations) }
     requires numbers { IsTrue (have_distinct_numbers (vec_items stations)) }
     ensures ends { IfOk result
-        (λ all. AllZip (IsFinished acts answer after (G.answers gate.now)) (vec_items stations)
+        (λ all. AllZip (IsFinished acts answer script_after (G.answers gate.now))
+        (vec_items stations)
         (vec_items all)) }
     ensures polled { IfOk result
         (λ all. ArePolled (Bor P) (IsAsked G.answers gate.now)
-        (pace_of settings.now.budget settings.now.weight settings.now.window) acts answer after
+        (pace_of settings.now.budget settings.now.weight settings.now.window) acts answer
+        script_after
         settings.now.pollers (vec_items stations) (vec_items all)) }
-    ensures fault { IfErr result (λ fault. IsOutside G.may_shut fault) }
+    ensures fault { IfErr result (λ fault. IsThreadsOutside G.may_shut fault) }
     ensures unwritten { IfErr result (λ fault. fault ≢ OutputFailed) }
 {
     let (budget, weight, window) = pace_of(settings);
@@ -172,7 +174,7 @@ pub(crate) fn run_rows<P, G>(
     rt: &P,
     alloc: Global,
     rows: &[Row],
-    settings: &Settings,
+    settings: &ReplaySettings,
     gate: &G,
 ) -> Result<Vec<Finished<ScriptDevice>>, ReplayFault>
 where
@@ -181,13 +183,13 @@ where
     requires accepted { AcceptedAfter [] rows.now }
     requires count { length rows.now ≤ 100000 }
     ensures ends { IfOk result
-        (λ all. AllZip (IsEndOf rows.now) (opened rows.now) (vec_items all)) }
+        (λ all. AllZip (IsStationEnd rows.now) (opened_devices rows.now) (vec_items all)) }
     ensures polled { IfOk result
         (λ all. AreRunBy (Bor P) (IsAsked G.answers gate.now) settings.now rows.now
         (vec_items all)) }
     ensures rings { OnOk result (ring_fault rows.now ≡ None) }
     ensures fault { IfErr result
-        (λ fault. IsOutside G.may_shut fault ⊎ (ring_fault rows.now ≡ Some fault)) }
+        (λ fault. IsThreadsOutside G.may_shut fault ⊎ (ring_fault rows.now ≡ Some fault)) }
     ensures unwritten { IfErr result (λ fault. fault ≢ OutputFailed) }
 {
     let stations = stations_of(alloc, rows)?;

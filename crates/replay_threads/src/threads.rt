@@ -7,11 +7,11 @@ ghost use Rattle.std.specs.List.{AllZip};
 ghost use Rattle.device_rows.specs.Trace.{AcceptedAfter, records_of, trace_of};
 ghost use Rattle.device_rows.specs.declared.row.Row.{Row};
 ghost use Rattle.poll_tasks.specs.Asks.{IsAsked};
-ghost use Rattle.replay_threads.specs.Answer.{IsOutside, IsPolled, IsRunBy, RanBy, answer_of, threads_of};
+ghost use Rattle.replay_threads.specs.Answer.{IsThreadsOutside, IsPolledDevice, IsRunBy, RanBy, threads_result, threads_of};
 ghost use Rattle.replay_threads.specs.Stations.{polled_of};
 ghost use Rattle.replay_text.specs.declared.fault.ReplayFault.TheVariants.{OutputFailed};
-ghost use Rattle.replay_threads.specs.ThreadsReport.{opened};
-ghost use Rattle.replay_text.specs.Written.{AppendsPart, IsFaultBy, Leaves, Writes};
+ghost use Rattle.replay_threads.specs.ThreadsReport.{opened_devices};
+ghost use Rattle.replay_text.specs.Written.{AppendsPart, IsFaultBy, LeavesText, Writes};
 
 use crate::polled::Polled;
 use crate::report::report_of;
@@ -20,7 +20,7 @@ use device_rows::{Row, read_trace};
 use device_script::ScriptDevice;
 use poll_workers::{Finished, Gate};
 use replay_text::{ReplayFault, write_text};
-use replay_words::Settings;
+use replay_words::ReplaySettings;
 use std::alloc::{AllocError, Global};
 use std::io::{Read, Write};
 use std::sync::Wait;
@@ -47,7 +47,7 @@ fn write_report<P, W, G>(
     alloc: Global,
     rows: &[Row],
     writer: &mut W,
-    settings: &Settings,
+    settings: &ReplaySettings,
     gate: &G,
 ) -> Result<Vec<Polled>, ReplayFault>
 where
@@ -57,17 +57,17 @@ where
     requires accepted { AcceptedAfter [] rows.now }
     requires count { length rows.now ≤ 100000 }
     ensures written { OnOk result
-        ((text : List ℕ) × (answer_of (Ok rows.now) ≡ Ok text)
+        ((text : List ℕ) × (threads_result (Ok rows.now) ≡ Ok text)
         × Appends (W.contents writer.old) (W.contents writer.new) text) }
     ensures polled { IfOk result
-        (λ all. AllZip (IsPolled rows.now) (opened rows.now) (vec_items all)) }
+        (λ all. AllZip (IsPolledDevice rows.now) (opened_devices rows.now) (vec_items all)) }
     ensures run { IfOk result
         (λ all. IsRunBy (Bor P) (IsAsked G.answers gate.now) settings.now rows.now
         (vec_items all)) }
     ensures fault { IfErr result
-        (λ fault. IsOutside G.may_shut fault ⊎ (answer_of (Ok rows.now) ≡ Err fault)) }
+        (λ fault. IsThreadsOutside G.may_shut fault ⊎ (threads_result (Ok rows.now) ≡ Err fault)) }
     ensures cut { IfErr result (λ fault. fault ≡ OutputFailed
-        → (text : List ℕ) × (answer_of (Ok rows.now) ≡ Ok text)
+        → (text : List ℕ) × (threads_result (Ok rows.now) ≡ Ok text)
         × AppendsPart (W.contents writer.old) (W.contents writer.new) text) }
     ensures untouched { IfErr result
         (λ fault. fault ≢ OutputFailed → Keeps (W.contents writer.old) (W.contents writer.new)) }
@@ -96,7 +96,7 @@ pub fn replay_threads<P, R, W, G>(
     alloc: Global,
     reader: R,
     writer: &mut W,
-    settings: &Settings,
+    settings: &ReplaySettings,
     gate: &G,
 ) -> Result<Vec<Polled>, ReplayFault>
 where
@@ -110,16 +110,16 @@ where
     // For each device that they open, the packets polled and left are those that arrived.
     ensures polled { IfOk result (λ all. (bytes : List ℕ) → R.remaining reader ≡ Some bytes
         → (rows : List Row) × (trace_of (records_of bytes) ≡ Ok rows)
-        × AllZip (IsPolled rows) (opened rows) (vec_items all)) }
+        × AllZip (IsPolledDevice rows) (opened_devices rows) (vec_items all)) }
     // They were polled by as many pollers as the settings ask for, with the settings' budget, weight and window.
     ensures run { IfOk result (λ all. RanBy (Bor P) (IsAsked G.answers gate.now) settings.now
         (R.remaining reader) (vec_items all)) }
     // An error is that of the bytes read, unless the reader, an allocation, the writer or a thread failed, or the gate stopped
     // the run, if it may.
-    ensures fault { IfErr result (IsFaultBy (IsOutside G.may_shut)
+    ensures fault { IfErr result (IsFaultBy (IsThreadsOutside G.may_shut)
         (λ bytes fault. threads_of bytes ≡ Err fault) (R.remaining reader)) }
     // If the output failed, less than the whole report was written, and after each other error nothing.
-    ensures output { IfErr result (Leaves (λ bytes text. threads_of bytes ≡ Ok text)
+    ensures output { IfErr result (LeavesText (λ bytes text. threads_of bytes ≡ Ok text)
         (R.remaining reader) (W.contents writer.old) (W.contents writer.new)) }
 {
     let trace = read_trace(alloc, reader)?;

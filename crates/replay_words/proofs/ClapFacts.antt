@@ -16,7 +16,8 @@ use Rattle.clap.specs.Walk.{option as waits_for, reading_by, rows_after, settled
 use Rattle.clap.specs.{Walk.{walked, rule_of, with_default, with_values}, Faults.{built_fault, bundle_fault, check_fault, defaults_fault}}
 use Rattle.clap.specs.Faults.{entered_fault, fault_of, is_simple_and_free, flag_word_fault, long_fault, positional_fault, settle_fault}
 use Rattle.clap.{specs.Faults.{step_fault, turn_fault, use_fault, walk_fault}, proofs.WalkLemmas.list_any-map}
-use Rattle.replay_words.specs.{Options.{option, read_by_clap, row_of, rows_for, tool, with_name, without_help}, Given.{Given, Reading}}
+use Rattle.replay_words.specs.{Options.{option, read_by_clap, option_row, rows_for, tool, with_name, without_help}}
+use Rattle.replay_words.specs.{Given.{GivenOptions, Reading}}
 use Rattle.replay_words.specs.Given.{Text, complete, given_by, is_hyphened, is_option, is_stray, next_word, option_word, read_on, value_of}
 use Rattle.replay_words.specs.Given.{with_option}
 use mathlib.Core.List.{append-nil, map-append}
@@ -25,7 +26,7 @@ module _ (names : List Text) where
   -- ---- the arguments, read from the front
 
   -- the result of the remaining arguments after a reading
-  abbrev read_after : Option Reading → List Text → Option Given
+  abbrev read_after : Option Reading → List Text → Option GivenOptions
   read_after reading words = option_and_then complete (fold (read_on names) reading words)
 
   none-stays : (words : List Text) → read_after None words ≡ None
@@ -74,33 +75,33 @@ module _ (names : List Text) where
 
   -- ---- the matches for the given options
 
-  abbrev has : Text → Given → Bool
+  abbrev has : Text → GivenOptions → Bool
   has name given = list_any (λ g. bytes_eq g.0 name) given
 
-  has-rows : (name : Text) (given : Given) → has_row name (rows_for given) ≡ has name given
-  has-rows name given = sym (list_any-map (λ r. bytes_eq r.id name) row_of given)
+  has-rows : (name : Text) (given : GivenOptions) → has_row name (rows_for given) ≡ has name given
+  has-rows name given = sym (list_any-map (λ r. bytes_eq r.id name) option_row given)
 
-  at_end : (name : Text) (change : Row → List Row) (missing : List Row) (given : Given) → has name given ≡ false
+  at_end : (name : Text) (change : Row → List Row) (missing : List Row) (given : GivenOptions) → has name given ≡ false
       → at_row name change missing (rows_for given) ≡ rows_for given ++ missing
   at_end name change missing [] e = refl
   at_end name change missing (g ∷ gs) e = go (bytes_eq g.0 name) e (at_end name change missing gs)
     where
       go : (b : Bool) → (b || has name gs) ≡ false
           → (has name gs ≡ false → at_row name change missing (rows_for gs) ≡ rows_for gs ++ missing)
-          → cond b (change (row_of g) ++ rows_for gs) (row_of g ∷ at_row name change missing (rows_for gs))
-          ≡ row_of g ∷ (rows_for gs ++ missing)
+          → cond b (change (option_row g) ++ rows_for gs) (option_row g ∷ at_row name change missing (rows_for gs))
+          ≡ option_row g ∷ (rows_for gs ++ missing)
       go true e rest = absurd (true≢false e)
-      go false e rest = ap (λ rs. row_of g ∷ rs) (rest e)
+      go false e rest = ap (λ rs. option_row g ∷ rs) (rest e)
 
-  used-once : (name value : Text) (given : Given) → has name given ≡ false
+  used-once : (name value : Text) (given : GivenOptions) → has name given ≡ false
       → used (named name) (value ∷ []) (rows_for given) ≡ rows_for (given ++ (name, value) ∷ [])
   used-once name value given e =
       ap (with_values name (reading_by (named name)) CommandLine (value ∷ []))
       (at_end name (λ _. []) [] given e ∙ append-nil (rows_for given))
-      ∙ at_end name (more_values CommandLine (value ∷ [])) (row_of (name, value) ∷ []) given e
-      ∙ sym (map-append row_of given ((name, value) ∷ []))
+      ∙ at_end name (more_values CommandLine (value ∷ [])) (option_row (name, value) ∷ []) given e
+      ∙ sym (map-append option_row given ((name, value) ∷ []))
 
-  use-as : (name value : Text) (given : Given)
+  use-as : (name value : Text) (given : GivenOptions)
       → use_fault false (named name) (value ∷ []) (rows_for given) ≡ (if has name given then ArgumentConflict ∷ [] else [])
   use-as name value given =
       ap (λ b. or_else (if b && true then ArgumentConflict ∷ [] else []) []) (has-rows name given) ∙ go (has name given)
@@ -280,13 +281,13 @@ module _ (names : List Text) where
       → is_empty (settle_fault rules false (held_at rows (Some (name, [])))) ≡ false
   settle-none rows name known = ap (λ a. is_empty (option_map_or (λ a. use_fault false a [] rows) a [])) (id_as name known)
 
-  settle-as : (name value : Text) (given : Given) → is_option names name ≡ true
+  settle-as : (name value : Text) (given : GivenOptions) → is_option names name ≡ true
       → settle_fault rules false (held_at (rows_for given) (Some (name, value ∷ [])))
       ≡ (if has name given then ArgumentConflict ∷ [] else [])
   settle-as name value given known =
       ap (λ a. option_map_or (λ a. use_fault false a (value ∷ []) (rows_for given)) a []) (id_as name known) ∙ use-as name value given
 
-  settled-once : (name value : Text) (given : Given) → is_option names name ≡ true → has name given ≡ false
+  settled-once : (name value : Text) (given : GivenOptions) → is_option names name ≡ true → has name given ≡ false
       → settled_rows rules (Some (name, value ∷ [])) (rows_for given) ≡ rows_for (given ++ (name, value) ∷ [])
   settled-once name value given known once =
       ap (λ a. used_by_id a (value ∷ []) (rows_for given)) (id_as name known) ∙ used-once name value given once
@@ -306,13 +307,13 @@ module _ (names : List Text) where
 
   -- from a walk in which no option waits, clap reads what the arguments give
   abbrev IdleReads : List Text → Type 0
-  IdleReads words = (given : Given) (rows : List Row) (p : Option (Text × List Text)) → settled_rows rules p rows ≡ rows_for given
+  IdleReads words = (given : GivenOptions) (rows : List Row) (p : Option (Text × List Text)) → settled_rows rules p rows ≡ rows_for given
       → settle_fault rules false (held_at rows p) ≡ []
       → reads (walk_at rows p idle) words ≡ option_map rows_for (read_after (Some (given, None)) words)
 
   -- likewise from one in which an option waits for its value
   abbrev WaitingReads : List Text → Type 0
-  WaitingReads words = (given : Given) (name : Text) → is_option names name ≡ true
+  WaitingReads words = (given : GivenOptions) (name : Text) → is_option names name ≡ true
       → reads (walk_at (rows_for given) (Some (name, [])) (waits_for name)) words
       ≡ option_map rows_for (read_after (Some (given, Some name)) words)
 
@@ -568,18 +569,19 @@ next-text words i word below =
 
 -- ---- results
 
-first-as : (name : Text) (given : Given) → first_of name (rows_for given) ≡ value_of name given
+first-as : (name : Text) (given : GivenOptions) → first_of name (rows_for given) ≡ value_of name given
 first-as name [] = refl
 first-as name (g ∷ gs) = go (bytes_eq g.0 name) (first-as name gs)
   where
     go : (b : Bool) → first_of name (rows_for gs) ≡ value_of name gs
-        → option_and_then (λ (r : Row). slice_get r.values 0) (cond b (Some (row_of g)) (find (λ r. bytes_eq r.id name) (rows_for gs)))
+        → option_and_then (λ (r : Row). slice_get r.values 0) (cond b (Some (option_row g)) (find (λ r. bytes_eq r.id name) (rows_for gs)))
         ≡ option_map (λ (x : Text × Text). x.1) (cond b (Some g) (find (λ x. bytes_eq x.0 name) gs))
     go true e = refl
     go false e = e
 
 -- what is asked of the options found is what is asked of the options given
-pub asked-as : {A : Type 0} (ask : (Text → Option Text) → Option A) (o : Option Given) (rows : List Row) → option_map rows_for o ≡ Some rows
+pub asked-as : {A : Type 0} (ask : (Text → Option Text) → Option A) (o : Option GivenOptions) (rows : List Row)
+    → option_map rows_for o ≡ Some rows
     → option_and_then (λ given. ask (λ name. value_of name given)) o ≡ ask (λ name. first_of name rows)
 asked-as ask None rows e = cc
 asked-as ask (Some given) rows e = let same : rows_for given ≡ rows = cc in
@@ -594,6 +596,6 @@ pub refused_is : {A B E : Type 0} (view : A → B) (r : Result A E) (o : Option 
     → option_map view o ≡ asked → (e : E) → r ≡ Err e → asked ≡ None
 refused_is view r o asked is same e failed = sym same ∙ ap (option_map view) (is ∙ ap result_ok failed)
 
-pub none-given : (o : Option Given) → option_map rows_for o ≡ None → o ≡ None
+pub none-given : (o : Option GivenOptions) → option_map rows_for o ≡ None → o ≡ None
 none-given None e = refl
 none-given (Some given) e = cc

@@ -12,23 +12,23 @@ abbrev pub ◌>>=◌ : {A B : Type 0} → Option A → (A → Option B) → Opti
 o >>= f = option_and_then f o
 
 -- the options given, in order: each name with its value
-abbrev pub Given : Type 0
-Given = List (Text × Text)
+abbrev pub GivenOptions : Type 0
+GivenOptions = List (Text × Text)
 
 abbrev pub is_option : List Text → Text → Bool
 is_option names name = list_any (λ option. bytes_eq option name) names
 
 -- the progress of reading: the options so far, and the option that waits for its value, if one does
 abbrev pub Reading : Type 0
-Reading = Given × Option Text
+Reading = GivenOptions × Option Text
 
 -- one more option with its value; each may be given only once
-abbrev pub with_option : Given → Text → Text → Option Reading
+abbrev pub with_option : GivenOptions → Text → Text → Option Reading
 with_option given name value =
     if list_any (λ g. bytes_eq g.0 name) given then None else Some (given ++ (name, value) ∷ [], None)
 
 -- an option's argument: `--name=value` contains the value; the value of `--name` is the next argument
-abbrev pub option_word : Given → Text × Option Text → Option Reading
+abbrev pub option_word : GivenOptions → Text × Option Text → Option Reading
 option_word given (name, Some value) = with_option given name value
 option_word given (name, None) = Some (given, Some name)
 
@@ -46,7 +46,7 @@ next_word names (given, None) word = long_of word >>= (λ option. if is_option n
 next_word names (given, Some name) word = if is_hyphened word then None else with_option given name word
 
 -- all arguments were read, and no option waits for its value
-abbrev pub complete : Reading → Option Given
+abbrev pub complete : Reading → Option GivenOptions
 complete (given, None) = Some given
 complete (given, Some name) = None
 
@@ -54,7 +54,7 @@ abbrev pub read_on : List Text → Option Reading → Text → Option Reading
 read_on names reading word = reading >>= (λ r. next_word names r word)
 
 -- the options that the arguments give, or None if they are an error
-abbrev pub given_by : List Text → List Text → Option Given
+abbrev pub given_by : List Text → List Text → Option GivenOptions
 given_by names words = fold (read_on names) (Some ([], None)) words >>= complete
 
 -- the parsed value of an option, or the default
@@ -62,7 +62,7 @@ abbrev pub or_usual : {A : Type 0} → A → (Text → Option A) → Option Text
 or_usual usual read None = Some usual
 or_usual usual read (Some text) = read text
 
-abbrev pub value_of : Text → Given → Option Text
+abbrev pub value_of : Text → GivenOptions → Option Text
 value_of name given = option_map (λ g. g.1) (find (λ g. bytes_eq g.0 name) given)
 
 -- the number from `low` to `high` that a text of one to `digits` digits denotes

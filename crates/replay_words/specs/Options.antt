@@ -3,7 +3,8 @@ use Rattle.std.specs.Prelude.{[], ◌∷◌, true, List, Option, Some, None, map
 use Rattle.clap.specs.Words.{App, Row, Rule}
 use Rattle.clap.specs.{Words.{new_app, new_rule, fault_of, matches_of, first_of, found_of, rows_of}, Simple.{filled, on_top}, Walk.is_empty}
 use Rattle.clap.specs.{Walk.reading_by, declared.builder.action.ArgAction.TheVariants.Set}
-use Rattle.{clap.specs.declared.parser.matches.{ValueSource.TheVariants.CommandLine, ArgMatches.ArgMatches}, replay_words.specs.Given.Given}
+use Rattle.{clap.specs.declared.parser.matches.{ValueSource.TheVariants.CommandLine, ArgMatches.ArgMatches}}
+use Rattle.{replay_words.specs.Given.GivenOptions}
 use Rattle.replay_words.specs.Given.{Text}
 
 -- an option with a value
@@ -27,11 +28,11 @@ read_by_clap names words =
     if is_empty (fault_of (tool names) (with_name words)) then Some (matches_of (tool names) (with_name words)) else None
 
 -- the same for options that are given
-abbrev pub row_of : Text × Text → Row
-row_of g = record { id = g.0; values = g.1 ∷ []; count = None; source = Some CommandLine; reading = reading_by (filled (option g.0)) }
+abbrev pub option_row : Text × Text → Row
+option_row g = record { id = g.0; values = g.1 ∷ []; count = None; source = Some CommandLine; reading = reading_by (filled (option g.0)) }
 
-abbrev pub rows_for : Given → List Row
-rows_for given = map row_of given
+abbrev pub rows_for : GivenOptions → List Row
+rows_for given = map option_row given
 
 -- the value found for a name, if there is one
 abbrev pub value_in : ArgMatches → Text → Option Text

@@ -3,13 +3,13 @@ use Rattle.std.specs.{Prelude.◌≡◌, declared.alloc.AllocError.AllocError}
 use Rattle.clap.specs.{Values.kind_of, declared.error.Error.Error}
 use Rattle.clap.specs.declared.error.kind.ErrorKind.TheVariants.{OutOfMemory}
 
-pub IsRefused : Type 0
-IsRefused = Unit {0}
+pub IsArgsOutOfMemory : Type 0
+IsArgsOutOfMemory = Unit {0}
 
-pub refused_by : AllocError → IsRefused
-unfolding IsRefused
-refused_by error = tt
+pub args_out_of_memory : AllocError → IsArgsOutOfMemory
+unfolding IsArgsOutOfMemory
+args_out_of_memory error = tt
 
-pub refused_by_clap : (error : Error) → kind_of error ≡ OutOfMemory → IsRefused
-unfolding IsRefused
+pub refused_by_clap : (error : Error) → kind_of error ≡ OutOfMemory → IsArgsOutOfMemory
+unfolding IsArgsOutOfMemory
 refused_by_clap error is = tt

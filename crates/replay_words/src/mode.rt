@@ -2,7 +2,7 @@
 
 /// The kind of replay of a trace.
 #[derive(Clone, Copy, Debug, PartialEq, Eq)]
-pub enum Mode {
+pub enum ReplayMode {
     /// One thread processes the rows in order, on instances that aren't shared.
     Serial,
     /// One thread processes the rows in order, on instances that threads could share.

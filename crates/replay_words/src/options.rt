@@ -5,7 +5,7 @@ ghost use Rattle.std.specs.List.{list_any};
 ghost use Rattle.clap.specs.Words.{app_of, found_of, rows_of, rule_of};
 ghost use Rattle.replay_words.specs.Given.{Text, given_by, is_stray, number_within, or_usual};
 ghost use Rattle.replay_words.specs.Options.{option, rows_for, tool, value_in, with_name};
-ghost use Rattle.replay_words.specs.Refusals.{IsRefused};
+ghost use Rattle.replay_words.specs.Refusals.{IsArgsOutOfMemory};
 ghost use Rattle.replay_words.specs.declared.words.WordFault.TheVariants.{OutOfMemory, Usage};
 
 use crate::words::WordFault;
@@ -126,7 +126,7 @@ pub fn read_options<'a>(
     ensures usage { result ≡ Err Usage → (rest : List Text)
         → map (λ s. s.now) words.now ≡ with_name rest
         → given_by (map (λ s. s.now) names.now) rest ≡ None }
-    ensures memory { result ≡ Err OutOfMemory → IsRefused }
+    ensures memory { result ≡ Err OutOfMemory → IsArgsOutOfMemory }
 {
     if has_stray(words) {
         return Err(WordFault::Usage);

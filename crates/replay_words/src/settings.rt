@@ -14,7 +14,7 @@ pub const MOST_WINDOW: u32 = 65535;
 
 /// The settings of a replay: the parameters of a run over the poll list.
 #[derive(Clone, Copy, Debug, PartialEq, Eq)]
-pub struct Settings {
+pub struct ReplaySettings {
     /// Threads that poll, 1 to 8. A replay on one thread doesn't use it.
     pub pollers: u32,
     /// Packets that a run polls before it is squeezed, 1 to 65535 (`netdev_budget`).
@@ -31,11 +31,11 @@ pub struct Settings {
 
 ghost use Rattle.std.specs.Prelude.{◌≤◌};
 
-impl Settings {
+impl ReplaySettings {
     ghost use Rattle.std.specs.Prelude.{◌≡◌, ◌≤◌, ◌↔◌, IsSome, IfSome};
 
     /// Returns the settings with these numbers, or `None` exactly if one is out of its range.
-    pub fn new(pollers: u32, budget: u32, weight: u32, window: u32) -> Option<Settings>
+    pub fn new(pollers: u32, budget: u32, weight: u32, window: u32) -> Option<ReplaySettings>
         ensures lawful { IsSome result
             ↔ (((1 ≤ pollers) × (pollers ≤ 8)) × ((1 ≤ budget) × (budget ≤ 65535))
             × ((1 ≤ weight) × (weight ≤ 64)) × ((1 ≤ window) × (window ≤ 65535))) }
@@ -49,7 +49,7 @@ impl Settings {
         let weight_in = 1 <= weight && weight <= MOST_WEIGHT;
         let window_in = 1 <= window && window <= MOST_WINDOW;
         if pollers_in && budget_in && weight_in && window_in {
-            Some(Settings {
+            Some(ReplaySettings {
                 pollers,
                 budget,
                 weight,
@@ -61,14 +61,14 @@ impl Settings {
     }
 }
 
-impl Default for Settings {
+impl Default for ReplaySettings {
     ghost use Rattle.replay_words.specs.Defaults.{HasDefaults};
 
     ghost is_default = { HasDefaults };
 
     /// One poller, a budget of 300, a weight of 64 and a window of 1024.
-    fn default() -> Settings {
-        Settings {
+    fn default() -> ReplaySettings {
+        ReplaySettings {
             pollers: 1,
             budget: 300,
             weight: 64,

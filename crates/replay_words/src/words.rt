@@ -3,14 +3,14 @@
 ghost use Rattle.std.specs.Prelude.{◌≡◌, ◌≤◌, Some, None, Err, IfOk, IfSome, option_map, map, string_bytes, codes};
 ghost use Rattle.replay_words.specs.Given.{or_usual};
 ghost use Rattle.replay_words.specs.Options.{value_in};
-ghost use Rattle.replay_words.specs.Refusals.{IsRefused};
-ghost use Rattle.replay_words.specs.Words.{asked_for, asked_of, asked_with, fault_number, line_of, mode_of, number_of, serial_asked_for, status_of};
-ghost use Rattle.replay_words.specs.declared.mode.Mode.TheVariants.{Serial};
+ghost use Rattle.replay_words.specs.Refusals.{IsArgsOutOfMemory};
+ghost use Rattle.replay_words.specs.Words.{replay_asked_for, replay_args_of, replay_args_with, fault_number, word_fault_line, mode_of, number_up_to, serial_asked_for, word_fault_status};
+ghost use Rattle.replay_words.specs.declared.mode.ReplayMode.TheVariants.{Serial};
 ghost use Rattle.replay_words.specs.declared.words.WordFault.TheVariants.{OutOfMemory, Usage};
 
-use crate::mode::Mode;
+use crate::mode::ReplayMode;
 use crate::options::{number_within, option_number, read_options, with_name};
-use crate::settings::{MOST_BUDGET, MOST_POLLERS, MOST_WEIGHT, MOST_WINDOW, Settings};
+use crate::settings::{MOST_BUDGET, MOST_POLLERS, MOST_WEIGHT, MOST_WINDOW, ReplaySettings};
 use clap::ArgMatches;
 use std::alloc::{AllocError, Global};
 use thiserror::Error;
@@ -55,7 +55,7 @@ impl WordFault {
 
 /// Returns the message of an error for standard error, including the line feed.
 pub fn word_line(fault: &WordFault) -> &'static str
-    ensures { result.now ≡ line_of fault.now }
+    ensures { result.now ≡ word_fault_line fault.now }
 {
     match fault {
         WordFault::Usage => "usage fault 64\n",
@@ -65,7 +65,7 @@ pub fn word_line(fault: &WordFault) -> &'static str
 
 /// Returns the exit status of an error.
 pub fn word_status(fault: &WordFault) -> u8
-    ensures { result ≡ status_of fault.now }
+    ensures { result ≡ word_fault_status fault.now }
 {
     match fault {
         WordFault::Usage => 64,
@@ -74,15 +74,15 @@ pub fn word_status(fault: &WordFault) -> u8
 }
 
 // Returns the mode with this name.
-fn mode_of(word: &str) -> Option<Mode>
+fn mode_of(word: &str) -> Option<ReplayMode>
     ensures { result ≡ mode_of word.now }
 {
     if word == "serial" {
-        Some(Mode::Serial)
+        Some(ReplayMode::Serial)
     } else if word == "shared" {
-        Some(Mode::Shared)
+        Some(ReplayMode::Shared)
     } else if word == "threads" {
-        Some(Mode::Threads)
+        Some(ReplayMode::Threads)
     } else {
         None
     }
@@ -90,18 +90,18 @@ fn mode_of(word: &str) -> Option<Mode>
 
 /// Returns the number from 1 to `high` that one to five ASCII digits denote, or `None`.
 pub fn number_of(text: &str, high: u32) -> Option<u32>
-    ensures number { result ≡ number_of high text.now }
+    ensures number { result ≡ number_up_to high text.now }
     ensures range { IfSome result (λ n. (1 ≤ n) × (n ≤ high)) }
 {
     number_within(text, 5, 1, high)
 }
 
 // Returns the mode that is given, or the default; `None` for an unknown name.
-fn mode_in(matches: &ArgMatches<'_>) -> Option<Mode>
+fn mode_in(matches: &ArgMatches<'_>) -> Option<ReplayMode>
     ensures { result ≡ or_usual Serial mode_of (value_in matches.now (codes "mode")) }
 {
     match matches.get_str("mode") {
-        None => Some(Mode::Serial),
+        None => Some(ReplayMode::Serial),
         Some(word) => mode_of(word),
     }
 }
@@ -109,23 +109,23 @@ fn mode_in(matches: &ArgMatches<'_>) -> Option<Mode>
 // Returns the number given for an option, or the default; `None` if it isn't a number in the range.
 fn number_in(matches: &ArgMatches<'_>, name: &str, usual: u32, high: u32) -> Option<u32>
     ensures number { result
-        ≡ or_usual usual (number_of high) (value_in matches.now name.now) }
+        ≡ or_usual usual (number_up_to high) (value_in matches.now name.now) }
     ensures range { (1 ≤ usual) × (usual ≤ high) → IfSome result (λ n. (1 ≤ n) × (n ≤ high)) }
 {
     option_number(matches, name, usual, 5, 1, high)
 }
 
 // Returns what the matches ask for.
-fn asked_by(matches: &ArgMatches<'_>) -> Option<(Mode, Settings)>
-    ensures { option_map asked_of result ≡ asked_with (value_in matches.now) }
+fn asked_by(matches: &ArgMatches<'_>) -> Option<(ReplayMode, ReplaySettings)>
+    ensures { option_map replay_args_of result ≡ replay_args_with (value_in matches.now) }
 {
     let mode = mode_in(matches)?;
-    let usual = Settings::default();
+    let usual = ReplaySettings::default();
     let pollers = number_in(matches, "pollers", usual.pollers, MOST_POLLERS)?;
     let budget = number_in(matches, "budget", usual.budget, MOST_BUDGET)?;
     let weight = number_in(matches, "weight", usual.weight, MOST_WEIGHT)?;
     let window = number_in(matches, "window", usual.window, MOST_WINDOW)?;
-    let settings = Settings::new(pollers, budget, weight, window)?;
+    let settings = ReplaySettings::new(pollers, budget, weight, window)?;
     Some((mode, settings))
 }
 
@@ -134,17 +134,20 @@ fn asked_by(matches: &ArgMatches<'_>) -> Option<(Mode, Settings)>
 ///
 /// The arguments are those after the program's name. An option is `--mode`, `--pollers`, `--budget`, `--weight` or `--window`,
 /// each at most once; its value follows `=` in the same argument, or is the next argument. A number is one to five ASCII
-/// digits, in the range that [`Settings::new`] checks.
+/// digits, in the range that [`ReplaySettings::new`] checks.
 ///
 /// # Errors
 ///
 /// [`WordFault::Usage`] if the arguments are invalid, which includes `--help`. [`WordFault::OutOfMemory`] if an allocation
 /// fails, whatever the arguments are.
-pub fn parse_words(alloc: Global, words: &[String]) -> Result<(Mode, Settings), WordFault>
+pub fn parse_words(
+    alloc: Global,
+    words: &[String],
+) -> Result<(ReplayMode, ReplaySettings), WordFault>
     ensures asked { IfOk result
-        (λ asked. asked_for (map string_bytes words.now) ≡ Some (asked_of asked)) }
-    ensures usage { result ≡ Err Usage → asked_for (map string_bytes words.now) ≡ None }
-    ensures memory { result ≡ Err OutOfMemory → IsRefused }
+        (λ asked. replay_asked_for (map string_bytes words.now) ≡ Some (replay_args_of asked)) }
+    ensures usage { result ≡ Err Usage → replay_asked_for (map string_bytes words.now) ≡ None }
+    ensures memory { result ≡ Err OutOfMemory → IsArgsOutOfMemory }
 {
     let words = with_name(alloc, words)?;
     let matches = read_options(alloc, &OPTIONS, words.as_slice())?;
@@ -158,15 +161,15 @@ pub fn parse_words(alloc: Global, words: &[String]) -> Result<(Mode, Settings), 
 ///
 /// [`WordFault::Usage`] if the arguments are invalid, or name another mode. [`WordFault::OutOfMemory`] if an allocation fails,
 /// whatever the arguments are.
-pub fn parse_serial_words(alloc: Global, words: &[String]) -> Result<Settings, WordFault>
+pub fn parse_serial_words(alloc: Global, words: &[String]) -> Result<ReplaySettings, WordFault>
     ensures asked { IfOk result
         (λ settings. serial_asked_for (map string_bytes words.now)
-        ≡ Some (asked_of (Serial, settings))) }
+        ≡ Some (replay_args_of (Serial, settings))) }
     ensures usage { result ≡ Err Usage → serial_asked_for (map string_bytes words.now) ≡ None }
-    ensures memory { result ≡ Err OutOfMemory → IsRefused }
+    ensures memory { result ≡ Err OutOfMemory → IsArgsOutOfMemory }
 {
     match parse_words(alloc, words) {
-        Ok((Mode::Serial, settings)) => Ok(settings),
+        Ok((ReplayMode::Serial, settings)) => Ok(settings),
         Ok(_) => Err(WordFault::Usage),
         Err(fault) => Err(fault),
     }

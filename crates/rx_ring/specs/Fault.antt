@@ -2,6 +2,6 @@
 use Rattle.{std.specs.Prelude.ℕ, rx_ring.specs.declared.fault.RingFault.{RingFault, TheVariants.{OutOfMemory, BadCapacity}}}
 
 -- the number of an error
-abbrev pub number_of : RingFault → ℕ
-number_of OutOfMemory = 1
-number_of BadCapacity = 2
+abbrev pub ring_fault_number : RingFault → ℕ
+ring_fault_number OutOfMemory = 1
+ring_fault_number BadCapacity = 2

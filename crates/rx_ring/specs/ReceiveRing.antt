@@ -6,8 +6,8 @@ use Rattle.rx_ring.specs.declared.packet.{RxCounts.RxCounts, Totals.Totals}
 use mathlib.Core.List.{IsPrefix}
 
 -- the greatest capacity of a ring, in packets
-abbrev pub most_places : ℕ
-most_places = 65536
+abbrev pub most_rx_places : ℕ
+most_rx_places = 65536
 
 -- the greatest weight of a poll, which is the kernel's default (`include/linux/netdevice.h`)
 abbrev pub NAPI_POLL_WEIGHT : ℕ

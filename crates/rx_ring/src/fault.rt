@@ -1,7 +1,7 @@
 //! Why a ring can't be made.
 
 ghost use Rattle.std.specs.Prelude.{◌≡◌};
-ghost use Rattle.rx_ring.specs.Fault.{number_of};
+ghost use Rattle.rx_ring.specs.Fault.{ring_fault_number};
 
 use thiserror::Error;
 
@@ -19,7 +19,7 @@ pub enum RingFault {
 impl RingFault {
     /// The number of this error, 1 or 2.
     pub fn number(self) -> u8
-        ensures { result ≡ number_of self }
+        ensures { result ≡ ring_fault_number self }
     {
         self as u8
     }

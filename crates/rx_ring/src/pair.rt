@@ -2,7 +2,7 @@
 
 ghost use Rattle.std.specs.Prelude.{◌≡◌, ◌≢◌, ◌+◌, ◌<◌, ◌^◌, ◌++◌, ◌⊎◌, ◌↔◌, [], false, length, IfOk, IfErr, IsErrOf};
 ghost use Rattle.rtrb.specs.Ring.{received, known_items, IsPair};
-ghost use Rattle.rx_ring.specs.ReceiveRing.{most_places, capped, bytes_of, IsInOrder, totals_of};
+ghost use Rattle.rx_ring.specs.ReceiveRing.{most_rx_places, capped, bytes_of, IsInOrder, totals_of};
 ghost use Rattle.rx_ring.specs.Ends.{put_list, capacity_of, received_list, known_list, polls_of, is_beside, IsOneRing, ring_of, Meets, Meeting, NamesTellRings};
 ghost use Rattle.rx_ring.specs.declared.fault.RingFault.TheVariants.{BadCapacity, OutOfMemory};
 
@@ -27,7 +27,7 @@ pub fn ring(alloc: Global, capacity: usize) -> Result<(RxIn, RxCtx), RingFault>
     ensures empty { IfOk result
         (λ r. (put_list r.0 ≡ []) × (received_list r.1 ≡ []) × (known_list r.1 ≡ [])) }
     ensures unpolled { IfOk result (λ r. (polls_of r.1 ≡ 0) × (is_beside r.1 ≡ false)) }
-    ensures bad { IsErrOf result BadCapacity ↔ ((capacity ≡ 0) ⊎ (most_places < capacity)) }
+    ensures bad { IsErrOf result BadCapacity ↔ ((capacity ≡ 0) ⊎ (most_rx_places < capacity)) }
     ensures memory { IfErr result (λ e. e ≢ BadCapacity → e ≡ OutOfMemory) }
 {
     if capacity == 0 || capacity > MAX_CAPACITY {

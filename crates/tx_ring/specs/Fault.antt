@@ -3,11 +3,11 @@ use Rattle.{std.specs.Prelude.ℕ, tx_ring.specs.declared.event.TxFault.{TxFault
 use Rattle.tx_ring.specs.declared.event.TxFault.TheVariants.{MoreThanSent, BadCapacity, OutOfMemory}
 
 -- the number of an error
-abbrev pub number_of : TxFault → ℕ
-number_of Stopped = 1
-number_of Full = 2
-number_of TooLarge = 3
-number_of TooMuchInFlight = 4
-number_of MoreThanSent = 5
-number_of BadCapacity = 6
-number_of OutOfMemory = 7
+abbrev pub tx_fault_number : TxFault → ℕ
+tx_fault_number Stopped = 1
+tx_fault_number Full = 2
+tx_fault_number TooLarge = 3
+tx_fault_number TooMuchInFlight = 4
+tx_fault_number MoreThanSent = 5
+tx_fault_number BadCapacity = 6
+tx_fault_number OutOfMemory = 7

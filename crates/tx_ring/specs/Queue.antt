@@ -15,24 +15,24 @@ pub record TransmitQueue : Type 0 where
   pub stopped : Bool  -- whether the limit has stopped the queue
 
 -- the most packets that a ring can hold
-abbrev pub most_places : ℕ
-most_places = 65536
+abbrev pub most_tx_places : ℕ
+most_tx_places = 65536
 
 -- a new queue under a new limit isn't stopped
 abbrev pub opening_queue : ℕ → Limit → TransmitQueue
 opening_queue capacity limit = record { capacity = capacity; sizes = []; done = 0; limit = limit; stopped = false }
 
 -- the packets in the ring: sent and not completed
-abbrev pub held_of : TransmitQueue → List ℕ
-held_of t = drop t.done t.sizes
+abbrev pub held_sizes : TransmitQueue → List ℕ
+held_sizes t = drop t.done t.sizes
 
 -- the bytes available are negative
 abbrev pub is_over : Limit → Bool
 is_over s = int_lt (avail_of s) (pos 0)
 
 -- the public state of a queue; its totals have 32 bits
-abbrev pub state_of : TransmitQueue → TxState
-state_of t = record {
+abbrev pub tx_state : TransmitQueue → TxState
+tx_state t = record {
   queued = sum t.sizes % 2 ^ 32;
   completed = sum (take t.done t.sizes) % 2 ^ 32;
   limit = t.limit.limit;
@@ -47,8 +47,8 @@ after_send t bytes =
     record t { sizes = t.sizes ++ bytes ∷ []; limit = limit; stopped = is_over limit }
 
 -- the bytes of the oldest packets in the ring
-abbrev pub bytes_of : TransmitQueue → ℕ → ℕ
-bytes_of t count = sum (take count (held_of t))
+abbrev pub oldest_bytes : TransmitQueue → ℕ → ℕ
+oldest_bytes t count = sum (take count (held_sizes t))
 
 -- these bytes are reported to the limit; a stopped queue stays stopped if the bytes available are still negative
 abbrev pub after_bytes : TransmitQueue → ℕ → ℕ → ℕ → TransmitQueue
@@ -59,8 +59,8 @@ after_bytes t count bytes now =
 -- the oldest packets complete; if they have 0 bytes, the limit isn't changed (`netdev_tx_completed_queue`)
 unfoldable pub after_done : TransmitQueue → ℕ → ℕ → TransmitQueue
 after_done t count now =
-    if nat_eq (bytes_of t count) 0 then record t { done = t.done + count }
-    else after_bytes t count (bytes_of t count) now
+    if nat_eq (oldest_bytes t count) 0 then record t { done = t.done + count }
+    else after_bytes t count (oldest_bytes t count) now
 
 -- Whole runs.
 
@@ -68,20 +68,20 @@ after_done t count now =
 abbrev pub send_fault : TransmitQueue → ℕ → Option TxFault
 send_fault t bytes =
     if t.stopped then Some Stopped
-    else (if nat_le t.capacity (length (held_of t)) then Some Full
+    else (if nat_le t.capacity (length (held_sizes t)) then Some Full
     else (if nat_lt DQL_MAX_OBJECT bytes then Some TooLarge
     else (if nat_lt most_in_flight (in_flight_of t.limit + bytes) then Some TooMuchInFlight else None)))
 
 -- the reason why these packets can't complete, if there is one
 abbrev pub done_fault : TransmitQueue → ℕ → Option TxFault
-done_fault t count = if nat_lt (length (held_of t)) count then Some MoreThanSent else None
+done_fault t count = if nat_lt (length (held_sizes t)) count then Some MoreThanSent else None
 
 -- the reason why an event fails, if it does
-abbrev pub fault_of : TransmitQueue → TxEvent → Option TxFault
-fault_of t (Send bytes) = send_fault t bytes
-fault_of t (Finish count now) = done_fault t count
+abbrev pub tx_event_fault : TransmitQueue → TxEvent → Option TxFault
+tx_event_fault t (Send bytes) = send_fault t bytes
+tx_event_fault t (Finish count now) = done_fault t count
 
 -- the queue after an event that succeeds
-abbrev pub after : TransmitQueue → TxEvent → TransmitQueue
-after t (Send bytes) = after_send t bytes
-after t (Finish count now) = after_done t count now
+abbrev pub tx_after : TransmitQueue → TxEvent → TransmitQueue
+tx_after t (Send bytes) = after_send t bytes
+tx_after t (Finish count now) = after_done t count now

@@ -1,7 +1,7 @@
 //! The calls on a transmit ring as values, their errors, and the state of the ring.
 
 ghost use Rattle.std.specs.Prelude.{◌≡◌};
-ghost use Rattle.tx_ring.specs.Fault.{number_of};
+ghost use Rattle.tx_ring.specs.Fault.{tx_fault_number};
 
 use thiserror::Error;
 
@@ -43,7 +43,7 @@ pub enum TxFault {
 impl TxFault {
     /// The number of this error, 1 to 7.
     pub fn number(self) -> u8
-        ensures { result ≡ number_of self }
+        ensures { result ≡ tx_fault_number self }
     {
         self as u8
     }

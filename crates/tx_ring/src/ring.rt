@@ -32,9 +32,9 @@ impl TxRing {
     ghost use Rattle.std.specs.Prelude.{◌≡◌, ◌≢◌, ℕ, ◌+◌, ◌<◌, ◌≤◌, ◌⊎◌, ◌↔◌, length, IfOk, IfErr, OnOk, OnErr, IsErrOf};
     ghost use Rattle.std.specs.Result.{result_err};
     ghost use Rattle.dql_core.specs.Accepted.{accepted, after_all};
-    ghost use Rattle.dql_core.specs.Dql.{Shows, IsNew};
-    ghost use Rattle.dql_core.specs.Limit.{opening};
-    ghost use Rattle.tx_ring.specs.Queue.{TransmitQueue, most_places, opening_queue, state_of, after_send, after_done, send_fault, done_fault, fault_of, after};
+    ghost use Rattle.dql_core.specs.Dql.{Shows, IsNewLimit};
+    ghost use Rattle.dql_core.specs.Limit.{new_limit};
+    ghost use Rattle.tx_ring.specs.Queue.{TransmitQueue, most_tx_places, opening_queue, tx_state, after_send, after_done, send_fault, done_fault, tx_event_fault, tx_after};
     ghost use Rattle.tx_ring.specs.Ring.{ShowsQueue};
     ghost use Rattle.tx_ring.specs.declared.event.TxFault.TheVariants.{BadCapacity, OutOfMemory};
 
@@ -43,10 +43,11 @@ impl TxRing {
     /// Fails with [`BadCapacity`](TxFault::BadCapacity) if `capacity` is 0 or over [`MAX_CAPACITY`], otherwise with
     /// [`OutOfMemory`](TxFault::OutOfMemory) if the allocation fails. The limit is dropped then.
     pub fn new(alloc: Global, capacity: usize, limit: Dql) -> Result<TxRing, TxFault>
-        requires { IsNew limit }
-        ensures ok { (min max hold now : ℕ) → Shows limit (opening min max hold now)
-            → IfOk result (λ r. ShowsQueue r (opening_queue capacity (opening min max hold now))) }
-        ensures bad { IsErrOf result BadCapacity ↔ ((capacity ≡ 0) ⊎ (most_places < capacity)) }
+        requires { IsNewLimit limit }
+        ensures ok { (min max hold now : ℕ) → Shows limit (new_limit min max hold now)
+            → IfOk result (λ r. ShowsQueue r
+            (opening_queue capacity (new_limit min max hold now))) }
+        ensures bad { IsErrOf result BadCapacity ↔ ((capacity ≡ 0) ⊎ (most_tx_places < capacity)) }
         ensures memory { IfErr result (λ e. e ≢ BadCapacity → e ≡ OutOfMemory) }
     {
         if capacity == 0 || capacity > MAX_CAPACITY {
@@ -64,7 +65,7 @@ impl TxRing {
 
     /// The state of the ring.
     pub fn state(&self) -> TxState
-        ensures { (t : TransmitQueue) → ShowsQueue self.now t → result ≡ state_of t }
+        ensures { (t : TransmitQueue) → ShowsQueue self.now t → result ≡ tx_state t }
     {
         TxState {
             queued: self.limit.total_queued(),
@@ -133,9 +134,9 @@ impl TxRing {
     /// Makes these calls in order, and returns how many failed.
     pub fn run(&mut self, events: &[TxEvent]) -> u64
         ensures state { (t : TransmitQueue) → ShowsQueue self.old t
-            → ShowsQueue self.new (after_all fault_of after t events.now) }
+            → ShowsQueue self.new (after_all tx_event_fault tx_after t events.now) }
         ensures refused { (t : TransmitQueue) → ShowsQueue self.old t
-            → result + length (accepted fault_of after t events.now) ≡ length events.now }
+            → result + length (accepted tx_event_fault tx_after t events.now) ≡ length events.now }
     {
         let mut refused = 0u64;
         for i in 0..events.len() {
@@ -148,10 +149,10 @@ impl TxRing {
     // Makes the call that the event names.
     fn apply(&mut self, event: TxEvent) -> Result<(), TxFault>
         ensures ok { (t : TransmitQueue) → ShowsQueue self.old t
-            → OnOk result (ShowsQueue self.new (after t event)) }
+            → OnOk result (ShowsQueue self.new (tx_after t event)) }
         ensures err { OnErr result (self.new ≡ self.old) }
         ensures fault { (t : TransmitQueue) → ShowsQueue self.old t
-            → result_err result ≡ fault_of t event }
+            → result_err result ≡ tx_event_fault t event }
     {
         match event {
             TxEvent::Send(bytes) => self.send(bytes),

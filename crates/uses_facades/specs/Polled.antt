@@ -2,10 +2,10 @@
 use Rattle.std.specs.Prelude.{◌≡◌, ℕ, ◌-◌, ◌<◌, min}
 use Rattle.poll_engine.specs.Next.TheVariants.{Gone}
 use Rattle.poll_engine.specs.Once.{Once}
-use Rattle.uses_facades.specs.declared.polling.Card.{Card}
+use Rattle.uses_facades.specs.declared.polling.PolledCard.{PolledCard}
 
 -- it returns the packets that wait, at most the weight; one that returns fewer completes
-pub record Polls (before : Card) (id weight : ℕ) (once : Once) (after : Card) : Type 0 where
+pub record PolledCardPolls (before : PolledCard) (id weight : ℕ) (once : Once) (after : PolledCard) : Type 0 where
   pub work : once.work ≡ min before.packets weight
   pub left : after.packets ≡ before.packets - weight
   pub ends : once.work < weight → once.next ≡ Gone

@@ -1,13 +1,13 @@
 //! A program that uses only `driver_core`: the loop of a driver, over any cards. It passes on what a sleep promises.
 
 ghost use Rattle.std.specs.Prelude.{◌≡◌, ◌≤◌, IfOk, true, length};
-ghost use Rattle.driver_core.specs.Driver.{IsDue, devices_of};
+ghost use Rattle.driver_core.specs.Driver.{IsDue, driver_devices};
 ghost use Rattle.driver_core.specs.declared.todo.What.TheVariants.{Sleep};
 
 use driver_core::{Driver, Refused, What};
 
 /// A card: its interrupt mask and its receive ring.
-pub trait Card {
+pub trait LoopCard {
     /// Masks its interrupt.
     fn mask(&mut self);
 
@@ -23,11 +23,11 @@ pub trait Card {
 }
 
 // Does what the driver says. Returns whether that is nothing.
-fn act<C: Card>(driver: &mut Driver, cards: &mut [C]) -> Result<bool, Refused>
-    requires { length (devices_of driver.old) ≡ length cards.old }
+fn act<C: LoopCard>(driver: &mut Driver, cards: &mut [C]) -> Result<bool, Refused>
+    requires { length (driver_devices driver.old) ≡ length cards.old }
     ensures sleep { IfOk result (λ sleeps. sleeps ≡ true → IsDue driver.new Sleep) }
     ensures cards { length cards.new ≡ length cards.old }
-    ensures devices { length (devices_of driver.new) ≡ length (devices_of driver.old) }
+    ensures devices { length (driver_devices driver.new) ≡ length (driver_devices driver.old) }
 {
     let todo = driver.next();
     let packets = match todo.what {
@@ -50,8 +50,8 @@ fn act<C: Card>(driver: &mut Driver, cards: &mut [C]) -> Result<bool, Refused>
 
 /// Does what the driver says until it says to sleep, at most so many times. Returns whether it may sleep: then each device is at
 /// rest, and nothing is on the poll list.
-pub fn drive<C: Card>(driver: &mut Driver, cards: &mut [C], most: u32) -> Result<bool, Refused>
-    requires { length (devices_of driver.old) ≡ length cards.old }
+pub fn drive<C: LoopCard>(driver: &mut Driver, cards: &mut [C], most: u32) -> Result<bool, Refused>
+    requires { length (driver_devices driver.old) ≡ length cards.old }
     ensures { IfOk result (λ sleeps. sleeps ≡ true → IsDue driver.new Sleep) }
 {
     for _ in 0..most {

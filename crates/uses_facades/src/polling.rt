@@ -5,19 +5,19 @@ ghost use Rattle.std.specs.Prelude.{◌≤◌, List};
 ghost use Rattle.poll_engine.specs.Plain.{NothingBehind, OwnPushes, all_held};
 ghost use Rattle.poll_engine.specs.Polls.{At, Chain, Poll};
 ghost use Rattle.poll_engine.specs.Run.{IsRun};
-ghost use Rattle.uses_facades.specs.Polled.{Polls};
+ghost use Rattle.uses_facades.specs.Polled.{PolledCardPolls};
 
 use poll_engine::{Bench, BusyReport, Next, Once, PlainList, RunReport, ThreadReport, run_softirq};
 
 /// A card with this many packets.
 #[derive(Drop)]
-pub struct Card {
+pub struct PolledCard {
     /// The packets that wait to be polled.
     pub packets: u32,
 }
 
-impl Bench for Card {
-    ghost polls = { Polls };
+impl Bench for PolledCard {
+    ghost polls = { PolledCardPolls };
 
     fn poll_once(&mut self, _id: u32, weight: u32) -> Once {
         let work = self.packets.min(weight);
@@ -40,9 +40,9 @@ impl Bench for Card {
 }
 
 /// A run over the card with the kernel's budget and weight.
-pub fn softirq(list: &mut PlainList, card: &mut Card) -> RunReport
+pub fn softirq(list: &mut PlainList, card: &mut PolledCard) -> RunReport
     ensures run { (polls : List Poll)
-        × Chain (At Polls 64) card.old polls card.new
+        × Chain (At PolledCardPolls 64) card.old polls card.new
         × IsRun all_held OwnPushes NothingBehind 300 1024 list.old polls list.new result }
     ensures polls { result.polls ≤ 1024 }
 {

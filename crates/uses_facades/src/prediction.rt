@@ -3,11 +3,11 @@
 
 ghost use Rattle.std.specs.Prelude.{◌≡◌, IfErr, OnOk};
 ghost use Rattle.machine.specs.Answer.{IsReportOf};
-ghost use Rattle.machine.specs.Fault.{status_of};
+ghost use Rattle.machine.specs.Fault.{machine_fault_status};
 ghost use Rattle.machine.specs.MachineFault.{MachineFault};
 ghost use Rattle.machine.specs.Written.{Writes};
 
-use machine::{Settings, run_machine, status};
+use machine::{MachineSettings, run_machine, status};
 use std::alloc::Global;
 use std::io::{Read, Write};
 
@@ -16,11 +16,11 @@ pub fn run<R: Read + Drop, W: Write>(
     alloc: Global,
     reader: R,
     writer: &mut W,
-    settings: &Settings,
+    settings: &MachineSettings,
 ) -> Result<(), u8>
     ensures written { OnOk result (Writes (IsReportOf settings.now)
         (R.remaining reader) (W.contents writer.old) (W.contents writer.new)) }
-    ensures status { IfErr result (λ s. (fault : MachineFault) × (s ≡ status_of fault)) }
+    ensures status { IfErr result (λ s. (fault : MachineFault) × (s ≡ machine_fault_status fault)) }
 {
     run_machine(alloc, reader, writer, settings).map_err(|fault| status(&fault))
 }

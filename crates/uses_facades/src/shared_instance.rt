@@ -4,7 +4,7 @@
 ghost use Rattle.std.specs.Prelude.{◌≡◌, false};
 ghost use mathlib.Core.List.{IsPrefix};
 ghost use Rattle.napi_calls.specs.Instance.{IsSeatOf};
-ghost use Rattle.napi_calls.specs.Seats.{SameSeat, ShowsLegal, shown, state_of};
+ghost use Rattle.napi_calls.specs.Seats.{SameSeat, ShowsLegal, shown, state_shown};
 
 use napi_calls::{Control, Napi, On};
 use std::sync::Wait;
@@ -15,7 +15,7 @@ pub fn reset<R: Wait>(rt: &R, napi: &Napi, control: Control<On>) -> Control<On>
     ensures seat { SameSeat control.pass result.pass }
     ensures begins { IsPrefix (shown control.pass) (shown result.pass) }
     ensures legal { ShowsLegal result.pass }
-    ensures enabled { (state_of result.pass).flags.disable ≡ false }
+    ensures enabled { (state_shown result.pass).flags.disable ≡ false }
 {
     let control = control.disable(rt, napi).enable(rt, napi, false);
     control.knows();

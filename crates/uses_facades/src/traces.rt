@@ -3,12 +3,12 @@
 ghost use Rattle.std.specs.Prelude.{◌≡◌, filter, length};
 ghost use Rattle.device_model.specs.Script.{is_rx};
 
-use device_model::{Event, Row, Trace};
+use device_model::{Row, RowEvent, Trace};
 
 fn is_arrival(row: &Row) -> bool
     ensures { result ≡ is_rx row.now.event }
 {
-    matches!(row.event, Event::Rx)
+    matches!(row.event, RowEvent::Rx)
 }
 
 /// Returns how many packets arrive in a trace.

@@ -3,11 +3,11 @@
 
 ghost use Rattle.std.specs.Prelude.{◌≡◌, Ok, IfErr, OnOk};
 ghost use Rattle.replay.specs.Answer.{replay_of};
-ghost use Rattle.replay.specs.Fault.{status_of};
+ghost use Rattle.replay.specs.Fault.{replay_fault_status};
 ghost use Rattle.replay.specs.ReplayFault.{ReplayFault};
 ghost use Rattle.replay.specs.Written.{Writes};
 
-use replay::{Settings, replay_serial, status};
+use replay::{ReplaySettings, replay_serial, status};
 use std::alloc::Global;
 use std::io::{Read, Write};
 
@@ -16,11 +16,11 @@ pub fn replay<R: Read + Drop, W: Write>(
     alloc: Global,
     reader: R,
     writer: &mut W,
-    settings: &Settings,
+    settings: &ReplaySettings,
 ) -> Result<(), u8>
     ensures written { OnOk result (Writes (λ bytes text. replay_of settings.now bytes ≡ Ok text)
         (R.remaining reader) (W.contents writer.old) (W.contents writer.new)) }
-    ensures status { IfErr result (λ s. (fault : ReplayFault) × (s ≡ status_of fault)) }
+    ensures status { IfErr result (λ s. (fault : ReplayFault) × (s ≡ replay_fault_status fault)) }
 {
     replay_serial(alloc, reader, writer, settings).map_err(|fault| status(&fault))
 }

@@ -2,7 +2,7 @@
 
 use crate::threads::{settings_of, text_of};
 use poll_engine::Gate;
-use replay::{ReplayFault, Settings, replay_threads};
+use replay::{ReplayFault, ReplaySettings, replay_threads};
 use std::alloc::Global;
 use std::sync::Wait;
 use std::sync::atomic::{AtomicU32, AtomicU64, Ordering};
@@ -105,7 +105,7 @@ fn shut_out<P: Threads + Wait + Sync>(
         asked: AtomicU32::new(0),
     };
     let mut report = Vec::new(alloc);
-    let settings = Settings::default();
+    let settings = ReplaySettings::default();
     let answer = replay_threads(rt, alloc, text.as_bytes(), &mut report, &settings, &gate);
     if !report.is_empty() {
         return Err("a report is written".into());

@@ -5,7 +5,7 @@ ghost use Rattle.std.specs.Prelude.{◌≤◌};
 use crate::gates::{HoldsPoller, LOOKS};
 use crate::threads::{HEADER, settings_of, text_of};
 use poll_engine::Gate;
-use replay::{Polled, ReplayFault, Settings, replay_threads};
+use replay::{Polled, ReplayFault, ReplaySettings, replay_threads};
 use std::alloc::{AllocError, Global};
 use std::sync::Wait;
 use std::sync::atomic::{AtomicBool, AtomicU32, Ordering};
@@ -44,7 +44,7 @@ fn polled_of<P: Threads + Wait + Sync, G: Gate + Sync>(
     rt: &P,
     alloc: Global,
     text: &str,
-    settings: &Settings,
+    settings: &ReplaySettings,
     gate: &G,
 ) -> Result<Vec<Polled>, Fail> {
     let mut report = Vec::new(alloc);
@@ -56,7 +56,7 @@ fn polled_first<P: Threads + Wait + Sync, G: Gate + Sync>(
     rt: &P,
     alloc: Global,
     rows: &[(u32, &str)],
-    settings: &Settings,
+    settings: &ReplaySettings,
     gate: &G,
 ) -> Result<u64, Fail> {
     let text = text_of(alloc, rows)?;

@@ -1,7 +1,7 @@
 //! Replays with threads: what is polled, and the result of a closed gate.
 
 use poll_engine::{Gate, OpenGate};
-use replay::{Polled, ReplayFault, Settings, replay_threads};
+use replay::{Polled, ReplayFault, ReplaySettings, replay_threads};
 use std::alloc::{AllocError, Global};
 use std::sync::Wait;
 use std::test::Fail;
@@ -68,7 +68,7 @@ fn run_case<P: Threads + Wait + Sync>(
     rt: &P,
     alloc: Global,
     case: &Case,
-    settings: &Settings,
+    settings: &ReplaySettings,
 ) -> Result<(Vec<u8>, Vec<Polled>), Fail> {
     let text = text_of(alloc, case.rows)?;
     let mut report = Vec::new(alloc);
@@ -82,8 +82,8 @@ pub(crate) fn settings_of(
     budget: u32,
     weight: u32,
     window: u32,
-) -> Result<Settings, Fail> {
-    Ok(Settings::new(pollers, budget, weight, window).ok_or("in range")?)
+) -> Result<ReplaySettings, Fail> {
+    Ok(ReplaySettings::new(pollers, budget, weight, window).ok_or("in range")?)
 }
 
 // The report is the same for every number of pollers, and for every budget, weight and window.
@@ -154,7 +154,7 @@ fn a_shut_gate_ends_the_run(rt: HostRuntime) -> Result<(), Fail> {
     let rows = "0,1,open,4\n1,1,threaded,1\n2,1,rx,100\n3,1,tx,5\n";
     let text = text_of(rt.alloc(), &[(1, rows)])?;
     let mut report = Vec::new(rt.alloc());
-    let settings = Settings::default();
+    let settings = ReplaySettings::default();
     let answer = replay_threads(
         &rt,
         rt.alloc(),

@@ -1,7 +1,7 @@
 use Rattle.std.proofs.Common.{true, false, subst, Option, Some}
 use Rattle.napi_model.specs.declared.event.Operation.TheVariants.{Schedule, Complete}
 use Rattle.calls_tests.proofs.Telling.{then, tried, lost, said}
-use Rattle.{napi_calls.specs.declared.answers.TryPrep.TryPrep, calls_tests.specs.OwnLists.Asked}
+use Rattle.{napi_calls.specs.declared.answers.TryPrep.TryPrep, calls_tests.specs.OwnLists.SchedulesMeanwhile}
 use Rattle.napi_model.specs.declared.event.Call.TheVariants as call
 use Rattle.napi_model.specs.declared.event.Prep.TheVariants as prep
 use Rattle.napi_model.specs.declared.event.Done.TheVariants as done
@@ -20,6 +20,7 @@ returns-clause-second g c =
     let a1 =
     then a0
     (tried (Schedule prep.Missed)
-    (subst (λ (o : Option TryPrep). Asked (Some c.looked.new.caller) o) c.in-Missed.ensures.answer c.in-Changed.ensures.run.1)) in
+    (subst (λ (o : Option TryPrep). SchedulesMeanwhile (Some c.looked.new.caller) o) c.in-Missed.ensures.answer
+    c.in-Changed.ensures.run.1)) in
     let a2 = then a1 (said c.looked-2.ensures.made) in
     then a2 (said c.looked-3.ensures.made)

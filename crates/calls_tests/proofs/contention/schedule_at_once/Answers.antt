@@ -1,6 +1,6 @@
 use Rattle.{std.proofs.Common.{true, false, subst, Option, Some}, napi_model.specs.declared.event.Operation.TheVariants.{Schedule, Hand}}
 use Rattle.calls_tests.proofs.Telling.{then, one, tried, lost, said}
-use Rattle.{napi_calls.specs.declared.answers.TryPrep.TryPrep, calls_tests.specs.OwnLists.Asked}
+use Rattle.{napi_calls.specs.declared.answers.TryPrep.TryPrep, calls_tests.specs.OwnLists.SchedulesMeanwhile}
 use Rattle.napi_model.specs.declared.event.Call.TheVariants as call
 use Rattle.napi_model.specs.declared.state.Kind.TheVariants as kind
 use Rattle.napi_model.specs.declared.event.Prep.TheVariants as prep
@@ -18,5 +18,5 @@ pub returns-clause-second : goal.returns-clause-second
 returns-clause-second g c =
     let a0 =
     tried (Schedule prep.Granted)
-    (subst (λ (o : Option TryPrep). Asked (Some c.args.second) o) c.in-Granted.ensures.answer c.in-Changed.ensures.run.1) in
+    (subst (λ (o : Option TryPrep). SchedulesMeanwhile (Some c.args.second) o) c.in-Granted.ensures.answer c.in-Changed.ensures.run.1) in
     then a0 (one (Hand kind.List) c.handed-second.ensures.made)

@@ -3,7 +3,7 @@ use Rattle.std.{proofs.{Common.vec_items, lemmas.Result.err_from_is_err_and}, sp
 use Rattle.csv.specs.{Records.fields_of, Reading.{default_config, reader_state, records_from}}
 use Rattle.device_rows.{specs.Trace.rows_after, proofs.RowsFacts.{ends, goes-on, records-zero, rows-bad, rows-end, rows-good, rows-over}}
 use Rattle.device_rows.proofs.trace.read_rows.Goals.{else-loop-before-test, then-loop-before-test+in-End}
-use Rattle.device_rows.specs.declared.source.Next.TheVariants as came
+use Rattle.device_rows.specs.declared.source.NextRecord.TheVariants as came
 use Rattle.device_rows.proofs.trace.read_rows.Goals as goal
 
 pub loop-before-init : goal.loop-before-init

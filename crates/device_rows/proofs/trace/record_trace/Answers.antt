@@ -1,18 +1,18 @@
 use Rattle.std.proofs.{Common.{◌≡◌, ◌∙◌, refl, inr, sym, Some, None, rules}, lemmas.Result.{IfErr-weaker, IfOk-weaker}}
-use Rattle.{csv.specs.Records.fields_of, device_rows.specs.{Record.version_of, declared.source.Next.Next}}
+use Rattle.{csv.specs.Records.fields_of, device_rows.specs.{Record.version_of, declared.source.NextRecord.NextRecord}}
 use Rattle.device_rows.proofs.RowsFacts.{first-version, records-more, records-none, trace-none, trace-other, trace-rows}
 use Rattle.device_rows.proofs.trace.record_trace.Goals as goal
 
 pub returns-in-End-clause-fault : goal.returns-in-End-clause-fault
 returns-in-End-clause-fault g c bytes start =
-    let ended : c.next_record.result ≡ Next.End = search rules in
+    let ended : c.next_record.result ≡ NextRecord.End = search rules in
     let next = c.next_record.ensures.end ended bytes start in
     inr (trace-none _ (records-none g.R.Read.remaining c.args.reader.now c.next_record.new.reader (fields_of c.next_record.new.fields)
     100002 100001 bytes refl next))
 
 pub returns-in_default-clause-fault : goal.returns-in_default-clause-fault
 returns-in_default-clause-fault g c bytes start =
-    let found : c.next_record.result ≡ Next.Record = search rules in
+    let found : c.next_record.result ≡ NextRecord.Record = search rules in
     let next = c.next_record.ensures.record found bytes start in
     let (rest, stands, one) =
     records-more g.R.Read.remaining c.args.reader.now c.next_record.new.reader (fields_of c.next_record.new.fields) 100002 100001
@@ -23,7 +23,7 @@ returns-in_default-clause-fault g c bytes start =
 pub returns-clause-rows : goal.returns-clause-rows
 returns-clause-rows g c =
     IfOk-weaker c.read_rows.result _ _ (λ trace told bytes start.
-    let found : c.next_record.result ≡ Next.Record = search rules in
+    let found : c.next_record.result ≡ NextRecord.Record = search rules in
     let next = c.next_record.ensures.record found bytes start in
     let (rest, stands, one) =
     records-more g.R.Read.remaining c.args.reader.now c.next_record.new.reader (fields_of c.next_record.new.fields) 100002 100001
@@ -35,7 +35,7 @@ returns-clause-rows g c =
 pub returns-clause-version : goal.returns-clause-version
 returns-clause-version g c =
     IfOk-weaker c.read_rows.result _ _ (λ trace told bytes start.
-    let found : c.next_record.result ≡ Next.Record = search rules in
+    let found : c.next_record.result ≡ NextRecord.Record = search rules in
     let next = c.next_record.ensures.record found bytes start in
     let (rest, stands, one) =
     records-more g.R.Read.remaining c.args.reader.now c.next_record.new.reader (fields_of c.next_record.new.fields) 100002 100001
@@ -46,7 +46,7 @@ returns-clause-version g c =
 pub returns-clause-fault : goal.returns-clause-fault
 returns-clause-fault g c =
     IfErr-weaker c.read_rows.result _ _ (λ fault told bytes start.
-    let found : c.next_record.result ≡ Next.Record = search rules in
+    let found : c.next_record.result ≡ NextRecord.Record = search rules in
     let next = c.next_record.ensures.record found bytes start in
     let (rest, stands, one) =
     records-more g.R.Read.remaining c.args.reader.now c.next_record.new.reader (fields_of c.next_record.new.fields) 100002 100001

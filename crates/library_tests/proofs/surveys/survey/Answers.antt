@@ -1,6 +1,6 @@
 use Rattle.std.proofs.Common.{[], ◌∷◌, ◌++◌, ◌∙◌, arith}
 use Rattle.napi_model.specs.{declared.event.Operation.TheVariants.Look, Step.event}
-use Rattle.napi_word.specs.View.{mine, number_of}
+use Rattle.napi_word.specs.View.{mine, view_number}
 use Rattle.library_tests.proofs.surveys.survey.Goals as goal
 
 pub survey-first-requires-clause-rest : goal.survey-first-requires-clause-rest
@@ -12,4 +12,4 @@ pub returns-clause-control : goal.returns-clause-control
 returns-clause-control c =
     let o = c.in_ok-table.ensures in
     c.survey-first.ensures.look.event.grows
-    ∙ (λ i. mine (o.control.view i) ++ event (number_of (o.control.view i)) (Look c.survey-first.result.3) ∷ [])
+    ∙ (λ i. mine (o.control.view i) ++ event (view_number (o.control.view i)) (Look c.survey-first.result.3) ∷ [])

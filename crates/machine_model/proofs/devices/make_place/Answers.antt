@@ -1,5 +1,5 @@
 use Rattle.std.proofs.Common.{◌≡◌, ◌∙◌, ◌-◌, ◌+◌, ◌≤◌, ◌∷◌, [], None, ap, length, length-append, replicate, rules, arith}
-use Rattle.machine_model.{specs.{Devices.Devices, Shown.pending_of}, proofs.{PendingFacts.pending-more, PlacesFacts.more-places}}
+use Rattle.machine_model.{specs.{Devices.QueueViews, Shown.pending_of}, proofs.{PendingFacts.pending-more, PlacesFacts.more-places}}
 use Rattle.machine_model.proofs.devices.make_place.Goals as goal
 
 pub loop-preserved : goal.loop-preserved
@@ -31,10 +31,10 @@ returns-clause-places c =
 pub returns-clause-pending : goal.returns-clause-pending
 returns-clause-pending c =
     let old = c.args.places.now.items in
-    ap (λ (xs : Devices). pending_of xs) c.loop.invariant.places ∙ pending-more old (c.loop.counter - length old)
+    ap (λ (xs : QueueViews). pending_of xs) c.loop.invariant.places ∙ pending-more old (c.loop.counter - length old)
 
 pub returns-in_err-push-clause-pending : goal.returns-in_err-push-clause-pending
 returns-in_err-push-clause-pending c =
     let old = c.args.places.now.items in
     let same : c.push.new.self.items ≡ c.loop.places.items = search rules in
-    ap (λ (xs : Devices). pending_of xs) (same ∙ c.loop.invariant.places) ∙ pending-more old (c.loop.counter - length old)
+    ap (λ (xs : QueueViews). pending_of xs) (same ∙ c.loop.invariant.places) ∙ pending-more old (c.loop.counter - length old)

@@ -1,5 +1,5 @@
 use Rattle.std.proofs.{Common.{[], ◌∙◌, ◌∷◌, ◌++◌, ap, arith, inl, inr, refl, sym}, lemmas.Result.err_from_is_err_and}
-use Rattle.machine_words.specs.declared.settings.Settings.{Settings}
+use Rattle.machine_words.specs.declared.settings.MachineSettings.{MachineSettings}
 use Rattle.machine_report.specs.Endless.{endless_at}
 use Rattle.machine_report.proofs.TakingFacts.{takes-push}
 use Rattle.machine_report.proofs.run.take_all.Goals as goal
@@ -16,7 +16,8 @@ returns-in_err-next-clause-fault g c =
 pub rows-preserved : goal.rows-preserved
 rows-preserved g c = record {
   opened = rw c.in-Some.is at c.in_ok-next.ensures.opened;
-  processors = ap (λ (s : Settings). s.processors) c.next.ensures.settings ∙ c.rows.invariant.processors ∙ sym c.arrive.ensures.processors;
+  processors = ap (λ (s : MachineSettings). s.processors) c.next.ensures.settings ∙ c.rows.invariant.processors
+      ∙ sym c.arrive.ensures.processors;
   count = c.arrive.ensures.processors ∙ c.rows.invariant.count;
   given = λ all h.
       let (earlier, has, taken) = c.rows.invariant.given all h in

@@ -1,5 +1,5 @@
 use Rattle.std.{proofs.Common.{◌≡◌, List, [], length}, specs.Prelude.{Result}}
-use Rattle.machine_report.specs.{Answer.Takes, Reading.{HasGiven, IsOpenAt}}
+use Rattle.machine_report.specs.{Answer.TakesArrivals, Reading.{HasGiven, IsOpenAt}}
 use Rattle.machine_report.specs.declared.{arrival.Arrival.Arrival, fault.MachineFault.MachineFault}
 use Rattle.machine_report.proofs.run.take_all.Given as goal
 
@@ -9,5 +9,5 @@ invariant-rows g l = record {
   processors : l.arrivals.settings.processors ≡ length l.machine;
   count : length l.machine ≡ length l.fn.machine;
   given : (all : Result (List Arrival) MachineFault) → HasGiven g.R.Read.remaining l.fn.arrivals [] all
-      → (earlier : List Arrival) × HasGiven g.R.Read.remaining l.arrivals earlier all × Takes earlier l.fn.machine l.machine;
+      → (earlier : List Arrival) × HasGiven g.R.Read.remaining l.arrivals earlier all × TakesArrivals earlier l.fn.machine l.machine;
 }

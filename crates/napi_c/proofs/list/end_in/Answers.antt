@@ -1,5 +1,5 @@
 use mathlib.Core.Path.{subst}
-use Rattle.c_handles.specs.{Runs.IsEnd, declared.lister.Lister.Lister}
+use Rattle.c_handles.specs.{Runs.IsEnd, declared.lister.ListObject.ListObject}
 use Rattle.napi_c.proofs.list.end_in.Goals as goal
 
 pub returns-in-List-clause-makes : goal.returns-in-List-clause-makes
@@ -14,4 +14,4 @@ returns-in-List-clause-makes c =
       kept = said.kept;
     } in
     rw c.in-List.is
-    (subst (λ (l : Lister). IsEnd c.args.report.now c.end.new.report l c.end.result c.end.new.self) c.deref_mut.ensures.value made)
+    (subst (λ (l : ListObject). IsEnd c.args.report.now c.end.new.report l c.end.result c.end.new.self) c.deref_mut.ensures.value made)

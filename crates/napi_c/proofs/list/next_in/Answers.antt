@@ -1,5 +1,5 @@
 use mathlib.Core.Path.{subst}
-use Rattle.c_handles.specs.{Runs.IsNext, declared.lister.Lister.Lister}
+use Rattle.c_handles.specs.{Runs.IsNext, declared.lister.ListObject.ListObject}
 use Rattle.napi_c.proofs.list.next_in.Goals as goal
 
 pub returns-in-List-clause-makes : goal.returns-in-List-clause-makes
@@ -15,4 +15,4 @@ returns-in-List-clause-makes c =
       kept = said.kept;
     } in
     rw c.in-List.is
-    (subst (λ (l : Lister). IsNext c.args.id.now c.next.new.id l c.next.result c.next.new.self) c.deref_mut.ensures.value made)
+    (subst (λ (l : ListObject). IsNext c.args.id.now c.next.new.id l c.next.result c.next.new.self) c.deref_mut.ensures.value made)

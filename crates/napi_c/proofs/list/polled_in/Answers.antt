@@ -1,11 +1,11 @@
 use mathlib.Core.Path.{subst}
-use Rattle.c_handles.specs.{Runs.IsPolled, declared.lister.Lister.Lister}
+use Rattle.c_handles.specs.{Runs.IsPolledCall, declared.lister.ListObject.ListObject}
 use Rattle.napi_c.proofs.list.polled_in.Goals as goal
 
 pub returns-in-List : goal.returns-in-List
 returns-in-List c =
     let said = c.polled.ensures in
-    let made : IsPolled c.args.work c.args.next c.deref_mut.result.now c.polled.result c.polled.new.self = record {
+    let made : IsPolledCall c.args.work c.args.next c.deref_mut.result.now c.polled.result c.polled.new.self = record {
       status = said.status;
       going = said.going;
       rests = said.rests;
@@ -13,4 +13,4 @@ returns-in-List c =
       kept = said.kept;
     } in
     rw c.in-List.is
-    (subst (λ (l : Lister). IsPolled c.args.work c.args.next l c.polled.result c.polled.new.self) c.deref_mut.ensures.value made)
+    (subst (λ (l : ListObject). IsPolledCall c.args.work c.args.next l c.polled.result c.polled.new.self) c.deref_mut.ensures.value made)

@@ -1,5 +1,5 @@
 use Rattle.std.proofs.Common.{Some, refl}
-use Rattle.napi_calls.{specs.Seats.number_of, proofs.{Making.{nothing, step}, Surveyed.{stands_up, busy_up, has_up}}}
+use Rattle.napi_calls.{specs.Seats.pass_number, proofs.{Making.{nothing, step}, Surveyed.{stands_up, busy_up, has_up}}}
 use Rattle.napi_calls.proofs.surveying.survey_polling.Goals as goal
 
 pub invariant_of-polling : goal.invariant_of-polling
@@ -8,9 +8,9 @@ invariant_of-polling g c =
     let k = c.args.polling in
     let s = u.each 3 _ _ refl refl in
     record {
-      stands = stands_up _ u.found (number_of k.pass) c.survey_beside-first.result.3 u.deliveries u.whole _ _ s refl k.stands;
-      busy = busy_up _ u.found (number_of k.pass) c.survey_beside-first.result.3 u.deliveries u.whole _ _ s refl k.stands k.busy;
-      has = has_up _ u.found (number_of k.pass) c.survey_beside-first.result.3 u.deliveries u.whole _ _ s refl (Some k.ctx) k.has;
+      stands = stands_up _ u.found (pass_number k.pass) c.survey_beside-first.result.3 u.deliveries u.whole _ _ s refl k.stands;
+      busy = busy_up _ u.found (pass_number k.pass) c.survey_beside-first.result.3 u.deliveries u.whole _ _ s refl k.stands k.busy;
+      has = has_up _ u.found (pass_number k.pass) c.survey_beside-first.result.3 u.deliveries u.whole _ _ s refl (Some k.ctx) k.has;
     }
 
 pub returns-clause-look : goal.returns-clause-look

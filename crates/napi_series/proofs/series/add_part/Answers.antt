@@ -2,16 +2,17 @@ use Rattle.std.proofs.Common.{◌≡◌, ◌∙◌, ◌+◌, ◌++◌, ◌%◌, 
 use Rattle.std.{proofs.{lemmas.Option.slice_get-get_or, Math.ListN.get_or}, specs.{Prelude.{Option, Some, codes}, List.slice_get}}
 use Rattle.napi_series.specs.Series.{list_fields, part_after, told_fields}
 use Rattle.device_bench.specs.declared.counts.DeviceCounts.{DeviceCounts}
-use Rattle.device_rows.specs.declared.{event.Event.TheVariants.Opened, row.Row.Row}
-use Rattle.replay_rows.specs.{After.{counts_after, is_used_after, polled_after}, declared.line.Line.Line}
-use Rattle.replay_words.specs.declared.settings.Settings.{Settings}
+use Rattle.device_rows.specs.declared.{event.RowEvent.TheVariants.Opened, row.Row.Row}
+use Rattle.replay_rows.specs.{After.{counts_after, is_used_after, polled_after}, declared.line.PollRecord.PollRecord}
+use Rattle.replay_words.specs.declared.settings.ReplaySettings.{ReplaySettings}
 use Rattle.napi_series.proofs.series.add_part.Goals as goal
 
 -- the row for an index out of range
 abbrev none : Row
 none = record { moment = 0; device = 0; event = Opened; value = 0 }
 
-tells : (old new : List ℕ) (n : ℕ) (row : Row) (used used' : Bool) (counts counts' : Option DeviceCounts) (polled polled' : Option Line)
+tells : (old new : List ℕ) (n : ℕ) (row : Row) (used used' : Bool) (counts counts' : Option DeviceCounts)
+    (polled polled' : Option PollRecord)
     → new ≡ old ++ told_fields n row used counts polled → used ≡ used' → counts ≡ counts' → polled ≡ polled'
     → new ≡ old ++ told_fields n row used' counts' polled'
 tells old new n row used used' counts counts' polled polled' told u c p = rw (sym u, sym c, sym p) told
@@ -20,7 +21,7 @@ three : (old told list end one two all : List ℕ) → one ≡ old ++ told → t
     → all ≡ old ++ (told ++ (list ++ end))
 three old told list end one two all a b c = rw (c, b, a) (simp append_assoc)
 
-part-is : (s : Settings) (every : ℕ) (rows : List Row) (n : ℕ) (row : Row) → (n + 1) % every ≡ 0 → slice_get rows n ≡ Some row
+part-is : (s : ReplaySettings) (every : ℕ) (rows : List Row) (n : ℕ) (row : Row) → (n + 1) % every ≡ 0 → slice_get rows n ≡ Some row
     → part_after s every rows n (slice_get rows n)
     ≡ told_fields (n + 1) row (is_used_after rows (n + 1) row.device) (counts_after s rows (n + 1) row.device) (polled_after s rows (n + 1))
     ++ (list_fields s rows n ++ codes "\n")

@@ -1,12 +1,12 @@
 use Rattle.std.proofs.{Common.{◌≡◌, ◌⊎◌, ℕ, List, Err, inl, inr, rules}, lemmas.Result.err_from_is_err_and}
-use Rattle.replay_rows.{specs.Replay.after_all, proofs.PlayFacts.{report-early, unwritten}}
-use Rattle.replay_text.specs.{Outside.IsWantOfMemory, declared.fault.ReplayFault.{ReplayFault, TheVariants.OutputFailed}}
+use Rattle.replay_rows.{specs.Replay.after_all_rows, proofs.PlayFacts.{report-early, unwritten}}
+use Rattle.replay_text.specs.{Outside.IsReplayOutOfMemory, declared.fault.ReplayFault.{ReplayFault, TheVariants.OutputFailed}}
 use Rattle.device_rows.specs.declared.row.Row.{Row}
-use Rattle.replay_words.specs.declared.settings.Settings.{Settings}
+use Rattle.replay_words.specs.declared.settings.ReplaySettings.{ReplaySettings}
 use Rattle.napi_series.proofs.series.write_series.Goals as goal
 
 -- no error of a row is that of an output
-never : (s : Settings) (rows : List Row) (fault : ReplayFault) → IsWantOfMemory fault ⊎ (after_all s rows ≡ Err fault)
+never : (s : ReplaySettings) (rows : List Row) (fault : ReplayFault) → IsReplayOutOfMemory fault ⊎ (after_all_rows s rows ≡ Err fault)
     → fault ≡ OutputFailed → ⊥
 never s rows fault (inl memory) = unwritten {A = ℕ} s 1 rows (Err fault) (inl memory)
 never s rows fault (inr early) = unwritten {A = ℕ} s 1 rows (Err fault) (inr (report-early s rows fault early 1))

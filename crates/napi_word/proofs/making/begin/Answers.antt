@@ -3,7 +3,7 @@ use Rattle.napi_word.specs.Slot.{Content, Carried, hold_of, owns_slot, ring_in, 
 use Rattle.{atomic_table.specs.Table.{Me, rest}, rx_ring.{proofs.Names.same_ring, specs.declared.ends.RxCtx.RxCtx}}
 use Rattle.napi_word.proofs.{Deliveries.of_prefix, Said.one_there, Start.{begins, owns_at_start, slot_is}}
 use Rattle.rx_ring.specs.Ends.{SameCtx, ring_name, received_list, known_list, polls_of}
-use Rattle.napi_word.specs.{View.{View, is_pass, ring_of, received_in, Continues}, Rule.{begun_view, begun_slot, maker_at}}
+use Rattle.napi_word.specs.{View.{View, is_pass, view_ring, received_in, Continues}, Rule.{begun_view, begun_slot, maker_at}}
 use Rattle.napi_word.proofs.making.begin.Goals as goal
 
 pub load-requires : goal.load-requires
@@ -36,7 +36,7 @@ invariant_of-result c =
       right = ap (λ (m : Me Content View). owns_slot m.0) is ∙ owns_at_start key.controller ring 0;
       ring = ap (λ (m : Me Content View). ring_in m.1 m.0) is
           ∙ ap Some (same_ring c.in-Some.ctx x c.apart.ensures.ring ∙ ap (λ (o : Option RxCtx). ring_name (unwrap_or o ring)) was)
-          ∙ sym (ap (λ (m : Me Content View). ring_of m.0) is);
+          ∙ sym (ap (λ (m : Me Content View). view_ring m.0) is);
       unmarked = ap (λ (m : Me Content View). beside_in m.1) is ∙ c.apart.ensures.unmarked;
       received = subst (λ (m : Me Content View). Continues (received_in m.0) (carried_received m.1 m.0)) (sym is)
           (of_prefix (received_list ring ++ []) (received_list x) (

@@ -1,5 +1,5 @@
 use Rattle.std.proofs.Common.{[], ap, subst, ◌∙◌, sym}
-use Rattle.{atomic_table.specs.Table.Me, napi_word.specs.View.{View, is_pass, ring_of}}
+use Rattle.{atomic_table.specs.Table.Me, napi_word.specs.View.{View, is_pass, view_ring}}
 use Rattle.napi_word.specs.{View.{received_in, Continues}, Slot.{Content, hold_of, owns_slot, ring_in, beside_in, ctx_in, carried_received}}
 use Rattle.napi_word.{specs.Rule.{left_of, right_of}, proofs.{Deliveries.{prefix_self, of_prefix}, Said.one_there, Start.maker_more}}
 use Rattle.napi_word.proofs.{Start.owns_nothing, Splitting.gives_number}
@@ -19,7 +19,7 @@ invariant_of-result c =
       is_pass = ap (λ (m : Me Content View). is_pass m.0) is;
       marked = ap (λ (m : Me Content View). hold_of m.1) is;
       right = ap (λ (m : Me Content View). owns_slot m.0) is ∙ owns_nothing key.controller key.ring.value c.args.number c.requires.number;
-      ring = ap (λ (m : Me Content View). ring_in m.1 m.0) is ∙ sym (ap (λ (m : Me Content View). ring_of m.0) is);
+      ring = ap (λ (m : Me Content View). ring_in m.1 m.0) is ∙ sym (ap (λ (m : Me Content View). view_ring m.0) is);
       unmarked = ap (λ (m : Me Content View). beside_in m.1) is;
       received =
           subst (λ (m : Me Content View). Continues (received_in m.0) (carried_received m.1 m.0)) (sym is) (of_prefix _ _ (prefix_self _));

@@ -1,10 +1,10 @@
 use Rattle.std.proofs.Common.{◌≡◌, ◌+◌, ◌≤◌, ◌++◌, List, length, vec_len, vec_capacity, vec_items}
-use Rattle.{std.specs.{Vec.Iter.{into_iter_items, into_iter_len}, List.AllZip}, napi_calls.specs.declared.kept.Kept.Kept}
+use Rattle.{std.specs.{Vec.Iter.{into_iter_items, into_iter_len}, List.AllZip}, napi_calls.specs.declared.kept.DropBomb.DropBomb}
 use Rattle.poll_interrupts.specs.{Opens.IsKeptPartOf, Ends.IsKeptFinishOf, declared.opening.Loose.Loose}
 use Rattle.poll_interrupts.proofs.opening.end_all.Given as goal
 
 abbrev pub invariant-loop-other : goal.invariant-loop-other
-invariant-loop-other g l = (did : List (Kept g.row.R.Denot (Loose g.row.D.Denot))) × record {
+invariant-loop-other g l = (did : List (DropBomb g.row.R.Denot (Loose g.row.D.Denot))) × record {
   whole : did ++ into_iter_items l.others ≡ vec_items l.fn.loose;
   ends : AllZip IsKeptFinishOf did (vec_items l.finished);
   beside : AllZip IsKeptPartOf (into_iter_items l.others) (into_iter_items l.all);

@@ -1,5 +1,5 @@
 use Rattle.std.proofs.{Common.{arith, [], ◌∙◌, ◌+◌, refl}, lemmas.Bool.eqb-false}
-use Rattle.poll_runs.specs.Polling.{polled}
+use Rattle.poll_runs.specs.Polling.{poll_plan}
 use Rattle.poll_runs.proofs.{PlanFacts.{does-thread, last-has}, PollingFacts.{going-ends, going-poll, going-start}}
 use Rattle.poll_runs.proofs.polling.poll_thread_of.Goals as goal
 
@@ -29,7 +29,7 @@ loop-held-preserved g c =
         last-has i.has _ _ p.0 _ c.poll_held-once.ensures.there p.2,
         going-poll i.tries i.did m.nothing m.joins (i.thread c.args.instance.now) c.args.weight c.args.most c.args.instance.now _ _ _ _
             p.0 _ c.poll_held-once.result _ (rw c.loop-held-test.true at was.going.2) (was.room c.loop-held-test.true)
-            (does-thread i.tries i.did (λ b. polled b c.args.weight) _ _ _ _ _ was.thread p.1) f.does
+            (does-thread i.tries i.did (λ b. poll_plan b c.args.weight) _ _ _ _ _ was.thread p.1) f.does
             (c.poll_held-once.ensures.bound, c.poll_held-once.ensures.there) (λ h. (f.kept h).0) f.gone,
       );
       thread = m.same _ _ _ f.does.1 ∙ m.same _ _ _ p.1.1 ∙ was.thread;

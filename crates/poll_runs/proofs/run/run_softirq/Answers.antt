@@ -1,5 +1,5 @@
 use Rattle.std.proofs.Common.{◌≡◌, ◌≢◌, ◌∙◌, ◌⊎◌, ◌∷◌, ◌+◌, ℕ, false, true, List, [], length, ap, refl, sym, subst, arith, rules}
-use Rattle.poll_runs.specs.{Driven.{Going, and_poll}, Polls.{At, repolled}, Run.{IsBatch, is_spent}, Turn.Takes}
+use Rattle.poll_runs.specs.{Driven.{Going, and_poll}, Polls.{At, repolled}, Run.{IsBatch, is_spent}, Turn.TakesBatch}
 use Rattle.poll_runs.proofs.{PollFacts.chain-push, RunFacts.{filled-room, going-ends, going-filled, going-poll, going-start, handed-room}}
 use Rattle.poll_runs.proofs.run.run_softirq.Goals.{else-loop-own-test, then-loop-own-test+in_default}
 use Rattle.poll_runs.proofs.run.run_softirq.Goals as goal
@@ -9,7 +9,7 @@ loop-own-init g c =
     let l = g.L.PollList in
     let given = c.splice.ensures.given in
     let none : length c.new-repoll.result ≡ 0 = ap (λ (xs : List ℕ). length xs) c.new-repoll.ensures in
-    let takes : Takes l.entries l.moves l.is_all c.args.list.now c.splice.new.to c.splice.new.self =
+    let takes : TakesBatch l.entries l.moves l.is_all c.args.list.now c.splice.new.to c.splice.new.self =
     record { came = given.0; moved = given.1; gives = given.2; nothing_kept = c.splice.ensures.nothing_kept; all = c.splice.ensures.all } in
     let same : length c.splice.new.to ≡ length c.splice.new.to + length c.new-repoll.result = omega (arith, none) in
     record {

@@ -4,7 +4,7 @@ use Rattle.poll_tasks.specs.Tasks.{IsAt}
 use Rattle.std.specs.{Vec.Iter.{into_iter_items, into_iter_len}, Prelude.filter}
 use Rattle.poll_tasks.proofs.{Zips.before_more, ListFacts.{each_more, none_left}}
 use Rattle.{poll_interrupts.specs.Deals.is_own, poll_seats.specs.declared.seat.Seat.Seat}
-use Rattle.{napi_calls.specs.declared.kept.Kept.Kept, poll_workers.specs.Spreads.IsPoller}
+use Rattle.{napi_calls.specs.declared.kept.DropBomb.DropBomb, poll_workers.specs.Spreads.IsPoller}
 use Rattle.poll_workers.proofs.PollerFacts.{count_of}
 use Rattle.poll_workers.proofs.pollers.pollers_of.Goals as goal
 
@@ -73,13 +73,13 @@ loop-begin-preserved g c =
         few = now.few;
         room = grind (arith, now.room, c.push_reserved.ensures.capacity);
         pollers = λ count n sat have.
-            let own = subst (λ o. vec_items o ≡ filter (λ (s : Kept g.row.R.Denot Seat). is_own
+            let own = subst (λ o. vec_items o ≡ filter (λ (s : DropBomb g.row.R.Denot Seat). is_own
             (length c.loop-begin.invariant.0) n s.value.number)
             sat) more.1 (have (length c.loop-begin.invariant.0) c.in-Some-next.own more.0).0 in
             rw c.push_reserved.ensures.items
             (each_more
             (λ k poller. IsPoller c.args.setting.now c.args.bells.now
-            (filter (λ (s : Kept g.row.R.Denot Seat). is_own k n s.value.number) sat) k poller)
+            (filter (λ (s : DropBomb g.row.R.Denot Seat). is_own k n s.value.number) sat) k poller)
             (vec_items c.loop-begin.pollers) _ (now.pollers count n sat have) (record {
               has = refl;
               paced = c.new.ensures.pace;
@@ -88,7 +88,7 @@ loop-begin-preserved g c =
               wakes = wakes.0;
               new = rw c.new.ensures.list begin.0;
               seats_are = c.new.ensures.seats ∙ own
-                  ∙ ap (λ k. filter (λ (s : Kept g.row.R.Denot Seat). is_own k n s.value.number) sat) now.count;
+                  ∙ ap (λ k. filter (λ (s : DropBomb g.row.R.Denot Seat). is_own k n s.value.number) sat) now.count;
             }));
       },
     )

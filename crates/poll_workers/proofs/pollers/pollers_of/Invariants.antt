@@ -1,12 +1,12 @@
 use Rattle.std.proofs.Common.{◌≡◌, ◌+◌, ◌≤◌, ◌++◌, ℕ, length, vec_capacity, vec_items, List, map}
 use Rattle.std.specs.{Vec.Iter.{into_iter_items, into_iter_len}, List.{AllByRecursion, AllZip}, Global.Vec}
 use Rattle.poll_tasks.specs.{Paces.IsLawful, Wakers.Wakes, declared.signals.Bell.Bell}
-use Rattle.napi_calls.specs.declared.kept.Kept.{Kept}
+use Rattle.napi_calls.specs.declared.kept.DropBomb.{DropBomb}
 use Rattle.{poll_seats.specs.declared.seat.Seat.Seat, poll_workers.specs.Spreads.{ArePollers, HaveOwn, IsBegin}}
 use Rattle.poll_workers.proofs.pollers.pollers_of.Given as goal
 
 abbrev pub invariant-loop-begin : goal.invariant-loop-begin
-invariant-loop-begin g l = (did : List (Vec (Kept g.row.R.Denot Seat))) × (rung : List Bell) × record {
+invariant-loop-begin g l = (did : List (Vec (DropBomb g.row.R.Denot Seat))) × (rung : List Bell) × record {
   whole : did ++ into_iter_items l.seats ≡ vec_items l.fn.seats;
   count : length did ≡ length (vec_items l.pollers);
   left : length (vec_items l.pollers) + into_iter_len l.begins ≡ length l.fn.bells;
@@ -22,7 +22,7 @@ invariant-loop-begin g l = (did : List (Vec (Kept g.row.R.Denot Seat))) × (rung
   as_many : into_iter_len l.seats ≡ into_iter_len l.begins;
   few : length l.fn.bells ≤ 8;
   room : length l.fn.bells ≤ vec_capacity l.pollers;
-  pollers : (count n : ℕ) (sat : List (Kept g.row.R.Denot Seat))
+  pollers : (count n : ℕ) (sat : List (DropBomb g.row.R.Denot Seat))
       → HaveOwn count n sat (vec_items l.fn.seats) → ArePollers l.setting l.fn.bells n sat (vec_items l.pollers);
 }
 

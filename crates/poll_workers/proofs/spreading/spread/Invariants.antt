@@ -1,5 +1,6 @@
 use Rattle.std.proofs.Common.{◌≡◌, ◌+◌, ◌≤◌, ◌++◌, vec_len, vec_capacity, vec_items, length, List, All}
-use Rattle.{std.specs.{Vec.Iter.{into_iter_items, into_iter_len}, List.{AllByRecursion, AllZip}}, napi_calls.specs.declared.kept.Kept.Kept}
+use Rattle.{std.specs.{Vec.Iter.{into_iter_items, into_iter_len}, List.{AllByRecursion, AllZip}}}
+use Rattle.{napi_calls.specs.declared.kept.DropBomb.DropBomb}
 use Rattle.poll_interrupts.specs.{declared.opening.{Loose.Loose, Placed.Placed}, Opens.IsKeptSideOf}
 use Rattle.poll_workers.specs.Spreads.{AreEndsOf, HaveOwn, IsJobAt, IsKeptJobOf, IsKeptSeatFor, IsKeptThreadFor, IsSeatAt, IsThreadAt}
 use Rattle.{poll_workers.specs.Spreads.{IsWiredJob, IsWiredSide}, poll_list.specs.declared.shared.SharedList.SharedList}
@@ -7,8 +8,8 @@ use Rattle.poll_seats.specs.declared.seat.Seat.{Seat}
 use Rattle.poll_workers.proofs.spreading.spread.Given as goal
 
 abbrev pub invariant-loop-rest : goal.invariant-loop-rest
-invariant-loop-rest g l = (did : List (Kept g.row.R.Denot (Loose g.row.D.Denot))) × (here : List (Kept g.row.R.Denot Placed))
-    × (sat : List (Kept g.row.R.Denot Seat)) × record {
+invariant-loop-rest g l = (did : List (DropBomb g.row.R.Denot (Loose g.row.D.Denot))) × (here : List (DropBomb g.row.R.Denot Placed))
+    × (sat : List (DropBomb g.row.R.Denot Seat)) × record {
       whole : did ++ into_iter_items l.rests ≡ vec_items l.fn.loose;
       all_places : here ++ l.places ≡ l.fn.placed;
       sides : AllZip IsKeptSideOf (into_iter_items l.rests) l.places;

@@ -1,6 +1,6 @@
 use Rattle.std.proofs.Common.{◌≡◌, ◌⊎◌, ◌<◌, inl, inr, ℕ, List, Ok, length, sym, ap, subst, arith, ◌∙◌}
 use Rattle.{replay_rows.specs.Answer.replay_of, replay_text.specs.Outside.IsOutside}
-use Rattle.replay_c.specs.Replay.{IsFault}
+use Rattle.replay_c.specs.Replay.{IsReplayFault}
 use Rattle.replay_c.proofs.Outside.{else-memory, theirs}
 use Rattle.replay_c.proofs.replay.fq_replay.Goals as goal
 
@@ -40,7 +40,7 @@ pub returns-in-Err-report_of-clause-memory : goal.returns-in-Err-report_of-claus
 returns-in-Err-report_of-clause-memory c = λ ok room bad weight budget.
     let fault = c.in-Err-report_of.fault in
     let status = else-memory fault (λ is. bad (c.tell.ensures.status ∙ is)) in
-    let why : IsOutside fault ⊎ IsFault c.args.settings.now c.args.trace.now fault = elim c.in-Err-report_of.ensures.fault [
+    let why : IsOutside fault ⊎ IsReplayFault c.args.settings.now c.args.trace.now fault = elim c.in-Err-report_of.ensures.fault [
       | inl outside ↦ inl outside
       | inr is ↦ inr (c.in-Ok.asked, c.in-Ok.ensures.asked.0, is)
     ] in

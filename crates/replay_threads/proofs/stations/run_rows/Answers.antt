@@ -1,11 +1,12 @@
 use Rattle.std.proofs.Common.{◌≡◌, ◌∙◌, None, Some, inr, sym, vec_items}
 use Rattle.replay_threads.specs.Stations.{small_fault, IsStationOf}
-use Rattle.replay_threads.{specs.ThreadsReport.{is_opened, opened}, proofs.{DistinctNumbers.rising-numbers, StationFacts.ends-if-ok}}
+use Rattle.replay_threads.{specs.ThreadsReport.{is_opened, opened_devices}}
+use Rattle.replay_threads.{proofs.{DistinctNumbers.rising-numbers, StationFacts.ends-if-ok}}
 use Rattle.replay_threads.proofs.StationFacts.{ring-of, rings-if-ok, run-if-ok, small-unwritten}
 use Rattle.replay_threads.proofs.stations.run_rows.Goals as goal
 
 pub run_stations-requires-clause-numbers : goal.run_stations-requires-clause-numbers
-unfolding opened
+unfolding opened_devices
 run_stations-requires-clause-numbers g c κs within =
     rising-numbers (IsStationOf c.args.rows.now) (λ number station of. of.its_number) (is_opened c.args.rows.now) 16 1
     (vec_items c.in_ok-stations.stations) c.in_ok-stations.ensures.stations

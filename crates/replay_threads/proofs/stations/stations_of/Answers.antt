@@ -1,7 +1,7 @@
 use Rattle.std.{proofs.{Common.{◌≡◌, ◌∙◌, ◌-◌, [], subst, sym, arith, vec_items, ℕ}, lemmas.List.get_or-set_other}, specs.Prelude.filter}
 use Rattle.{std.specs.List.{AllZip, range_with_len}, device_script.specs.{Dealing.lists, Script.is_act_of}}
 use Rattle.{device_script.proofs.{OpeningFacts.opened-within, Rows.filter-long}, replay_threads.specs.Stations.IsStationOf}
-use Rattle.replay_threads.{specs.ThreadsReport.{is_opened, opened}, proofs.StationFacts.{opened-more, opening-among, script-at}}
+use Rattle.replay_threads.{specs.ThreadsReport.{is_opened, opened_devices}, proofs.StationFacts.{opened-more, opening-among, script-at}}
 use Rattle.replay_threads.proofs.stations.stations_of.Goals as goal
 
 pub add_station-requires-clause-places : goal.add_station-requires-clause-places
@@ -34,7 +34,7 @@ loop-number-preserved c =
     }
 
 pub returns-clause-stations : goal.returns-clause-stations
-unfolding opened
+unfolding opened_devices
 returns-clause-stations c =
     let last : c.loop-number.number ≡ 17 = omega arith in
     subst (λ (n : ℕ). AllZip (IsStationOf c.args.rows.now) (filter (is_opened c.args.rows.now) (range_with_len 1 (n - 1)))

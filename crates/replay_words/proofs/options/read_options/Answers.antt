@@ -1,7 +1,7 @@
 use Rattle.std.{proofs.Common.{◌≡◌, ◌∙◌, ap, false, map, rules, sym, true≢false}, specs.List.list_any}
 use Rattle.clap.specs.Words.{app_of}
 use Rattle.clap.specs.{declared.error.kind.ErrorKind.TheVariants.OutOfMemory, contracts.error.kind.ErrorKind.the_type}
-use Rattle.replay_words.{specs.{Given.is_stray, Refusals.{refused_by, refused_by_clap}}, proofs.ClapFacts.{none-given, read_err}}
+use Rattle.replay_words.{specs.{Given.is_stray, Refusals.{args_out_of_memory, refused_by_clap}}, proofs.ClapFacts.{none-given, read_err}}
 use Rattle.replay_words.proofs.ClapFacts.{read_is_given, read_ok, stray_is_refused}
 use denote.Enum.Bare.{sameb}
 use Rattle.replay_words.proofs.options.read_options.Goals as goal
@@ -26,7 +26,7 @@ returns-clause-usage c = λ _ rest same.
     (λ e. true≢false (sym (ap (λ k. sameb the_type k OutOfMemory) (c.kind.ensures ∙ e)) ∙ sym c.eq.ensures ∙ c.if-eq.false)))
 
 pub returns-in_err-tool-clause-memory : goal.returns-in_err-tool-clause-memory
-returns-in_err-tool-clause-memory c = λ _. refused_by c.in_err-tool.field-0.0
+returns-in_err-tool-clause-memory c = λ _. args_out_of_memory c.in_err-tool.field-0.0
 
 pub returns-in-Err-clause-memory : goal.returns-in-Err-clause-memory
 returns-in-Err-clause-memory c = λ _. refused_by_clap c.in-Err.error (search rules)

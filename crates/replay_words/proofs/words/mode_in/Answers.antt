@@ -1,6 +1,6 @@
 use Rattle.std.proofs.Common.{◌∙◌, ap, codes}
 use Rattle.clap.{specs.Words.found_of, proofs.WalkLemmas.first_value-rows}
-use Rattle.replay_words.specs.{Given.or_usual, Words.mode_of, declared.mode.Mode.TheVariants.Serial}
+use Rattle.replay_words.specs.{Given.or_usual, Words.mode_of, declared.mode.ReplayMode.TheVariants.Serial}
 use Rattle.replay_words.proofs.words.mode_in.Goals as goal
 
 pub returns-in-None : goal.returns-in-None

@@ -1,5 +1,6 @@
 use Rattle.std.proofs.Common.{◌∙◌, Some, true, ap, arith}
-use Rattle.device_bench.{specs.{DeviceView.DeviceView, Kept.is_sound, Waiting.waits}, proofs.BenchFacts.{kept-set, here-at, sound-at}}
+use Rattle.device_bench.{specs.{DeviceView.DeviceView, Kept.is_sound, Waiting.waits_on_list}}
+use Rattle.device_bench.{proofs.BenchFacts.{kept-set, here-at, sound-at}}
 use Rattle.{device_places.proofs.PlaceFacts.{below-some}, device_bench.proofs.{DeviceFacts.disable-keeps, Waiting.waiting-same}}
 use Rattle.device_bench.proofs.bench.DeviceBenchReplayBench.disable.Goals as goal
 
@@ -18,4 +19,4 @@ returns-in-Some-clause-waiting g c =
     let here = here-at c.args.device c.args.self.now.kept (omega arith) c.index_mut.ensures.value c.in-Some.is in
     let keeps = disable-keeps c.in-Some.device (sound-at c.args.device c.args.self.now.kept here) in
     waiting-same c.args.self.now.devices.items c.args.device c.in-Some.device c.disable.new.self here
-    (ap (λ (d : DeviceView). waits (Some d)) c.disable.ensures ∙ keeps.listed)
+    (ap (λ (d : DeviceView). waits_on_list (Some d)) c.disable.ensures ∙ keeps.listed)

@@ -1,6 +1,6 @@
 use Rattle.std.proofs.Common.{◌≡◌, ◌≢◌, ◌∙◌, sym, rules, length, ap}
 use Rattle.device_rows.specs.Switch.{set_by}
-use Rattle.device_rows.{specs.declared.event.Event.TheVariants.Softirq, proofs.SwitchFacts.{device_range, tracks-same, tracks-set}}
+use Rattle.device_rows.{specs.declared.event.RowEvent.TheVariants.Softirq, proofs.SwitchFacts.{device_range, tracks-same, tracks-set}}
 use Rattle.device_rows.proofs.switch.Switches.admit.Goals as goal
 
 pub returns-then-eq-clause-tracks : goal.returns-then-eq-clause-tracks

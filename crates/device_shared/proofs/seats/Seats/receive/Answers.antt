@@ -1,5 +1,5 @@
 use Rattle.std.proofs.Common.{◌∙◌, ap, refl, sym, subst}
-use Rattle.napi_calls.specs.Seats.{IsInputOf}
+use Rattle.napi_calls.specs.Seats.{PutsIntoRingOf}
 use Rattle.device_shared.specs.declared.seats.Pollers.{Pollers, TheVariants.{ListPolls, ThreadPolls, PollsBusily}}
 use Rattle.device_shared.specs.{declared.seats.Turn.{Turn, TheVariants.On}, Receiving.SeatsReceive, Seats.{poller_of, thread_of}}
 use Rattle.device_shared.proofs.seats.Seats.receive.Goals.{in-ListPolls, in-ThreadPolls, in-PollsBusily}
@@ -7,17 +7,17 @@ use Rattle.device_shared.proofs.seats.Seats.receive.Goals as goal
 
 pub poll-requires-clause-input : goal.poll-requires-clause-input
 poll-requires-clause-input c =
-    subst (λ (t : Turn). IsInputOf c.args.input.now (poller_of t))
+    subst (λ (t : Turn). PutsIntoRingOf c.args.input.now (poller_of t))
     (c.in-On.is ∙ ap (λ (x : Pollers). On x c.in-On.enabled) c.in-ListPolls.is) c.requires.one
 
 pub poll-requires-in-ThreadPolls-clause-input : goal.poll-requires-in-ThreadPolls-clause-input
 poll-requires-in-ThreadPolls-clause-input c =
-    subst (λ (t : Turn). IsInputOf c.args.input.now (thread_of t))
+    subst (λ (t : Turn). PutsIntoRingOf c.args.input.now (thread_of t))
     (c.in-On.is ∙ ap (λ (x : Pollers). On x c.in-On.enabled) c.in-ThreadPolls.is) c.requires.two
 
 pub poll_busily-requires-clause-input : goal.poll_busily-requires-clause-input
 poll_busily-requires-clause-input c =
-    subst (λ (t : Turn). IsInputOf c.args.input.now (poller_of t))
+    subst (λ (t : Turn). PutsIntoRingOf c.args.input.now (poller_of t))
     (c.in-On.is ∙ ap (λ (x : Pollers). On x c.in-On.enabled) c.in-PollsBusily.is) c.requires.one
 
 pub returns-clause-next : goal.returns-clause-next

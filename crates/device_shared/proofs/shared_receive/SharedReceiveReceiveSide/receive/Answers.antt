@@ -1,6 +1,6 @@
 use Rattle.std.proofs.Common.{◌∙◌, ap}
-use Rattle.{device_bench.specs.Receive.{ReceiveView, is_polling}, device_shared.specs.Seats.role_of}
-use Rattle.device_shared.{specs.Seats.state_in, proofs.{Reading.polling_of, RingFacts.{bytes_given, input_of_two, received_side}}}
+use Rattle.{device_bench.specs.Receive.{ReceiveView, is_polling_place}, device_shared.specs.Seats.role_of}
+use Rattle.device_shared.{specs.Seats.seats_state, proofs.{Reading.polling_of, RingFacts.{bytes_given, input_of_two, received_side}}}
 use Rattle.device_shared.proofs.RingFacts.{received_whole, side_in, whole_in}
 use Rattle.device_shared.proofs.shared_receive.SharedReceiveReceiveSide.receive.Goals as goal
 
@@ -24,7 +24,8 @@ receive-seats-requires-clause-polls g c =
     let s = c.take_out-seats.result in
     let w = whole_in i.napi i.seats s i.input i.held i.capacity i.seen c.take_out-seats.ensures.was c.self.invariant.0 in
     let view = side_in i.seats s i.input i.capacity c.args.self.now c.take_out-seats.ensures.was c.self.view_is in
-    polling_of (role_of s.turn) (state_in s) w.gathered.role (ap (λ (v : ReceiveView). is_polling v.napi.place) view ∙ c.requires.polled)
+    polling_of (role_of s.turn) (seats_state s) w.gathered.role
+    (ap (λ (v : ReceiveView). is_polling_place v.napi.place) view ∙ c.requires.polled)
 
 pub invariant_of-self : goal.invariant_of-self
 invariant_of-self g c =

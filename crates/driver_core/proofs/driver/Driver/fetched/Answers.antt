@@ -2,7 +2,7 @@ use Rattle.std.specs.Prelude.{◌==◌}
 use Rattle.std.proofs.Common.{◌≡◌, ◌∙◌, ◌≤◌, ◌+◌, None, Some, List, length, sym, subst, arith}
 use Rattle.std.proofs.lemmas.{List.Sums.count_by-le-length}
 use Rattle.poll_runs.specs.Driven.{held}
-use Rattle.driver_core.specs.{Device.is_listed, Queue.IsQueue, declared.device.Device.Device}
+use Rattle.driver_core.specs.{Device.stage_is_listed, Queue.IsQueue, declared.device.DriverDevice.DriverDevice}
 use Rattle.driver_core.proofs.QueueFacts.{comes_back, polled_keeps, polled_listed}
 use Rattle.driver_core.proofs.driver.Driver.fetched.Goals as goal
 
@@ -10,18 +10,18 @@ pub invariant_of-self-clause-queue : goal.invariant_of-self-clause-queue
 invariant_of-self-clause-queue c =
     let self = c.args.self.now in
     let asked = c.requires.polled in
-    let back : is_listed c.polled-next.result.0.stage ≡ comes_back c.polled-next.result.1 =
+    let back : stage_is_listed c.polled-next.result.0.stage ≡ comes_back c.polled-next.result.1 =
     rw c.polled-next.ensures (polled_listed (c.args.packets == self.limits.weight) c.get-before.result) in
     let kept =
     polled_keeps self.devices.all.items self.list c.polled.new.list self.run c.polled.new.self c.args.device c.polled-next.result.0
     c.polled-next.result.1 c.requires.range asked c.polled.ensures.rests c.polled.ensures.kept (c.polled.ensures.repoll c.args.device asked)
     (c.polled.ensures.list c.args.device asked) back self.queue in
-    subst (λ (devices : List Device). IsQueue devices c.polled.new.list c.polled.new.self) (sym c.put.ensures) kept
+    subst (λ (devices : List DriverDevice). IsQueue devices c.polled.new.list c.polled.new.self) (sym c.put.ensures) kept
 
 pub polled-requires-clause-room : goal.polled-requires-clause-room
 polled-requires-clause-room c =
     let self = c.args.self.now in
-    let listed = count_by-le-length (λ (d : Device). is_listed d.stage) self.devices.all.items in
+    let listed = count_by-le-length (λ (d : DriverDevice). stage_is_listed d.stage) self.devices.all.items in
     let room : length self.list + held self.run ≤ 64 = omega (arith, self.queue.size, listed, self.devices.few) in
     room
 

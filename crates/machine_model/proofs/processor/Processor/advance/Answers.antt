@@ -1,9 +1,9 @@
 use Rattle.std.proofs.Common.{◌≡◌, ◌∙◌, suc, true, ap, refl, sym, arith}
-use Rattle.machine_model.{specs.Processor.{after, is_due, step}, proofs.{LeftFacts.step-less, StepFacts.each-more}}
+use Rattle.machine_model.{specs.Processor.{processor_after, is_due, step}, proofs.{LeftFacts.step-less, StepFacts.each-more}}
 use Rattle.machine_model.proofs.processor.Processor.advance.Goals as goal
 
 pub loop-self-init : goal.loop-self-init
-unfolding after
+unfolding processor_after
 loop-self-init c = (0, λ n below. absurd (omega (arith, below)), refl)
 
 pub loop-self-smaller : goal.loop-self-smaller
@@ -13,7 +13,7 @@ loop-self-smaller c =
     rw c.in_ok-step.ensures (step-less c.args.moment p c.is_due.ensures.kept due)
 
 pub loop-self-preserved : goal.loop-self-preserved
-unfolding after
+unfolding processor_after
 loop-self-preserved c =
     let i = c.loop-self.invariant in
     let due : is_due c.args.moment c.loop-self.self ≡ true = sym c.is_due.ensures.due ∙ c.loop-self-test.true in

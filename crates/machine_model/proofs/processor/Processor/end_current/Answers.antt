@@ -1,5 +1,5 @@
 use Rattle.std.proofs.Common.{◌∙◌, ◌+◌, ap, refl, arith}
-use Rattle.machine_model.specs.Processor.{ProcessorView, delivers, ends_current, looks}
+use Rattle.machine_model.specs.Processor.{ProcessorView, delivers, ends_current, poll_looks}
 use Rattle.machine_model.specs.Kept.{polled_by}
 use Rattle.machine_model.specs.declared.processor.Work.TheVariants.{Nothing}
 use Rattle.machine_model.proofs.processor.Processor.end_current.Goals as goal
@@ -23,4 +23,4 @@ returns-in_ok-look-in-Packet c =
     let delivered = rw (c.spend.ensures, c.saturating_sub.ensures, c.in-Packet.is) at c.in_ok-deliver-in-Packet.ensures in
     rw (← c.self.view_is, c.in-Packet.is)
     (c.in_ok-look-in-Packet.ensures
-    ∙ ap (λ (v : ProcessorView). looks packet.device (packet.given + 1) (record v { work = Nothing })) delivered)
+    ∙ ap (λ (v : ProcessorView). poll_looks packet.device (packet.given + 1) (record v { work = Nothing })) delivered)

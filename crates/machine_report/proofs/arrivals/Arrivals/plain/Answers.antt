@@ -1,5 +1,5 @@
 use Rattle.std.proofs.Common.{◌≡◌, refl, rules}
-use Rattle.machine_report.specs.{declared.arrivals.Rows.Rows}
+use Rattle.machine_report.specs.{declared.arrivals.ArrivalRows.ArrivalRows}
 use Rattle.machine_report.proofs.ReadingFacts.{given-plain, given-same}
 use Rattle.machine_report.proofs.arrivals.Arrivals.plain.Goals as goal
 
@@ -18,7 +18,7 @@ returns-in_default-found-clause-same g c none earlier all given =
 
 pub returns-clause-arrival : goal.returns-clause-arrival
 returns-clause-arrival g c earlier all given =
-    let is : c.count.new.self.source ≡ Rows.Plain c.next_plain.new.block = search rules in
+    let is : c.count.new.self.source ≡ ArrivalRows.Plain c.next_plain.new.block = search rules in
     let settings : c.count.new.self.settings ≡ c.args.self.now.settings = search rules in
     let rows : c.count.new.self.rows ≡ c.args.row = search rules in
     let last : c.count.new.self.last ≡ c.in-Some.arrival.moment = search rules in

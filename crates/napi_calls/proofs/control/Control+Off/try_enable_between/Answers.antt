@@ -1,5 +1,5 @@
 use Rattle.std.proofs.Common.{refl, sym, ap, ◌∙◌}
-use Rattle.napi_word.specs.{declared.view.Holds.TheVariants.{Within, Out}, View.number_of}
+use Rattle.napi_word.specs.{declared.view.Holds.TheVariants.{Within, Out}, View.view_number}
 use Rattle.napi_model.specs.declared.{state.Flags.Flags, event.Call.Call}
 use Rattle.napi_calls.proofs.Standing.{looked_flags, control_looked, control_enabled, controls_moved, is_control, outside, has_none}
 use Rattle.napi_calls.proofs.{Packets.{owns, held_step, held_still, gives_back, got_back}, Making.{nothing, step, still, lost}}
@@ -75,7 +75,7 @@ returns-in-Ok-clause-packets g c =
     let s = c.slot_in.ensures in
     let one = c.look-seen.ensures.step in
     let holds = held_still q (held_step p c.look-seen.new.pass (owns p Out c.args.self.has.holds refl) one.packets) s.keeps.view in
-    gives_back p q c.enable_swap.new.pass c.args.self.state.ctx holds (ap number_of s.keeps.view ∙ one.event.number) s.laid
+    gives_back p q c.enable_swap.new.pass c.args.self.state.ctx holds (ap view_number s.keeps.view ∙ one.event.number) s.laid
     (owns q Within s.holds refl) c.in-Ok.ensures.step.packets
 
 pub returns-in-Err-clause-packets : goal.returns-in-Err-clause-packets

@@ -1,6 +1,7 @@
 use Rattle.std.proofs.Common.{sym, ap, ◌∙◌, subst}
 use Rattle.napi_model.specs.declared.event.Operation.TheVariants.{Look}
-use Rattle.{atomic_table.specs.Table.Me, napi_word.specs.{Slot.{Content, stays, Delivers}, View.{View, shown}, Rule.joined, Events.Steps}}
+use Rattle.{atomic_table.specs.Table.Me}
+use Rattle.{napi_word.specs.{Slot.{Content, stays, SlotDelivers}, View.{View, view_shown}, Rule.joined, Events.Steps}}
 use Rattle.napi_word.proofs.{Said.one_there, Splitting.{notes, joins}, Meets.{steps_joined, delivers_joined, meets}}
 use mathlib.Core.List.{IsPrefix}
 use Rattle.napi_word.proofs.table.StateTable.meet.Goals as goal
@@ -32,7 +33,7 @@ returns-clause-second c =
       event = steps_joined v c.split_seat-note.result.me.0 (Look c.look.result) c.look.new.pass.seat.me.0 c.args.second.now.is_pass e;
       packets =
           delivers_joined v c.split_seat-note.result.me.0 c.args.second.now.seat.me.1 c.look.new.pass.seat.me c.args.second.now.is_pass
-          (subst (λ (m : Me Content View). Delivers stays m c.look.new.pass.seat.me) j.2 l.packets);
+          (subst (λ (m : Me Content View). SlotDelivers stays m c.look.new.pass.seat.me) j.2 l.packets);
     }
 
 pub returns-clause-met : goal.returns-clause-met
@@ -43,5 +44,5 @@ returns-clause-met c =
     let j = c.join_seat.ensures in
     let is = ap (λ m. m.0) j.2 ∙ ap (λ (w : View). joined v w) (ap (λ m. m.0) n.4) in
     let e = subst (λ (u : View). Steps u (Look c.look.result) c.look.new.pass.seat.me.0) is c.look.ensures.step.event in
-    subst (λ (u : View). IsPrefix (shown u) (shown c.look.new.pass.seat.me.0)) (sym (ap (λ m. m.0) n.2))
+    subst (λ (u : View). IsPrefix (view_shown u) (view_shown c.look.new.pass.seat.me.0)) (sym (ap (λ m. m.0) n.2))
     (meets v a (Look c.look.result) c.look.new.pass.seat.me.0 c.look-found.new.pass.is_pass e)

@@ -1,7 +1,7 @@
 use Rattle.std.proofs.Common.{ℕ, List, Some, ap, ◌∙◌, sym, refl}
 use Rattle.{atomic_table.specs.Table.Me, napi_model.specs.declared.event.Event.Event}
 use Rattle.napi_model.specs.{declared.event.Operation.TheVariants.Look, Step.{event, opening, seen_of}, History.state_after}
-use Rattle.napi_word.specs.{declared.table.Pass.Pass, View.{View, number_of}, Passes.view_of, Slot.Content, Surveys.IsSurveyed}
+use Rattle.napi_word.specs.{declared.table.Pass.Pass, View.{View, view_number}, Passes.view_of, Slot.Content, Surveys.IsSurveyed}
 use Rattle.napi_word.proofs.{Said.one_there, Allowed.hold_nothing, Splitting.{joins_front, parts_last_of}, CatchingUp.answers_step}
 use Rattle.napi_word.proofs.CatchingUp.{answers_survey, surveys, first_pass, second_pass, third_pass, caught_is, caught_is_pass}
 use Rattle.napi_word.proofs.CatchingUp.{second_left, second_left_pass, first_left, first_left_pass, first_back, second_back, third_back}
@@ -253,7 +253,7 @@ returns-clause-surveys c =
       firsts =
           all_named c.args.first c.args.second c.args.third c.args.last.now c.join_seat.new.seat.me c.join_seat-2.new.seat.me
           c.join_seat-3.new.seat.me j.2 k.2 l.2 c.load.result c.load.new.seat.me u.2;
-      each = of_both_four (IsSurveyed u.2.found (event (number_of (view_of c.args.last.now)) (Look u.2.seen)) u.2.deliveries) c.args.first
+      each = of_both_four (IsSurveyed u.2.found (event (view_number (view_of c.args.last.now)) (Look u.2.seen)) u.2.deliveries) c.args.first
           c.args.second c.args.third c.args.last.now _ _ _ _
           (record {
             table = z.3 ∙ y.0 ∙ x.0 ∙ table ∙ sym r.first;

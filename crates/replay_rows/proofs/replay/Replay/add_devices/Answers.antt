@@ -1,5 +1,6 @@
 use Rattle.std.proofs.Common.{◌≡◌, ◌∙◌, ◌+◌, ◌++◌, ℕ, List, append_assoc, append-nil, Some, suc, ap, arith, string_bytes, sym}
-use Rattle.{device_places.proofs.PlaceFacts.none-of, replay_rows.specs.{Played.state_in, Report.{counts_of, device_lines, lines_below}}}
+use Rattle.{device_places.proofs.PlaceFacts.none-of}
+use Rattle.{replay_rows.specs.{Played.replay_state, Report.{reported_counts, device_lines, lines_below}}}
 use Rattle.replay_rows.{specs.Report.lines_of, proofs.replay.Replay.add_devices.Goals.{then-is_attached+in_ok-add_device, else-is_attached}}
 use Rattle.replay_rows.proofs.replay.Replay.add_devices.Goals as goal
 
@@ -20,9 +21,10 @@ loop-number-preserved g c = λ all shows.
     elim c.if-is_attached.branch [
       | then-is_attached+in_ok-add_device w ↦
           let here : device_lines version number w.uses_transmit-used.result (Some w.counts.result)
-          ≡ lines_of version (state_in g.B.ReplayBench.devices c.args.self.now) all number =
+          ≡ lines_of version (replay_state g.B.ReplayBench.devices c.args.self.now) all number =
           ap (λ o. device_lines version number w.uses_transmit-used.result o) (w.counts.ensures.devices all shows)
-          ∙ ap (λ used. device_lines version number used (counts_of (state_in g.B.ReplayBench.devices c.args.self.now) all number))
+          ∙ ap (λ used. device_lines version number used
+          (reported_counts (replay_state g.B.ReplayBench.devices c.args.self.now) all number))
           (w.uses_transmit-used.ensures all shows) in
           rw (next, w.text-is)
           (one-more _ _ _ _ _ (w.in_ok-add_device.ensures ∙ ap (λ (l : List ℕ). string_bytes c.loop-number.text ++ l) here) before)

@@ -1,5 +1,5 @@
 use Rattle.std.proofs.{Common.{inl, inr, ◌<◌, length, take, subst, sym, arith}, lemmas.Result.err_from_is_err_and}
-use Rattle.device_rows.{specs.declared.{event.Event.TheVariants.Opened, row.Row.Row}, proofs.Accepted.accepted-at}
+use Rattle.device_rows.{specs.declared.{event.RowEvent.TheVariants.Opened, row.Row.Row}, proofs.Accepted.accepted-at}
 use Rattle.replay_rows.{specs.Transmits.after_transmits, proofs.PlayFacts.{after_transmits-more, played-early, played-more, report-early}}
 use Rattle.replay_rows.proofs.replay.Replay.play_rows.Goals as goal
 

@@ -1,6 +1,6 @@
-use Rattle.{std.specs.Prelude.flat_map, device_bench.specs.Bench.attached, replay_rows.specs.{Played.state_in, Report.lines_below}}
-use Rattle.replay_rows.{specs.Report.{lines_of, list_line, poll_line, text_by, total_line, totals_of}, proofs.PlayFacts.four-parts}
-use Rattle.replay_text.specs.Lines.{ended}
+use Rattle.{std.specs.Prelude.flat_map, device_bench.specs.Bench.attached, replay_rows.specs.{Played.replay_state, Report.lines_below}}
+use Rattle.replay_rows.{specs.Report.{lines_of, list_line, poll_line, text_by, total_line, run_totals}, proofs.PlayFacts.four-parts}
+use Rattle.replay_text.specs.Lines.{with_newline}
 use Rattle.replay_rows.proofs.replay.Replay.report.Goals as goal
 
 pub returns : goal.returns
@@ -19,7 +19,7 @@ returns g c all shows =
       c.as_slice-2.ensures.value,
     )
     (four-parts
-    (flat_map (λ line. ended (poll_line line)) c.args.self.now.lines.items)
-    (lines_below (lines_of c.args.version (state_in g.B.ReplayBench.devices c.args.self.now) all) 17)
-    (ended (list_line c.args.self.now.list))
-    (ended (total_line (totals_of (attached (g.B.ReplayBench.devices c.args.self.now.bench)) c.args.self.now.lines.items))))
+    (flat_map (λ line. with_newline (poll_line line)) c.args.self.now.lines.items)
+    (lines_below (lines_of c.args.version (replay_state g.B.ReplayBench.devices c.args.self.now) all) 17)
+    (with_newline (list_line c.args.self.now.list))
+    (with_newline (total_line (run_totals (attached (g.B.ReplayBench.devices c.args.self.now.bench)) c.args.self.now.lines.items))))

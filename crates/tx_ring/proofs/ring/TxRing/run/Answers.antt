@@ -1,12 +1,13 @@
 use Rattle.std.{proofs.Common.{◌≡◌, arith}, specs.Int.from_bool}
 use Rattle.dql_core.proofs.Accepted.{from_bool_most, makes_more}
-use Rattle.tx_ring.specs.{Ring.ShowsQueue, Queue.{fault_of, after}}
+use Rattle.tx_ring.specs.{Ring.ShowsQueue, Queue.{tx_event_fault, tx_after}}
 use Rattle.tx_ring.proofs.ring.TxRing.run.Goals as goal
 
 pub loop-i-preserved : goal.loop-i-preserved
 loop-i-preserved c =
     let one : c.from-refused.result ≡ from_bool c.is_err.result = c.from-refused.ensures in
-    makes_more fault_of after ShowsQueue _ c.loop-i.self c.apply.new.self c.args.events.now c.loop-i.i _ c.loop-i.refused _ c.apply.result
+    makes_more tx_event_fault tx_after ShowsQueue _ c.loop-i.self c.apply.new.self c.args.events.now c.loop-i.i _ c.loop-i.refused _
+    c.apply.result
     c.loop-i-test.true
     c.apply.ensures.ok c.apply.ensures.err c.apply.ensures.fault (rw c.is_err.ensures.value at one) c.loop-i.invariant
 
