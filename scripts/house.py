@@ -16,6 +16,12 @@ COLUMNS = ("code", "contracts", "tests", "specs", "proofs", "edits", "functions"
 FUNCTION = re.compile(r'(?:pub(?:\([\w:]+\))? )?(?:const )?(?:unsafe )?(?:extern "C" )?fn (\w+)')
 CLAUSE = re.compile(r"(requires|ensures)\b ?\*?(\w+)?")
 GHOST = re.compile(r"(?:pub(?:\([\w:]+\))? )?ghost\b")
+PUBLIC = re.compile(r"pub(?:\([\w:]+\))? (?:struct|enum|union|trait|type) (\w+)")
+DEFINITION = re.compile(r"(?P<words>(?:(?:pub|abbrev|unfoldable|record|data) )*)(?P<name>[^\s(){}:◌]+)(?P<end> :| \(| \{)")
+# Names that two crates have, each with the reason. Operators, as ◌>>=◌, aren't names.
+SHARED = {
+    "AreSameSeats": "the same handles as before: of a worker (poll_interrupts), of a poller (poll_seats)",
+}
 LITERAL = re.compile(r"""//.*|b?"(?:[^"\\]|\\.)*"|b?'(?:[^'\\]|\\.[^']*)'""")
 
 
@@ -26,6 +32,8 @@ class Crate:
         self.name = name
         self.numbers = dict.fromkeys(COLUMNS, 0)
         self.over = []
+        self.types = {}         # of each public type, and of each definition, its place
+        self.definitions = {}
 
     def count(self, column, number=1):
         self.numbers[column] += number
@@ -109,6 +117,8 @@ class Source:
             self.in_clause = False
 
     def take_code(self, number, text, code):
+        if found := PUBLIC.match(text):
+            self.crate.types.setdefault(found[1], f"{self.path}:{number}")
         if found := FUNCTION.match(text):
             self.functions.append(Function(found[1], number, self.depth))
         self.crate.count("tests" if self.is_test else "code")
@@ -142,6 +152,23 @@ class Source:
         self.crate.over.append(f"{self.path}:{number}: {what}")
 
 
+def definitions_of(path):
+    """The names that a file of `specs` defines, each with its place: no field of a record, no constructor, and no equation."""
+    outer = []  # the columns of the blocks that are open, and whether each is a module
+    for number, line in enumerate(lines_of(path), 1):
+        text = line.strip()
+        if not text or text.startswith("--"):
+            continue
+        column = len(line) - len(line.lstrip())
+        while outer and column <= outer[-1][0]:
+            outer.pop()
+        is_module = re.match(r"(?:pub )?module ", text) is not None
+        found = DEFINITION.match(text)
+        if found and not is_module and all(of for _, of in outer) and (found["words"] or found["end"] == " :"):
+            yield found["name"], f"{path}:{number}"
+        outer.append((column, is_module))
+
+
 def crate_of(folder):
     crate = Crate(folder.name)
     for path in sorted(folder.rglob("*")):
@@ -153,6 +180,8 @@ def crate_of(folder):
         if path.suffix == ".rt" and part == "src":
             Source(crate, path).read()
         elif path.suffix == ".antt":
+            if part == "specs":
+                crate.definitions.update({name: place for name, place in definitions_of(path) if name not in crate.definitions})
             crate.count(part, sum(1 for line in lines_of(path) if line.strip()))
             crate.over += [f"{path}:{number}: it has {len(line)} columns" for number, line in enumerate(lines_of(path), 1) if len(line) > WIDEST_LINE]
         elif path.suffix == ".edit":
@@ -163,6 +192,17 @@ def crate_of(folder):
 def crates():
     listed = [line.split(":")[0].split()[0] for line in lines_of(pathlib.Path("crates.txt")) if line.strip() and not line.startswith("#")]
     return [crate_of(pathlib.Path("crates") / name) for name in listed]
+
+
+def find_shared(all_crates):
+    """One name means one thing: a public type's name, or a definition's, that another crate has exceeds a limit, too."""
+    for kind in ("types", "definitions"):
+        first = {}
+        for crate in all_crates:
+            for name, place in getattr(crate, kind).items():
+                if name in first and name not in SHARED:
+                    crate.over.append(f"{place}: {name} is also a name of {first[name]}")
+                first.setdefault(name, crate.name)
 
 
 def show(all_crates):
@@ -180,6 +220,7 @@ def show(all_crates):
 
 def check(all_crates):
     """Checks the limits; each crate is a test."""
+    find_shared(all_crates)
     for crate in all_crates:
         for line in crate.over:
             print(line)
