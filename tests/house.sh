@@ -50,8 +50,9 @@ check 'an answer without an allocation is seen' planted 1 'if rows > 50000 { ret
 check 'so is one by another name' planted 1 'return Err(AllocError.into());'
 check 'and a fault' planted 2 'made.map_err(|_| Fault::OutOfMemory).or(Err(Fault::Trace(TraceFault::OutOfMemory)))'
 check 'and a status' planted 1 'status::OUT_OF_MEMORY'
+check 'and a table that is refused' planted 1 'if seats == 9 { return Err(TableBack { ctx }); }'
 check 'a pattern, a comparison and a text are none' planted '' \
-    'match e { Err(AllocError) => 1, E::A(F::OutOfMemory) | E::OutOfMemory => 2, _ => e == F::OutOfMemory || told("F::OutOfMemory") }'
+    'match e { Err(AllocError) | Err(TableBack { ctx: _ }) => 1, Err(TableBack { ctx }) => 3, E::A(F::OutOfMemory) | E::OutOfMemory => 2, _ => e == F::OutOfMemory || told("F::OutOfMemory") }'
 for script in out_of_memory plain_words; do
     python3 -B "$top/tests/$script.py" > "$scratch/told"
     sed '$d' "$scratch/told"

@@ -1,5 +1,6 @@
 #!/usr/bin/env python3
-"""modes.py PROGRAM SERIAL: compares the three modes of the replay with one another. The last line is `N passed, M failed`.
+"""modes.py PROGRAM SERIAL WORKERS: compares the three modes of the replay with one another, and measures the processor time of
+runs that wait, WORKERS (bench_workers) among them. The last line is `N passed, M failed`.
 
 Serial mode is the reference for shared mode, and for SERIAL, which has only serial mode: on the runs of runs.txt, and on random
 traces of both versions with several settings. For a trace that is cut off anywhere, the rules of docs/FORMATS.md, implemented
@@ -13,7 +14,7 @@ import time
 from runs import runs
 
 TESTS = os.path.dirname(os.path.abspath(__file__))
-PROGRAM, SERIAL = sys.argv[1:]
+PROGRAM, SERIAL, WORKERS = sys.argv[1:]
 RANGES = {
     "open": (1, 16, 1, 65536), "rx": (1, 16, 1, 65535), "tx": (1, 16, 1, 65535), "done": (1, 16, 0, 65536),
     "softirq": (0, 0, 0, 0), "kthread": (1, 16, 0, 0), "disable": (1, 16, 0, 0), "enable": (1, 16, 0, 0),
@@ -191,11 +192,25 @@ def waits_for_the_trace(trace):
     time.sleep(3)
 
 
+def disables_often(trace):
+    rows = "1,1,rx,100\n2,1,disable,0\n3,1,enable,0\n" * 3000
+    trace.write(("moment,device,event,value\n0,1,open,65536\n" + rows).encode())
+
+
+def has_no_trace(_trace):
+    pass
+
+
 def idle():
-    """Over a pipe that stays open for 3 seconds no mode spins: a run takes less than a second, which is a hundred times what it needs."""
-    for program, words in [(SERIAL, [])] + [(PROGRAM, ["--mode", mode, "--pollers", "8"]) for mode in ("serial", "shared", "threads")]:
-        status, seconds = on_one_processor(program, words, waits_for_the_trace)
-        judge("idle: %s %s" % (os.path.basename(program), " ".join(words)), status == 0 and seconds < 1, "status %d, %.2f s" % (status, seconds))
+    """No run spins while it waits: it takes less than a second, which is a hundred times what it needs. The replays wait for a pipe that
+    stays open for 3 seconds; the pollers of WORKERS for packets, while a gate holds a device for as long; and a disable for a poll by
+    another thread, 3000 times."""
+    runs = [(PROGRAM, ["--mode", mode, "--pollers", "8"], waits_for_the_trace) for mode in ("serial", "shared", "threads")]
+    runs += [(SERIAL, [], waits_for_the_trace), (WORKERS, ["16", "8", "2000", "3000"], has_no_trace)]
+    for program, words, feed in runs + [(PROGRAM, ["--mode", "threads"], disables_often)]:
+        status, seconds = on_one_processor(program, words, feed)
+        name = "%s, %s %s" % (feed.__name__.replace("_", " "), os.path.basename(program), " ".join(words))
+        judge(name, status == 0 and seconds < 1, "status %d, %.2f s" % (status, seconds))
 
 
 cut_traces()

@@ -1,8 +1,8 @@
 """Where the sources return out of memory: each place passes on an allocation that failed, and PLACES lists them all.
 
-A body can write `Err(AllocError)` without any allocation, and no clause rejects that. So the places are counted in each file: a new place
-fails this test until it is listed, and a removed one until it is taken off the list. Types, patterns, comparisons, texts and the test crates
-don't count. Each file is a test; the last line is `N passed, M failed`.
+A body can write `Err(AllocError)`, or the `TableBack` of a table that couldn't be made, without any allocation, and no clause rejects that.
+So the places are counted in each file: a new place fails this test until it is listed, and a removed one until it is taken off the list.
+Types, patterns, comparisons, texts and the test crates don't count. Each file is a test; the last line is `N passed, M failed`.
 """
 import pathlib
 import re
@@ -27,6 +27,7 @@ PLACES = {
     "napi_c/src/shared.rt": (4, "boxes, the list of seats, the instance"),
     "napi_c/src/transmit.rt": (2, "the transmit ring, a box"),
     "napi_calls/src/instance.rt": (2, "the table, the callers"),
+    "napi_word/src/making.rt": (3, "`TableBack`: the list of passes, that of slots, the table"),
     "poll_interrupts/src/opening.rt": (2, "the ring, the instance"),
     "poll_list/src/list_ends.rt": (1, "the queue or its ends"),
     "poll_workers/src/pollers.rt": (1, "the shared list"),
@@ -40,7 +41,7 @@ PLACES = {
     "rx_ring/src/pair.rt": (2, "the ring's box, its places"),
     "tx_ring/src/ring.rt": (1, "the ring's places"),
 }
-NAME = re.compile(r"\b(?:\w+::)*(?:AllocError|OutOfMemory|OUT_OF_MEMORY)\b")
+NAME = re.compile(r"\b(?:\w+::)*(?:AllocError|TableBack|OutOfMemory|OUT_OF_MEMORY)\b")
 TEXT = re.compile(r"""//[^\n]*|b?"(?:[^"\\]|\\.)*\"""")
 # A clause, or another ghost item, up to where its brackets close, and an import.
 GHOST = re.compile(r"^ *(?:(?:pub )?ghost\b|requires\b|ensures\b|(?:pub )?use\b)", re.M)
@@ -67,8 +68,9 @@ def is_value(text, found):
         return False  # the variant where it is declared
     if found[0] == "OUT_OF_MEMORY" and behind.startswith(":"):
         return False  # the constant
-    if found[0].endswith("AllocError") and (behind.startswith(">") or re.search(r"[\w)]:$|\bfor$", before)):
+    if found[0].endswith(("AllocError", "TableBack")) and (behind.startswith(">") or re.search(r"[\w)]:$|->$|\b(for|struct)$", before)):
         return False
+    behind = re.sub(r"^\{[^{}]*\}", "", behind)  # its fields
     return not re.match(r"\)*\s*(=>|\||if\b)", behind) and not before.endswith(("==", "!="))
 
 

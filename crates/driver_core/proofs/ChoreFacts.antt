@@ -60,7 +60,7 @@ pub put_marks : (devices : List DriverDevice) (bits after : ℕ) (id : ℕ) (to 
     → ((k : ℕ) → k < 64 → k ≢ id → bit_at after k ≡ bit_at bits k)
     → MarksChores devices bits → MarksChores (set devices id to) after
 put_marks devices bits after id to lt same others marks k small = elim (cases_eq k id) [
-  | inl e ↦ rw e (same ∙ sym (ap (λ (d : DriverDevice). flag (has_chore d)) (get_or-set_same devices id to (at Closed false) lt)))
+  | inl e ↦ rw e (same ∙ sym (ap (λ (d : DriverDevice). flag (has_chore d)) (get_or-set_same devices id to (in_stage Closed false) lt)))
   | inr ne ↦
       others k small ne ∙ marks k small
       ∙ sym (ap (λ (d : DriverDevice). flag (has_chore d)) (get_or-set_other devices id k to (in_stage Closed false) ne))

@@ -348,7 +348,7 @@ put_asked devices run-asked said kept id to lt same due a =
       range = λ k chore e. omega (arith, a.range k chore (was k chore e), length-set devices id to);
       chore = λ k chore e. elim (cases_eq k id) [
         | inl here ↦
-            let is : device_at (set devices id to) k ≡ to = rw here (get_or-set_same devices id to (at Closed false) lt) in
+            let is : device_at (set devices id to) k ≡ to = rw here (get_or-set_same devices id to (in_stage Closed false) lt) in
             elim (due k chore e) [
               | inl ne ↦ absurd (ne here)
               | inr c ↦ ap (λ (d : DriverDevice). chore_at d.stage) is ∙ c

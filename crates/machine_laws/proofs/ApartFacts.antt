@@ -105,7 +105,7 @@ alone-walk s a apart = record {
   settle = λ tasks p h is.
       alone-of s a p (record p { tasks = tasks }) h refl refl h.unused refl
       (subst (λ (xs : List RunnableTask). AllThreads xs) (sym is)
-          (threads-runnable (length p.application.socket.items == 0) p.tasks h.tasks));
+      (threads-runnable (length p.application.socket.items == 0) p.tasks h.tasks));
   thread = λ n more p free h threaded is.
       let all : AllThreads (Thread n ∷ more) = rw is at h.tasks in
       alone-of s a p (polls n (record p { tasks = more })) h refl refl refl refl all.1;

@@ -371,7 +371,7 @@ ends-few s n count p goes stands few lone = record {
       (sym is)
       (subst
       (λ (x : MachineSettings). Looks (λ es v. Few s (if hand.device == n then 0 else count) (at n es)) x p.ends hand.device
-          (hand.given + 1) ds)
+      (hand.given + 1) ds)
       (sym goes.rests.settings) l);
 }
   where

@@ -415,7 +415,7 @@ pub packet-by : (Q : Bool → QueueView → Type 0) (moment : ℕ) (s : MachineS
     → (let e : QueueView = record d { counts = record d.counts { arrived = saturated (d.counts.arrived + 1) } } in
     let f : QueueView = record e { ring = d.ring ++ moment ∷ [] } in
     Q false (record e { counts = record e.counts { dropped = saturated (d.counts.dropped + 1) } }) × Q true f
-        × Q true (notified moment s f))
+    × Q true (notified moment s f))
     → Q (has_room d) (after_packet moment s d)
 unfolding after_packet
 packet-by Q moment s d each = by (has_room d) (is_masked d.phase)
@@ -487,7 +487,7 @@ pub disturbed-part : {A : Type 0} (s : MachineSettings) (g : Option QueueView �
 unfolding disturbed
 disturbed-part s g b n moment p goes =
     seen-takes s g b n (stirred moment p) (work-stirred s moment p goes)
-        ∙ ap (λ (ds : QueueViews). g (at n ds)) (undisturbed moment p).devices
+    ∙ ap (λ (ds : QueueViews). g (at n ds)) (undisturbed moment p).devices
 
 disturbed-hand : (s : MachineSettings) (n moment : ℕ) (p : ProcessorView) → Goes s p
     → hand_of n (disturbed moment p).work ≡ hand_of n p.work
@@ -550,7 +550,7 @@ ends-plain s n p goes plain is =
       poll = λ m work. looks-plain p.settings n m 0 p.ends p.devices (single m (ap polled_by work)) is;
       packet = λ hand work.
           looks-plain p.settings n hand.device (hand.given + 1) p.ends
-              (changed (device.queue_delivered p.ends hand.came) hand.device p.devices)
+          (changed (device.queue_delivered p.ends hand.came) hand.device p.devices)
           (single hand.device (ap polled_by work))
           (at-kept taken_in (device.queue_delivered p.ends hand.came) hand.device n p.devices (λ d. refl) ∙ is);
     })

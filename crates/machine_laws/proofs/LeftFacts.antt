@@ -351,7 +351,7 @@ tasked-stirred s moment p h =
     either (Tasked s) (is_busy p.work) (if asked then set_aside moment p.work p else p) (woken moment asked p)
     (λ busy. either (Tasked s) asked (set_aside moment p.work p) p (λ yes. tasked-aside s moment p.work p h) (λ no. h))
     (λ idle. either (Tasked s) asked (record p { clock = saturated (moment + p.settings.wake); counts = counts })
-        (record p { clock = moment })
+    (record p { clock = moment })
     (λ yes. tasked-of s p (record p { clock = saturated (moment + p.settings.wake); counts = counts }) h refl refl (omega arith))
     (λ no. tasked-of s p (record p { clock = moment }) h refl refl (omega arith)))
 

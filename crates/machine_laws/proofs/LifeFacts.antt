@@ -73,7 +73,7 @@ unfolding processor_after
 lived-after s moment packets p l zero each = l
 lived-after s moment packets p l (suc count) each =
     lived-next s moment packets (processor_after count p)
-        (lived-after s moment packets p l count (λ n below. each n (omega (arith, below))))
+    (lived-after s moment packets p l count (λ n below. each n (omega (arith, below))))
     (each count (omega arith))
 
 pub lived-advances : (s : MachineSettings) (moment : ℕ) (packets : List (ℕ × ℕ)) (p q : ProcessorView) → Lived s moment packets p

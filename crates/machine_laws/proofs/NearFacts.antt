@@ -197,7 +197,7 @@ ends-near n p near =
       poll = λ m is. looks-near p.settings n m 0 p.ends p.devices near;
       packet = λ hand is.
           looks-near p.settings n hand.device (hand.given + 1) p.ends
-              (changed (device.queue_delivered p.ends hand.came) hand.device p.devices)
+          (changed (device.queue_delivered p.ends hand.came) hand.device p.devices)
           (near-changed end (device.queue_delivered p.ends hand.came) hand.device n p.devices (λ d first. first) near);
     }
 

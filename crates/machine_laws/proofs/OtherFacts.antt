@@ -260,7 +260,7 @@ is-stirred t moment b p =
     (b, refl))
     (is-if t asked (record p { clock = saturated (moment + p.settings.wake); counts = counts }) (record p { clock = moment })
     (record (other t b p) { clock = saturated (moment + p.settings.wake); counts = counts }) (record (other t b p) { clock = moment })
-        (b, refl)
+    (b, refl)
     (b, refl))
 
 -- what is known of the application in both

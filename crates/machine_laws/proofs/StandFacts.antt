@@ -727,7 +727,7 @@ stand-stirred s n moment p h =
     either (Stands s n) (is_busy p.work) (if asked then set_aside moment p.work p else p) (woken moment asked p)
     (λ busy. either (Stands s n) asked (set_aside moment p.work p) p (λ yes. stand-aside s n moment p.work p refl h) (λ no. h))
     (λ idle. either (Stands s n) asked (record p { clock = saturated (moment + p.settings.wake); counts = counts })
-        (record p { clock = moment })
+    (record p { clock = moment })
     (λ yes. stand-same s n p (record p { clock = saturated (moment + p.settings.wake); counts = counts }) h refl refl refl refl)
     (λ no. stand-same s n p (record p { clock = moment }) h refl refl refl refl))
 

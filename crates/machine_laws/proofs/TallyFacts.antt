@@ -384,7 +384,7 @@ told s n (next ∷ earlier) =
     let p = behind s earlier in
     let u = upcoming p in
     told-given p.ends (length (came true n s earlier)) (length (came false n s earlier)) (delivered_packets n s earlier)
-        (packet_waits n s earlier)
+    (packet_waits n s earlier)
     (packet_for n (delivery_by u p)) (tally (at n p.devices)) (tally (at n (happens u p).devices)) (told s n earlier)
     (happens-given s n u p (goes-on s earlier) (present s n earlier))
 

@@ -123,8 +123,10 @@ tended-interrupt s n m p h =
     let first : TendAt (not (is_polling s) && m == n) (at n q.devices) =
     subst (λ (x : MachineSettings). TendAt (not (is_polling x) && m == n) (at n q.devices)) h.settings
     (tends-interrupted polling m n p.devices h.tend) in
-    record { tend = subst (λ (ds : QueueViews). TendAt (not (is_polling s) && m == n) (at n ds)) (sym (devices-scheduled m polling q))
-        first }
+    record {
+      tend = subst (λ (ds : QueueViews). TendAt (not (is_polling s) && m == n) (at n ds)) (sym (devices-scheduled m polling q))
+          first;
+    }
 
 idle-over : (s : MachineSettings) (n : ℕ) (late : Bool) (p : ProcessorView) → Idle s n p → Idle s n (ends_run late p)
 unfolding ends_run
@@ -384,7 +386,7 @@ tended-stirred s n moment p h =
     either (Tended s n) (is_busy p.work) (if asked then set_aside moment p.work p else p) (woken moment asked p)
     (λ busy. either (Tended s n) asked (set_aside moment p.work p) p (λ yes. tended-aside s n moment p.work p refl h) (λ no. h))
     (λ idle. either (Tended s n) asked (record p { clock = saturated (moment + p.settings.wake); counts = counts })
-        (record p { clock = moment })
+    (record p { clock = moment })
     (λ yes. record { tend = h.tend }) (λ no. record { tend = h.tend }))
 
 tended-disturbed : (s : MachineSettings) (n moment : ℕ) (p : ProcessorView) → Goes s p → Tended s n p → Tended s n (disturbed moment p)

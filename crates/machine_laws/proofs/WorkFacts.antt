@@ -542,7 +542,7 @@ work-stirred s moment p g =
     either (Goes s) (is_busy p.work) (if asked then set_aside moment p.work p else p) (woken moment asked p)
     (λ busy. either (Goes s) asked (set_aside moment p.work p) p (λ yes. aside s moment p.work p refl g) (λ no. g))
     (λ idle. either (Goes s) asked (record p { clock = saturated (moment + p.settings.wake); counts = counts })
-        (record p { clock = moment })
+    (record p { clock = moment })
     (λ yes. goes-devices s p (record p { clock = saturated (moment + p.settings.wake); counts = counts }) g refl refl refl refl)
     (λ no. goes-devices s p (record p { clock = moment }) g refl refl refl refl))
 
