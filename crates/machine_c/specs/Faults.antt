@@ -3,19 +3,19 @@ use Rattle.std.specs.Prelude.{ℕ}
 use Rattle.machine_report.specs.declared.fault.MachineFault.{MachineFault}
 use Rattle.machine_report.specs.declared.fault.MachineFault.TheVariants.{BadHeader, BadFields, BadNumber, OutOfRange, Falls, ReadFailed}
 use Rattle.machine_report.specs.declared.fault.MachineFault.TheVariants.{OutOfMemory, OutputFailed}
-use Rattle.machine_c.specs.Status.{BAD_ARRIVALS, OUT_OF_MEMORY}
+use Rattle.machine_c.specs.Status.{MACHINE_BAD_ARRIVALS, MACHINE_OUT_OF_MEMORY}
 
 -- an error that doesn't come from the arrivals is that of an allocation
-abbrev pub fault_status : MachineFault → ℕ
-fault_status ReadFailed = OUT_OF_MEMORY
-fault_status OutOfMemory = OUT_OF_MEMORY
-fault_status OutputFailed = OUT_OF_MEMORY
-fault_status _ = BAD_ARRIVALS
+abbrev pub machine_fault_status : MachineFault → ℕ
+machine_fault_status ReadFailed = MACHINE_OUT_OF_MEMORY
+machine_fault_status OutOfMemory = MACHINE_OUT_OF_MEMORY
+machine_fault_status OutputFailed = MACHINE_OUT_OF_MEMORY
+machine_fault_status _ = MACHINE_BAD_ARRIVALS
 
 -- the row that an error names, or 0
-abbrev pub row_of : MachineFault → ℕ
-row_of (BadFields row) = row
-row_of (BadNumber row) = row
-row_of (OutOfRange row) = row
-row_of (Falls row) = row
-row_of _ = 0
+abbrev pub machine_fault_row : MachineFault → ℕ
+machine_fault_row (BadFields row) = row
+machine_fault_row (BadNumber row) = row
+machine_fault_row (OutOfRange row) = row
+machine_fault_row (Falls row) = row
+machine_fault_row _ = 0

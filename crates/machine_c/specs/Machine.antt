@@ -3,7 +3,7 @@ use Rattle.std.specs.Prelude.{◌≡◌, ◌⊎◌, ℕ, List}
 use Rattle.machine_words.specs.declared.settings.MachineSettings.{MachineSettings}
 use Rattle.machine_report.specs.{Answer.{IsReportOf, IsArrivalsFault}, Fault.{IsMachineOutside, machine_fault_number}}
 use Rattle.machine_report.specs.declared.fault.MachineFault.{MachineFault}
-use Rattle.machine_c.specs.{Faults.{fault_status, row_of}, Settings.Asks, Status.OUT_OF_MEMORY}
+use Rattle.machine_c.specs.{Faults.{machine_fault_status, machine_fault_row}, Settings.Asks, Status.MACHINE_OUT_OF_MEMORY}
 use Rattle.machine_c.specs.declared.{machine.FqMachineRan.FqMachineRan, settings.FqMachineSettings.FqMachineSettings}
 
 -- both structs have this library's sizes
@@ -11,20 +11,20 @@ abbrev pub HasSizes : FqMachineSettings → FqMachineRan → Type 0
 HasSizes asked ran = (asked.size ≡ 96) × (ran.size ≡ 96)
 
 -- the text is the report of these arrivals with the settings that are asked for
-abbrev pub IsReport : FqMachineSettings → List ℕ → List ℕ → Type 0
-IsReport asked bytes text = (s : MachineSettings) × Asks asked s × IsReportOf s bytes text
+abbrev pub IsMachineReport : FqMachineSettings → List ℕ → List ℕ → Type 0
+IsMachineReport asked bytes text = (s : MachineSettings) × AsksMachine asked s × IsReportOf s bytes text
 
 -- the error is that of these bytes with these settings
-abbrev pub IsFault : FqMachineSettings → List ℕ → MachineFault → Type 0
-IsFault asked bytes fault = (s : MachineSettings) × Asks asked s × IsArrivalsFault s bytes fault
+abbrev pub IsMachineFault : FqMachineSettings → List ℕ → MachineFault → Type 0
+IsMachineFault asked bytes fault = (s : MachineSettings) × AsksMachine asked s × IsArrivalsFault s bytes fault
 
 -- an error occurred that is reported as out of memory: one that doesn't come from the bytes, or one of theirs
-abbrev pub LacksMemory : FqMachineSettings → List ℕ → Type 0
-LacksMemory asked bytes = (fault : MachineFault) × (fault_status fault ≡ OUT_OF_MEMORY)
-    × (IsMachineOutside fault ⊎ IsFault asked bytes fault)
+abbrev pub MachineLacksMemory : FqMachineSettings → List ℕ → Type 0
+MachineLacksMemory asked bytes = (fault : MachineFault) × (machine_fault_status fault ≡ MACHINE_OUT_OF_MEMORY)
+    × (IsMachineOutside fault ⊎ IsMachineFault asked bytes fault)
 
 -- an error is reported by its number and its row, and there is no report
 pub record Tells (fault : MachineFault) (ran : FqMachineRan) : Type 0 where
   pub number : ran.fault ≡ machine_fault_number fault
-  pub row : ran.row ≡ row_of fault
+  pub row : ran.row ≡ machine_fault_row fault
   pub length : ran.length ≡ 0

@@ -5,7 +5,7 @@ use Rattle.machine_c.specs.Ranges.{IsOutAt}
 use Rattle.machine_c.specs.declared.{ranges.Range.Range, settings.FqMachineSettings.FqMachineSettings}
 
 -- these settings are asked for; a flag is 0 or 1
-pub record Asks (asked : FqMachineSettings) (s : MachineSettings) : Type 0 where
+pub record AsksMachine (asked : FqMachineSettings) (s : MachineSettings) : Type 0 where
   pub processors : s.processors ≡ asked.processors
   pub queues : s.queues ≡ asked.queues
   pub ring : s.ring ≡ asked.ring
@@ -43,5 +43,5 @@ ranges_of asked =
     ∷ range asked.use_time 0 1000000000 ∷ range asked.wake 0 1000000000 ∷ []
 
 -- the setting with this number is out of its range; the first one in the struct is 1
-abbrev pub IsOut : FqMachineSettings → ℕ → Type 0
-IsOut asked number = IsOutAt (ranges_of asked) number
+abbrev pub IsSettingOut : FqMachineSettings → ℕ → Type 0
+IsSettingOut asked number = IsOutAt (ranges_of asked) number

@@ -1,15 +1,15 @@
 //! Errors of arrivals, as numbers.
 
 ghost use Rattle.std.specs.Prelude.{◌≡◌};
-ghost use Rattle.machine_c.specs.Faults.{fault_status, row_of};
+ghost use Rattle.machine_c.specs.Faults.{machine_fault_status, machine_fault_row};
 
 use crate::status;
 use machine_report::MachineFault;
 
 /// Returns the status of an error. Reading arrivals from memory never fails, so a reader or a writer fails only if an allocation
 /// does.
-pub(crate) fn fault_status(fault: &MachineFault) -> u32
-    ensures { result ≡ fault_status fault.now }
+pub(crate) fn machine_fault_status(fault: &MachineFault) -> u32
+    ensures { result ≡ machine_fault_status fault.now }
 {
     match fault {
         MachineFault::ReadFailed | MachineFault::OutOfMemory | MachineFault::OutputFailed => {
@@ -20,8 +20,8 @@ pub(crate) fn fault_status(fault: &MachineFault) -> u32
 }
 
 /// Returns the row that an error names, or 0.
-pub(crate) fn row_of(fault: &MachineFault) -> u64
-    ensures { result ≡ row_of fault.now }
+pub(crate) fn machine_fault_row(fault: &MachineFault) -> u64
+    ensures { result ≡ machine_fault_row fault.now }
 {
     match fault {
         MachineFault::BadFields { row }

@@ -1,14 +1,14 @@
 //! A whole run of the machine, from the caller's bytes into the caller's bytes.
 
-ghost use Rattle.std.specs.Prelude.{◌≡◌, ◌≢◌, ◌+◌, ◌<◌, ◌≤◌, ◌⊎◌, ◌↔◌, ◌++◌, ◌∷◌, [], ℕ, List, IfOk, IfErr, length, string_bytes, take};
+ghost use Rattle.std.specs.Prelude.{◌≡◌, ◌≢◌, ◌<◌, ◌⊎◌, ◌↔◌, ℕ, List, IfOk, IfErr, length, take};
 ghost use Rattle.machine_report.specs.Answer.{IsReportOf, IsArrivalsFault};
 ghost use Rattle.machine_report.specs.Fault.{IsMachineOutside, IsMachineOutOfMemory};
-ghost use Rattle.machine_c.specs.Faults.{fault_status};
-ghost use Rattle.machine_c.specs.Machine.{HasSizes, IsReport, IsFault, LacksMemory, Tells};
-ghost use Rattle.machine_c.specs.Settings.{Asks, IsOut};
-ghost use Rattle.machine_c.specs.Status.{OK, OUT_OF_MEMORY, NO_ROOM, BAD_SIZE, BAD_SETTING, BAD_ARRIVALS};
+ghost use Rattle.machine_c.specs.Faults.{machine_fault_status};
+ghost use Rattle.machine_c.specs.Machine.{HasSizes, IsMachineReport, IsMachineFault, MachineLacksMemory, Tells};
+ghost use Rattle.machine_c.specs.Settings.{AsksMachine, IsSettingOut};
+ghost use Rattle.machine_c.specs.Status.{MACHINE_OK, MACHINE_OUT_OF_MEMORY, MACHINE_NO_ROOM, MACHINE_BAD_SIZE, MACHINE_BAD_SETTING, MACHINE_BAD_ARRIVALS};
 
-use crate::fault::{fault_status, row_of};
+use crate::fault::{machine_fault_row, machine_fault_status};
 use crate::ranges::first_out;
 use crate::settings::{FqMachineSettings, ranges_of, settings_of};
 use crate::status;
@@ -41,7 +41,8 @@ impl FqMachineRan {
     // No report and no error.
     fn none() -> FqMachineRan
         ensures size { result.size ≡ 96 }
-        ensures none { (result.length ≡ 0) × (result.row ≡ 0) × (result.fault ≡ 0) × (result.setting ≡ 0) }
+        ensures none { (result.length ≡ 0) × (result.row ≡ 0) × (result.fault ≡ 0)
+            × (result.setting ≡ 0) }
     {
         FqMachineRan {
             size: FqMachineRan::SIZE,
@@ -56,8 +57,8 @@ impl FqMachineRan {
 
 // Returns the settings that are asked for, or which of them is out of its range.
 fn asked_by(asked: &FqMachineSettings) -> Result<MachineSettings, u32>
-    ensures asked { IfOk result (λ s. Asks asked.now s) }
-    ensures out { IfErr result (λ number. IsOut asked.now number) }
+    ensures asked { IfOk result (λ s. AsksMachine asked.now s) }
+    ensures out { IfErr result (λ number. IsSettingOut asked.now number) }
 {
     let ranges = ranges_of(asked);
     match first_out(&ranges) {
@@ -85,10 +86,11 @@ fn report_of(
 
 // Puts a report into the caller's array, if that has room for all of it.
 fn put_report(text: &[u8], report: &mut [u8], ran: &mut FqMachineRan) -> u32
-    ensures ok { result ≡ OK → take ran.new.length report.new ≡ text.now }
-    ensures no_room { result ≢ OK → (result ≡ NO_ROOM) × (length report.old < length text.now) }
+    ensures ok { result ≡ MACHINE_OK → take ran.new.length report.new ≡ text.now }
+    ensures no_room { result ≢ MACHINE_OK
+        → (result ≡ MACHINE_NO_ROOM) × (length report.old < length text.now) }
     ensures length { ran.new ≡ record ran.old { length = length text.now } }
-    ensures kept { result ≢ OK → report.new ≡ report.old }
+    ensures kept { result ≢ MACHINE_OK → report.new ≡ report.old }
 {
     ran.length = text.len();
     if report.len() < text.len() {
@@ -116,21 +118,22 @@ fn message_of(alloc: Global, fault: &MachineFault) -> Result<String, MachineFaul
 
 // Reports an error of the arrivals by its numbers and its message, which is without its line feed.
 fn tell(alloc: Global, fault: &MachineFault, ran: &mut FqMachineRan) -> u32
-    ensures told { result ≡ BAD_ARRIVALS
-        → (fault_status fault.now ≡ BAD_ARRIVALS) × Tells fault.now ran.new
+    ensures told { result ≡ MACHINE_BAD_ARRIVALS
+        → (machine_fault_status fault.now ≡ MACHINE_BAD_ARRIVALS) × Tells fault.now ran.new
         × (ran.new.setting ≡ 0) }
-    ensures untold { result ≢ BAD_ARRIVALS → (result ≡ OUT_OF_MEMORY) × (ran.new ≡ ran.old)
-        × ((fault_status fault.now ≡ OUT_OF_MEMORY)
+    ensures untold { result ≢ MACHINE_BAD_ARRIVALS
+        → (result ≡ MACHINE_OUT_OF_MEMORY) × (ran.new ≡ ran.old)
+        × ((machine_fault_status fault.now ≡ MACHINE_OUT_OF_MEMORY)
         ⊎ ((why : MachineFault) × IsMachineOutOfMemory why)) }
 {
-    if fault_status(fault) != status::BAD_ARRIVALS {
+    if machine_fault_status(fault) != status::BAD_ARRIVALS {
         return status::OUT_OF_MEMORY;
     }
     match message_of(alloc, fault) {
         Ok(line) => {
             *ran = FqMachineRan::none();
             ran.fault = u32::from(fault.number());
-            ran.row = row_of(fault);
+            ran.row = machine_fault_row(fault);
             put_message(line.as_str().trim_end().as_bytes(), &mut ran.message);
             status::BAD_ARRIVALS
         }
@@ -150,24 +153,29 @@ pub extern "C" fn fq_machine(
     ran: &mut FqMachineRan,
 ) -> u32
     // What is written is the report of the arrivals with these settings, and an error is theirs.
-    ensures written { result ≡ OK
-        → IsReport settings.now arrivals.now (take ran.new.length report.new) }
-    ensures no_room { result ≡ NO_ROOM → (text : List ℕ) × IsReport settings.now arrivals.now text
+    ensures written { result ≡ MACHINE_OK
+        → IsMachineReport settings.now arrivals.now (take ran.new.length report.new) }
+    ensures no_room { result ≡ MACHINE_NO_ROOM → (text : List ℕ)
+        × IsMachineReport settings.now arrivals.now text
         × (ran.new.length ≡ length text) × (length report.old < length text) }
-    ensures fault { result ≡ BAD_ARRIVALS → (fault : MachineFault)
-        × IsFault settings.now arrivals.now fault × Tells fault ran.new }
-    ensures setting { result ≡ BAD_SETTING → IsOut settings.now ran.new.setting }
-    ensures memory { result ≢ OK → result ≢ NO_ROOM → result ≢ BAD_ARRIVALS → result ≢ BAD_SETTING
-        → result ≢ BAD_SIZE → (result ≡ OUT_OF_MEMORY) × LacksMemory settings.now arrivals.now }
+    ensures fault { result ≡ MACHINE_BAD_ARRIVALS → (fault : MachineFault)
+        × IsMachineFault settings.now arrivals.now fault × Tells fault ran.new }
+    ensures setting { result ≡ MACHINE_BAD_SETTING → IsSettingOut settings.now ran.new.setting }
+    ensures memory { result ≢ MACHINE_OK → result ≢ MACHINE_NO_ROOM
+        → result ≢ MACHINE_BAD_ARRIVALS → result ≢ MACHINE_BAD_SETTING → result ≢ MACHINE_BAD_SIZE
+        → (result ≡ MACHINE_OUT_OF_MEMORY) × MachineLacksMemory settings.now arrivals.now }
 
     // Structs of other sizes are rejected, and then nothing is written; after every other error no report is.
-    ensures size { (result ≡ BAD_SIZE) ↔ ¬ HasSizes settings.now ran.old }
-    ensures same { result ≡ BAD_SIZE → ran.new ≡ ran.old }
-    ensures kept { result ≢ OK → report.new ≡ report.old }
+    ensures size { (result ≡ MACHINE_BAD_SIZE) ↔ ¬ HasSizes settings.now ran.old }
+    ensures same { result ≡ MACHINE_BAD_SIZE → ran.new ≡ ran.old }
+    ensures kept { result ≢ MACHINE_OK → report.new ≡ report.old }
     // What is returned besides the status is of the report, of the error or of the setting, and otherwise 0.
-    ensures faultless { result ≢ BAD_SIZE → result ≢ BAD_ARRIVALS → (ran.new.fault ≡ 0) × (ran.new.row ≡ 0) }
-    ensures set { result ≢ BAD_SIZE → result ≢ BAD_SETTING → ran.new.setting ≡ 0 }
-    ensures no_report { result ≢ BAD_SIZE → result ≢ OK → result ≢ NO_ROOM → ran.new.length ≡ 0 }
+    ensures faultless { result ≢ MACHINE_BAD_SIZE → result ≢ MACHINE_BAD_ARRIVALS
+        → (ran.new.fault ≡ 0) × (ran.new.row ≡ 0) }
+    ensures set { result ≢ MACHINE_BAD_SIZE → result ≢ MACHINE_BAD_SETTING
+        → ran.new.setting ≡ 0 }
+    ensures no_report { result ≢ MACHINE_BAD_SIZE → result ≢ MACHINE_OK
+        → result ≢ MACHINE_NO_ROOM → ran.new.length ≡ 0 }
 {
     if settings.size != FqMachineSettings::SIZE || ran.size != FqMachineRan::SIZE {
         return status::BAD_SIZE;

@@ -5,8 +5,8 @@ ghost use Rattle.std.specs.List.{All};
 ghost use Rattle.machine_words.specs.declared.settings.MachineSettings.{MachineSettings};
 ghost use Rattle.machine_words.specs.Usual.{IsUsual};
 ghost use Rattle.machine_c.specs.Ranges.{IsIn};
-ghost use Rattle.machine_c.specs.Settings.{Asks, ranges_of};
-ghost use Rattle.machine_c.specs.Status.{OK, BAD_SIZE};
+ghost use Rattle.machine_c.specs.Settings.{AsksMachine, ranges_of};
+ghost use Rattle.machine_c.specs.Status.{MACHINE_OK, MACHINE_BAD_SIZE};
 
 use crate::ranges::{Range, within};
 use crate::status;
@@ -107,7 +107,7 @@ pub(crate) fn ranges_of(asked: &FqMachineSettings) -> [Range; SETTINGS]
 /// Returns the machine that is asked for.
 pub(crate) fn settings_of(asked: &FqMachineSettings) -> MachineSettings
     requires { All IsIn (ranges_of asked.now) }
-    ensures { Asks asked.now result }
+    ensures { AsksMachine asked.now result }
 {
     MachineSettings {
         processors: asked.processors,
@@ -136,7 +136,7 @@ pub(crate) fn settings_of(asked: &FqMachineSettings) -> MachineSettings
 
 // Returns what asks for a machine.
 fn asking(settings: &MachineSettings) -> FqMachineSettings
-    ensures asks { Asks result settings.now }
+    ensures asks { AsksMachine result settings.now }
     ensures size { result.size ≡ FqMachineSettings.SIZE }
 {
     FqMachineSettings {
@@ -170,11 +170,11 @@ fn asking(settings: &MachineSettings) -> FqMachineSettings
 /// size, and nothing is written.
 #[unsafe(no_mangle)]
 pub extern "C" fn fq_machine_usual(settings: &mut FqMachineSettings, size: usize) -> u32
-    ensures usual { result ≡ OK → (s : MachineSettings) × IsUsual s × Asks settings.new s }
-    ensures size { result ≡ OK → settings.new.size ≡ 96 }
-    ensures status { result ≢ OK → result ≡ BAD_SIZE }
-    ensures when { (result ≡ OK) ↔ (size ≡ 96) }
-    ensures kept { result ≢ OK → settings.new ≡ settings.old }
+    ensures usual { result ≡ MACHINE_OK → (s : MachineSettings) × IsUsual s × AsksMachine settings.new s }
+    ensures size { result ≡ MACHINE_OK → settings.new.size ≡ 96 }
+    ensures status { result ≢ MACHINE_OK → result ≡ MACHINE_BAD_SIZE }
+    ensures when { (result ≡ MACHINE_OK) ↔ (size ≡ 96) }
+    ensures kept { result ≢ MACHINE_OK → settings.new ≡ settings.old }
 {
     if size != FqMachineSettings::SIZE {
         return status::BAD_SIZE;

@@ -1,6 +1,6 @@
 use Rattle.std.proofs.Common.{◌≡◌, ◌⊎◌, ◌<◌, inl, inr, ℕ, List, length, sym, ap, subst, arith, ◌∙◌}
 use Rattle.machine_report.specs.{Answer.IsReportOf, Fault.IsMachineOutside}
-use Rattle.machine_c.specs.Machine.{IsFault}
+use Rattle.machine_c.specs.Machine.{IsMachineFault}
 use Rattle.machine_c.specs.declared.machine.FqMachineRan.{FqMachineRan}
 use Rattle.machine_c.proofs.OutsideFacts.{memory-status, theirs}
 use Rattle.machine_c.proofs.machine.fq_machine.Goals as goal
@@ -34,11 +34,10 @@ pub returns-in-Err-report_of-clause-memory : goal.returns-in-Err-report_of-claus
 returns-in-Err-report_of-clause-memory c = λ ok room bad setting size.
     let un = c.tell.ensures.untold bad in
     let fault = c.in-Err-report_of.fault in
-    let why : IsMachineOutside fault ⊎ IsFault c.args.settings.now c.args.arrivals.now fault = elim c.in-Err-report_of.ensures.fault [
+    let why : IsMachineOutside fault ⊎ IsMachineFault c.args.settings.now c.args.arrivals.now fault = elim c.in-Err-report_of.ensures.fault [
       | inl outside ↦ inl outside
       | inr is ↦ inr (c.in-Ok.asked, c.in-Ok.ensures.asked, is)
-    ] in
-    (
+    ] in (
       un.0,
       elim un.2 [
         | inl status ↦ (fault, status, why)
