@@ -189,8 +189,8 @@ fn end<D: Drop>(placed: Placed, loose: Loose<D>) -> Finished<D>
     }
 }
 
-// Closes instances that no thread has used.
-fn shut_all<R: Wait + Drop, D: Drop>(placed: Vec<Kept<R, Placed>>, loose: Vec<Kept<R, Loose<D>>>)
+/// Closes instances that no thread has used.
+pub fn shut_all<R: Wait + Drop, D: Drop>(placed: Vec<Kept<R, Placed>>, loose: Vec<Kept<R, Loose<D>>>)
     requires { AllZip IsKeptPartOf (vec_items loose) (vec_items placed) }
 {
     let mut others = loose.into_iter();

@@ -254,7 +254,7 @@ crew_is R asked limits lists pollers number (c ∷ cs) turns = turns (λ e. absu
 -- what the threads of a run return if none failed
 module _ {R D G : Type 0} (acts : D → ℕ) (answer : D → ℕ → Act) (after : D → ℕ → D) (answers : G → ℕ → ℕ → Bool → Type 0)
     (context : RunContext R G) (lists : List (SharedList R)) (pollers : ℕ) (stations : List (Station D)) (loose left : List (Kept R
-        (Loose D)))
+    (Loose D)))
     (opened : AllZip IsKeptLoose stations loose) (ran : HaveRun acts answer after answers context lists pollers loose left)
     (ends : List (Finished D)) (finish : AllZip IsKeptFinishOf left ends) where
   abbrev asked : ℕ → Type 0
@@ -517,7 +517,7 @@ module _ {R D G : Type 0} {may_shut : Type 0} {answers : G → ℕ → ℕ → B
       let ends = vec_items after.served.bench.seats in
       let same : AreSameSeats own ends = subst (λ l. AreSameSeats l ends) p.seats_are (polled_keeps before after did) in
       let Beside : InterruptWorker R D G → Kept R PollHandle → Type 0 = λ w s. (place : Kept R Placed) × IsBackAt place w
-          × IsSeatAt place s in
+      × IsSeatAt place s in
       let both : AllZip Beside workers sat = zip_both _ _ _ _ _ (zip_flip _ _ _ back) at in
       let places : AllZip Beside (filter (λ (w : InterruptWorker R D G). by w.handler.number) workers) own =
       zip_filtered Beside _ _ workers sat (λ w s h. ap by (h.1.number ∙ sym h.2.number)) both in
@@ -570,7 +570,7 @@ module _ {R D G : Type 0} {may_shut : Type 0} {answers : G → ℕ → ℕ → B
       → IsPolled has_no_thread TurnsAlone may_shut answers side thread → thread.stop ≡ None
       → (after : Caller) → thread.served.seat.value.caller ≡ Some after
       → TurnsIfThread R (IsAsked answers context.gate.now) context.limits lists
-          (length wakers) has loose.value.number loose.value.thread after
+      (length wakers) has loose.value.number loose.value.thread after
   turned_by loose side thread false has for wired p whole after is =
       some_is (sym is ∙ ap (λ (s : ThreadPoller R). s.seat.value.caller) (p.none (ap (λ b. not b) has)) ∙ for.seat.caller_is)
   turned_by loose side thread true has for wired p whole after is =

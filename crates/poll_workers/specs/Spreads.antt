@@ -96,7 +96,7 @@ module _ {R : Type 0} where
   abbrev pub HaveOwn : ℕ → ℕ → List (Kept R PollHandle) → List (Vec (Kept R PollHandle)) → Type 0
   HaveOwn count pollers seats =
       EachAt (λ k own. (vec_items own ≡ filter (λ (s : Kept R PollHandle). is_own k pollers s.value.number) seats) ×
-          (count ≤ vec_capacity own))
+      (count ≤ vec_capacity own))
 
   -- a poller has one more seat
   pub record TakesSeat (before : List (Vec (Kept R PollHandle))) (poller : ℕ) (seat : Kept R PollHandle) (after : List (Vec

@@ -11,9 +11,9 @@ use Rattle.poll_workers.proofs.spreading.spread.Goals as goal
 pub loop-rest-init : goal.loop-rest-init
 loop-rest-init g c =
     let no_jobs : vec_items c.args.rooms.tasks.workers ≡ [] = nil_from_length _ (grind
-        (arith, common_steps, c.requires.rooms.tasks.workers.0)) in
+    (arith, common_steps, c.requires.rooms.tasks.workers.0)) in
     let no_sides : vec_items c.args.rooms.tasks.threads ≡ [] = nil_from_length _ (grind
-        (arith, common_steps, c.requires.rooms.tasks.threads.0)) in (
+    (arith, common_steps, c.requires.rooms.tasks.threads.0)) in (
       [],
       [],
       [],
@@ -32,15 +32,15 @@ loop-rest-init g c =
         threads = rw no_sides tt;
         own = c.requires.rooms.seats _;
         poller_count = c.requires.rooms.seat_len;
-        list_count = c.requires.rooms.end_len;
-        ends = rw c.into_iter-rests.ensures.len c.requires.rooms.ends;
+        list_count = c.requires.ends.1;
+        ends = rw c.into_iter-rests.ensures.len c.requires.ends.0;
         count = grind (arith, common_steps);
         seat_count = grind (arith, common_steps);
         side_count = grind (arith, common_steps);
         room = c.requires.rooms.tasks.workers.1;
         side_room = c.requires.rooms.tasks.threads.1;
         long = grind (arith, common_steps);
-        pollers = (refl, refl);
+        pollers = refl;
         rest = (refl, refl, refl);
       },
     )
