@@ -1,6 +1,6 @@
 //! A run of all stations.
 
-ghost use Rattle.std.specs.Prelude.{◌≡◌, ◌≤◌, IfErr, IfOk, IfSome, IsErrOf, IsTrue, None, length, map, vec_items, vec_len};
+ghost use Rattle.std.specs.Prelude.{◌≡◌, ◌≤◌, IfErr, IfOk, IfSome, IsErrOf, IsTrue, None, length, map, true, vec_items, vec_len};
 ghost use Rattle.std.specs.List.{All, AllZip};
 ghost use Rattle.std.specs.Borrow.{Bor};
 ghost use Rattle.poll_tasks.specs.Asks.{IsAsked};
@@ -158,6 +158,13 @@ where
     }
 }
 
+// Returns whether a thread could not be started.
+fn is_refused<G: Gate>(flags: &StopFlags<G>) -> bool
+    ensures { result ≡ true → IsRefused }
+{
+    flags.refused.load(Ordering::SeqCst) != 0
+}
+
 // Returns the result of a run.
 fn run_result<T: Drop>(
     came: Result<Result<T, Stop>, AllocError>,
@@ -236,5 +243,5 @@ where
         },
     };
     let came = run_all(&context, alloc, pollers as usize, stations);
-    run_result(came, flags.refused.load(Ordering::SeqCst) != 0)
+    run_result(came, is_refused(&flags))
 }

@@ -18,7 +18,7 @@ run_threads-requires-clause-begins g c κs within =
 
 pub shut_all-requires : goal.shut_all-requires
 shut_all-requires g c =
-    rw c.in-Err.ensures (zip_same _ _ _ _ (λ l p h. h.part) c.in_ok-placed.ensures.sides)
+    rw c.in-Err.ensures.back (zip_same _ _ _ _ (λ l p h. h.part) c.in_ok-placed.ensures.sides)
 
 pub returns-in-Ok-clause-finished : goal.returns-in-Ok-clause-finished
 returns-in-Ok-clause-finished g c =
