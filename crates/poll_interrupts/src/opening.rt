@@ -189,8 +189,8 @@ fn end<D: Drop>(placed: Placed, loose: Loose<D>) -> Finished<D>
     }
 }
 
-// Closes instances that no thread has used.
-fn shut_all<R: Wait + Drop, D: Drop>(
+/// Closes instances that no thread has used.
+pub fn shut_all<R: Wait + Drop, D: Drop>(
     placed: Vec<DropBomb<R, Placed>>,
     loose: Vec<DropBomb<R, Loose<D>>>,
 )
