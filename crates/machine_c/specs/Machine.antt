@@ -3,7 +3,7 @@ use Rattle.std.specs.Prelude.{◌≡◌, ◌⊎◌, ℕ, List}
 use Rattle.machine_words.specs.declared.settings.MachineSettings.{MachineSettings}
 use Rattle.machine_report.specs.{Answer.{IsReportOf, IsArrivalsFault}, Fault.{IsMachineOutside, machine_fault_number}}
 use Rattle.machine_report.specs.declared.fault.MachineFault.{MachineFault}
-use Rattle.machine_c.specs.{Faults.{machine_fault_status, machine_fault_row}, Settings.Asks, Status.MACHINE_OUT_OF_MEMORY}
+use Rattle.machine_c.specs.{Faults.{machine_fault_status, machine_fault_row}, Settings.AsksMachine, Status.MACHINE_OUT_OF_MEMORY}
 use Rattle.machine_c.specs.declared.{machine.FqMachineRan.FqMachineRan, settings.FqMachineSettings.FqMachineSettings}
 
 -- both structs have this library's sizes
