@@ -34,7 +34,8 @@ pub returns-in-Err-report_of-clause-memory : goal.returns-in-Err-report_of-claus
 returns-in-Err-report_of-clause-memory c = λ ok room bad setting size.
     let un = c.tell.ensures.untold bad in
     let fault = c.in-Err-report_of.fault in
-    let why : IsMachineOutside fault ⊎ IsMachineFault c.args.settings.now c.args.arrivals.now fault = elim c.in-Err-report_of.ensures.fault [
+    let why : IsMachineOutside fault ⊎ IsMachineFault c.args.settings.now c.args.arrivals.now fault =
+    elim c.in-Err-report_of.ensures.fault [
       | inl outside ↦ inl outside
       | inr is ↦ inr (c.in-Ok.asked, c.in-Ok.ensures.asked, is)
     ] in (

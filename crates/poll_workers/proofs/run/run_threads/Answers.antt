@@ -17,18 +17,21 @@ pollers_of-requires-clause-room g c =
 
 pub drive-tasks-requires-clause-pollers : goal.drive-tasks-requires-clause-pollers
 drive-tasks-requires-clause-pollers g c κs within =
-    let room = subst (λ t. HaveRoom (length c.args.wakers.now) c.len.result t) (sym c.spread-tasks.ensures.rest.0) c.in-Ok.ensures.spawned in
+    let room =
+    subst (λ t. HaveRoom (length c.args.wakers.now) c.len.result t) (sym c.spread-tasks.ensures.rest.0) c.in-Ok.ensures.spawned in
     (room.pollers.0, grind (arith, common_steps, c.pollers_of.ensures.len, room.pollers.1))
 
 pub drive-tasks-requires-clause-workers : goal.drive-tasks-requires-clause-workers
 drive-tasks-requires-clause-workers g c κs within =
-    let room = subst (λ t. HaveRoom (length c.args.wakers.now) c.len.result t) (sym c.spread-tasks.ensures.rest.0) c.in-Ok.ensures.spawned in
+    let room =
+    subst (λ t. HaveRoom (length c.args.wakers.now) c.len.result t) (sym c.spread-tasks.ensures.rest.0) c.in-Ok.ensures.spawned in
     let a = zip_long _ _ _ c.spread-tasks.ensures.jobs in
     (room.workers.0, grind (arith, common_steps, a, c.len.ensures, room.workers.1))
 
 pub drive-tasks-requires-clause-threads : goal.drive-tasks-requires-clause-threads
 drive-tasks-requires-clause-threads g c κs within =
-    let room = subst (λ t. HaveRoom (length c.args.wakers.now) c.len.result t) (sym c.spread-tasks.ensures.rest.0) c.in-Ok.ensures.spawned in
+    let room =
+    subst (λ t. HaveRoom (length c.args.wakers.now) c.len.result t) (sym c.spread-tasks.ensures.rest.0) c.in-Ok.ensures.spawned in
     let a = zip_long _ _ _ c.spread-tasks.ensures.threads in
     (room.threads.0, grind (arith, common_steps, a, c.len.ensures, room.threads.1))
 
