@@ -1,15 +1,16 @@
 -- A driver for C: what it says, as numbers, and the status and the effect of each call.
-use Rattle.std.specs.Prelude.{◌≡◌, ◌≢◌, ◌⊎◌, ◌↔◌, ℕ, ◌<◌, ◌≤◌, ◌==◌, ◌||◌, Bool, true, false, not, nat_le, nat_lt, if◌then◌else◌}
-use Rattle.std.specs.{Prelude.{length, IsSome}, List.All}
+use Rattle.std.specs.Prelude.{◌≡◌, ◌≢◌, ◌⊎◌, ◌↔◌, ℕ, ◌<◌, ◌≤◌, ◌==◌, ◌||◌, false, nat_le, if◌then◌else◌}
+use Rattle.std.specs.Prelude.{length, IsSome}
 use Rattle.napi_model.specs.declared.event.Prep.{Prep, TheVariants.{Granted, Missed, Disabled}}
 use Rattle.napi_model.specs.Step.{schedule_reply}
 use Rattle.driver_core.specs.{Device.{after_interrupt, is_stopping, after_open, after_stop, MayStop}, Steps.{stage_is_scheduled, napi_of}}
-use Rattle.driver_core.specs.Driver.{counts_of, device_of, driver_devices, limits_of, number_of, polled_device, stage_of}
-use Rattle.driver_core.specs.Driver.{AreClosed, IsDue, IsFree, IsIdle, IsNumberedAs, IsReport, PutsDevice, Reports}
-use Rattle.driver_core.specs.declared.{driver.Driver.Driver, limits.Limits.Limits, device.Stage.{Stage, TheVariants.Closed}}
+use Rattle.driver_core.specs.Driver.{poll_counts_of, device_of, driver_devices, limits_of, said_number_of, polled_device, stage_of}
+use Rattle.driver_core.specs.Driver.{AreClosed, IsDue, AwaitsNothing, IsIdle, IsNumberedWhat, IsReport, PutsDevice, Reports}
+use Rattle.driver_core.specs.declared.{driver.Driver.Driver, device.Stage.{Stage, TheVariants.Closed}}
 use Rattle.driver_core.specs.declared.todo.What.{What, TheVariants.{Mask, Unmask, Look, Fetch, Ended, Sleep}}
-use Rattle.c_handles.specs.Status.{OK, GRANTED, MISSED, DISABLED, NOT_DUE, BAD_DEVICE, BAD_SIZE, BAD_WORK, BAD_COUNT, BAD_WEIGHT}
-use Rattle.c_handles.specs.{Status.BAD_BUDGET, declared.{lister.FqRunReport.FqRunReport, drive.{FqTodo.FqTodo, FqDeviceShown.FqDeviceShown}}}
+use Rattle.c_handles.specs.Status.{OK, GRANTED, MISSED, DISABLED, NOT_DUE, BAD_DEVICE, BAD_SIZE, BAD_WORK, BAD_COUNT}
+use Rattle.c_handles.specs.{Status.{BAD_BUDGET, BAD_WEIGHT}, declared.lister.FqRunReport.FqRunReport}
+use Rattle.c_handles.specs.declared.drive.{FqTodo.FqTodo, FqDeviceShown.FqDeviceShown}
 
 -- ---- a new driver
 
@@ -49,9 +50,9 @@ abbrev pub most_in : What → ℕ
 most_in (Fetch id most) = most
 most_in _ = 0
 
-abbrev pub run_in : What → FqRunReport
-run_in (Ended r) = record { polls = r.polls; work = r.work; squeezed = r.squeezed }
-run_in _ = no_run
+abbrev pub todo_run_in : What → FqRunReport
+todo_run_in (Ended r) = record { polls = r.polls; work = r.work; squeezed = r.squeezed }
+todo_run_in _ = no_run
 
 abbrev pub todo_in : ℕ → ℕ → What → FqTodo
 todo_in size number what = record {
@@ -61,7 +62,7 @@ todo_in size number what = record {
   device = device_in what;
   most = most_in what;
   packets = 0;
-  run = run_in what;
+  run = todo_run_in what;
 }
 
 -- the driver says this, which is due; the same again until it is reported or isn't due any more, and otherwise under a new number
@@ -69,31 +70,31 @@ pub record Says (size : ℕ) (d : Driver) (todo : FqTodo) (e : Driver) : Type 0 
   pub what : What
   pub said : todo ≡ todo_in size todo.number what
   pub due : IsDue e what
-  pub number : IsFree d → IsNumberedAs (number_of d) (number_of e) todo.number what
-  pub again : ¬ IsFree d → (e ≡ d) × (todo.number ≡ number_of d)
+  pub number : AwaitsNothing d → IsNumberedWhat (said_number_of d) (said_number_of e) todo.number what
+  pub again : ¬ AwaitsNothing d → (e ≡ d) × (todo.number ≡ said_number_of d)
   pub devices : driver_devices e ≡ driver_devices d
   pub counts : e.counts ≡ d.counts
 
 -- of these structs the first is the caller's before, and the second after
-pub record IsNext (before after : FqTodo) (d : Driver) (n : ℕ) (e : Driver) : Type 0 where
+pub record IsDriverNext (before after : FqTodo) (d : Driver) (n : ℕ) (e : Driver) : Type 0 where
   pub size : (n ≡ BAD_SIZE) ↔ (before.size < 48)
   pub status : (n ≡ OK) ⊎ (n ≡ BAD_SIZE)
   pub says : n ≡ OK → Says before.size d after e
   pub kept : n ≡ BAD_SIZE → (after ≡ before) × (e ≡ d)
 
 -- a report, and the driver after it
-pub record IsReported (number packets : ℕ) (d : Driver) (n : ℕ) (e : Driver) : Type 0 where
+pub record IsTodoReport (number packets : ℕ) (d : Driver) (n : ℕ) (e : Driver) : Type 0 where
   pub none : number ≡ 0 → (n ≡ OK) × (e ≡ d)
   pub due : number ≢ 0 → (n ≡ OK) ↔ IsReport number packets d
-  pub reports : number ≢ 0 → n ≡ OK → Reports packets d e × IsFree e
-  pub many : number ≢ 0 → n ≢ OK → (n ≡ BAD_WORK) ↔ ((number ≡ number_of d) × IsSome (polled_device d))
+  pub reports : number ≢ 0 → n ≡ OK → Reports packets d e × AwaitsNothing e
+  pub many : number ≢ 0 → n ≢ OK → (n ≡ BAD_WORK) ↔ ((number ≡ said_number_of d) × IsSome (polled_device d))
   pub status : (n ≡ OK) ⊎ (n ≡ NOT_DUE) ⊎ (n ≡ BAD_WORK)
   pub kept : n ≢ OK → e ≡ d
 
 -- what the struct says is reported
-pub record IsDone (todo : FqTodo) (d : Driver) (n : ℕ) (e : Driver) : Type 0 where
+pub record IsDriverDone (todo : FqTodo) (d : Driver) (n : ℕ) (e : Driver) : Type 0 where
   pub size : (n ≡ BAD_SIZE) ↔ (todo.size < 48)
-  pub reported : n ≢ BAD_SIZE → IsReported todo.number todo.packets d n e
+  pub reported : n ≢ BAD_SIZE → IsTodoReport todo.number todo.packets d n e
   pub kept : n ≡ BAD_SIZE → e ≡ d
 
 -- ---- what happened at a device
@@ -108,19 +109,19 @@ reply_status Granted = GRANTED
 reply_status Missed = MISSED
 reply_status Disabled = DISABLED
 
-pub record IsInterrupt (device : ℕ) (d : Driver) (n : ℕ) (e : Driver) : Type 0 where
+pub record IsDriverInterrupt (device : ℕ) (d : Driver) (n : ℕ) (e : Driver) : Type 0 where
   pub bad : IsNoDevice device d n e
   pub reply : n ≢ BAD_DEVICE → n ≡ reply_status (schedule_reply (napi_of (device_of d device)))
   pub puts : n ≢ BAD_DEVICE → PutsDevice device (after_interrupt (device_of d device)) d e
 
-pub record IsOpen (device : ℕ) (d : Driver) (n : ℕ) (e : Driver) : Type 0 where
+pub record IsDriverOpen (device : ℕ) (d : Driver) (n : ℕ) (e : Driver) : Type 0 where
   pub bad : IsNoDevice device d n e
   pub status : (n ≡ OK) ⊎ (n ≡ NOT_DUE) ⊎ (n ≡ BAD_DEVICE)
   pub when : n ≢ BAD_DEVICE → (n ≡ OK) ↔ (stage_of d device ≡ Closed)
   pub puts : n ≡ OK → PutsDevice device (after_open (device_of d device)) d e
   pub kept : n ≢ OK → e ≡ d
 
-pub record IsStop (device : ℕ) (d : Driver) (n : ℕ) (e : Driver) : Type 0 where
+pub record IsDriverStop (device : ℕ) (d : Driver) (n : ℕ) (e : Driver) : Type 0 where
   pub bad : IsNoDevice device d n e
   pub status : (n ≡ OK) ⊎ (n ≡ NOT_DUE) ⊎ (n ≡ BAD_DEVICE)
   pub when : n ≢ BAD_DEVICE → (n ≡ OK) ↔ MayStop (stage_of d device)
@@ -130,21 +131,21 @@ pub record IsStop (device : ℕ) (d : Driver) (n : ℕ) (e : Driver) : Type 0 wh
 -- ---- what is shown of a device (`struct fq_device_shown`)
 
 -- 0 closed, 1 open, 2 being stopped
-abbrev pub state_in : Stage → ℕ
-state_in Closed = 0
-state_in stage = if is_stopping stage then 2 else 1
+abbrev pub device_state_in : Stage → ℕ
+device_state_in Closed = 0
+device_state_in stage = if is_stopping stage then 2 else 1
 
 abbrev pub shown_of : ℕ → Driver → ℕ → FqDeviceShown
 shown_of size d device = record {
   size = size;
-  state = state_in (stage_of d device);
+  state = device_state_in (stage_of d device);
   scheduled = stage_is_scheduled (stage_of d device);
   missed = (device_of d device).missed;
-  polls = (counts_of d device).polls;
-  packets = (counts_of d device).packets;
+  polls = (poll_counts_of d device).polls;
+  packets = (poll_counts_of d device).packets;
 }
 
-pub record IsShow (before after : FqDeviceShown) (device : ℕ) (d : Driver) (n : ℕ) (e : Driver) : Type 0 where
+pub record IsDriverShow (before after : FqDeviceShown) (device : ℕ) (d : Driver) (n : ℕ) (e : Driver) : Type 0 where
   pub size : (n ≡ BAD_SIZE) ↔ (before.size < 32)
   pub bad : n ≢ BAD_SIZE → (n ≡ BAD_DEVICE) ↔ (length (driver_devices d) ≤ device)
   pub status : (n ≡ OK) ⊎ (n ≡ BAD_DEVICE) ⊎ (n ≡ BAD_SIZE)

@@ -2,7 +2,7 @@
 
 ghost use Rattle.std.specs.Prelude.{◌≡◌, length, nat_lt};
 ghost use Rattle.driver_core.specs.Driver.{driver_devices};
-ghost use Rattle.c_handles.specs.Drivers.{device_in, most_in, reply_status, run_in, shown_of, state_in, todo_in, what_in, IsDone, IsInterrupt, IsNext, IsOpen, IsReported, IsShow, IsStop, Says};
+ghost use Rattle.c_handles.specs.Drivers.{device_in, most_in, reply_status, todo_run_in, shown_of, device_state_in, todo_in, what_in, IsDriverDone, IsDriverInterrupt, IsDriverNext, IsDriverOpen, IsTodoReport, IsDriverShow, IsDriverStop, Says};
 
 use crate::lister::FqRunReport;
 use crate::status;
@@ -81,8 +81,8 @@ fn where_in(what: What) -> (u32, u32)
 }
 
 // The report of the run that ended.
-fn run_in(what: What) -> FqRunReport
-    ensures { result ≡ run_in what }
+fn todo_run_in(what: What) -> FqRunReport
+    ensures { result ≡ todo_run_in what }
 {
     match what {
         What::Ended(report) => FqRunReport {
@@ -106,7 +106,7 @@ fn todo_in(size: usize, todo: Todo) -> FqTodo
         device,
         most,
         packets: 0,
-        run: run_in(todo.what),
+        run: todo_run_in(todo.what),
     }
 }
 
@@ -120,7 +120,7 @@ fn say(driver: &mut Driver, size: usize) -> FqTodo
 
 /// Sets `todo` to what is to be done next (`Driver::next`).
 pub fn next(driver: &mut Driver, todo: &mut FqTodo) -> u32
-    ensures { IsNext todo.old todo.new driver.old result driver.new }
+    ensures { IsDriverNext todo.old todo.new driver.old result driver.new }
 {
     if todo.size < size_of::<FqTodo>() {
         return status::BAD_SIZE;
@@ -131,7 +131,7 @@ pub fn next(driver: &mut Driver, todo: &mut FqTodo) -> u32
 
 // Reports what was done under this number; 0 reports nothing.
 fn report(driver: &mut Driver, number: u64, packets: u32) -> u32
-    ensures { IsReported number packets driver.old result driver.new }
+    ensures { IsTodoReport number packets driver.old result driver.new }
 {
     if number == 0 {
         return status::OK;
@@ -145,7 +145,7 @@ fn report(driver: &mut Driver, number: u64, packets: u32) -> u32
 
 /// Reports that what `todo` says was done (`Driver::done`).
 pub fn done(driver: &mut Driver, todo: &FqTodo) -> u32
-    ensures { IsDone todo.now driver.old result driver.new }
+    ensures { IsDriverDone todo.now driver.old result driver.new }
 {
     if todo.size < size_of::<FqTodo>() {
         return status::BAD_SIZE;
@@ -161,7 +161,7 @@ fn has_device(driver: &Driver, device: u32) -> bool
 
 /// Reports an interrupt of a card (`Driver::interrupt`).
 pub fn interrupt(driver: &mut Driver, device: u32) -> u32
-    ensures { IsInterrupt device driver.old result driver.new }
+    ensures { IsDriverInterrupt device driver.old result driver.new }
 {
     if !has_device(driver, device) {
         return status::BAD_DEVICE;
@@ -175,7 +175,7 @@ pub fn interrupt(driver: &mut Driver, device: u32) -> u32
 
 /// Opens a device (`Driver::open`).
 pub fn open(driver: &mut Driver, device: u32) -> u32
-    ensures { IsOpen device driver.old result driver.new }
+    ensures { IsDriverOpen device driver.old result driver.new }
 {
     if !has_device(driver, device) {
         return status::BAD_DEVICE;
@@ -188,7 +188,7 @@ pub fn open(driver: &mut Driver, device: u32) -> u32
 
 /// Stops a device (`Driver::stop`).
 pub fn stop(driver: &mut Driver, device: u32) -> u32
-    ensures { IsStop device driver.old result driver.new }
+    ensures { IsDriverStop device driver.old result driver.new }
 {
     if !has_device(driver, device) {
         return status::BAD_DEVICE;
@@ -201,7 +201,7 @@ pub fn stop(driver: &mut Driver, device: u32) -> u32
 
 // The number of a device's state (`enum fq_device_state`).
 fn state_of(device: DriverDevice) -> u32
-    ensures { result ≡ state_in device.stage }
+    ensures { result ≡ device_state_in device.stage }
 {
     if device.stage == Stage::Closed {
         return 0;
@@ -211,7 +211,7 @@ fn state_of(device: DriverDevice) -> u32
 
 /// Sets `shown` to the state and the counts of a device.
 pub fn show(driver: &Driver, device: u32, shown: &mut FqDeviceShown) -> u32
-    ensures { IsShow shown.old shown.new device driver.now result driver.now }
+    ensures { IsDriverShow shown.old shown.new device driver.now result driver.now }
 {
     if shown.size < size_of::<FqDeviceShown>() {
         return status::BAD_SIZE;

@@ -51,7 +51,8 @@ pub none_in : (devices : List DriverDevice) (bits : ℕ) → bits ≡ 0 → leng
 none_in devices bits zero few marks k d lt =
     let e : get_or devices k d ≡ device_at devices k = get_or_default devices k d (in_stage Closed false) lt in
     let off : has_chore (device_at devices k) ≡ false =
-    flag-none (has_chore (device_at devices k)) (sym (ap (λ (n : ℕ). bit_at n k) zero ∙ bit_at-zero k) ∙ marks k (omega (arith, lt, few))) in
+    let none : bit_at bits k ≡ 0 = ap (λ (n : ℕ). bit_at n k) zero ∙ bit_at-zero k in
+    flag-none (has_chore (device_at devices k)) (sym none ∙ marks k (omega (arith, lt, few))) in
     ap (λ (d : DriverDevice). chore_at d.stage) e ∙ no-chore (chore_at (device_at devices k).stage) off
 
 -- a device and its bit change together

@@ -15,7 +15,7 @@ use Rattle.poll_runs.specs.{Polls.{is_arrival, is_repoll}, Steps.{Asks, Begins, 
 use Rattle.poll_runs.specs.{declared.{bench.Next.Next, polling_run.PollingRun.PollingRun}}
 use Rattle.driver_core.specs.Device.{in_stage, chore_at, completed_at, stage_is_listed, is_stopping, after_driver_poll, after_poll_at}
 use Rattle.driver_core.specs.Device.{IsAtRest}
-use Rattle.driver_core.specs.{Queue.{IsAsked, IsQueue, device_at, listed_at, listed_in, occurs}}
+use Rattle.driver_core.specs.{Queue.{IsStillDue, IsQueue, device_at, listed_at, listed_in, occurs}}
 use Rattle.driver_core.specs.declared.device.{Chore.Chore, DriverDevice.DriverDevice}
 use Rattle.driver_core.specs.declared.device.{Stage.{Stage, TheVariants.{Closed, Masking, Closing, Listed, Unmasking, Looking, Armed}}}
 
@@ -340,7 +340,7 @@ pub put_asked : (devices : List DriverDevice) (polled : Option ℕ) (said kept :
     → id < length devices
     → (kept ≡ said) ⊎ (kept ≡ None)
     → ((k : ℕ) (chore : Chore) → kept ≡ Some (k, chore) → (k ≢ id) ⊎ (chore_at to.stage ≡ Some chore))
-    → IsAsked devices polled said → IsAsked (set devices id to) polled kept
+    → IsStillDue devices polled said → IsStillDue (set devices id to) polled kept
 put_asked devices run-asked said kept id to lt same due a =
     let was : (k : ℕ) (chore : Chore) → kept ≡ Some (k, chore) → said ≡ Some (k, chore) =
     λ k chore e. elim same [ inl s ↦ sym s ∙ e | inr gone ↦ let both : None ≡ Some (k, chore) = sym gone ∙ e in absurd (cc both) ] in
@@ -362,7 +362,7 @@ put_asked devices run-asked said kept id to lt same due a =
 
 -- while a device is polled nothing is said of a card
 pub asked_alone : (devices : List DriverDevice) (polled : Option ℕ) (id : ℕ) (said : Option (ℕ × Chore)) → polled ≡ Some id
-    → IsAsked devices polled said → said ≡ None
+    → IsStillDue devices polled said → said ≡ None
 asked_alone devices run-asked id None is a = refl
 asked_alone devices run-asked id (Some (k, chore)) is a =
     let both : Some id ≡ None = sym is ∙ a.alone k chore refl in

@@ -6,8 +6,8 @@ abbrev pub no_counts : PollCounts
 no_counts = record { polls = 0; packets = 0 }
 
 -- after one more poll, of so many packets
-abbrev pub counting : ℕ → PollCounts → PollCounts
-counting packets c = record {
+abbrev pub count_one_poll : ℕ → PollCounts → PollCounts
+count_one_poll packets c = record {
   polls = min (c.polls + 1) 18446744073709551615;
   packets = min (c.packets + packets) 18446744073709551615;
 }

@@ -8,9 +8,10 @@ use Rattle.poll_runs.specs.{Driven.IsGoing, Steps.HoldsNothing, Plain.{NothingBe
 use Rattle.poll_runs.specs.{declared.bench.Next.Next}
 use Rattle.driver_core.specs.declared.device.{Chore.Chore, DriverDevice.DriverDevice, Stage.{Stage, TheVariants.Closed}}
 use Rattle.driver_core.specs.declared.device.Chore.TheVariants as chore
-use Rattle.driver_core.specs.{Counts.{counting, no_counts}, declared.counts.PollCounts.PollCounts}
+use Rattle.driver_core.specs.{Counts.{count_one_poll, no_counts}, declared.counts.PollCounts.PollCounts}
 use Rattle.driver_core.specs.{Device.{in_stage, chore_at, did, stage_is_listed, after_driver_poll, IsAtRest}, Queue.{device_at, following}}
-use Rattle.driver_core.specs.declared.{driver.Driver.Driver, todo.{Todo.Todo, What.{What, TheVariants.{Mask, Unmask, Look, Fetch, Ended, Sleep}}}}
+use Rattle.driver_core.specs.declared.{driver.Driver.Driver, todo.Todo.Todo}
+use Rattle.driver_core.specs.declared.todo.What.{What, TheVariants.{Mask, Unmask, Look, Fetch, Ended, Sleep}}
 
 abbrev pub driver_devices : Driver → List DriverDevice
 driver_devices driver = driver.devices.all.items
@@ -21,8 +22,8 @@ device_of driver id = device_at (driver_devices driver) id
 abbrev pub stage_of : Driver → ℕ → Stage
 stage_of driver id = (device_of driver id).stage
 
-abbrev pub counts_of : Driver → ℕ → PollCounts
-counts_of driver id = slice_index_or driver.counts.items id no_counts
+abbrev pub poll_counts_of : Driver → ℕ → PollCounts
+poll_counts_of driver id = slice_index_or driver.counts.items id no_counts
 
 -- the devices that are on the poll list and not yet in a run, in order
 abbrev pub list_of : Driver → List ℕ
@@ -44,12 +45,12 @@ abbrev pub said_of : Driver → Option (ℕ × Chore)
 said_of driver = driver.said
 
 -- the number of what was said last
-abbrev pub number_of : Driver → ℕ
-number_of driver = driver.number
+abbrev pub said_number_of : Driver → ℕ
+said_number_of driver = driver.number
 
 -- nothing that was said is still to be reported
-abbrev pub IsFree : Driver → Type 0
-IsFree driver = (said_of driver ≡ None) × (polled_device driver ≡ None)
+abbrev pub AwaitsNothing : Driver → Type 0
+AwaitsNothing driver = (said_of driver ≡ None) × (polled_device driver ≡ None)
 
 -- ---- what calls change
 
@@ -73,11 +74,11 @@ pub record PutsOnList (id : ℕ) (to : DriverDevice) (before after : Driver) : T
   pub devices : driver_devices after ≡ slice_set (driver_devices before) id to
   pub list : after.list ≡ before.list ++ (if stage_is_listed to.stage then id ∷ [] else [])
   pub same : SameRun before after
-  pub free : IsFree after
+  pub free : AwaitsNothing after
 
 -- what was to be done at the card of a device was done
-abbrev pub Does : ℕ → Chore → Bool → Driver → Driver → Type 0
-Does id chore has_more before after = PutsOnList id (did chore has_more (device_of before id)) before after
+abbrev pub DoesChore : ℕ → Chore → Bool → Driver → Driver → Type 0
+DoesChore id chore has_more before after = PutsOnList id (did chore has_more (device_of before id)) before after
 
 -- the poll of a device that took so many packets, and how it ended
 abbrev pub after_poll_of : ℕ → ℕ → Driver → DriverDevice × Next
@@ -89,10 +90,10 @@ poll_of id packets driver = record { id = id; once = record { work = packets; ne
 -- the poll under way was this one, and its device is what the poll leaves
 pub record Ends (id packets : ℕ) (before after : Driver) : Type 0 where
   pub devices : driver_devices after ≡ slice_set (driver_devices before) id (after_poll_of id packets before).0
-  pub counts : after.counts.items ≡ slice_set before.counts.items id (counting packets (counts_of before id))
+  pub counts : after.counts.items ≡ slice_set before.counts.items id (count_one_poll packets (poll_counts_of before id))
   pub limits : after.limits ≡ before.limits
-  pub number : number_of after ≡ number_of before
-  pub free : IsFree after
+  pub number : said_number_of after ≡ said_number_of before
+  pub free : AwaitsNothing after
 
 -- ---- reports
 
@@ -105,25 +106,25 @@ IsAwaited packets weight None None = ⊥
 -- a report under this number is due
 abbrev pub IsReport : ℕ → ℕ → Driver → Type 0
 IsReport number packets driver =
-    (number ≡ number_of driver) × IsAwaited packets (limits_of driver).weight (said_of driver) (polled_device driver)
+    (number ≡ said_number_of driver) × IsAwaited packets (limits_of driver).weight (said_of driver) (polled_device driver)
 
 abbrev pub ReportsOf : ℕ → Driver → Driver → Option (ℕ × Chore) → Option ℕ → Type 0
 ReportsOf packets before after said (Some id) = Ends id packets before after
-ReportsOf packets before after (Some said) None = Does said.0 said.1 (nat_lt 0 packets) before after
+ReportsOf packets before after (Some said) None = DoesChore said.0 said.1 (nat_lt 0 packets) before after
 ReportsOf packets before after None None = ⊥
 
 -- what was said last was done: a poll that took so many packets, or what was to be done at a card
 abbrev pub Reports : ℕ → Driver → Driver → Type 0
 Reports packets before after = ReportsOf packets before after (said_of before) (polled_device before)
 
-abbrev pub IsNumberedAs : ℕ → ℕ → ℕ → What → Type 0
-IsNumberedAs before after number Sleep = (number ≡ 0) × (after ≡ before)
-IsNumberedAs before after number (Ended report) = (number ≡ 0) × (after ≡ before)
-IsNumberedAs before after number what = (number ≡ after) × (after ≡ following before)
+abbrev pub IsNumberedWhat : ℕ → ℕ → ℕ → What → Type 0
+IsNumberedWhat before after number Sleep = (number ≡ 0) × (after ≡ before)
+IsNumberedWhat before after number (Ended report) = (number ≡ 0) × (after ≡ before)
+IsNumberedWhat before after number what = (number ≡ after) × (after ≡ following before)
 
 -- what is to be reported has a number of its own, and what isn't has none
-abbrev pub IsNumbered : ℕ → ℕ → Todo → Type 0
-IsNumbered before after todo = IsNumberedAs before after todo.number todo.what
+abbrev pub IsNumberedTodo : ℕ → ℕ → Todo → Type 0
+IsNumberedTodo before after todo = IsNumberedWhat before after todo.number todo.what
 
 -- nothing is on the list, and no run is under way
 pub record IsIdle (driver : Driver) : Type 0 where

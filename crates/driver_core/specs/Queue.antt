@@ -37,7 +37,7 @@ pub record HasLimits (limits : Limits) (run : PollingRun) : Type 0 where
   pub window : run.window ≡ limits.window
 
 -- what was said last of a card is still to be done there, and then no device is polled
-pub record IsAsked (devices : List DriverDevice) (polled : Option ℕ) (said : Option (ℕ × Chore)) : Type 0 where
+pub record IsStillDue (devices : List DriverDevice) (polled : Option ℕ) (said : Option (ℕ × Chore)) : Type 0 where
   pub range : (id : ℕ) (chore : Chore) → said ≡ Some (id, chore) → id < length devices
   pub chore : (id : ℕ) (chore : Chore) → said ≡ Some (id, chore) → chore_at (device_at devices id).stage ≡ Some chore
   pub alone : (id : ℕ) (chore : Chore) → said ≡ Some (id, chore) → polled ≡ None

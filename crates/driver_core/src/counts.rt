@@ -1,7 +1,7 @@
 //! The counts of a device's polls.
 
 ghost use Rattle.std.specs.Prelude.{◌≡◌};
-ghost use Rattle.driver_core.specs.Counts.{counting};
+ghost use Rattle.driver_core.specs.Counts.{count_one_poll};
 
 /// The counts of a device's polls, since the driver was created.
 #[derive(Clone, Copy, Debug, PartialEq, Eq)]
@@ -21,7 +21,7 @@ impl PollCounts {
 
     // After one more poll, of so many packets.
     pub(crate) fn and(self, packets: u32) -> PollCounts
-        ensures { result ≡ counting packets self }
+        ensures { result ≡ count_one_poll packets self }
     {
         PollCounts {
             polls: self.polls.saturating_add(1),

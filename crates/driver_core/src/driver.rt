@@ -3,7 +3,7 @@
 ghost use Rattle.std.specs.Prelude.{◌≡◌, ◌≤◌, ◌<◌, false, true, length, IfOk, replicate};
 ghost use Rattle.poll_runs.specs.Steps.{HoldsNothing};
 ghost use Rattle.driver_core.specs.Counts.{no_counts};
-ghost use Rattle.driver_core.specs.Queue.{HasLimits, IsAsked, IsQueue};
+ghost use Rattle.driver_core.specs.Queue.{HasLimits, IsStillDue, IsQueue};
 
 use crate::counts::PollCounts;
 use crate::device::{Chore, DriverDevice, Stage};
@@ -34,7 +34,7 @@ pub struct Driver {
     ghost queue: { IsQueue devices.all.items list run },
     ghost idle: { runs ≡ false → HoldsNothing run },
     ghost pace: { runs ≡ true → HasLimits limits run },
-    ghost asks: { IsAsked devices.all.items run.asked said },
+    ghost asks: { IsStillDue devices.all.items run.asked said },
     ghost numbers: { 1 ≤ number },
 }
 
@@ -51,10 +51,10 @@ impl Driver {
     ghost use Rattle.napi_model.specs.Step.{schedule_reply};
     ghost use Rattle.driver_core.specs.declared.todo.{Refused.TheVariants.{TooMany}, What.TheVariants.{Ended}};
     ghost use Rattle.driver_core.specs.declared.device.Stage.TheVariants.{Closed};
-    ghost use Rattle.driver_core.specs.Counts.{counting};
+    ghost use Rattle.driver_core.specs.Counts.{count_one_poll};
     ghost use Rattle.driver_core.specs.Device.{chore_at, after_interrupt, stage_is_listed, after_open, after_stop, MayStop};
     ghost use Rattle.driver_core.specs.Steps.{napi_of};
-    ghost use Rattle.driver_core.specs.Driver.{counts_of, device_of, driver_devices, number_of, polled_device, poll_of, said_of, stage_of, is_running, limits_of, list_of, AreClosed, Ends, Does, IsDue, IsDriverReport, IsFree, IsIdle, IsNumbered, IsReport, IsRunning, PutsDevice, Reports};
+    ghost use Rattle.driver_core.specs.Driver.{poll_counts_of, device_of, driver_devices, said_number_of, polled_device, poll_of, said_of, stage_of, is_running, limits_of, list_of, AreClosed, Ends, DoesChore, IsDue, IsDriverReport, AwaitsNothing, IsIdle, IsNumberedTodo, IsReport, IsRunning, PutsDevice, Reports};
 
     /// Creates a driver of so many devices, at most 64, all closed.
     pub fn new(alloc: Global, devices: u32, limits: Limits) -> Result<Driver, AllocError>
@@ -96,7 +96,7 @@ impl Driver {
     /// The counts of a device's polls.
     pub fn counts(&self, device: u32) -> PollCounts
         requires { device < length (driver_devices self.now) }
-        ensures { result ≡ counts_of self.now device }
+        ensures { result ≡ poll_counts_of self.now device }
     {
         self.counts[device as usize]
     }
@@ -163,8 +163,8 @@ impl Driver {
     fn did(&mut self, device: u32, chore: Chore, has_more: bool)
         requires range { device < length (driver_devices self.old) }
         requires chore { chore_at (stage_of self.old device) ≡ Some chore }
-        requires free { IsFree self.old }
-        ensures { Does device chore has_more self.old self.new }
+        requires free { AwaitsNothing self.old }
+        ensures { DoesChore device chore has_more self.old self.new }
     {
         let after = self.devices.get(device).did(chore, has_more);
         self.devices.put(device, after);
@@ -204,7 +204,7 @@ impl Driver {
     pub fn done(&mut self, number: u64, packets: u32) -> Result<(), Refused>
         ensures when { IsOk result ↔ IsReport number packets self.old }
         ensures ok { OnOk result (Reports packets self.old self.new) }
-        ensures free { OnOk result (IsFree self.new) }
+        ensures free { OnOk result (AwaitsNothing self.new) }
         ensures len { length (driver_devices self.new) ≡ length (driver_devices self.old) }
         ensures going { (start : List _) (polls : List Poll) (id : _)
             → polled_device self.old ≡ Some id
@@ -212,7 +212,7 @@ impl Driver {
             (IsRunning start (polls ++ poll_of id packets self.old ∷ []) self.new) }
         ensures err { OnErr result (self.new ≡ self.old) }
         ensures many { IfErr result (λ why. (why ≡ TooMany)
-            ↔ ((number ≡ number_of self.old) × IsSome (polled_device self.old))) }
+            ↔ ((number ≡ said_number_of self.old) × IsSome (polled_device self.old))) }
     {
         if number != self.number {
             return Err(Refused::NotDue);
@@ -235,12 +235,12 @@ impl Driver {
     // Begins a run, if none is under way.
     #[tactic(auto, using(crate::proofs::QueueFacts::begin_keeps))]
     fn begin(&mut self)
-        requires free { IsFree self.old }
+        requires free { AwaitsNothing self.old }
         ensures devices { self.new.devices ≡ self.old.devices }
         ensures counts { self.new.counts ≡ self.old.counts }
-        ensures free { IsFree self.new }
+        ensures free { AwaitsNothing self.new }
         ensures limits { self.new.limits ≡ self.old.limits }
-        ensures number { number_of self.new ≡ number_of self.old }
+        ensures number { said_number_of self.new ≡ said_number_of self.old }
         ensures runs { is_running self.new ≡ true }
         ensures going { (start : List _) (polls : List Poll) → IsRunning start polls self.old
             → IsRunning start polls self.new }
@@ -261,10 +261,10 @@ impl Driver {
     // The next poll of the run, or its end.
     #[tactic(auto, using(crate::proofs::QueueFacts::next_keeps, crate::proofs::QueueFacts::finish_keeps, crate::proofs::QueueFacts::asked_is_listed, crate::proofs::QueueFacts::asked_in_range))]
     fn advance(&mut self) -> Todo
-        requires free { IsFree self.old }
+        requires free { AwaitsNothing self.old }
         requires runs { is_running self.old ≡ true }
         ensures due { IsDue self.new result.what }
-        ensures number { IsNumbered (number_of self.old) (number_of self.new) result }
+        ensures number { IsNumberedTodo (said_number_of self.old) (said_number_of self.new) result }
         ensures devices { self.new.devices ≡ self.old.devices }
         ensures counts { self.new.counts ≡ self.old.counts }
         ensures limits { self.new.limits ≡ self.old.limits }
@@ -291,7 +291,7 @@ impl Driver {
 
     // This, under the number of what was said last.
     fn todo(&self, what: What) -> Todo
-        ensures number { result.number ≡ number_of self.now }
+        ensures number { result.number ≡ said_number_of self.now }
         ensures what { result.what ≡ what }
     {
         Todo {
@@ -303,10 +303,10 @@ impl Driver {
     // What was said last and is still to be reported.
     #[tactic(auto, using(crate::proofs::QueueFacts::asked_is_listed, crate::proofs::QueueFacts::asked_in_range))]
     fn last(&self) -> Option<Todo>
-        ensures none { IfNone result (IsFree self.now) }
+        ensures none { IfNone result (AwaitsNothing self.now) }
         ensures due { IfSome result (λ todo. IsDue self.now todo.what) }
-        ensures number { IfSome result (λ todo. todo.number ≡ number_of self.now) }
-        ensures free { IfSome result (λ _. ¬ IsFree self.now) }
+        ensures number { IfSome result (λ todo. todo.number ≡ said_number_of self.now) }
+        ensures free { IfSome result (λ _. ¬ AwaitsNothing self.now) }
         ensures more { IfSome result (λ todo. (report : _) → todo.what ≢ Ended report) }
     {
         if let Some(device) = self.run.asked() {
@@ -320,10 +320,10 @@ impl Driver {
     #[tactic(auto, using(crate::proofs::QueueFacts::all_rest))]
     pub fn next(&mut self) -> Todo
         ensures due { IsDue self.new result.what }
-        ensures number { IsFree self.old
-            → IsNumbered (number_of self.old) (number_of self.new) result }
-        ensures again { ¬ IsFree self.old
-            → (self.new ≡ self.old) × (result.number ≡ number_of self.old) }
+        ensures number { AwaitsNothing self.old
+            → IsNumberedTodo (said_number_of self.old) (said_number_of self.new) result }
+        ensures again { ¬ AwaitsNothing self.old
+            → (self.new ≡ self.old) × (result.number ≡ said_number_of self.old) }
         ensures devices { driver_devices self.new ≡ driver_devices self.old }
         ensures counts { self.new.counts ≡ self.old.counts }
         ensures limits { limits_of self.new ≡ limits_of self.old }

@@ -47,8 +47,20 @@ fn one_device(rt: HostRuntime) -> Result<(), Fail> {
         }
     );
     assert!(rt; driver.device(1).is_scheduled() && !driver.device(1).is_stopping());
-    assert_eq!(rt; driver.stop(1), Ok(()));
-    assert_eq!(rt; driver.interrupt(1), Prep::Disabled);
-    assert_eq!(rt; driver.device(1).stage, Stage::Listed(true));
+    Ok(())
+}
+
+// A device that has no packets is stopped.
+#[test]
+fn a_stop(rt: HostRuntime) -> Result<(), Fail> {
+    let mut driver = Driver::new(rt.alloc(), 1, LIMITS)?;
+    assert_eq!(rt; driver.stop(0), Err(NotDue));
+    assert_eq!(rt; driver.open(0), Ok(()));
+    assert_eq!(rt; driver.stop(0), Ok(()));
+    assert_eq!(rt; driver.interrupt(0), Prep::Disabled);
+    assert_eq!(rt; driver.device(0).stage, Stage::Closing);
+    let mask = driver.next();
+    assert_eq!(rt; mask.what, What::Mask(0));
+    assert_eq!(rt; driver.done(mask.number, 0), Ok(()));
     Ok(())
 }

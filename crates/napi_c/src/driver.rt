@@ -1,6 +1,6 @@
 //! Drivers for C.
 ghost use Rattle.std.specs.Prelude.{◌≡◌, ◌≢◌, ◌↔◌, IsSome, IfOk, IfErr};
-ghost use Rattle.c_handles.specs.Drivers.{IsDone, IsInterrupt, IsNewDriver, IsNext, IsOpen, IsShow, IsStop, new_status};
+ghost use Rattle.c_handles.specs.Drivers.{IsDriverDone, IsDriverInterrupt, IsNewDriver, IsDriverNext, IsDriverOpen, IsDriverShow, IsDriverStop, new_status};
 ghost use Rattle.c_handles.specs.Handles.{DriverMakes, DriverMakesIn, LeadsToDriver};
 ghost use Rattle.c_handles.specs.Status.{OK, IN_USE, OUT_OF_MEMORY, BAD_HANDLE};
 
@@ -63,7 +63,7 @@ pub extern "C" fn fq_driver_new(
 }
 
 fn open_in(at: &mut Object, device: u32) -> u32
-    ensures { DriverMakesIn (IsOpen device) at.old result at.new }
+    ensures { DriverMakesIn (IsDriverOpen device) at.old result at.new }
 {
     match at {
         Object::Driver(driver) => drive::open(driver, device),
@@ -74,7 +74,7 @@ fn open_in(at: &mut Object, device: u32) -> u32
 /// Opens a device, like `Driver::open`.
 #[unsafe(no_mangle)]
 pub extern "C" fn fq_driver_open(alloc: Global, handle: &mut FqHandle, device: u32) -> u32
-    ensures { DriverMakes (IsOpen device) handle.old result handle.new }
+    ensures { DriverMakes (IsDriverOpen device) handle.old result handle.new }
 {
     let Some(mut boxed) = handle.take(alloc) else {
         return status::BAD_HANDLE;
@@ -85,7 +85,7 @@ pub extern "C" fn fq_driver_open(alloc: Global, handle: &mut FqHandle, device: u
 }
 
 fn stop_in(at: &mut Object, device: u32) -> u32
-    ensures { DriverMakesIn (IsStop device) at.old result at.new }
+    ensures { DriverMakesIn (IsDriverStop device) at.old result at.new }
 {
     match at {
         Object::Driver(driver) => drive::stop(driver, device),
@@ -96,7 +96,7 @@ fn stop_in(at: &mut Object, device: u32) -> u32
 /// Stops a device, like `Driver::stop`.
 #[unsafe(no_mangle)]
 pub extern "C" fn fq_driver_stop(alloc: Global, handle: &mut FqHandle, device: u32) -> u32
-    ensures { DriverMakes (IsStop device) handle.old result handle.new }
+    ensures { DriverMakes (IsDriverStop device) handle.old result handle.new }
 {
     let Some(mut boxed) = handle.take(alloc) else {
         return status::BAD_HANDLE;
@@ -107,7 +107,7 @@ pub extern "C" fn fq_driver_stop(alloc: Global, handle: &mut FqHandle, device: u
 }
 
 fn interrupt_in(at: &mut Object, device: u32) -> u32
-    ensures { DriverMakesIn (IsInterrupt device) at.old result at.new }
+    ensures { DriverMakesIn (IsDriverInterrupt device) at.old result at.new }
 {
     match at {
         Object::Driver(driver) => drive::interrupt(driver, device),
@@ -118,7 +118,7 @@ fn interrupt_in(at: &mut Object, device: u32) -> u32
 /// Reports an interrupt of a device's card, like `Driver::interrupt`.
 #[unsafe(no_mangle)]
 pub extern "C" fn fq_driver_interrupt(alloc: Global, handle: &mut FqHandle, device: u32) -> u32
-    ensures { DriverMakes (IsInterrupt device) handle.old result handle.new }
+    ensures { DriverMakes (IsDriverInterrupt device) handle.old result handle.new }
 {
     let Some(mut boxed) = handle.take(alloc) else {
         return status::BAD_HANDLE;
@@ -139,7 +139,7 @@ fn sleeps(todo: &mut FqTodo) -> u32
 }
 
 fn next_in(at: &mut Object, todo: &mut FqTodo) -> u32
-    ensures makes { DriverMakesIn (IsNext todo.old todo.new) at.old result at.new }
+    ensures makes { DriverMakesIn (IsDriverNext todo.old todo.new) at.old result at.new }
     ensures none { result ≡ BAD_HANDLE → todo.new ≡ record todo.old { number = 0; what = 0 } }
 {
     match at {
@@ -151,7 +151,7 @@ fn next_in(at: &mut Object, todo: &mut FqTodo) -> u32
 /// Sets what is to be done next, like `Driver::next`.
 #[unsafe(no_mangle)]
 pub extern "C" fn fq_driver_next(alloc: Global, handle: &mut FqHandle, todo: &mut FqTodo) -> u32
-    ensures makes { DriverMakes (IsNext todo.old todo.new) handle.old result handle.new }
+    ensures makes { DriverMakes (IsDriverNext todo.old todo.new) handle.old result handle.new }
     ensures none { result ≡ BAD_HANDLE → todo.new ≡ record todo.old { number = 0; what = 0 } }
 {
     let Some(mut boxed) = handle.take(alloc) else {
@@ -163,7 +163,7 @@ pub extern "C" fn fq_driver_next(alloc: Global, handle: &mut FqHandle, todo: &mu
 }
 
 fn done_in(at: &mut Object, todo: &FqTodo) -> u32
-    ensures { DriverMakesIn (IsDone todo.now) at.old result at.new }
+    ensures { DriverMakesIn (IsDriverDone todo.now) at.old result at.new }
 {
     match at {
         Object::Driver(driver) => drive::done(driver, todo),
@@ -174,7 +174,7 @@ fn done_in(at: &mut Object, todo: &FqTodo) -> u32
 /// Reports what was done, like `Driver::done`.
 #[unsafe(no_mangle)]
 pub extern "C" fn fq_driver_done(alloc: Global, handle: &mut FqHandle, todo: &FqTodo) -> u32
-    ensures { DriverMakes (IsDone todo.now) handle.old result handle.new }
+    ensures { DriverMakes (IsDriverDone todo.now) handle.old result handle.new }
 {
     let Some(mut boxed) = handle.take(alloc) else {
         return status::BAD_HANDLE;
@@ -185,7 +185,7 @@ pub extern "C" fn fq_driver_done(alloc: Global, handle: &mut FqHandle, todo: &Fq
 }
 
 fn show_in(at: &Object, device: u32, shown: &mut FqDeviceShown) -> u32
-    ensures makes { DriverMakesIn (IsShow shown.old shown.new device) at.now result at.now }
+    ensures makes { DriverMakesIn (IsDriverShow shown.old shown.new device) at.now result at.now }
     ensures none { result ≢ OK → shown.new ≡ shown.old }
 {
     match at {
@@ -202,7 +202,8 @@ pub extern "C" fn fq_driver_show(
     device: u32,
     shown: &mut FqDeviceShown,
 ) -> u32
-    ensures makes { DriverMakes (IsShow shown.old shown.new device) handle.old result handle.new }
+    ensures makes { DriverMakes (IsDriverShow shown.old shown.new device) handle.old result
+        handle.new }
     ensures none { result ≢ OK → shown.new ≡ shown.old }
 {
     let Some(boxed) = handle.take(alloc) else {

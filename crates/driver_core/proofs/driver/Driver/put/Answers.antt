@@ -1,6 +1,6 @@
 use Rattle.std.proofs.Common.{◌≡◌, List, length, sym, subst, arith}
 use Rattle.std.proofs.Math.ListN.{length-set}
-use Rattle.driver_core.specs.{Queue.{IsAsked, IsQueue}, declared.device.DriverDevice.DriverDevice}
+use Rattle.driver_core.specs.{Queue.{IsStillDue, IsQueue}, declared.device.DriverDevice.DriverDevice}
 use Rattle.driver_core.proofs.QueueFacts.{put_asked, put_same}
 use Rattle.driver_core.proofs.driver.Driver.put.Goals as goal
 
@@ -20,6 +20,6 @@ invariant_of-self-clause-queue c =
 pub invariant_of-self-clause-asks : goal.invariant_of-self-clause-asks
 invariant_of-self-clause-asks c =
     let self = c.args.self.now in
-    subst (λ (devices : List DriverDevice). IsAsked devices self.run.asked c.still_due-self.result) (sym c.put.ensures)
+    subst (λ (devices : List DriverDevice). IsStillDue devices self.run.asked c.still_due-self.result) (sym c.put.ensures)
     (put_asked self.devices.all.items self.run.asked self.said c.still_due-self.result c.args.device c.args.to c.requires.range
     c.still_due-self.ensures.kept c.still_due-self.ensures.due self.asks)
