@@ -2,23 +2,23 @@
 use Rattle.std.proofs.Common.{◌≡◌, ◌⊎◌, inl, inr, ap, subst, arith}
 use Rattle.machine_report.specs.Fault.{IsMachineOutside, IsMachineOutOfMemory}
 use Rattle.machine_report.specs.declared.fault.MachineFault.{MachineFault}
-use Rattle.machine_c.specs.Faults.{machine_fault_status}
+use Rattle.machine_c.specs.Faults.{machine_c_status}
 
-never : (fault : MachineFault) → IsMachineOutside fault → machine_fault_status fault ≡ 124 → ⊥
+never : (fault : MachineFault) → IsMachineOutside fault → machine_c_status fault ≡ 124 → ⊥
 never fault (inl (inl failed)) bad =
-    let read : 112 ≡ 124 = subst (λ (f : MachineFault). machine_fault_status f ≡ 124) failed.0 bad in
+    let read : 112 ≡ 124 = subst (λ (f : MachineFault). machine_c_status f ≡ 124) failed.0 bad in
     omega (arith, read)
 never fault (inl (inr memory)) bad =
-    let memory : 112 ≡ 124 = subst (λ (f : MachineFault). machine_fault_status f ≡ 124) memory.0 bad in
+    let memory : 112 ≡ 124 = subst (λ (f : MachineFault). machine_c_status f ≡ 124) memory.0 bad in
     omega (arith, memory)
 never fault (inr output) bad =
-    let output : 112 ≡ 124 = subst (λ (f : MachineFault). machine_fault_status f ≡ 124) output.0 bad in
+    let output : 112 ≡ 124 = subst (λ (f : MachineFault). machine_c_status f ≡ 124) output.0 bad in
     omega (arith, output)
 
-pub theirs : (fault : MachineFault) (Is : Type 0) → IsMachineOutside fault ⊎ Is → machine_fault_status fault ≡ 124 → Is
+pub theirs : (fault : MachineFault) (Is : Type 0) → IsMachineOutside fault ⊎ Is → machine_c_status fault ≡ 124 → Is
 theirs fault Is (inl outside) bad = absurd (never fault outside bad)
 theirs fault Is (inr is) bad = is
 
 -- out of memory has its status
-pub memory-status : (fault : MachineFault) → IsMachineOutOfMemory fault → machine_fault_status fault ≡ 112
-memory-status fault memory = ap (λ (f : MachineFault). machine_fault_status f) memory.0
+pub memory-status : (fault : MachineFault) → IsMachineOutOfMemory fault → machine_c_status fault ≡ 112
+memory-status fault memory = ap (λ (f : MachineFault). machine_c_status f) memory.0

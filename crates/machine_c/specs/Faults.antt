@@ -6,11 +6,11 @@ use Rattle.machine_report.specs.declared.fault.MachineFault.TheVariants.{OutOfMe
 use Rattle.machine_c.specs.Status.{MACHINE_BAD_ARRIVALS, MACHINE_OUT_OF_MEMORY}
 
 -- an error that doesn't come from the arrivals is that of an allocation
-abbrev pub machine_fault_status : MachineFault → ℕ
-machine_fault_status ReadFailed = MACHINE_OUT_OF_MEMORY
-machine_fault_status OutOfMemory = MACHINE_OUT_OF_MEMORY
-machine_fault_status OutputFailed = MACHINE_OUT_OF_MEMORY
-machine_fault_status _ = MACHINE_BAD_ARRIVALS
+abbrev pub machine_c_status : MachineFault → ℕ
+machine_c_status ReadFailed = MACHINE_OUT_OF_MEMORY
+machine_c_status OutOfMemory = MACHINE_OUT_OF_MEMORY
+machine_c_status OutputFailed = MACHINE_OUT_OF_MEMORY
+machine_c_status _ = MACHINE_BAD_ARRIVALS
 
 -- the row that an error names, or 0
 abbrev pub machine_fault_row : MachineFault → ℕ

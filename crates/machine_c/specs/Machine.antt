@@ -3,7 +3,7 @@ use Rattle.std.specs.Prelude.{◌≡◌, ◌⊎◌, ℕ, List}
 use Rattle.machine_words.specs.declared.settings.MachineSettings.{MachineSettings}
 use Rattle.machine_report.specs.{Answer.{IsReportOf, IsArrivalsFault}, Fault.{IsMachineOutside, machine_fault_number}}
 use Rattle.machine_report.specs.declared.fault.MachineFault.{MachineFault}
-use Rattle.machine_c.specs.{Faults.{machine_fault_status, machine_fault_row}, Settings.AsksMachine, Status.MACHINE_OUT_OF_MEMORY}
+use Rattle.machine_c.specs.{Faults.{machine_c_status, machine_fault_row}, Settings.AsksMachine, Status.MACHINE_OUT_OF_MEMORY}
 use Rattle.machine_c.specs.declared.{machine.FqMachineRan.FqMachineRan, settings.FqMachineSettings.FqMachineSettings}
 
 -- both structs have this library's sizes
@@ -20,7 +20,7 @@ IsMachineFault asked bytes fault = (s : MachineSettings) × AsksMachine asked s 
 
 -- an error occurred that is reported as out of memory: one that doesn't come from the bytes, or one of theirs
 abbrev pub MachineLacksMemory : FqMachineSettings → List ℕ → Type 0
-MachineLacksMemory asked bytes = (fault : MachineFault) × (machine_fault_status fault ≡ MACHINE_OUT_OF_MEMORY)
+MachineLacksMemory asked bytes = (fault : MachineFault) × (machine_c_status fault ≡ MACHINE_OUT_OF_MEMORY)
     × (IsMachineOutside fault ⊎ IsMachineFault asked bytes fault)
 
 -- an error is reported by its number and its row, and there is no report

@@ -1,15 +1,15 @@
 //! Errors of arrivals, as numbers.
 
 ghost use Rattle.std.specs.Prelude.{◌≡◌};
-ghost use Rattle.machine_c.specs.Faults.{machine_fault_status, machine_fault_row};
+ghost use Rattle.machine_c.specs.Faults.{machine_c_status, machine_fault_row};
 
 use crate::status;
 use machine_report::MachineFault;
 
 /// Returns the status of an error. Reading arrivals from memory never fails, so a reader or a writer fails only if an allocation
 /// does.
-pub(crate) fn machine_fault_status(fault: &MachineFault) -> u32
-    ensures { result ≡ machine_fault_status fault.now }
+pub(crate) fn machine_c_status(fault: &MachineFault) -> u32
+    ensures { result ≡ machine_c_status fault.now }
 {
     match fault {
         MachineFault::ReadFailed | MachineFault::OutOfMemory | MachineFault::OutputFailed => {

@@ -3,12 +3,12 @@
 ghost use Rattle.std.specs.Prelude.{◌≡◌, ◌≢◌, ◌<◌, ◌⊎◌, ◌↔◌, ℕ, List, IfOk, IfErr, length, take};
 ghost use Rattle.machine_report.specs.Answer.{IsReportOf, IsArrivalsFault};
 ghost use Rattle.machine_report.specs.Fault.{IsMachineOutside, IsMachineOutOfMemory};
-ghost use Rattle.machine_c.specs.Faults.{machine_fault_status};
+ghost use Rattle.machine_c.specs.Faults.{machine_c_status};
 ghost use Rattle.machine_c.specs.Machine.{HasSizes, IsMachineReport, IsMachineFault, MachineLacksMemory, Tells};
 ghost use Rattle.machine_c.specs.Settings.{AsksMachine, IsSettingOut};
 ghost use Rattle.machine_c.specs.Status.{MACHINE_OK, MACHINE_OUT_OF_MEMORY, MACHINE_NO_ROOM, MACHINE_BAD_SIZE, MACHINE_BAD_SETTING, MACHINE_BAD_ARRIVALS};
 
-use crate::fault::{machine_fault_row, machine_fault_status};
+use crate::fault::{machine_c_status, machine_fault_row};
 use crate::ranges::first_out;
 use crate::settings::{FqMachineSettings, ranges_of, settings_of};
 use crate::status;
@@ -119,14 +119,14 @@ fn message_of(alloc: Global, fault: &MachineFault) -> Result<String, MachineFaul
 // Reports an error of the arrivals by its numbers and its message, which is without its line feed.
 fn tell(alloc: Global, fault: &MachineFault, ran: &mut FqMachineRan) -> u32
     ensures told { result ≡ MACHINE_BAD_ARRIVALS
-        → (machine_fault_status fault.now ≡ MACHINE_BAD_ARRIVALS) × Tells fault.now ran.new
+        → (machine_c_status fault.now ≡ MACHINE_BAD_ARRIVALS) × Tells fault.now ran.new
         × (ran.new.setting ≡ 0) }
     ensures untold { result ≢ MACHINE_BAD_ARRIVALS
         → (result ≡ MACHINE_OUT_OF_MEMORY) × (ran.new ≡ ran.old)
-        × ((machine_fault_status fault.now ≡ MACHINE_OUT_OF_MEMORY)
+        × ((machine_c_status fault.now ≡ MACHINE_OUT_OF_MEMORY)
         ⊎ ((why : MachineFault) × IsMachineOutOfMemory why)) }
 {
-    if machine_fault_status(fault) != status::BAD_ARRIVALS {
+    if machine_c_status(fault) != status::BAD_ARRIVALS {
         return status::OUT_OF_MEMORY;
     }
     match message_of(alloc, fault) {

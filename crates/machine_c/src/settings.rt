@@ -166,11 +166,11 @@ fn asking(settings: &MachineSettings) -> FqMachineSettings
 }
 
 /// Sets all settings to their defaults, like `MachineSettings::default`, in a struct of `size` bytes, which it also sets. Returns
-/// ok, or bad
-/// size, and nothing is written.
+/// ok, or bad size, and nothing is written.
 #[unsafe(no_mangle)]
 pub extern "C" fn fq_machine_usual(settings: &mut FqMachineSettings, size: usize) -> u32
-    ensures usual { result ≡ MACHINE_OK → (s : MachineSettings) × IsUsual s × AsksMachine settings.new s }
+    ensures usual { result ≡ MACHINE_OK
+        → (s : MachineSettings) × IsUsual s × AsksMachine settings.new s }
     ensures size { result ≡ MACHINE_OK → settings.new.size ≡ 96 }
     ensures status { result ≢ MACHINE_OK → result ≡ MACHINE_BAD_SIZE }
     ensures when { (result ≡ MACHINE_OK) ↔ (size ≡ 96) }
