@@ -1,7 +1,7 @@
 -- The errors of the machine as numbers.
 use Rattle.std.specs.Prelude.{ℕ}
 use Rattle.machine_report.specs.declared.fault.MachineFault.{MachineFault}
-use Rattle.machine_report.specs.declared.fault.MachineFault.TheVariants.{BadHeader, BadFields, BadNumber, OutOfRange, Falls, ReadFailed}
+use Rattle.machine_report.specs.declared.fault.MachineFault.TheVariants.{BadFields, BadNumber, OutOfRange, Falls, ReadFailed}
 use Rattle.machine_report.specs.declared.fault.MachineFault.TheVariants.{OutOfMemory, OutputFailed}
 use Rattle.machine_c.specs.Status.{MACHINE_BAD_ARRIVALS, MACHINE_OUT_OF_MEMORY}
 

@@ -166,8 +166,7 @@ fn asking(settings: &MachineSettings) -> FqMachineSettings
 }
 
 /// Sets all settings to their defaults, like `MachineSettings::default`, in a struct of `size` bytes, which it also sets. Returns
-/// ok, or bad
-/// size, and nothing is written.
+/// ok, or bad size, and nothing is written.
 #[unsafe(no_mangle)]
 pub extern "C" fn fq_machine_usual(settings: &mut FqMachineSettings, size: usize) -> u32
     ensures usual { result ≡ MACHINE_OK

@@ -34,10 +34,10 @@ pub returns-in-Err-report_of-clause-memory : goal.returns-in-Err-report_of-claus
 returns-in-Err-report_of-clause-memory c = λ ok room bad setting size.
     let un = c.tell.ensures.untold bad in
     let fault = c.in-Err-report_of.fault in
-    let why : IsMachineOutside fault ⊎ IsMachineFault c.args.settings.now c.args.arrivals.now fault =
-    elim c.in-Err-report_of.ensures.fault [
+    let is = c.in-Err-report_of.ensures.fault in
+    let why : IsMachineOutside fault ⊎ IsMachineFault c.args.settings.now c.args.arrivals.now fault = elim is [
       | inl outside ↦ inl outside
-      | inr is ↦ inr (c.in-Ok.asked, c.in-Ok.ensures.asked, is)
+      | inr told ↦ inr (c.in-Ok.asked, c.in-Ok.ensures.asked, told)
     ] in (
       un.0,
       elim un.2 [

@@ -1,4 +1,4 @@
-use Rattle.std.proofs.Common.{◌≡◌, ℕ, List, ◌++◌, refl, sym, subst, ap, ◌∙◌}
+use Rattle.std.proofs.Common.{ℕ, List, ◌++◌, refl, sym, subst, ap, ◌∙◌}
 use Rattle.machine_report.specs.Answer.{IsReportOf}
 use Rattle.machine_c.proofs.machine.report_of.Goals as goal
 
