@@ -1,22 +1,26 @@
 //! Drivers for C.
-ghost use Rattle.std.specs.Prelude.{◌≡◌, ◌≢◌, ◌≤◌, ◌↔◌, IsSome, IfOk};
+ghost use Rattle.std.specs.Prelude.{◌≡◌, ◌≢◌, ◌≤◌, ◌↔◌, IsSome, IfSome};
 ghost use Rattle.c_handles.specs.Drivers.{IsDriverDone, IsDriverInterrupt, IsNewDriver, IsDriverNext, IsDriverOpen, IsDriverShow, IsDriverStop, new_status};
 ghost use Rattle.c_handles.specs.Handles.{DriverMakes, DriverMakesIn, IsDriverWith, LeadsToDriver};
 ghost use Rattle.c_handles.specs.Status.{OK, IN_USE, OUT_OF_MEMORY, BAD_HANDLE};
 
 use c_handles::{FqDeviceShown, FqHandle, FqTodo, Object, drive, status};
 use driver_core::{Driver, Limits};
-use std::alloc::{AllocError, Global};
+use std::alloc::Global;
 
-// A driver as the object of a handle.
-fn boxed(alloc: Global, devices: u32, limits: Limits) -> Result<Box<Object, Global>, AllocError>
+// A driver as the object of a handle; `None` if memory is out.
+fn boxed(alloc: Global, devices: u32, limits: Limits) -> Option<Box<Object, Global>>
     requires { devices ≤ 64 }
-    ensures { IfOk result (λ b. IsDriverWith
+    ensures { IfSome result (λ b. IsDriverWith
         (IsNewDriver devices limits.budget limits.weight limits.window) b.value) }
 {
-    let driver = Driver::new(alloc, devices, limits)?;
-    let driver = Box::new(alloc, driver)?;
-    Box::new(alloc, Object::Driver(driver))
+    let Ok(driver) = Driver::new(alloc, devices, limits) else {
+        return None;
+    };
+    let Ok(driver) = Box::new(alloc, driver) else {
+        return None;
+    };
+    Box::new(alloc, Object::Driver(driver)).ok()
 }
 
 /// Makes a driver of so many devices, all closed.
@@ -54,11 +58,11 @@ pub extern "C" fn fq_driver_new(
         window,
     };
     match boxed(alloc, devices, limits) {
-        Ok(body) => {
+        Some(body) => {
             handle.put(body);
             status::OK
         }
-        Err(_) => status::OUT_OF_MEMORY,
+        None => status::OUT_OF_MEMORY,
     }
 }
 
