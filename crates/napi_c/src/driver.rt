@@ -16,7 +16,8 @@ fn boxed(alloc: Global, devices: u32, limits: Limits) -> Result<Box<Object, Glob
 {
     let driver = Driver::new(alloc, devices, limits)?;
     let driver = Box::new(alloc, driver)?;
-    Box::new(alloc, Object::Driver(driver))
+    let body = Box::new(alloc, Object::Driver(driver))?;
+    Ok(body)
 }
 
 /// Makes a driver of so many devices, all closed.
