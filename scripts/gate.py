@@ -1,6 +1,5 @@
 """scripts/gate.py proofs ROOM [CRATE ..]: passes these crates with those below them, or all, by `rt ci` on a copy in the folder ROOM,
-which hasn't their must-fail edits; what it built scripts/build.py keeps, as soon as it is proved.
-scripts/gate.py archives: meanwhile builds the archives of the C library, as soon as the libraries below them are kept.
+which hasn't their must-fail edits; what it built scripts/build.py keeps.
 scripts/gate.py edits [CRATE ..]: tries the edits of these crates, or of all, over the libraries that stand. After `proofs` nothing is
 built again, even where `rt ci` has taken a proof from an earlier run. What a plain `rt ci` leaves in a checkout isn't used: `rt check` writes
 to the same folders, and nothing there says of which sources a library was made.
@@ -19,7 +18,6 @@ import re
 import shutil
 import subprocess
 import tempfile
-import time
 
 from build import BUILT, TOP, build, child, crates, end_by, read, sums
 
@@ -209,27 +207,6 @@ def all_texts():
     return try_all([(try_text, *it) for it in files], [it for it, _ in files], "must-not-compile")
 
 
-def keep(crate, room, times):
-    """Keeps what was built of a crate in this room, from sources of these times, unless the same is kept already. `rt ci` may still
-    read it there."""
-    out = f"{room}/crates/{crate.name}/out"
-    built = f"{out}/rlib/{crate.name}.rlib" if crate.is_library else f"{out}/{crate.name}"
-    if os.path.exists(built) and not crate.is_built():
-        subprocess.run(["rm", "-rf", crate.made], check=True)
-        os.makedirs(os.path.dirname(crate.made), exist_ok=True)
-        subprocess.run(["cp", "-al" if os.stat(room).st_dev == os.stat(TOP).st_dev else "-a", built, crate.made], check=True)
-        crate.stands(times[crate])
-
-
-def build_archives():
-    """Builds the archives of the C library, which `rt ci` only checks, as soon as `proofs` has kept the libraries below them."""
-    os.nice(5)
-    archives = [it for it in crates().values() if it.is_archive]
-    while not all(below.is_built() for it in archives for below in it.all[:-1]):
-        time.sleep(2)
-    return build([it.name for it in archives])
-
-
 def prove_all(room, names):
     """Runs `rt ci` on a copy of these crates with those below them, or of all that it reads, and keeps what it has built."""
     asked = [*dict.fromkeys(below for name in names or crates() for below in crates()[name].all)]
@@ -250,10 +227,14 @@ def prove_all(room, names):
     with subprocess.Popen(["rt", "ci"], cwd=room, preexec_fn=child, **how) as ran:
         for last in ran.stdout:
             print(last, end="", flush=True)
-            if (told := re.match(r"rt: (\w+) (proved$|is kept: )", last)) and told[1] in listed:
-                keep(crates()[told[1]], room, times)
     for crate in asked:
-        keep(crate, room, times)
+        out = f"{room}/crates/{crate.name}/out"
+        built = f"{out}/rlib/{crate.name}.rlib" if crate.is_library else f"{out}/{crate.name}"
+        if os.path.exists(built):
+            subprocess.run(["rm", "-rf", crate.made], check=True)
+            os.makedirs(os.path.dirname(crate.made), exist_ok=True)
+            shutil.move(built, crate.made)
+            crate.stands(times[crate])
     sums().keep()
     told = re.match(r"(\d+) passed, (\d+) failed", last)
     passed, failed = map(int, told.groups()) if told else (0, 1)
@@ -261,8 +242,6 @@ def prove_all(room, names):
 
 
 def gate(words):
-    if words[0] == "archives":
-        return build_archives()
     if words[0] == "proofs":
         passed, failed = prove_all(words[1], words[2:])
     elif words[0] == "uncompiled":

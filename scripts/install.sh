@@ -221,7 +221,9 @@ if [ -n "$is_python" ]; then
     packages=$(python3 -c 'import site, sys
 print(next((home for home in site.getsitepackages() if home.startswith(sys.argv[1] + "/lib/")), sys.argv[1] + "/lib/python3/dist-packages"))' "$prefix")
     for file in "${python[@]}"; do
-        put 644 "$file" "${packages#"$prefix/"}/fintaqush/${file##*/}"
+        from=$file
+        [ "${file##*/}" != _raising.py ] || from=$top/tools/raising.py # a checkout has one file for the tools and the package
+        put 644 "$from" "${packages#"$prefix/"}/fintaqush/${file##*/}"
     done
     [ -n "${DESTDIR:-}" ] || python3 -c 'import sys; sys.exit(sys.argv[1] not in sys.path)' "$packages" ||
         echo "install: python3 finds the package by PYTHONPATH=$packages"

@@ -85,7 +85,8 @@ def raise_runs(trace: bytes, budget: int = 300, weight: int = 64, window: int = 
             raise Pending(fault.row) from None
 
     try:
-        return Raising(trace, play, restarts).whole()[0]
+        raised: bytes = Raising(trace, play, restarts).whole()[0]
+        return raised
     except Pending as pending:
         raise TraceFault(Status.BAD_TRACE, TraceFault.NAMES.index("Pending"), pending.row) from None
 

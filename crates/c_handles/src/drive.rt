@@ -203,10 +203,12 @@ pub fn stop(driver: &mut Driver, device: u32) -> u32
 fn state_of(device: DriverDevice) -> u32
     ensures { result ≡ device_state_in device.stage }
 {
-    if device.stage == Stage::Closed {
-        return 0;
+    match device.stage {
+        Stage::Closed => 0,
+        Stage::Closing => 2,
+        Stage::Masking(stopping) | Stage::Listed(stopping) => { if stopping { 2 } else { 1 } }
+        Stage::Unmasking | Stage::Looking | Stage::Armed => 1,
     }
-    if device.is_stopping() { 2 } else { 1 }
 }
 
 /// Sets `shown` to the state and the counts of a device.

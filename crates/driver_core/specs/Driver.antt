@@ -29,8 +29,8 @@ poll_counts_of driver id = slice_index_or driver.counts.items id no_counts
 abbrev pub list_of : Driver → List ℕ
 list_of driver = driver.list
 
-abbrev pub limits_of : Driver → Limits
-limits_of driver = driver.limits
+abbrev pub driver_limits : Driver → Limits
+driver_limits driver = driver.limits
 
 -- a run is under way
 abbrev pub is_running : Driver → Bool
@@ -106,7 +106,7 @@ IsAwaited packets weight None None = ⊥
 -- a report under this number is due
 abbrev pub IsReport : ℕ → ℕ → Driver → Type 0
 IsReport number packets driver =
-    (number ≡ said_number_of driver) × IsAwaited packets (limits_of driver).weight (said_of driver) (polled_device driver)
+    (number ≡ said_number_of driver) × IsAwaited packets (driver_limits driver).weight (said_of driver) (polled_device driver)
 
 abbrev pub ReportsOf : ℕ → Driver → Driver → Option (ℕ × Chore) → Option ℕ → Type 0
 ReportsOf packets before after said (Some id) = Ends id packets before after
@@ -149,7 +149,7 @@ IsDue driver (Mask id) = (id < length (driver_devices driver)) × (chore_at (sta
 IsDue driver (Unmask id) = (id < length (driver_devices driver)) × (chore_at (stage_of driver id) ≡ Some chore.Unmask)
 IsDue driver (Look id) = (id < length (driver_devices driver)) × (chore_at (stage_of driver id) ≡ Some chore.Look)
 IsDue driver (Fetch id most) = (id < length (driver_devices driver)) × (polled_device driver ≡ Some id)
-    × (stage_is_listed (stage_of driver id) ≡ true) × (most ≡ (limits_of driver).weight)
-IsDue driver (Ended report) = HoldsNothing driver.run × (report.polls ≤ (limits_of driver).window)
-    × (report.work < (limits_of driver).budget + (limits_of driver).weight)
+    × (stage_is_listed (stage_of driver id) ≡ true) × (most ≡ (driver_limits driver).weight)
+IsDue driver (Ended report) = HoldsNothing driver.run × (report.polls ≤ (driver_limits driver).window)
+    × (report.work < (driver_limits driver).budget + (driver_limits driver).weight)
 IsDue driver Sleep = All (λ device. IsAtRest device.stage) (driver_devices driver) × IsIdle driver

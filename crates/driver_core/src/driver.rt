@@ -54,14 +54,14 @@ impl Driver {
     ghost use Rattle.driver_core.specs.Counts.{count_one_poll};
     ghost use Rattle.driver_core.specs.Device.{chore_at, after_interrupt, stage_is_listed, after_open, after_stop, MayStop};
     ghost use Rattle.driver_core.specs.Steps.{napi_of};
-    ghost use Rattle.driver_core.specs.Driver.{poll_counts_of, device_of, driver_devices, said_number_of, polled_device, poll_of, said_of, stage_of, is_running, limits_of, list_of, AreClosed, Ends, DoesChore, IsDue, IsDriverReport, AwaitsNothing, IsIdle, IsNumberedTodo, IsReport, IsRunning, PutsDevice, Reports};
+    ghost use Rattle.driver_core.specs.Driver.{poll_counts_of, device_of, driver_devices, said_number_of, polled_device, poll_of, said_of, stage_of, is_running, driver_limits, list_of, AreClosed, Ends, DoesChore, IsDue, IsDriverReport, AwaitsNothing, IsIdle, IsNumberedTodo, IsReport, IsRunning, PutsDevice, Reports};
 
     /// Creates a driver of so many devices, at most 64, all closed.
     pub fn new(alloc: Global, devices: u32, limits: Limits) -> Result<Driver, AllocError>
         requires { devices ≤ 64 }
         ensures devices { IfOk result (AreClosed devices) }
         ensures idle { IfOk result (λ driver. IsIdle driver) }
-        ensures limits { IfOk result (λ driver. limits_of driver ≡ limits) }
+        ensures limits { IfOk result (λ driver. driver_limits driver ≡ limits) }
     {
         let closed = Devices::new(alloc, devices)?;
         let counts = new_counts(alloc, devices as usize)?;
@@ -180,7 +180,7 @@ impl Driver {
         requires range { device < length (driver_devices self.old) }
         requires listed { stage_is_listed (stage_of self.old device) ≡ true }
         requires polled { polled_device self.old ≡ Some device }
-        requires most { packets ≤ (limits_of self.old).weight }
+        requires most { packets ≤ (driver_limits self.old).weight }
         ensures ends { Ends device packets self.old self.new }
         ensures going { (start : List _) (polls : List Poll) → IsRunning start polls self.old
             → IsRunning start (polls ++ poll_of device packets self.old ∷ []) self.new }
@@ -272,7 +272,7 @@ impl Driver {
             → is_running self.new ≡ true → IsRunning start polls self.new }
         ensures ended { (start : List _) (polls : List Poll) (report : _)
             → result.what ≡ Ended report → IsRunning start polls self.old
-            → IsDriverReport (limits_of self.old) start polls self.new report }
+            → IsDriverReport (driver_limits self.old) start polls self.new report }
     {
         match self.run.next(&mut self.list) {
             Some(device) => {
@@ -326,7 +326,7 @@ impl Driver {
             → (self.new ≡ self.old) × (result.number ≡ said_number_of self.old) }
         ensures devices { driver_devices self.new ≡ driver_devices self.old }
         ensures counts { self.new.counts ≡ self.old.counts }
-        ensures limits { limits_of self.new ≡ limits_of self.old }
+        ensures limits { driver_limits self.new ≡ driver_limits self.old }
 
         // The runs are polling runs over the list, as long as no device is put on it meanwhile.
         ensures begins { is_running self.old ≡ false → is_running self.new ≡ true
@@ -335,9 +335,9 @@ impl Driver {
             → is_running self.new ≡ true → IsRunning start polls self.new }
         ensures ended { (start : List _) (polls : List Poll) (report : _)
             → result.what ≡ Ended report → IsRunning start polls self.old
-            → IsDriverReport (limits_of self.old) start polls self.new report }
+            → IsDriverReport (driver_limits self.old) start polls self.new report }
         ensures whole { (report : _) → result.what ≡ Ended report → is_running self.old ≡ false
-            → IsDriverReport (limits_of self.old) (list_of self.old) [] self.new report }
+            → IsDriverReport (driver_limits self.old) (list_of self.old) [] self.new report }
     {
         if let Some(todo) = self.last() {
             return todo;

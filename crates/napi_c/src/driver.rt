@@ -1,7 +1,7 @@
 //! Drivers for C.
-ghost use Rattle.std.specs.Prelude.{◌≡◌, ◌≢◌, ◌↔◌, IsSome, IfOk, IfErr};
+ghost use Rattle.std.specs.Prelude.{◌≡◌, ◌≢◌, ◌≤◌, ◌↔◌, IsSome, IfOk};
 ghost use Rattle.c_handles.specs.Drivers.{IsDriverDone, IsDriverInterrupt, IsNewDriver, IsDriverNext, IsDriverOpen, IsDriverShow, IsDriverStop, new_status};
-ghost use Rattle.c_handles.specs.Handles.{DriverMakes, DriverMakesIn, LeadsToDriver};
+ghost use Rattle.c_handles.specs.Handles.{DriverMakes, DriverMakesIn, IsDriverWith, LeadsToDriver};
 ghost use Rattle.c_handles.specs.Status.{OK, IN_USE, OUT_OF_MEMORY, BAD_HANDLE};
 
 use c_handles::{FqDeviceShown, FqHandle, FqTodo, Object, drive, status};

@@ -5,7 +5,7 @@ use Rattle.rx_ring.specs.{declared.{ends.RxIn.RxIn, packet.Packet.Packet}, Ends.
 use Rattle.{napi_model.specs.declared.event.Operation.Operation, napi_word.specs.declared.table.Pass.Pass}
 use Rattle.napi_calls.specs.{declared.{answers.Sched.Sched, types.Caller.Caller}, Calls.{Disables, Enables, Schedules}, Made.{Made, events}}
 use Rattle.{napi_calls.specs.{Made.looks, Seats.{pass_number, own_list}}, poll_interrupts.specs.declared.acts.Act.Act}
-use Rattle.poll_interrupts.specs.declared.worker.{WorkerHandles.WorkerHandles, ControlState.{ControlState, TheVariants.{On, Off}}}
+use Rattle.poll_interrupts.specs.declared.worker.{WorkerHandles.WorkerHandles, ControllerState.{ControllerState, TheVariants.{On, Off}}}
 use Rattle.poll_interrupts.specs.{Acts.after_acts, Handles.{AreSameHandles, is_on, pass_of}}
 use Rattle.poll_interrupts.specs.Calls.{Acts, AllActs, Arrives, GoesOn, HandsOver, Interrupts, TurnsOff, TurnsOn}
 use Rattle.poll_interrupts.specs.Runs.{Adds, AllAdd, IsDisabling, IsEnabling, IsHandingOver, IsInterrupt, Ledger}
@@ -73,7 +73,7 @@ disables p q h = (_, (h.0, h.1, refl), made_grew p _ q h.2)
 
 -- ---- a worker's handles as its ledger
 
-abbrev handles_of : Caller → ControlState → Bool → WorkerHandles
+abbrev handles_of : Caller → ControllerState → Bool → WorkerHandles
 handles_of caller control threaded = record { caller = caller; control = control; threaded = threaded }
 
 -- whose handles they are
@@ -146,13 +146,13 @@ switched : (w : Whose) (a b : WorkerHandles) (before after : RxIn) (os : List Op
     → ledger_of b after ≡ record (ledger_of a before) { controls = own_list (pass_of a.control) ++ events w.controller os; on = on }
 switched w a b before after os on grown now caller threaded put of = grind (arith, common_steps)
 
-turns_on : (w : Whose) (caller : Caller) (set : Bool) (control : ControlState) (b : WorkerHandles) (before after : RxIn)
+turns_on : (w : Whose) (caller : Caller) (set : Bool) (control : ControllerState) (b : WorkerHandles) (before after : RxIn)
     → TurnsOn set control b.control → b.caller ≡ caller → b.threaded ≡ set → put_list after ≡ put_list before
     → capacity_of after ≡ capacity_of before
     → IsOf w (handles_of caller control set) before → Did w (SwitchesOn w (is_on control)) (handles_of caller control set) before b after
 turns_on w caller set control b before after h same threaded put places of = search (rules, enables, same_ledger, still_of, switched)
 
-turns_off : (w : Whose) (caller : Caller) (set : Bool) (control : ControlState) (b : WorkerHandles) (before after : RxIn)
+turns_off : (w : Whose) (caller : Caller) (set : Bool) (control : ControllerState) (b : WorkerHandles) (before after : RxIn)
     → TurnsOff control b.control → b.caller ≡ caller → b.threaded ≡ set → put_list after ≡ put_list before
     → capacity_of after ≡ capacity_of before
     → IsOf w (handles_of caller control set) before → Did w (SwitchesOff w (is_on control)) (handles_of caller control set) before b after
@@ -200,21 +200,21 @@ all_same thread answer after d n a b first last h =
 -- ---- a worker's whole run
 
 -- turned on or off, the seat stays the same
-on_same : (set : Bool) (before after : ControlState) → TurnsOn set before after
+on_same : (set : Bool) (before after : ControllerState) → TurnsOn set before after
     → pass_number (pass_of after) ≡ pass_number (pass_of before)
 on_same set (On control) after h = ap (λ c. pass_number (pass_of c)) h
 on_same set (Off control) after h = (enables set control.pass (pass_of after) h.1).2.1
 
-off_same : (before after : ControlState) → TurnsOff before after → pass_number (pass_of after) ≡ pass_number (pass_of before)
+off_same : (before after : ControllerState) → TurnsOff before after → pass_number (pass_of after) ≡ pass_number (pass_of before)
 off_same (On control) after h = (disables control.pass (pass_of after) h.1).2.1
 off_same (Off control) after h = ap (λ c. pass_number (pass_of c)) h
 
-pub off_is : (before after : ControlState) → TurnsOff before after → is_on after ≡ false
+pub off_is : (before after : ControllerState) → TurnsOff before after → is_on after ≡ false
 off_is (On control) after h = h.0
 off_is (Off control) after h = ap (λ c. is_on c) h
 
 -- the instance is turned on, acts are made, and it is turned off
-module _ (a acted : WorkerHandles) (on off : ControlState) (turned : TurnsOn a.threaded a.control on)
+module _ (a acted : WorkerHandles) (on off : ControllerState) (turned : TurnsOn a.threaded a.control on)
     (left : TurnsOff acted.control off) where
   pub same_handles : AreSameHandles (record a { control = on }) acted → AreSameHandles a (record acted { control = off })
   same_handles same = (same.0, off_same acted.control off left ∙ same.1 ∙ on_same a.threaded a.control on turned)

@@ -5,7 +5,7 @@ use Rattle.{napi_model.specs.declared.{state.Seen.Seen, event.{Event.Event, Oper
 use Rattle.napi_calls.specs.{declared.answers.Sched.Sched, Calls.{Disables, Enables, Schedules}, Made.Made, Seats.own_list}
 use Rattle.{poll_list.specs.{declared.list_in.ListIn.ListIn, SharedList.pushed_by}, poll_interrupts.specs.declared.acts.Act.Act}
 use Rattle.poll_interrupts.specs.declared.acts.Act.TheVariants.{Arrive, Disable, Enable, SetThreaded, Nothing}
-use Rattle.poll_interrupts.specs.declared.worker.{WorkerHandles.WorkerHandles, ControlState.{ControlState, TheVariants.{On, Off}}}
+use Rattle.poll_interrupts.specs.declared.worker.{WorkerHandles.WorkerHandles, ControllerState.{ControllerState, TheVariants.{On, Off}}}
 use Rattle.poll_interrupts.specs.{Acts.after_acts, Handles.{is_on, pass_of}}
 use Rattle.napi_model.specs.declared.state.Kind.TheVariants as kind
 use Rattle.napi_model.specs.declared.event.Operation.TheVariants as operation
@@ -57,12 +57,12 @@ Arrives thread packet p q before after =
     ⊎ ((capacity_of before ≤ length (put_list before)) × (put_list after ≡ put_list before) × (q ≡ p))
 
 -- enabled with this threaded setting, unless it is on
-abbrev pub TurnsOn : Bool → ControlState → ControlState → Type 0
+abbrev pub TurnsOn : Bool → ControllerState → ControllerState → Type 0
 TurnsOn threaded (On control) after = after ≡ On control
 TurnsOn threaded (Off control) after = (is_on after ≡ true) × Enables threaded control.pass (pass_of after)
 
 -- disabled, unless it is off
-abbrev pub TurnsOff : ControlState → ControlState → Type 0
+abbrev pub TurnsOff : ControllerState → ControllerState → Type 0
 TurnsOff (On control) after = (is_on after ≡ false) × Disables control.pass (pass_of after)
 TurnsOff (Off control) after = after ≡ Off control
 

@@ -2,7 +2,7 @@
 use Rattle.std.specs.Prelude.{◌≡◌, List, [], ◌∷◌, ◌++◌}
 use Rattle.{rx_ring.specs.declared.ends.RxCtx.RxCtx, napi_word.specs.declared.table.Pass.Pass}
 use Rattle.napi_calls.specs.{declared.types.Caller.Caller, Closed.{IsClosed, seats_of}}
-use Rattle.poll_interrupts.specs.declared.{station.Closed.Closed, worker.{WorkerHandles.WorkerHandles, ControlState.TheVariants.Off}}
+use Rattle.poll_interrupts.specs.declared.{station.Closed.Closed, worker.{WorkerHandles.WorkerHandles, ControllerState.TheVariants.Off}}
 
 -- its callers: of its worker, of its poller and of its own thread
 abbrev pub callers_in : Closed → List Caller

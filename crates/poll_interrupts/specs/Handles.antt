@@ -2,13 +2,13 @@
 use Rattle.std.specs.Prelude.{◌≡◌, ℕ, Bool, true, false, []}
 use Rattle.napi_calls.specs.{declared.types.{Caller.Caller, Napi.Napi}, Instance.IsSeatOf, Seats.{pass_number, own_list}}
 use Rattle.{napi_word.specs.declared.table.Pass.Pass, poll_interrupts.specs.Runs.{controller_number, worker_number}}
-use Rattle.poll_interrupts.specs.declared.worker.{ControlState.{ControlState, TheVariants.{On, Off}}, WorkerHandles.WorkerHandles}
+use Rattle.poll_interrupts.specs.declared.worker.{ControllerState.{ControllerState, TheVariants.{On, Off}}, WorkerHandles.WorkerHandles}
 
-abbrev pub pass_of : ControlState → Pass
+abbrev pub pass_of : ControllerState → Pass
 pass_of (On control) = control.pass
 pass_of (Off control) = control.pass
 
-abbrev pub is_on : ControlState → Bool
+abbrev pub is_on : ControllerState → Bool
 is_on (On control) = true
 is_on (Off control) = false
 

@@ -11,7 +11,7 @@ ghost use Rattle.poll_interrupts.specs.Closings.{IsCallersOf, IsClosedAs};
 ghost use Rattle.poll_interrupts.specs.Handles.{AreAtRest};
 
 use crate::station::{Closed, Finished, Station};
-use crate::worker::{ControlState, WorkerHandles};
+use crate::worker::{ControllerState, WorkerHandles};
 use napi_calls::{Caller, DropBomb, Napi, NewBack};
 use poll_tasks::{IdleWait, Waker};
 use rx_ring::{RxCtx, RxIn, finish, ring};
@@ -73,7 +73,7 @@ impl Placed {
         } = self;
         let WorkerHandles {
             caller,
-            control: ControlState::Off(control),
+            control: ControllerState::Off(control),
             threaded: _,
         } = handles
         else {
@@ -153,7 +153,7 @@ fn open<D: Drop>(alloc: Global, station: Station<D>) -> Result<(Placed, Loose<D>
         rx,
         handles: WorkerHandles {
             caller,
-            control: ControlState::Off(control),
+            control: ControllerState::Off(control),
             threaded: false,
         },
         poller,
@@ -189,8 +189,8 @@ fn end<D: Drop>(placed: Placed, loose: Loose<D>) -> Finished<D>
     }
 }
 
-// Closes instances that no thread has used.
-fn shut_all<R: Wait + Drop, D: Drop>(
+/// Closes instances that no thread has used.
+pub fn shut_all<R: Wait + Drop, D: Drop>(
     placed: Vec<DropBomb<R, Placed>>,
     loose: Vec<DropBomb<R, Loose<D>>>,
 )

@@ -29,7 +29,7 @@ impl Between for Yields {
 }
 
 /// The controller of an instance, which is on or off.
-pub enum ControlState {
+pub enum ControllerState {
     /// The instance is enabled.
     On(Control<On>),
     /// It is disabled.
@@ -41,7 +41,7 @@ pub struct WorkerHandles {
     /// The caller that requests polls.
     pub caller: Caller,
     /// The controller of the instance.
-    pub control: ControlState,
+    pub control: ControllerState,
     /// The device's threaded setting, which an enable writes (`dev_set_threaded`).
     pub threaded: bool,
 }
@@ -109,30 +109,30 @@ impl<'p, 'n, R: Wait> InterruptHandler<'p, 'n, R> {
     }
 
     // Enables an instance that is off.
-    fn turn_on(&self, control: ControlState, threaded: bool) -> ControlState
+    fn turn_on(&self, control: ControllerState, threaded: bool) -> ControllerState
         requires { IsSeatOf self.now.napi.now (pass_of control) }
         ensures of { IsSeatOf self.now.napi.now (pass_of result) }
         ensures turns { TurnsOn threaded control result }
     {
         match control {
-            ControlState::On(control) => ControlState::On(control),
-            ControlState::Off(control) => {
-                ControlState::On(control.enable(&self.rt, self.napi, threaded))
+            ControllerState::On(control) => ControllerState::On(control),
+            ControllerState::Off(control) => {
+                ControllerState::On(control.enable(&self.rt, self.napi, threaded))
             }
         }
     }
 
     // Disables an instance that is on, which waits until its polls have ended.
-    fn turn_off(&self, control: ControlState) -> ControlState
+    fn turn_off(&self, control: ControllerState) -> ControllerState
         requires { IsSeatOf self.now.napi.now (pass_of control) }
         ensures of { IsSeatOf self.now.napi.now (pass_of result) }
         ensures turns { TurnsOff control result }
     {
         match control {
-            ControlState::On(control) => {
-                ControlState::Off(control.disable_pausing(&self.rt, self.napi, &mut Yields))
+            ControllerState::On(control) => {
+                ControllerState::Off(control.disable_pausing(&self.rt, self.napi, &mut Yields))
             }
-            ControlState::Off(control) => ControlState::Off(control),
+            ControllerState::Off(control) => ControllerState::Off(control),
         }
     }
 

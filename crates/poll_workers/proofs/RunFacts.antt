@@ -421,8 +421,8 @@ module _ {R D G : Type 0} where
     caller = same.caller at.caller;
   }
 
-module _ {R D G : Type 0} {acts : D → ℕ} {answer : D → ℕ → Act} {after : D → ℕ → D} {may_shut : Type 0}
-    {answers : G → ℕ → ℕ → Bool → Type 0} {context : RunContext R G} where
+module _ {R D G : Type 0} (acts : D → ℕ) (answer : D → ℕ → Act) (after : D → ℕ → D) (may_shut : Type 0)
+    (answers : G → ℕ → ℕ → Bool → Type 0) (context : RunContext R G) where
   back_at : (placed : DropBomb R Placed) (loose : DropBomb R (Loose D)) (job done : InterruptWorker R D G) → IsKeptSideOf loose placed
       → IsKeptJobOf context loose job → IsJobAt placed job → IsWorked acts answer after may_shut answers job done → IsBackAt placed done
   back_at placed loose job done side given at made = record {
@@ -442,7 +442,7 @@ module _ {R D G : Type 0} {acts : D → ℕ} {answer : D → ℕ → Act} {after
       let b = zip_both _ _ _ _ _ (zip_and _ _ _ _ a at) made in
       zip_same _ _ _ _ (λ p d h. back_at p h.1.0.0 h.0 d h.1.0.1 h.1.0.2 h.1.1 h.2) b
 
-  module _ {lists : List (SharedList R)} {wakers : List Waker} where
+  module _ (lists : List (SharedList R)) (wakers : List Waker) where
     worked_of : (loose : DropBomb R (Loose D)) (job done : InterruptWorker R D G) → IsKeptJobOf context loose job
         → IsWiredJob lists wakers job
         → IsWorked acts answer after may_shut answers job done
@@ -483,7 +483,7 @@ module _ {R G : Type 0} {may_shut : Type 0} {answers : G → ℕ → ℕ → Boo
           (sym same) (seats_stay _)
       keeps b a (inr served) = served_keeps b a served
 
-module _ {R D G : Type 0} {may_shut : Type 0} {answers : G → ℕ → ℕ → Bool → Type 0} where
+module _ {R D G : Type 0} (may_shut : Type 0) (answers : G → ℕ → ℕ → Bool → Type 0) where
   thread_with : (placed : DropBomb R Placed) (done : InterruptWorker R D G) (before after : OwnThread R G) → IsBackAt placed done
       → IsThreadAt placed before → IsPolled has_no_thread TurnsAlone may_shut answers before after → IsThreadWith done after
   thread_with placed done before after back at p = seat_with placed done before.served.seat after.served.seat back at.seat
@@ -500,7 +500,7 @@ module _ {R D G : Type 0} {may_shut : Type 0} {answers : G → ℕ → ℕ → B
       zip_same _ _ _ _ (λ w t h. thread_with h.1.0 w h.0 t h.1.1 h.1.2 h.2)
       (zip_both _ _ _ _ _ (zip_both _ _ _ _ _ (zip_flip _ _ _ back) at) did)
 
-module _ {R D G : Type 0} {may_shut : Type 0} {answers : G → ℕ → ℕ → Bool → Type 0} {context : RunContext R G}
+module _ {R D G : Type 0} (may_shut : Type 0) (answers : G → ℕ → ℕ → Bool → Type 0) {context : RunContext R G}
     {lists : List (SharedList R)} {wakers : List Waker} (n : ℕ) (placed : List (DropBomb R Placed)) (loose : List (DropBomb R (Loose D)))
     (workers : List (InterruptWorker R D G)) (sat : List (DropBomb R PollHandle)) (pollers polled : List (OwnPoller R G))
     (back : AllZip IsBackAt placed workers) (at : AllZip IsSeatAt placed sat) (for : AllZip IsKeptSeatFor loose sat)
@@ -566,8 +566,8 @@ module _ {R D G : Type 0} {may_shut : Type 0} {answers : G → ℕ → ℕ → B
 
 -- ---- the threads of instances took their turns
 
-module _ {R D G : Type 0} {may_shut : Type 0} {answers : G → ℕ → ℕ → Bool → Type 0} {context : RunContext R G}
-    {lists : List (SharedList R)} {wakers : List Waker} where
+module _ {R D G : Type 0} (may_shut : Type 0) (answers : G → ℕ → ℕ → Bool → Type 0) (context : RunContext R G)
+    (lists : List (SharedList R)) (wakers : List Waker) where
   turned_by : (loose : DropBomb R (Loose D)) (side thread : OwnThread R G) (has : Bool) → is_some side.served.seat.value.thread ≡ has
       → IsKeptThreadFor context loose side → IsWiredSide lists wakers side
       → IsPolled has_no_thread TurnsAlone may_shut answers side thread → thread.stop ≡ None

@@ -9,6 +9,7 @@ ghost use Rattle.poll_tasks.specs.Tasks.{HasRoom};
 ghost use Rattle.poll_list.specs.declared.shared.SharedList.{SharedList};
 ghost use Rattle.poll_tasks.specs.Wakers.{Wakes};
 ghost use Rattle.poll_tasks.specs.Limits.{IsLawful};
+ghost use Rattle.poll_workers.specs.Rooms.{AreBegins};
 ghost use Rattle.poll_workers.specs.Spreads.{AreEndsOf, ArePollers, HaveOwn, IsBegin, IsEndOf, IsNewEnd, TakesSeat};
 
 use napi_calls::DropBomb;
@@ -32,6 +33,13 @@ pub(crate) type OwnThread<'t, 'p, 'n, R, G> = Poller<'t, 'n, R, G, ThreadPoller<
 pub(crate) struct Begin<R: Wait + Drop> {
     list: SharedList<R>,
     wait: IdleWait,
+}
+
+/// What all pollers start with, and two ends of its list for each station that a poller may have.
+#[derive(Drop)]
+pub(crate) struct Begins<R: Wait + Drop> {
+    pub(crate) pollers: Vec<Begin<R>>,
+    pub(crate) ends: Vec<Vec<ListIn<R>>>,
 }
 
 // Returns what a poller of at most so many stations starts with, and two ends of its list for each.
@@ -59,17 +67,10 @@ pub(crate) fn begins_of<R: Wait + Drop + Copy>(
     alloc: Global,
     pollers: usize,
     count: usize,
-) -> Result<(Vec<Waker>, Vec<Begin<R>>, Vec<Vec<ListIn<R>>>), AllocError>
+) -> Result<(Vec<Waker>, Begins<R>), AllocError>
     requires { count ≤ 16 }
-    ensures len { IfOk result
-        (λ r. (length (vec_items r.0) ≡ pollers) × (length (vec_items r.1) ≡ pollers)
-        × (length (vec_items r.2) ≡ pollers)) }
-    ensures begins { IfOk result (λ r. AllByRecursion IsBegin (vec_items r.1)) }
-    ensures ends { IfOk result (λ r. All (λ e. count + count ≤ vec_len e) (vec_items r.2)) }
-    ensures wakes { IfOk result (λ r. AllZip (λ waker begin. Wakes waker begin.wait) (vec_items r.0)
-        (vec_items r.1)) }
-    ensures own { IfOk result (λ r. AllZip (λ begin e. All (IsNewEnd begin.list) (vec_items e))
-        (vec_items r.1) (vec_items r.2)) }
+    ensures len { IfOk result (λ r. length (vec_items r.0) ≡ pollers) }
+    ensures begins { IfOk result (λ r. AreBegins (vec_items r.0) count r.1) }
 {
     let mut wakers = Vec::with_capacity(alloc, pollers)?;
     let mut begins = Vec::with_capacity(alloc, pollers)?;
@@ -81,7 +82,11 @@ pub(crate) fn begins_of<R: Wait + Drop + Copy>(
         begins.push_reserved(begin);
         ends.push_reserved(own_ends);
     }
-    Ok((wakers, begins, ends))
+    let begins = Begins {
+        pollers: begins,
+        ends,
+    };
+    Ok((wakers, begins))
 }
 
 /// Returns room for the seats of so many pollers, for so many of each.

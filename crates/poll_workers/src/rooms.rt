@@ -1,24 +1,19 @@
-//! What is allocated for a run before its instances are opened, so that no allocation can fail later.
+//! What is allocated for a run before its threads start: nothing may be allocated once they run.
 
-ghost use Rattle.std.specs.Prelude.{◌≡◌, ◌≤◌, IfOk, length, vec_items};
+ghost use Rattle.std.specs.Prelude.{IfOk};
 ghost use Rattle.poll_workers.specs.Rooms.{AreRooms};
 
-use crate::pollers::{Begin, OwnPoller, OwnThread, begins_of, seats_of};
+use crate::pollers::{OwnPoller, OwnThread, seats_of};
 use napi_calls::DropBomb;
 use poll_interrupts::{InterruptWorker, Loose};
-use poll_list::ListIn;
 use poll_seats::PollHandle;
-use poll_tasks::{Spawned, Task, Tasks, Waker};
+use poll_tasks::{Spawned, Task, Tasks};
 use std::alloc::{AllocError, Global};
 use std::sync::Wait;
 
-/// What the pollers start with, and room for all that goes to the threads of so many pollers and stations, for the threads, and
-/// for what they return.
+/// Room for all that goes to the threads of so many pollers and stations, for the threads, and for what they return.
 #[derive(Drop)]
 pub(crate) struct Rooms<'n, R: Wait + Drop, P: Task + Drop, W: Task + Drop, S: Task + Drop, D> {
-    pub(crate) begins: Vec<Begin<R>>,
-    /// Two ends of its list for each station that a poller may have.
-    pub(crate) ends: Vec<Vec<ListIn<R>>>,
     pub(crate) tasks: Tasks<P, W, S>,
     pub(crate) spawned: Tasks<Spawned<P>, Spawned<W>, Spawned<S>>,
     /// The seats of each poller.
@@ -37,27 +32,21 @@ pub(crate) type RunRooms<'t, 'p, 'n, R, D, G> = Rooms<
     D,
 >;
 
-/// Returns the wakers of so many pollers, and the room for them and so many stations.
+/// Returns the room for so many pollers and stations.
 pub(crate) fn rooms_of<'n, R, P, W, S, D>(
-    rt: R,
     alloc: Global,
     pollers: usize,
     count: usize,
-) -> Result<(Vec<Waker>, Rooms<'n, R, P, W, S, D>), AllocError>
+) -> Result<Rooms<'n, R, P, W, S, D>, AllocError>
 where
     R: Wait + Drop + Copy,
     P: Task + Drop,
     W: Task + Drop,
     S: Task + Drop,
     D: Drop,
-    requires { count ≤ 16 }
-    ensures len { IfOk result (λ r. length (vec_items r.0) ≡ pollers) }
-    ensures rooms { IfOk result (λ r. AreRooms (vec_items r.0) count r.1) }
+    ensures { IfOk result (λ r. AreRooms pollers count r) }
 {
-    let (wakers, begins, ends) = begins_of(rt, alloc, pollers, count)?;
-    let rooms = Rooms {
-        begins,
-        ends,
+    Ok(Rooms {
         tasks: Tasks {
             pollers: Vec::with_capacity(alloc, pollers)?,
             workers: Vec::with_capacity(alloc, count)?,
@@ -71,6 +60,5 @@ where
         seats: seats_of(alloc, pollers, count)?,
         left_seats: Vec::with_capacity(alloc, pollers)?,
         left: Vec::with_capacity(alloc, count)?,
-    };
-    Ok((wakers, rooms))
+    })
 }

@@ -1,6 +1,6 @@
 //! A run of all stations.
 
-ghost use Rattle.std.specs.Prelude.{◌≡◌, ◌≤◌, IfErr, IfOk, IfSome, IsErrOf, IsTrue, None, length, map, vec_items, vec_len};
+ghost use Rattle.std.specs.Prelude.{◌≡◌, ◌≤◌, IfErr, IfOk, IfSome, IsErrOf, IsTrue, None, length, map, true, vec_items, vec_len};
 ghost use Rattle.std.specs.List.{All, AllZip};
 ghost use Rattle.std.specs.Borrow.{Bor};
 ghost use Rattle.poll_tasks.specs.Asks.{IsAsked};
@@ -9,7 +9,7 @@ ghost use Rattle.poll_workers.specs.Finishes.{IsFinished};
 ghost use Rattle.poll_workers.specs.declared.fault.WorkFault.TheVariants.{GateShut, OutOfMemory, SpawnFailed};
 ghost use Rattle.poll_workers.specs.Faults.{IsWantOfMemory, run_result};
 ghost use Rattle.poll_workers.specs.Numbers.{have_distinct_numbers};
-ghost use Rattle.poll_workers.specs.Rooms.{AreRooms};
+ghost use Rattle.poll_workers.specs.Rooms.{AreBegins};
 ghost use Rattle.poll_interrupts.specs.Opens.{IsKeptPartOf, IsKeptSideOf, IsStation};
 ghost use Rattle.poll_tasks.specs.Limits.{IsLawful};
 ghost use Rattle.poll_tasks.specs.Refusals.{IsRefused};
@@ -17,11 +17,11 @@ ghost use Rattle.poll_tasks.specs.Stops.{IsStop};
 
 use crate::fault::WorkFault;
 use crate::gathering::{RunTasks, gather, seats_left};
-use crate::pollers::pollers_of;
-use crate::rooms::{Rooms, RunRooms, rooms_of};
+use crate::pollers::{Begins, begins_of, pollers_of};
+use crate::rooms::{Rooms, rooms_of};
 use crate::spreading::spread;
 use napi_calls::DropBomb;
-use poll_interrupts::{Device, Finished, Loose, Placed, Station, end_all, open_all};
+use poll_interrupts::{Device, Finished, Loose, Placed, Station, end_all, open_all, shut_all};
 use poll_tasks::{Gate, PollLimits, RunContext, Stop, StopFlags, Tasks, Waker, drive, first_stop};
 use std::alloc::{AllocError, Global};
 use std::sync::Wait;
@@ -52,41 +52,46 @@ fn stop_of_run<'t, 'p, 'n, R: Wait + Drop + Copy, D: Device + Drop, G: Gate>(
     first_stop(tasks.workers.as_slice())
 }
 
-// Runs all threads, in one scope.
+// Runs all threads, in one scope. If an allocation fails, no thread starts, and the parts that would have gone to them are
+// returned.
 fn run_threads<'t, 'p, 'n, R, D, G>(
     context: &'t RunContext<'t, R, G>,
+    alloc: Global,
     wakers: &'p [Waker],
-    rooms: RunRooms<'t, 'p, 'n, R, D, G>,
+    begins: Begins<R>,
     placed: &'n [DropBomb<R, Placed>],
     loose: Vec<DropBomb<R, Loose<D>>>,
-) -> Ended<R, D>
+) -> Result<Ended<R, D>, Vec<DropBomb<R, Loose<D>>>>
 where
     R: Threads + Wait + Copy + Drop + Send + Sync,
     D: Device + Drop + Send,
     G: Gate + Sync,
     requires pollers { (1 ≤ length wakers.now) × (length wakers.now ≤ 8) }
-    requires rooms { AreRooms wakers.now (vec_len loose) rooms }
+    requires begins { AreBegins wakers.now (vec_len loose) begins }
     requires limits { IsLawful context.now.limits }
     requires sides { AllZip IsKeptSideOf (vec_items loose) placed.now }
-    ensures parts { AllZip IsKeptPartOf (vec_items result.0) placed.now }
-    ensures len { vec_len result.0 ≡ vec_len loose }
-    ensures why { IfSome result.1 (IsStop G.may_shut) }
-    ensures ran { result.1 ≡ None
+    ensures parts { IfOk result (λ e. AllZip IsKeptPartOf (vec_items e.0) placed.now) }
+    ensures len { IfOk result (λ e. vec_len e.0 ≡ vec_len loose) }
+    ensures why { IfOk result (λ e. IfSome e.1 (IsStop G.may_shut)) }
+    ensures ran { IfOk result (λ e. e.1 ≡ None
         → HaveRun D.acts D.answer D.after G.answers context.now
-        (map (λ b. b.list) (vec_items rooms.entry.begins)) (length wakers.now)
-        (vec_items loose) (vec_items result.0) }
+        (map (λ b. b.list) (vec_items begins.pollers)) (length wakers.now)
+        (vec_items loose) (vec_items e.0)) }
+    ensures back { IfErr result (λ b. vec_items b ≡ vec_items loose) }
 {
+    let Ok(rooms) = rooms_of(alloc, wakers.len(), loose.len()) else {
+        return Err(loose);
+    };
+    let Begins { pollers, ends } = begins;
     let Rooms {
-        begins,
-        ends: _,
         tasks,
         spawned,
         seats,
         left_seats,
         left,
-    } = spread(context, wakers, placed, loose, rooms);
+    } = spread(context, wakers, placed, loose, ends, rooms);
     let tasks = Tasks {
-        pollers: pollers_of(context, wakers, begins, seats, tasks.pollers),
+        pollers: pollers_of(context, wakers, pollers, seats, tasks.pollers),
         workers: tasks.workers,
         threads: tasks.threads,
     };
@@ -102,7 +107,7 @@ where
     let stop = stop_of_run(&tasks);
     let seats = seats_left(tasks.pollers, left_seats);
     let left = gather(context.rt, tasks.workers, seats, tasks.threads, left);
-    (left, stop)
+    Ok((left, stop))
 }
 
 // Opens all stations, and runs them. If an allocation fails, no thread starts; if a run ended early, it returns why.
@@ -134,16 +139,30 @@ where
     if count == 0 {
         return Ok(Ok(Vec::new(alloc)));
     }
-    let (wakers, rooms) = rooms_of(context.rt, alloc, pollers, count)?;
+    let (wakers, begins) = begins_of(context.rt, alloc, pollers, count)?;
     let finished = Vec::with_capacity(alloc, count)?;
     let (placed, loose) = open_all(context.rt, alloc, stations)?;
     let here = placed.as_slice();
-    let (left, stop) = run_threads(context, wakers.as_slice(), rooms, here, loose);
-    let finished = end_all(placed, left, finished);
-    match stop {
-        Some(stop) => Ok(Err(stop)),
-        None => Ok(Ok(finished)),
+    match run_threads(context, alloc, wakers.as_slice(), begins, here, loose) {
+        Ok((left, stop)) => {
+            let finished = end_all(placed, left, finished);
+            match stop {
+                Some(stop) => Ok(Err(stop)),
+                None => Ok(Ok(finished)),
+            }
+        }
+        Err(loose) => {
+            shut_all(placed, loose);
+            Err(AllocError)
+        }
     }
+}
+
+// Returns whether a thread could not be started.
+fn is_refused<G: Gate>(flags: &StopFlags<G>) -> bool
+    ensures { result ≡ true → IsRefused }
+{
+    flags.refused.load(Ordering::SeqCst) != 0
 }
 
 // Returns the result of a run.
@@ -224,5 +243,5 @@ where
         },
     };
     let came = run_all(&context, alloc, pollers as usize, stations);
-    run_result(came, flags.refused.load(Ordering::SeqCst) != 0)
+    run_result(came, is_refused(&flags))
 }

@@ -1,7 +1,7 @@
 //! What goes to the threads of a run.
 
-ghost use Rattle.std.specs.Prelude.{◌≡◌, ◌<◌, ◌≤◌, List, IfSome, Some, is_some, length, vec_items, vec_len};
-ghost use Rattle.std.specs.List.{AllByRecursion, AllZip};
+ghost use Rattle.std.specs.Prelude.{◌≡◌, ◌+◌, ◌<◌, ◌≤◌, List, IfSome, Some, is_some, length, vec_items, vec_len};
+ghost use Rattle.std.specs.List.{All, AllByRecursion, AllZip};
 ghost use Rattle.napi_calls.specs.Instance.{IsSeatOf};
 ghost use Rattle.poll_list.specs.declared.shared.SharedList.{SharedList};
 ghost use Rattle.poll_seats.specs.declared.handle.PollHandle.{PollHandle};
@@ -153,18 +153,21 @@ fn split<'t, 'p, 'n, R: Wait + Drop + Copy, D: Drop, G: Gate>(
     (worker, seat, side)
 }
 
-/// Distributes the opened instances over the threads of the run.
+/// Distributes the opened instances over the threads of the run. `ends` has two ends of its poller's list for each instance.
 pub(crate) fn spread<'t, 'p, 'n, R: Wait + Drop + Copy, D: Device + Drop, G: Gate>(
     context: &'t RunContext<'t, R, G>,
     wakers: &'p [Waker],
     placed: &'n [DropBomb<R, Placed>],
     loose: Vec<DropBomb<R, Loose<D>>>,
+    ends: Vec<Vec<ListIn<R>>>,
     rooms: RunRooms<'t, 'p, 'n, R, D, G>,
 ) -> RunRooms<'t, 'p, 'n, R, D, G>
     requires sides { AllZip IsKeptSideOf (vec_items loose) placed.now }
     requires limits { IsLawful context.now.limits }
     requires some { 1 ≤ length wakers.now }
-    requires rooms { AreRooms wakers.now (vec_len loose) rooms }
+    requires ends { All (λ e. vec_len loose + vec_len loose ≤ vec_len e) (vec_items ends)
+        × (length (vec_items ends) ≡ length wakers.now) }
+    requires rooms { AreRooms (length wakers.now) (vec_len loose) rooms }
     ensures jobs { AllZip (IsKeptJobOf context.now) (vec_items loose)
         (vec_items result.tasks.workers) }
     ensures job_places { AllZip IsJobAt placed.now (vec_items result.tasks.workers) }
@@ -172,22 +175,20 @@ pub(crate) fn spread<'t, 'p, 'n, R: Wait + Drop + Copy, D: Device + Drop, G: Gat
     ensures threads { AllZip (IsKeptThreadFor context.now) (vec_items loose)
         (vec_items result.tasks.threads) }
     // Each worker and each thread pushes into the list of its own poller, and wakes that one.
-    ensures wired_jobs { (lists : List (SharedList _))
-        → AreEndsOf lists (vec_items rooms.entry.ends)
+    ensures wired_jobs { (lists : List (SharedList _)) → AreEndsOf lists (vec_items ends)
         → AllByRecursion (IsWiredJob lists wakers.now) (vec_items result.tasks.workers) }
-    ensures wired_threads { (lists : List (SharedList _))
-        → AreEndsOf lists (vec_items rooms.entry.ends)
+    ensures wired_threads { (lists : List (SharedList _)) → AreEndsOf lists (vec_items ends)
         → AllByRecursion (IsWiredSide lists wakers.now) (vec_items result.tasks.threads) }
     ensures seats { (sat : List (DropBomb _ PollHandle)) × AllZip IsSeatAt placed.now sat
         × AllZip IsKeptSeatFor (vec_items loose) sat
         × HaveOwn (vec_len loose) (length wakers.now) sat (vec_items result.seats) }
     ensures len { length (vec_items result.seats) ≡ length wakers.now }
-    ensures pollers { (result.begins ≡ rooms.entry.begins)
-        × (result.tasks.pollers ≡ rooms.entry.tasks.pollers) }
+    ensures pollers { result.tasks.pollers ≡ rooms.entry.tasks.pollers }
     ensures rest { (result.spawned ≡ rooms.entry.spawned)
         × (result.left_seats ≡ rooms.entry.left_seats) × (result.left ≡ rooms.entry.left) }
 {
     let mut rooms = rooms;
+    let mut lists = ends;
     let mut places = placed;
     let mut rests = loose.into_iter();
     while let Some(rest) = rests.next() {
@@ -196,7 +197,7 @@ pub(crate) fn spread<'t, 'p, 'n, R: Wait + Drop + Copy, D: Device + Drop, G: Gat
         };
         places = more;
         let poller = poller_of(place.value.number, wakers.len());
-        let both = two_ends(&mut rooms.ends, poller);
+        let both = two_ends(&mut lists, poller);
         let (job, seat, side) = split(context, waker_at(wakers, poller), place, rest.open(), both);
         seat_at(&mut rooms.seats, poller, seat);
         rooms.tasks.workers.push_reserved(job);

@@ -27,3 +27,15 @@ loop-preserved g c =
       joined = rw (c.push_reserved-in-loop.ensures.items, c.push_reserved-in-loop-2.ensures.items)
           (zip_push _ _ _ _ _ now.joined c.in_ok-begin.ensures.own);
     }
+
+pub returns-clause-begins : goal.returns-clause-begins
+returns-clause-begins g c =
+    let now = c.loop.invariant in
+    record {
+      each = now.each;
+      wakes = now.wakes;
+      own = now.joined;
+      enough = now.own;
+      poller_len = now.begins ∙ sym now.wakers;
+      end_len = now.ends ∙ sym now.wakers;
+    }

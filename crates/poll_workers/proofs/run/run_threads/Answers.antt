@@ -1,46 +1,39 @@
-use Rattle.std.proofs.Common.{◌≡◌, ◌∙◌, ap, length, map, refl, subst, sym, vec_items, vec_len, arith}
-use Rattle.{std.specs.List.{AllByRecursion, AllZip}, poll_tasks.specs.{Tasks.HasRoom, Wakers.Wakes}}
+use Rattle.std.proofs.Common.{◌≡◌, ◌∙◌, ap, length, subst, sym, vec_items, arith}
+use Rattle.poll_tasks.specs.Tasks.{HasRoom}
 use Rattle.{std.proofs.lemmas.{Grind.common_steps, List.length-map}, poll_tasks.{proofs.Zips.zip_long, specs.Tasks.EachAt}}
 use Rattle.poll_tasks.proofs.ListFacts.{each_index, zip_each}
 use Rattle.poll_workers.proofs.RunFacts.{all_back_at, all_have_polled, all_parts, all_seats_at, all_threads_with, all_turned}
 use Rattle.poll_workers.proofs.RunFacts.{each_mapped, all_worked, ends_of_lists}
-use Rattle.poll_workers.specs.{Outcomes.{AreLeftBy, AreSeatsAt}, Rooms.HaveRoom, Spreads.IsBegin}
+use Rattle.poll_workers.specs.{Outcomes.{AreLeftBy, AreSeatsAt}, Rooms.{AreRooms, HaveRoom}}
 use Rattle.poll_workers.proofs.run.run_threads.Goals as goal
 
-pub pollers_of-requires-clause-wakers : goal.pollers_of-requires-clause-wakers
-pollers_of-requires-clause-wakers g c = ap (λ b. length (vec_items b)) c.spread-begins.ensures.pollers.0 ∙ c.requires.rooms.begin_len
-
-pub pollers_of-requires-clause-begins : goal.pollers_of-requires-clause-begins
-pollers_of-requires-clause-begins g c =
-    subst (λ b. AllByRecursion IsBegin (vec_items b)) (sym c.spread-begins.ensures.pollers.0) c.requires.rooms.begins
-
-pub pollers_of-requires-clause-wakes : goal.pollers_of-requires-clause-wakes
-pollers_of-requires-clause-wakes g c = subst (λ b. AllZip (λ waker begin. Wakes waker begin.wait) c.args.wakers.now (vec_items b))
-    (sym c.spread-begins.ensures.pollers.0) c.requires.rooms.wakes
+pub spread-tasks-requires-clause-rooms : goal.spread-tasks-requires-clause-rooms
+spread-tasks-requires-clause-rooms g c =
+    subst (λ n. AreRooms (length c.args.wakers.now) n c.in-Ok.rooms) c.len.ensures c.in-Ok.ensures
 
 pub pollers_of-requires-clause-room : goal.pollers_of-requires-clause-room
 pollers_of-requires-clause-room g c =
-    subst (λ p. HasRoom (length c.args.wakers.now) p) (sym c.spread-begins.ensures.pollers.1) c.requires.rooms.tasks.pollers
+    subst (λ p. HasRoom (length c.args.wakers.now) p) (sym c.spread-tasks.ensures.pollers) c.in-Ok.ensures.tasks.pollers
 
 pub drive-tasks-requires-clause-pollers : goal.drive-tasks-requires-clause-pollers
 drive-tasks-requires-clause-pollers g c κs within =
-    let room = (subst (λ t. HaveRoom (length c.args.wakers.now) (vec_len c.args.loose) t) (sym c.spread-begins.ensures.rest.0)
-    c.requires.rooms.spawned).pollers in
-    (room.0, grind (arith, common_steps, c.pollers_of.ensures.len, room.1))
+    let room =
+    subst (λ t. HaveRoom (length c.args.wakers.now) c.len.result t) (sym c.spread-tasks.ensures.rest.0) c.in-Ok.ensures.spawned in
+    (room.pollers.0, grind (arith, common_steps, c.pollers_of.ensures.len, room.pollers.1))
 
 pub drive-tasks-requires-clause-workers : goal.drive-tasks-requires-clause-workers
 drive-tasks-requires-clause-workers g c κs within =
-    let room = (subst (λ t. HaveRoom (length c.args.wakers.now) (vec_len c.args.loose) t) (sym c.spread-begins.ensures.rest.0)
-    c.requires.rooms.spawned).workers in
-    let a = zip_long _ _ _ c.spread-begins.ensures.jobs in
-    (room.0, grind (arith, common_steps, a, room.1))
+    let room =
+    subst (λ t. HaveRoom (length c.args.wakers.now) c.len.result t) (sym c.spread-tasks.ensures.rest.0) c.in-Ok.ensures.spawned in
+    let a = zip_long _ _ _ c.spread-tasks.ensures.jobs in
+    (room.workers.0, grind (arith, common_steps, a, c.len.ensures, room.workers.1))
 
 pub drive-tasks-requires-clause-threads : goal.drive-tasks-requires-clause-threads
 drive-tasks-requires-clause-threads g c κs within =
-    let room = (subst (λ t. HaveRoom (length c.args.wakers.now) (vec_len c.args.loose) t) (sym c.spread-begins.ensures.rest.0)
-    c.requires.rooms.spawned).threads in
-    let a = zip_long _ _ _ c.spread-begins.ensures.threads in
-    (room.0, grind (arith, common_steps, a, room.1))
+    let room =
+    subst (λ t. HaveRoom (length c.args.wakers.now) c.len.result t) (sym c.spread-tasks.ensures.rest.0) c.in-Ok.ensures.spawned in
+    let a = zip_long _ _ _ c.spread-tasks.ensures.threads in
+    (room.threads.0, grind (arith, common_steps, a, c.len.ensures, room.threads.1))
 
 pub stop_of_run-stop-requires-clause-workers : goal.stop_of_run-stop-requires-clause-workers
 stop_of_run-stop-requires-clause-workers g c = each_index _ _ (zip_each _ _ _ _ (λ j d h. h.why) c.drive-tasks.ensures.workers)
@@ -53,7 +46,7 @@ stop_of_run-stop-requires-clause-threads g c = each_index _ _ (zip_each _ _ _ _ 
 
 pub seats_left-seats-requires : goal.seats_left-seats-requires
 seats_left-seats-requires g c =
-    let room = subst (λ v. HasRoom (length c.args.wakers.now) v) (sym c.spread-begins.ensures.rest.1) c.requires.rooms.left_seats in
+    let room = subst (λ v. HasRoom (length c.args.wakers.now) v) (sym c.spread-tasks.ensures.rest.1) c.in-Ok.ensures.left_seats in
     let a = zip_long _ _ _ c.drive-tasks.ensures.pollers in
     (room.0, grind (arith, common_steps, a, c.pollers_of.ensures.len, room.1))
 
@@ -66,60 +59,59 @@ gather-left-requires-clause-some g c =
 
 pub gather-left-requires-clause-seats : goal.gather-left-requires-clause-seats
 gather-left-requires-clause-seats g c =
-    let s = c.spread-begins.ensures in
+    let s = c.spread-tasks.ensures in
     let polled = vec_items c.drive-tasks.result.pollers in
     let workers = vec_items c.drive-tasks.result.workers in
     let same : length (vec_items c.seats_left-seats.result) ≡ length c.args.wakers.now = sym (ap (λ l. length l) c.seats_left-seats.ensures)
     ∙ length-map polled (λ p. p.served.bench.seats) ∙ sym (zip_long _ _ _ c.drive-tasks.ensures.pollers) ∙ c.pollers_of.ensures.len in
-    let back = all_back_at _ _ _ _ c.requires.sides s.jobs s.job_places c.drive-tasks.ensures.workers in
-    let at = all_seats_at _ _ _ _ s.seats.0 _ _ back s.seats.1 s.seats.2 (c.pollers_of.ensures.pollers _ _ s.seats.0 s.seats.3)
-    c.drive-tasks.ensures.pollers refl in
+    let back = all_back_at _ _ _ _ _ _ _ _ _ _ c.requires.sides s.jobs s.job_places c.drive-tasks.ensures.workers in
+    let at = all_seats_at _ _ _ _ _ _ s.seats.0 _ _ back s.seats.1 s.seats.2 (c.pollers_of.ensures.pollers _ _ s.seats.0 s.seats.3)
+    c.drive-tasks.ensures.pollers c.pollers_of.ensures.lists in
     subst (λ n. EachAt (AreSeatsAt n workers) (vec_items c.seats_left-seats.result)) (sym same)
     (subst (λ l. EachAt (AreSeatsAt (length c.args.wakers.now) workers) l) c.seats_left-seats.ensures
     (each_mapped (λ p. p.served.bench.seats) (AreSeatsAt (length c.args.wakers.now) workers) polled at))
 
 pub gather-left-requires-clause-threads : goal.gather-left-requires-clause-threads
 gather-left-requires-clause-threads g c =
-    let s = c.spread-begins.ensures in
-    let back = all_back_at _ _ _ _ c.requires.sides s.jobs s.job_places c.drive-tasks.ensures.workers in
-    all_threads_with _ _ _ _ back s.thread_places c.drive-tasks.ensures.threads
+    let s = c.spread-tasks.ensures in
+    let back = all_back_at _ _ _ _ _ _ _ _ _ _ c.requires.sides s.jobs s.job_places c.drive-tasks.ensures.workers in
+    all_threads_with _ _ _ _ _ _ back s.thread_places c.drive-tasks.ensures.threads
 
 pub gather-left-requires-clause-room : goal.gather-left-requires-clause-room
 gather-left-requires-clause-room g c =
-    let a = zip_long _ _ _ c.spread-begins.ensures.jobs in
+    let a = zip_long _ _ _ c.spread-tasks.ensures.jobs in
     let b = zip_long _ _ _ c.drive-tasks.ensures.workers in
-    let room = subst (λ v. HasRoom (vec_len c.args.loose) v) (sym c.spread-begins.ensures.rest.2) c.requires.rooms.left in
-    (room.0, grind (arith, common_steps, a, b, room.1))
+    let room = subst (λ v. HasRoom c.len.result v) (sym c.spread-tasks.ensures.rest.2) c.in-Ok.ensures.left in
+    (room.0, grind (arith, common_steps, a, b, c.len.ensures, room.1))
 
 pub returns-clause-parts : goal.returns-clause-parts
 returns-clause-parts g c =
-    let s = c.spread-begins.ensures in
-    let back = all_back_at _ _ _ _ c.requires.sides s.jobs s.job_places c.drive-tasks.ensures.workers in
+    let s = c.spread-tasks.ensures in
+    let back = all_back_at _ _ _ _ _ _ _ _ _ _ c.requires.sides s.jobs s.job_places c.drive-tasks.ensures.workers in
     all_parts _ _ _ _ _ back c.gather-left.ensures
 
 pub returns-clause-len : goal.returns-clause-len
 returns-clause-len g c =
-    let s = c.spread-begins.ensures in
-    let back = all_back_at _ _ _ _ c.requires.sides s.jobs s.job_places c.drive-tasks.ensures.workers in
+    let s = c.spread-tasks.ensures in
+    let back = all_back_at _ _ _ _ _ _ _ _ _ _ c.requires.sides s.jobs s.job_places c.drive-tasks.ensures.workers in
     let a = zip_long _ _ _ (all_parts _ _ _ _ _ back c.gather-left.ensures) in
     let b = zip_long _ _ _ c.requires.sides in
     grind (arith, common_steps, a, b)
 
 pub returns-clause-ran : goal.returns-clause-ran
 returns-clause-ran g c none =
-    let s = c.spread-begins.ensures in
-    let back = all_back_at _ _ _ _ c.requires.sides s.jobs s.job_places c.drive-tasks.ensures.workers in
-    let ends = ends_of_lists _ _ c.requires.rooms.own in
+    let s = c.spread-tasks.ensures in
+    let back = all_back_at _ _ _ _ _ _ _ _ _ _ c.requires.sides s.jobs s.job_places c.drive-tasks.ensures.workers in
+    let ends = ends_of_lists _ _ c.requires.begins.own in
     record {
       workers = vec_items c.drive-tasks.result.workers;
       polled = vec_items c.drive-tasks.result.pollers;
       threads = vec_items c.drive-tasks.result.threads;
       same = sym (zip_long _ _ _ c.drive-tasks.ensures.pollers) ∙ c.pollers_of.ensures.len;
-      made = all_worked _ _ _ s.jobs (s.wired_jobs _ ends) c.drive-tasks.ensures.workers;
-      ran = all_have_polled _ _ _ _ s.seats.0 _ _ back s.seats.1 s.seats.2 (c.pollers_of.ensures.pollers _ _ s.seats.0 s.seats.3)
-          c.drive-tasks.ensures.pollers
-          (c.pollers_of.ensures.lists ∙ ap (λ b. map (λ x. x.list) (vec_items b)) c.spread-begins.ensures.pollers.0);
-      turned = all_turned _ _ _ s.threads (s.wired_threads _ ends) c.drive-tasks.ensures.threads;
+      made = all_worked _ _ _ _ _ _ _ _ _ _ _ s.jobs (s.wired_jobs _ ends) c.drive-tasks.ensures.workers;
+      ran = all_have_polled _ _ _ _ _ _ s.seats.0 _ _ back s.seats.1 s.seats.2 (c.pollers_of.ensures.pollers _ _ s.seats.0 s.seats.3)
+          c.drive-tasks.ensures.pollers c.pollers_of.ensures.lists;
+      turned = all_turned _ _ _ _ _ _ _ _ s.threads (s.wired_threads _ ends) c.drive-tasks.ensures.threads;
       left_by = subst (λ l. AreLeftBy (vec_items c.drive-tasks.result.workers) l (vec_items c.drive-tasks.result.threads)
           (vec_items c.gather-left.result)) (sym c.seats_left-seats.ensures) c.gather-left.ensures;
       whole = c.stop_of_run-stop.ensures.workers none;

@@ -51,7 +51,7 @@ pub returns-clause-memory : goal.returns-clause-memory
 returns-clause-memory g c failed = result_memory _ _ (sym c.run_result.ensures ∙ failed)
 
 pub returns-clause-spawn : goal.returns-clause-spawn
-returns-clause-spawn g c failed = result_spawn _ _ _ c.is_set.ensures c.run_all-came.ensures.why (sym c.run_result.ensures ∙ failed)
+returns-clause-spawn g c failed = result_spawn _ _ _ c.is_refused.ensures c.run_all-came.ensures.why (sym c.run_result.ensures ∙ failed)
 
 pub returns-clause-gate : goal.returns-clause-gate
 returns-clause-gate g c failed = result_gate _ _ _ c.run_all-came.ensures.why (sym c.run_result.ensures ∙ failed)

@@ -30,17 +30,17 @@ loop-rest-init g c =
         sitting = tt;
         thread_places = rw no_sides tt;
         threads = rw no_sides tt;
-        own = c.requires.rooms.seats _;
+        own = c.requires.rooms.seats (length c.args.wakers.now);
         poller_count = c.requires.rooms.seat_len;
-        list_count = c.requires.rooms.end_len;
-        ends = rw c.into_iter-rests.ensures.len c.requires.rooms.ends;
+        list_count = c.requires.ends.1;
+        ends = rw c.into_iter-rests.ensures.len c.requires.ends.0;
         count = grind (arith, common_steps);
         seat_count = grind (arith, common_steps);
         side_count = grind (arith, common_steps);
         room = c.requires.rooms.tasks.workers.1;
         side_room = c.requires.rooms.tasks.threads.1;
         long = grind (arith, common_steps);
-        pollers = (refl, refl);
+        pollers = refl;
         rest = (refl, refl, refl);
       },
     )

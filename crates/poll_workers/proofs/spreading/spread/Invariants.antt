@@ -15,27 +15,27 @@ invariant-loop-rest g l = (did : List (DropBomb g.row.R.Denot (Loose g.row.D.Den
       sides : AllZip IsKeptSideOf (into_iter_items l.rests) l.places;
       made : AllZip (IsKeptJobOf l.context) did (vec_items l.rooms.tasks.workers);
       job_places : AllZip IsJobAt here (vec_items l.rooms.tasks.workers);
-      wired_jobs : (lists : List (SharedList g.row.R.Denot)) → AreEndsOf lists (vec_items l.fn.rooms.ends)
+      wired_jobs : (lists : List (SharedList g.row.R.Denot)) → AreEndsOf lists (vec_items l.fn.ends)
           → AllByRecursion (IsWiredJob lists l.fn.wakers) (vec_items l.rooms.tasks.workers);
-      wired_threads : (lists : List (SharedList g.row.R.Denot)) → AreEndsOf lists (vec_items l.fn.rooms.ends)
+      wired_threads : (lists : List (SharedList g.row.R.Denot)) → AreEndsOf lists (vec_items l.fn.ends)
           → AllByRecursion (IsWiredSide lists l.fn.wakers) (vec_items l.rooms.tasks.threads);
-      are_ends : (lists : List (SharedList g.row.R.Denot)) → AreEndsOf lists (vec_items l.fn.rooms.ends) → AreEndsOf lists
-          (vec_items l.rooms.ends);
+      are_ends : (lists : List (SharedList g.row.R.Denot)) → AreEndsOf lists (vec_items l.fn.ends) → AreEndsOf lists
+          (vec_items l.lists);
       seat_places : AllZip IsSeatAt here sat;
       sitting : AllZip IsKeptSeatFor did sat;
       thread_places : AllZip IsThreadAt here (vec_items l.rooms.tasks.threads);
       threads : AllZip (IsKeptThreadFor l.context) did (vec_items l.rooms.tasks.threads);
       own : HaveOwn (vec_len l.fn.loose) (length l.fn.wakers) sat (vec_items l.rooms.seats);
       poller_count : length (vec_items l.rooms.seats) ≡ length l.fn.wakers;
-      list_count : length (vec_items l.rooms.ends) ≡ length l.fn.wakers;
-      ends : All (λ e. into_iter_len l.rests + into_iter_len l.rests ≤ vec_len e) (vec_items l.rooms.ends);
+      list_count : length (vec_items l.lists) ≡ length l.fn.wakers;
+      ends : All (λ e. into_iter_len l.rests + into_iter_len l.rests ≤ vec_len e) (vec_items l.lists);
       count : vec_len l.rooms.tasks.workers + into_iter_len l.rests ≡ vec_len l.fn.loose;
       seat_count : length sat ≡ vec_len l.rooms.tasks.workers;
       side_count : vec_len l.rooms.tasks.threads ≡ vec_len l.rooms.tasks.workers;
       room : vec_len l.fn.loose ≤ vec_capacity l.rooms.tasks.workers;
       side_room : vec_len l.fn.loose ≤ vec_capacity l.rooms.tasks.threads;
       long : into_iter_len l.rests ≡ length (into_iter_items l.rests);
-      pollers : (l.rooms.begins ≡ l.fn.rooms.begins) × (l.rooms.tasks.pollers ≡ l.fn.rooms.tasks.pollers);
+      pollers : l.rooms.tasks.pollers ≡ l.fn.rooms.tasks.pollers;
       rest : (l.rooms.spawned ≡ l.fn.rooms.spawned) × (l.rooms.left_seats ≡ l.fn.rooms.left_seats) × (l.rooms.left ≡ l.fn.rooms.left);
     }
 
