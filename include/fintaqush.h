@@ -664,7 +664,8 @@ enum fq_what FQ_NUMBER {
     FQ_TODO_SLEEP = 0,  /* nothing, until the next interrupt, open or stop */
     FQ_TODO_MASK = 1,   /* mask the interrupt of the device's card */
     FQ_TODO_UNMASK = 2, /* unmask it */
-    FQ_TODO_LOOK = 3,   /* look whether the card has packets, and set `packets` to how many, or to 1 if it has any, or to 0 */
+    FQ_TODO_LOOK = 3,   /* look whether the card has packets, and set `packets` to how many, or to 1 if it has any, or to 0: after a full
+                         * memory fence, if the card works at the same time */
     FQ_TODO_FETCH = 4,  /* take packets from the card, at most `most` of them, deliver them, and set `packets` to how many */
     FQ_TODO_ENDED = 5   /* a run ended, with the report `run` (net_rx_action): do other work first if there is some */
 };

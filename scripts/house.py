@@ -18,10 +18,8 @@ CLAUSE = re.compile(r"(requires|ensures)\b ?\*?(\w+)?")
 GHOST = re.compile(r"(?:pub(?:\([\w:]+\))? )?ghost\b")
 PUBLIC = re.compile(r"pub(?:\([\w:]+\))? (?:struct|enum|union|trait|type) (\w+)")
 DEFINITION = re.compile(r"(?P<words>(?:(?:pub|abbrev|unfoldable|record|data) )*)(?P<name>[^\s(){}:◌]+)(?P<end> :| \(| \{)")
-# Names that two crates have, each with the reason. Operators, as ◌>>=◌, aren't names.
-SHARED = {
-    "AreSameSeats": "the same handles as before: of a worker (poll_interrupts), of a poller (poll_seats)",
-}
+# Names that two crates may have, each with the reason; there is none. Operators, as ◌>>=◌, aren't names.
+SHARED = {}
 LITERAL = re.compile(r"""//.*|b?"(?:[^"\\]|\\.)*"|b?'(?:[^'\\]|\\.[^']*)'""")
 
 

@@ -151,6 +151,7 @@ echo 'a driver never sleeps with work left' > "$scratch/drove"
 check 'driver.c compiles' compile gcc "$top/tests/c/driver.c" "$scratch/drives" -O2
 check 'random calls of drivers' compared "$scratch/drove" "$scratch/drives"
 check 'random calls of drivers, another seed' compared "$scratch/drove" "$scratch/drives" "${1:-4711}"
+
 # ---- a driver, in random orders of calls
 
 echo 'no order hangs, and each mistake does' > "$scratch/ordered"

@@ -32,7 +32,7 @@ PLACES = {
     "poll_interrupts/src/opening.rt": (2, "the ring, the instance"),
     "poll_list/src/list_ends.rt": (1, "the queue or its ends"),
     "poll_workers/src/pollers.rt": (1, "the shared list"),
-    "poll_workers/src/run.rt": (1, "an `AllocError` of the run"),
+    "poll_workers/src/run.rt": (2, "room for the threads; an `AllocError` of the run"),
     "replay_c/src/fault.rt": (1, "the trace's fault, and the report's bytes, which a `Vec` takes"),
     "replay_text/src/fault.rt": (1, "`From<AllocError>`"),
     "replay_text/src/program.rt": (2, "a word of the command line"),

@@ -1,6 +1,6 @@
 /* A driver over model cards whose interrupts are edges: a packet that arrives while its card is masked causes none. Packets, interrupts
- * (also late ones, and some without a packet), opens, stops, reports (also late ones, twice, and of what nobody asked for) come in
- * random order. Whenever the driver says to sleep, and no interrupt is on its way, each open card is empty and unmasked, and each
+ * (also late ones, and some without a packet), opens, stops, reports (also late ones, twice, and of what the driver never asked for)
+ * come in random order. Whenever the driver says to sleep, and no interrupt is on its way, each open card is empty and unmasked, and each
  * closed one masked. With each of three mistakes of the caller some order hangs. usage: orders ORDERS SEED */
 #include <fintaqush.h>
 #include <stdio.h>

@@ -1,26 +1,23 @@
 //! Drivers for C.
-ghost use Rattle.std.specs.Prelude.{◌≡◌, ◌≢◌, ◌≤◌, ◌↔◌, IsSome, IfSome};
+ghost use Rattle.std.specs.Prelude.{◌≡◌, ◌≢◌, ◌≤◌, ◌↔◌, IsSome, IfOk};
 ghost use Rattle.c_handles.specs.Drivers.{IsDriverDone, IsDriverInterrupt, IsNewDriver, IsDriverNext, IsDriverOpen, IsDriverShow, IsDriverStop, new_status};
 ghost use Rattle.c_handles.specs.Handles.{DriverMakes, DriverMakesIn, IsDriverWith, LeadsToDriver};
 ghost use Rattle.c_handles.specs.Status.{OK, IN_USE, OUT_OF_MEMORY, BAD_HANDLE};
 
 use c_handles::{FqDeviceShown, FqHandle, FqTodo, Object, drive, status};
 use driver_core::{Driver, Limits};
-use std::alloc::Global;
+use std::alloc::{AllocError, Global};
 
-// A driver as the object of a handle; `None` if memory is out.
-fn boxed(alloc: Global, devices: u32, limits: Limits) -> Option<Box<Object, Global>>
+// A driver as the object of a handle.
+fn boxed(alloc: Global, devices: u32, limits: Limits) -> Result<Box<Object, Global>, AllocError>
     requires { devices ≤ 64 }
-    ensures { IfSome result (λ b. IsDriverWith
+    ensures { IfOk result (λ b. IsDriverWith
         (IsNewDriver devices limits.budget limits.weight limits.window) b.value) }
 {
-    let Ok(driver) = Driver::new(alloc, devices, limits) else {
-        return None;
-    };
-    let Ok(driver) = Box::new(alloc, driver) else {
-        return None;
-    };
-    Box::new(alloc, Object::Driver(driver)).ok()
+    let driver = Driver::new(alloc, devices, limits)?;
+    let driver = Box::new(alloc, driver)?;
+    let body = Box::new(alloc, Object::Driver(driver))?;
+    Ok(body)
 }
 
 /// Makes a driver of so many devices, all closed.
@@ -58,11 +55,11 @@ pub extern "C" fn fq_driver_new(
         window,
     };
     match boxed(alloc, devices, limits) {
-        Some(body) => {
+        Ok(body) => {
             handle.put(body);
             status::OK
         }
-        None => status::OUT_OF_MEMORY,
+        Err(_) => status::OUT_OF_MEMORY,
     }
 }
 
