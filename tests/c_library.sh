@@ -41,7 +41,7 @@ same_calls() { diff <(header_calls) <(exports | grep '^fq_'); }
 
 no_other_exports() { ! exports | grep -v '^fq_'; }
 
-# and for the division of 128-bit numbers (flows by queues), which is in libgcc, and which each compiler links
+# Besides libc, it needs the division of 128-bit numbers (the machine's mean wait) of libgcc, which each compiler links.
 asks_for_libc_alone() {
     ! nm -u "$scratch/libfintaqush.a" | awk 'NF == 2 { print $2 }' | grep -v -x -e memcpy -e memset -e memmove -e malloc \
         -e realloc -e free -e _GLOBAL_OFFSET_TABLE_ -e __udivti3 -e __umodti3
