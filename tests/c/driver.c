@@ -167,7 +167,7 @@ static void program(void) {
     struct fq_handle driver = FQ_NONE;
     struct fq_todo todo = FQ_TODO_INIT;
     uint32_t squeezed = 0, runs = 0;
-    want(fq_driver_new(&driver, 2, 128, 64, 10) == FQ_OK && fq_driver_open(&driver, 1) == FQ_OK, "a driver");
+    want(fq_driver_new(&driver, 2, 64, 64, 10) == FQ_OK && fq_driver_open(&driver, 1) == FQ_OK, "a driver");
     memset(cards, 0, sizeof cards);
     cards[0].masked = cards[1].masked = true;
     cards[1].packets = 1000;
@@ -179,7 +179,7 @@ static void program(void) {
     }
     const struct fq_device_shown shown = shown_of(&driver, 1);
     want(fetched_next == 1000 && polled_in_all == 1000 && shown.packets == 1000 && shown.polls == 16, "each packet once");
-    want(runs == 8 && squeezed == 7 && shown.state == FQ_DEVICE_OPEN && !shown.scheduled && !cards[1].masked, "its runs");
+    want(runs == 16 && squeezed == 15 && shown.state == FQ_DEVICE_OPEN && !shown.scheduled && !cards[1].masked, "its runs");
     want(fq_driver_stop(&driver, 1) == FQ_OK, "a stop");
     while (fq_driver_next(&driver, &todo), todo.what != FQ_TODO_SLEEP) {
         act(&todo);
