@@ -494,7 +494,7 @@ class TestMachine(Refusals):
         apart = machine(self.ARRIVALS, apart=True, app_wake=3000, processors=2).processors
         self.assertEqual([one.number for one in apart], [0, 1])
         self.assertEqual([one.application.wakes for one in apart], [2, 1])
-        rows = "".join(f"{1000 * i},1,60\n" for i in range(2000))
+        rows = "".join(f"{30000 * i},1,60\n" for i in range(2000))
         arrivals = f"moment,device,bytes\n{rows}".encode()
         one_by_one, together = machine(arrivals), machine(arrivals, rx_nsecs=50000)
         self.assertGreater(one_by_one.processors[0].interrupts, together.processors[0].interrupts)
