@@ -276,13 +276,13 @@ def differences() -> Iterator[str]:
     said = replay(Settings(300, 64, 1024), b"?", 1, b"", 0, replayed)
     if (said, replayed.length, replayed.fault, replayed.row) != (Status.BAD_TRACE, 0, 1, 0):
         yield "fq_replayed"
-    asked, ran = MachineSettings(), MachineRan(ctypes.sizeof(MachineRan))
+    asked, out = MachineSettings(), MachineRan(ctypes.sizeof(MachineRan))
     machine_usual(asked, ctypes.sizeof(asked))
     asked.wake = 10**9 + 1
-    if (asked.weight, machine(asked, b"?", 1, b"", 0, ran), ran.setting) != (64, Status.BAD_SETTING, 21):
+    if (asked.weight, machine(asked, b"?", 1, b"", 0, out), out.setting) != (64, Status.BAD_SETTING, 21):
         yield "fq_machine_settings"
     asked.wake = 0
-    if (machine(asked, b"?", 1, b"", 0, ran), ran.fault, ran.row, ran.message[:15]) != (Status.BAD_ARRIVALS, 1, 0, b"arrivals fault "):
+    if (machine(asked, b"?", 1, b"", 0, out), out.fault, out.row, out.message[:15]) != (Status.BAD_ARRIVALS, 1, 0, b"arrivals fault "):
         yield "fq_machine_ran"
 
 

@@ -130,7 +130,8 @@ def _report_of(text: str) -> MachineReport:
         elif kind == "processor":
             counts, waits = _with_waits(words)
         elif kind == "time":
-            processors.append(Processor(number=int(number), waits=waits, times=Times(**_fields(words)), **counts))
+            times = Times(**_fields(words))
+            processors.append(Processor(number=int(number), waits=waits, times=times, application=None, **counts))
         elif kind == "application":
             processors[-1] = processors[-1]._replace(application=Application(**_fields(words)))
         else:
