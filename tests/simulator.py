@@ -28,7 +28,7 @@ def counted(program, gap):
 
 def main(program):
     text = (TOP / "examples/c/simulator.cpp").read_text()
-    gaps = [int(gap) for gap in re.search(r"for \(const Time gap : \{([\d, ]+)\}\)", text)[1].split(",")]
+    gaps = [int(gap) for gap in re.search(r"for \((?:const )?Time gap : \{([\d, ]+)\}\)", text)[1].split(",")]
     lines = (TOP / "examples/c/simulator.stdout").read_text().splitlines()
     shown = [[int(re.search(rf"(\d+) {name}", line)[1]) for name in COUNTS] for line in lines]
     wanted = [counted(program, gap) for gap in gaps]
