@@ -6,8 +6,9 @@ use Rattle.{std.proofs.Common.{append-nil, append_assoc}, rx_ring.specs.{declare
 use Rattle.{rx_ring.specs.Ends.received_list, napi_model.specs.declared.event.{Event.Event, Operation.{Operation, TheVariants.Look}}}
 use Rattle.napi_model.specs.{declared.state.{Seen.Seen, State.State}, Step.{event, opening, seen_of}, History.{LegalHistory, state_after}}
 use Rattle.{napi_model.{specs.Laws.IsSound, proofs.Owners.{opens_sound, sound_after}}, napi_word.specs.declared.table.Pass.Pass}
-use Rattle.napi_word.specs.{declared.view.Delivery.Delivery, Passes.{OwnsSlot, view_of}, View.{View, first_in, received_in, packets_of}}
-use Rattle.napi_word.{specs.Surveys.{IsSurveyed, Surveys}, proofs.{CatchingUp.state_looked, Deliveries.some_is}}
+use Rattle.napi_word.specs.{declared.history.Delivery.Delivery, Passes.{OwnsSlot, view_of}}
+use Rattle.napi_word.specs.Knowledge.{Knowledge, first_in, received_in, packets_of}
+use Rattle.napi_word.{specs.Surveys.{IsSurveyed, Surveys}, proofs.{Syncing.state_looked, Deliveries.some_is}}
 use Rattle.napi_calls.specs.{Alone.{AllShow, GrewBy, MakesAlone}, Knows.received_held, Made.events, Packets.{delivered, received_before}}
 use Rattle.napi_calls.{specs.{Seats.{controller_of, instance_ring, shown, state_shown}, declared.types.Napi.Napi}, proofs.Alone.one_alone}
 use Rattle.device_shared.specs.{declared.seats.Seats.Seats, Acting.{CallerActs, CtxMoves, seat_at}, Meeting.{SeatsMeet, passes_of}}
@@ -15,8 +16,8 @@ use Rattle.device_shared.specs.{Seats.IsSharedSeat}
 use Rattle.device_shared.specs.Seats.{AreGathered, control_of, turn_ctx, poller_of, seats_received, seats_state, thread_of}
 
 -- what the context has received by the deliveries shown
-pub received_from : (v : View) (first : RxCtx) → first_in v ≡ Some first
-    → received_in v ≡ received_list first ++ packets_of (Rattle.napi_word.specs.View.view_delivered v)
+pub received_from : (v : Knowledge) (first : RxCtx) → first_in v ≡ Some first
+    → received_in v ≡ received_list first ++ packets_of (Rattle.napi_word.specs.Knowledge.view_delivered v)
 received_from v first e = grind (arith, common_steps, some_is)
 
 pub ring_from : (p : Pass) (first : RxCtx) → first_in (view_of p) ≡ Some first → instance_ring p ≡ Some (ring_name first)

@@ -3,7 +3,8 @@ use Rattle.std.proofs.{lemmas.Grind.common_steps, Common.{◌≡◌, ◌∙◌, 
 use Rattle.{std.proofs.Common.{Some, None, false, refl, sym, ap, arith}, rx_ring.specs.declared.ends.{RxCtx.RxCtx, RxIn.RxIn}}
 use Rattle.rx_ring.specs.{declared.packet.Packet.Packet, Ends.{IsOneRing, capacity_of, free_of, put_list, received_list, ring_name}}
 use Rattle.napi_model.specs.{declared.{event.Operation.{Operation, TheVariants.Enable}, state.Seen.Seen}, Step.{after, event, opening}}
-use Rattle.{napi_model.specs.History.{own, state_after}, napi_word.specs.{declared.table.Pass.Pass, View.{own_deliveries, received_in}}}
+use Rattle.napi_model.specs.History.{own, state_after}
+use Rattle.napi_word.specs.{declared.table.Pass.Pass, Knowledge.{own_deliveries, received_in}}
 use Rattle.{napi_word.{specs.Passes.view_of, proofs.Deliveries.some_is}, napi_calls.specs.declared.types.{Caller.Caller, Napi.Napi}}
 use Rattle.napi_calls.specs.{Alone.{AllShow, ShowsAlone}, Instance.{IsNewSeat, callers_of, ring_of_instance}, Knows.received_held}
 use Rattle.napi_calls.specs.{Made.events}

@@ -3,7 +3,7 @@ use Rattle.std.proofs.Common.{arith}
 use Rattle.std.proofs.lemmas.Grind.{common_steps}
 use Rattle.std.{proofs.Common.{◌≡◌, ◌∙◌, ℕ, zero, suc, List, [], ◌∷◌, Some, refl, ap, subst, sym}, specs.Prelude.slice_get}
 use Rattle.napi_model.specs.{declared.state.Seen.Seen, Step.{opening, seen_of}, History.state_after}
-use Rattle.napi_word.{specs.{declared.table.Pass.Pass, Surveys.Surveys}, proofs.CatchingUp.state_looked}
+use Rattle.napi_word.{specs.{declared.table.Pass.Pass, Surveys.Surveys}, proofs.Syncing.state_looked}
 use Rattle.{napi_calls.specs.Seats.{controller_of, state_shown}, device_shared.specs.Meeting.Meet}
 
 -- what was seen is the state after the whole history

@@ -7,7 +7,8 @@ use Rattle.{napi_model.specs.Step.seen_of}
 use Rattle.{napi_calls.specs.{declared.types.Napi.Napi, Seats.{PutsIntoRingOf, state_shown}, Knows.received_held}}
 use Rattle.rx_ring.specs.{declared.{ends.{RxCtx.RxCtx, RxIn.RxIn}, packet.Packet.Packet}, Ends.{IsOneRing, SameIn, free_of, put_list}}
 use Rattle.{rx_ring.specs.Ends.received_list, device_shared.specs.{declared.seats.Seats.Seats, Seats.{AreGathered, control_of}}}
-use Rattle.{std.proofs.Common.{None, sym, ap, subst, arith, length-append, length-drop}, napi_word.specs.{View.received_in, Passes.view_of}}
+use Rattle.std.proofs.Common.{None, sym, ap, subst, arith, length-append, length-drop}
+use Rattle.napi_word.specs.{Knowledge.received_in, Passes.view_of}
 use Rattle.device_shared.specs.{Seats.{poller_of, seats_received, seats_state, thread_of}, Receiving.SeatsReceive}
 use Rattle.device_shared.specs.{SharedReceive.AreAllCallers}
 use Rattle.device_shared.{specs.SharedReceive.{IsWholeAt, bytes_each, left_in, napi_at, packets_at}, proofs.Gathering.ring_from}

@@ -4,7 +4,7 @@ use Rattle.std.specs.Prelude.{◌≡◌, ℕ, zero, suc, ◌≤◌, ◌⊎◌, B
 use Rattle.napi_model.specs.declared.event.Operation.{Operation, TheVariants.{Look, Schedule, Take, TakeDisable, Unmark, Enable}}
 use Rattle.napi_model.specs.declared.{event.Prep.{Prep, TheVariants.{Granted, Missed, Disabled}}, state.{Seen.Seen, Kind.Kind}}
 use Rattle.napi_calls.specs.{Alone.MakesAlone, declared.types.Napi.Napi, Packets.{Quiet, polled, received_before}, Made.{Lost, looks}}
-use Rattle.{napi_word.specs.{declared.table.Pass.Pass, View.Continues, Passes.OwnsSlot}, poll_runs.specs.Polling.{busy_takes, handed}}
+use Rattle.{napi_word.specs.{declared.table.Pass.Pass, Knowledge.Continues, Passes.OwnsSlot}, poll_runs.specs.Polling.{busy_takes, handed}}
 use Rattle.{poll_shared.specs.Tries.PlanMakes, rx_ring.specs.{declared.{packet.Packet.Packet, ends.RxCtx.RxCtx}, Ends.received_list}}
 use Rattle.napi_model.specs.declared.event.Call.TheVariants as call
 

@@ -6,15 +6,15 @@ use Rattle.napi_model.specs.declared.event.Operation.{Operation}
 use Rattle.napi_model.specs.declared.event.Operation.TheVariants.{Look, Complete, BusyTake, BusyStop, MarkDisable, TakeDisable, Unmark}
 use Rattle.napi_model.specs.declared.event.Operation.TheVariants.{Enable}
 use Rattle.napi_model.specs.Laws.{is_owner}
-use Rattle.napi_word.specs.{View.{View, view_number}, Events.Steps, Passes.{HasController, HasPoll, view_of, IsSlotFilled}}
-use Rattle.napi_word.specs.declared.{table.Pass.Pass, view.Holds.{Holds, TheVariants.{Out, Within}}}
+use Rattle.napi_word.specs.{Knowledge.{Knowledge, view_number}, Events.Steps, Passes.{HasController, HasPoll, view_of, IsSlotFilled}}
+use Rattle.napi_word.specs.declared.{table.Pass.Pass, history.Holds.{Holds, TheVariants.{Out, Within}}}
 use Rattle.napi_word.proofs.Knowing.{state_then, place_then, quiet_polls}
 use Rattle.rx_ring.specs.declared.ends.RxCtx.{RxCtx}
-use Rattle.napi_word.specs.{declared.table.StateTable.StateTable, Passes.IsNewPass, View.view_controller}
+use Rattle.napi_word.specs.{declared.table.StateTable.StateTable, Passes.IsNewPass, Knowledge.view_controller}
 use Rattle.napi_word.proofs.Start.{new_controls, new_unmarked}
 use Rattle.library_tests.specs.Controller.{IsOff, IsOn, IsMarked, IsTaken}
 
-module _ (v w : View) where
+module _ (v w : Knowledge) where
   pub busy_polls : Steps v BusyTake w → HasPoll true w
   busy_polls g =
       (place_then v BusyTake w g ∙ ap Polling (sym g.number), ap (λ (s : Napi). s.flags.in_busy_poll) (state_then v BusyTake w g))
@@ -33,7 +33,7 @@ module _ (v w : View) where
 pub not_out : (h : Holds) → h ≡ Within → h ≡ Out → ⊥
 not_out h within out = cc
 
-controls : (v w : View) (o : Operation) → HasController v → Steps v o w → HasController w
+controls : (v w : Knowledge) (o : Operation) → HasController v → Steps v o w → HasController w
 controls v w o top g = g.number ∙ top ∙ sym g.controller
 
 -- the controller's pass as it was made, for a table with two callers

@@ -3,7 +3,7 @@
 
 ghost use Rattle.std.specs.Prelude.{◌≡◌, true, false};
 ghost use Rattle.napi_word.specs.Passes.{PassMayHand, IsPassOf, IsSlotFilled, PassPolls, SameTable};
-ghost use Rattle.napi_word.specs.declared.view.Holds.TheVariants.{Within};
+ghost use Rattle.napi_word.specs.declared.history.Holds.TheVariants.{Within};
 ghost use Rattle.napi_model.specs.declared.state.Kind.TheVariants as kind;
 ghost use Rattle.library_tests.specs.Controller.{IsMarked, IsOff, IsOn, IsTaken};
 

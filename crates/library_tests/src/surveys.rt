@@ -2,7 +2,7 @@
 ghost use Rattle.std.specs.Prelude.{◌≡◌, [], ◌∷◌, IfSome};
 ghost use Rattle.napi_model.specs.declared.event.Operation.TheVariants.{Look};
 ghost use Rattle.napi_model.specs.Step.{event};
-ghost use Rattle.napi_word.specs.View.{mine};
+ghost use Rattle.napi_word.specs.Knowledge.{mine};
 ghost use Rattle.napi_word.specs.Passes.{view_of, IsNewPass};
 
 use napi_model::{Seen, encode};

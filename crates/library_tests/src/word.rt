@@ -6,7 +6,7 @@ ghost use Rattle.napi_model.specs.declared.event.Prep.TheVariants as prep;
 ghost use Rattle.napi_model.specs.declared.event.Operation.TheVariants.{Look, Schedule, Enable};
 ghost use Rattle.napi_model.specs.Step.{event};
 ghost use Rattle.napi_word.specs.declared.table.Pass.{Pass};
-ghost use Rattle.napi_word.specs.View.{mine, view_number};
+ghost use Rattle.napi_word.specs.Knowledge.{mine, view_number};
 ghost use Rattle.napi_word.specs.Passes.{view_of, IsPassOf, SameTable, IsNewPass, controller_of_table};
 ghost use Rattle.napi_word.specs.Ends.{IsClosedTable};
 ghost use Rattle.napi_word.specs.Runs.{HasOwnLists};

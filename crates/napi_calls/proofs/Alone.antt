@@ -5,8 +5,8 @@ use Rattle.{std.proofs.lemmas.List.append_cancel_left, napi_model.specs.declared
 use Rattle.napi_model.specs.{declared.{event.Operation.TheVariants.Look, state.{Seen.Seen, State.State}}, Step.{IsLegal, after, event}}
 use Rattle.napi_model.{specs.{Step.{opening, seen_of}, History.{LegalHistory, own, state_after}}, proofs.Histories.legal_back}
 use Rattle.{napi_model.proofs.Histories.{legal_front, own-append, state_after-append}, napi_word.specs.declared.table.Pass.Pass}
-use Rattle.napi_word.specs.{declared.view.Delivery.Delivery, View.{own_deliveries, packets_of}, Surveys.{IsSurveyed, Surveys}}
-use Rattle.napi_word.proofs.{CatchingUp.state_looked, Deliveries.{own_both, own_deliveries_none}, Whole.front_none}
+use Rattle.napi_word.specs.{declared.history.Delivery.Delivery, Knowledge.{own_deliveries, packets_of}, Surveys.{IsSurveyed, Surveys}}
+use Rattle.napi_word.proofs.{Syncing.state_looked, Deliveries.{own_both, own_deliveries_none}, Whole.front_none}
 use Rattle.napi_calls.specs.{Dealt.Delivers, Packets.delivered, Made.{Made, events}, Seats.{controller_of, pass_number, own_list, shown}}
 use Rattle.napi_calls.{specs.Alone.{AllShow, GrewBy, MakesAlone, NoneIsLost, OneActsAlone, ShowsAlone}, proofs.Steps.prefix_trans}
 use Rattle.rx_ring.specs.declared.packet.Packet.{Packet}

@@ -2,7 +2,7 @@
 use Rattle.std.proofs.Common.{◌≡◌, ℕ, zero, suc, ◌<◌, List, [], ◌∷◌, ◌++◌, length, drop, sym, ap, ◌∙◌, subst, append-nil, arith}
 use Rattle.rx_ring.specs.declared.{packet.Packet.Packet, ends.{RxCtx.RxCtx, RxIn.RxIn}}
 use Rattle.rx_ring.specs.Ends.{RingName, ring_name, received_list, IsOneRing, SameIn}
-use Rattle.napi_word.specs.{declared.{table.Pass.Pass, view.Delivery.Delivery}, View.{delivery, own_deliveries, packets_of}}
+use Rattle.napi_word.specs.{declared.{table.Pass.Pass, history.Delivery.Delivery}, Knowledge.{delivery, own_deliveries, packets_of}}
 use Rattle.napi_word.proofs.Deliveries.{packets_snoc, own_both, own_one_yes, own_deliveries_none, drop_front}
 use Rattle.napi_calls.specs.{declared.types.Napi.Napi, Seats.{pass_number, PutsIntoRingOf}, Instance.IsNewSeat}
 use Rattle.napi_calls.specs.{Packets.{delivered, own_delivered, received_before, polled, Quiet, GivesBack}, Dealt.Delivers}
@@ -20,10 +20,10 @@ delivers_before a p q r k h = ap packets_of h ∙ k
 pub delivers_back : (p q : Pass) (x : RxCtx) → GivesBack p x q → pass_number q ≡ pass_number p → Delivers p (polled p x) q
 delivers_back p q x g num =
     let n = pass_number p in
-    let d = delivery n (polled p x) g.laid in
+    let d = delivery n (polled p x) g.stored in
     ap packets_of
     ((λ i. own_deliveries (num i) (g.deliveries i)) ∙ own_both n (delivered p) (d ∷ [])
-    ∙ ap (λ (l : List Delivery). own_delivered p ++ l) (own_one_yes n (polled p x) g.laid))
+    ∙ ap (λ (l : List Delivery). own_delivered p ++ l) (own_one_yes n (polled p x) g.stored))
     ∙ packets_snoc (own_delivered p) d
 
 -- a context that has received exactly what was delivered wasn't polled since

@@ -5,8 +5,8 @@ use Rattle.rx_ring.specs.{declared.ends.RxCtx.RxCtx, Ends.{RingName, ring_name, 
 use Rattle.std.proofs.Common.{suc, ◌+◌, ◌<◌, List, [], ◌∷◌, ◌++◌, length, slice_get, Option, Some, false, unwrap_or, eq-eqb, refl, sym, ap}
 use Rattle.std.proofs.Common.{◌∙◌, subst, length-append, arith}
 use Rattle.napi_word.specs.{Passes.{controller_of_table, view_of}, Slot.givers}
-use Rattle.napi_word.specs.{Ends.IsClosedTable, declared.{view.Holds.TheVariants.{Nothing, Out}, table.Pass.Pass}, View.deliverers}
-use Rattle.napi_word.{specs.View.{own_deliveries, received_in}, proofs.{Deliveries.received_is, Closing.get_mid}}
+use Rattle.napi_word.specs.{Ends.IsClosedTable, declared.{history.Holds.TheVariants.{Nothing, Out}, table.Pass.Pass}, Knowledge.deliverers}
+use Rattle.napi_word.{specs.Knowledge.{own_deliveries, received_in}, proofs.{Deliveries.received_is, Closing.get_mid}}
 use Rattle.napi_calls.{proofs.{Serving.served, Standing.is_control}, specs.Closed.{seats_of, IsHistoryOf, IsClosed}}
 use Rattle.napi_calls.specs.{declared.types.{Caller.Caller, Napi.Napi}, Seats.pass_number, Knows.{ControllerKnows, Has}}
 use Rattle.napi_calls.specs.{Instance.first_of_instance}

@@ -4,13 +4,14 @@ use Rattle.std.proofs.Common.{cond, false, ne_eqb, refl, sym, ap, ◌∙◌, sub
 use Rattle.rx_ring.specs.declared.ends.RxCtx.{RxCtx}
 use Rattle.{rx_ring.specs.Ends.{ring_name, received_list}, napi_model.specs.{declared.state.Place.Place, Step.opening}}
 use Rattle.{napi_model.specs.History.{LegalHistory, own, state_after}, napi_word.specs.declared.table.{Pass.Pass, StateTable.StateTable}}
-use Rattle.napi_word.{specs.{View.View, Rule.strand, Passes.{view_of, ctx_of, IsNewPass, IsPassOf, ring_of_table}}, proofs.Closing.get_mid}
+use Rattle.napi_word.specs.{Knowledge.Knowledge, Rule.new_history, Passes.{view_of, ctx_of, IsNewPass, IsPassOf, ring_of_table}}
+use Rattle.napi_word.proofs.Closing.get_mid
 use Rattle.napi_calls.specs.{declared.types.Napi.Napi, Knows.{own_place, Free, Stands, ControllerKnows}, Instance.IsNewSeat}
 use Rattle.napi_calls.proofs.Standing.{own_self}
-use Rattle.napi_word.specs.View as view
+use Rattle.napi_word.specs.Knowledge as view
 
-abbrev seat : ℕ → RxCtx → ℕ → View
-seat last of c = strand last of c ∷ []
+abbrev seat : ℕ → RxCtx → ℕ → Knowledge
+seat last of c = new_history last of c ∷ []
 
 opens : (last : ℕ) (of : RxCtx) (c : ℕ) → view.place_in (seat last of c) ≡ Place.Control last
 unfolding state_after
@@ -25,10 +26,11 @@ blank : (role : ℕ → Place) (last : ℕ) (of : RxCtx) (c : ℕ) (p : Pass) �
 unfolding LegalHistory own
 blank role last of c p e is = record {
   number = ap view.view_number e;
-  legal = subst (λ (v : View). ∥ LegalHistory (view.view_controller v) (opening (view.view_controller v)) (view.view_shown v) ∥₁) (sym e) ∣
+  legal = subst (λ (v : Knowledge). ∥ LegalHistory (view.view_controller v) (opening (view.view_controller v)) (view.view_shown v) ∥₁)
+      (sym e) ∣
       tt ∣₁;
-  exact = subst (λ (v : View). own c (view.view_shown v) ≡ view.mine v) (sym e) refl;
-  place = ap (λ (v : View). own_place c (view.place_in v)) e ∙ ap (own_place c) (opens last of c) ∙ is;
+  exact = subst (λ (v : Knowledge). own c (view.view_shown v) ≡ view.mine v) (sym e) refl;
+  place = ap (λ (v : Knowledge). own_place c (view.place_in v)) e ∙ ap (own_place c) (opens last of c) ∙ is;
 }
 
 pub new_stands : {t : StateTable} {last : ℕ} {of : RxCtx} {c : ℕ} (p : Pass) → IsNewPass t last of c p → c < last → Stands Free c p
@@ -47,12 +49,12 @@ new_controls {t} {last} {of} p new =
 pub new_exact : {t : StateTable} {last : ℕ} {of : RxCtx} (p q : Pass) (x : RxCtx) → IsNewPass t last of last p → ctx_of p ≡ Some x
     → view_of q ≡ view_of p → received_list x ≡ view.received_in (view_of q)
 new_exact {t} {last} {of} p q x new is same =
-    let l = new.laid refl in
-    let one : x ≡ l.laid = ap (λ (o : Option RxCtx). unwrap_or o x) (sym is ∙ l.within) in
+    let l = new.stored refl in
+    let one : x ≡ l.stored = ap (λ (o : Option RxCtx). unwrap_or o x) (sym is ∙ l.within) in
     ap received_list one ∙ l.received ∙ sym (append-nil (received_list of)) ∙ sym (ap view.received_in (same ∙ new.view))
 
 -- a seat that shows what it showed when it was made
-pub new_seat : (n : Napi) {last : ℕ} {of : RxCtx} {c : ℕ} (p : Pass) → IsPassOf n.table p → view_of p ≡ strand last of c ∷ []
+pub new_seat : (n : Napi) {last : ℕ} {of : RxCtx} {c : ℕ} (p : Pass) → IsPassOf n.table p → view_of p ≡ new_history last of c ∷ []
     → last ≡ n.callers → ring_of_table n.table ≡ ring_name of → IsNewSeat n c p
 new_seat n {last} {of} {c} p table e count ring = record {
   instance = table;

@@ -3,13 +3,13 @@ use Rattle.std.proofs.Common.{◌≡◌, ◌≢◌, ℕ, List, [], ◌∷◌, �
 use Rattle.{std.proofs.{Common.append_assoc, lemmas.List.{map-append, Concat.flat_map-append}}, napi_model.specs.declared.event.Event.Event}
 use Rattle.napi_model.specs.declared.event.{Call.Call, Operation.{Operation, TheVariants.{Look, MarkDisable, TakeDisable}}}
 use Rattle.napi_model.specs.{declared.state.{Seen.Seen, Place.Place}, Step.{event, opening}, History.{LegalHistory, own}}
-use Rattle.napi_word.specs.{declared.table.Pass.Pass, View.View, Passes.{view_of, Keeps, Makes}, Slot.Moves}
+use Rattle.napi_word.specs.{declared.table.Pass.Pass, Knowledge.Knowledge, Passes.{view_of, Keeps, Makes}, Slot.Moves}
 use Rattle.napi_calls.specs.{Seats.{SameSeat, pass_number, shown, own_list}, Knows.Stands}
 use Rattle.napi_calls.specs.{Made.{EndsWith, Made, ContinuesCall, Lost, WasLost}}
 use Rattle.napi_calls.{specs.Made.{looks, take_attempt, events}, proofs.{Steps.{shows_more, shows_legal, prefix_trans}, Standing.shows_of}}
 use Rattle.napi_calls.proofs.Steps.{delivers_more}
 use mathlib.Core.List.{IsPrefix}
-use Rattle.napi_word.specs.View as view
+use Rattle.napi_word.specs.Knowledge as view
 
 ends_one : (c : ℕ) (os : List Operation) (o : Operation) (h : List Event) → EndsWith (events c (os ++ o ∷ [])) (h ++ event c o ∷ [])
 ends_one c (x ∷ y ∷ os) o h = ends_one c (y ∷ os) o h
@@ -41,16 +41,16 @@ still {p} {q} {r} {os} m k =
     let e = k.view in record {
       seat = seat_same m.seat
           (record { table = k.table; number = ap view.view_number e; controller = ap view.view_controller e; ring = ap view.view_ring e });
-      begins = subst (λ (v : View). IsPrefix (shown p) (view.view_shown v)) (sym e) m.begins;
+      begins = subst (λ (v : Knowledge). IsPrefix (shown p) (view.view_shown v)) (sym e) m.begins;
       first = ap view.first_in e ∙ m.first;
-      dealt = subst (λ (v : View). IsPrefix (view.view_delivered (view_of p)) (view.view_delivered v)) (sym e) m.dealt;
+      dealt = subst (λ (v : Knowledge). IsPrefix (view.view_delivered (view_of p)) (view.view_delivered v)) (sym e) m.dealt;
       grown = ap view.mine e ∙ m.grown;
-      ends = subst (λ (v : View). EndsWith (events (pass_number p) os) (view.view_shown v)) (sym e) m.ends;
+      ends = subst (λ (v : Knowledge). EndsWith (events (pass_number p) os) (view.view_shown v)) (sym e) m.ends;
       shows = record {
         legal =
-            subst (λ (v : View). LegalHistory (view.view_controller v) (opening (view.view_controller v)) (view.view_shown v)) (sym e)
+            subst (λ (v : Knowledge). LegalHistory (view.view_controller v) (opening (view.view_controller v)) (view.view_shown v)) (sym e)
             m.shows.legal;
-        exact = subst (λ (v : View). own (view.view_number v) (view.view_shown v) ≡ view.mine v) (sym e) m.shows.exact;
+        exact = subst (λ (v : Knowledge). own (view.view_number v) (view.view_shown v) ≡ view.mine v) (sym e) m.shows.exact;
       };
     }
 

@@ -1,13 +1,15 @@
 -- The effect of consecutive steps on the packets.
 use Rattle.std.proofs.Common.{◌≡◌, ℕ, Bool, true, false, List, [], ◌∷◌, ◌++◌, length, drop, Some, refl, sym, ap, ◌∙◌, subst, append_assoc}
 use Rattle.rx_ring.specs.{declared.{packet.Packet.Packet, ends.RxCtx.RxCtx}, Ends.{received_list, is_beside}}
-use Rattle.{napi_model.specs.declared.event.Operation.Operation, napi_word.specs.{declared.{table.Pass.Pass, view.Holds.Holds}, View.View}}
-use Rattle.napi_word.specs.{View.{own_deliveries, delivery, Continues}, Slot.{SlotDelivers, GivesSlotBack, owns_slot, has_slot, ctx_in}}
+use Rattle.napi_model.specs.declared.event.Operation.Operation
+use Rattle.napi_word.specs.{declared.{table.Pass.Pass, history.Holds.Holds}, Knowledge.Knowledge}
+use Rattle.napi_word.specs.Knowledge.{own_deliveries, delivery, Continues}
+use Rattle.napi_word.specs.Slot.{SlotDelivers, GivesSlotBack, owns_slot, has_slot, ctx_in}
 use Rattle.napi_word.specs.{Events.Steps}
-use Rattle.napi_word.{specs.Passes.{view_of, ctx_of, received_of, IsLaid}, proofs.Deliveries.{drop_front, received_stays, some_is}}
+use Rattle.napi_word.{specs.Passes.{view_of, ctx_of, received_of, IsStored}, proofs.Deliveries.{drop_front, received_stays, some_is}}
 use Rattle.napi_calls.specs.{Seats.pass_number, Packets.{delivered, received_before, polled, IsSame, Quiet, HoldsOn, IsFresh, GivesBack}}
 use Rattle.napi_calls.proofs.Standing.{fresh}
-use Rattle.napi_word.specs.View as view
+use Rattle.napi_word.specs.Knowledge as view
 use Rattle.napi_word.specs.Slot as slot
 
 -- ---- the same context
@@ -24,8 +26,8 @@ same_more a b = record {
 }
 
 -- the slot contains the context that was put there
-same_laid : {x : RxCtx} (p : Pass) (y : RxCtx) → IsLaid x p → ctx_of p ≡ Some y → IsSame x y
-same_laid {x} p y l is =
+same_stored : {x : RxCtx} (p : Pass) (y : RxCtx) → IsStored x p → ctx_of p ≡ Some y → IsSame x y
+same_stored {x} p y l is =
     subst (λ (z : RxCtx). IsSame x z) (some_is (sym l.within ∙ is))
     (record { ring = l.ring; received = l.received; known = l.known; polls = l.polls })
 
@@ -45,7 +47,7 @@ quiet_taken : {o : Operation} (p q : Pass) → Steps (view_of p) o (view_of q) �
 quiet_taken p q s g = ap (λ (n : ℕ). own_deliveries n (delivered q)) s.number ∙ ap (own_deliveries (pass_number p)) g.shifts.0 ∙ g.exact
 
 quiet_still : (p q r : Pass) → Quiet p q → view_of r ≡ view_of q → Quiet p r
-quiet_still p q r h e = ap (λ (v : View). own_deliveries (view.view_number v) (view.view_delivered v)) e ∙ h
+quiet_still p q r h e = ap (λ (v : Knowledge). own_deliveries (view.view_number v) (view.view_delivered v)) e ∙ h
 
 pub quiet_more : (p q r : Pass) → Quiet p q → Quiet q r → Quiet p r
 quiet_more p q r a b = b ∙ a
@@ -88,31 +90,31 @@ fresh_held p q r x f h num = record {
 -- ---- giving the context back
 
 -- p has the context out of the slot; q has it in the slot, which its step gives back
-pub gives_back : (p q r : Pass) (x : RxCtx) → HoldsOn p q → pass_number q ≡ pass_number p → IsLaid x q → owns_slot (view_of q) ≡ true
+pub gives_back : (p q r : Pass) (x : RxCtx) → HoldsOn p q → pass_number q ≡ pass_number p → IsStored x q → owns_slot (view_of q) ≡ true
     → SlotDelivers slot.given q.seat.me r.seat.me → GivesBack p x r
 gives_back p q r x h num l has g =
     let e = subst (λ (b : Bool). GivesSlotBack b g.before q.seat.me r.seat.me) has g.shifts in
-    let same : IsSame x e.0 = same_laid q e.0 l (ap ctx_in e.2) in
+    let same : IsSame x e.0 = same_stored q e.0 l (ap ctx_in e.2) in
     let all : received_before q ++ e.1 ≡ received_list x = sym e.3 ∙ same.received in
     let packets : e.1 ≡ polled p x = sym (drop_front (received_before q) e.1) ∙ (λ i. drop (length (h.received i)) (all i)) in
     let before : g.before ≡ delivered p = g.held has ∙ h.deliveries in record {
-      laid = e.0;
+      stored = e.0;
       same = same;
       deliveries = e.4 ∙ (λ i. before i ++ delivery (num i) (packets i) e.0 ∷ []);
     }
 
 -- the exchange failed, and the context was taken out again
-pub got_back : (p q r s : Pass) (x y : RxCtx) → HoldsOn p q → IsLaid x q → owns_slot (view_of q) ≡ true
+pub got_back : (p q r s : Pass) (x y : RxCtx) → HoldsOn p q → IsStored x q → owns_slot (view_of q) ≡ true
     → SlotDelivers slot.stays q.seat.me r.seat.me → view_of s ≡ view_of r → ctx_of r ≡ Some y → HoldsOn p s × IsSame x y
 got_back p q r s x y h l has g same is =
-    (held_still s (held_more h (held_step q r has g)) same, same_laid q y l (sym (ap ctx_in g.shifts.1) ∙ is))
+    (held_still s (held_more h (held_step q r has g)) same, same_stored q y l (sym (ap ctx_in g.shifts.1) ∙ is))
 
 pub gives_behind : {p q r : Pass} {x y : RxCtx} → HoldsOn p q → pass_number q ≡ pass_number p → IsSame x y → GivesBack q y r
     → GivesBack p x r
 gives_behind h num s g = record {
-  laid = g.laid;
+  stored = g.stored;
   same = same_more s g.same;
-  deliveries = g.deliveries ∙ (λ i. h.deliveries i ++ delivery (num i) (drop (length (h.received i)) (s.received i)) g.laid ∷ []);
+  deliveries = g.deliveries ∙ (λ i. h.deliveries i ++ delivery (num i) (drop (length (h.received i)) (s.received i)) g.stored ∷ []);
 }
 
 -- ---- what was polled

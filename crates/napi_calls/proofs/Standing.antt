@@ -5,15 +5,15 @@ use Rattle.napi_model.specs.declared.{state.{Kind.Kind, Seen.Seen, State.State},
 use Rattle.napi_model.specs.{declared.event.Operation.TheVariants.{Take, MarkDisable, TakeDisable, Unmark, Enable}, Step.opening}
 use Rattle.napi_model.specs.{Step.after_by, History.{LegalHistory, own}, Laws.{is_owner, IsOwnedBy, IsPollingPlace}}
 use Rattle.rx_ring.specs.{declared.{ends.{RxIn.RxIn, RxCtx.RxCtx}, packet.Packet.Packet}, Ends.{RingName, ring_name, received_list}}
-use Rattle.{rx_ring.specs.Ends.IsOneRing, napi_word.specs.{Slot.{SlotDelivers, has_slot}, View.View, Events.Steps}}
-use Rattle.napi_word.specs.{declared.{view.Holds.TheVariants.{Out, Nothing}, table.Pass.Pass}, Passes.{view_of, received_of}}
+use Rattle.{rx_ring.specs.Ends.IsOneRing, napi_word.specs.{Slot.{SlotDelivers, has_slot}, Knowledge.Knowledge, Events.Steps}}
+use Rattle.napi_word.specs.{declared.{history.Holds.TheVariants.{Out, Nothing}, table.Pass.Pass}, Passes.{view_of, received_of}}
 use Rattle.napi_word.proofs.{Deliveries.{of_prefix, prefix_self, received_stays}, Knowing.{unbusy, take_polls, quiet_polls, step_of}}
 use Rattle.napi_calls.{proofs.{Steps.{found, state_stepped, shows_legal}, Whole.whole}}
 use Rattle.napi_calls.{specs.Knows.{own_place, Free, Stands, KnowsBusyPoll}}
 use Rattle.napi_calls.specs.{Knows.{ControllerKnows, Has}}
 use Rattle.napi_calls.specs.{Seats.{pass_number, controller_of, shown, state_shown, instance_ring, ShowsLegal, PutsIntoRingOf}}
 use Rattle.napi_word.specs.Slot as slot
-use Rattle.napi_word.specs.View as view
+use Rattle.napi_word.specs.Knowledge as view
 
 -- ---- places, as a caller sees them
 
@@ -111,10 +111,11 @@ looked q st g = kept q st g (λ s. refl)
 pub moved : {r : ℕ → Place} {c : ℕ} {p : Pass} (q : Pass) → Stands r c p → view_of q ≡ view_of p → Stands r c q
 moved {r} {c} {p} q st e = record {
   number = ap view.view_number e ∙ st.number;
-  legal = subst (λ (v : View). ∥ LegalHistory (view.view_controller v) (opening (view.view_controller v)) (view.view_shown v) ∥₁) (sym e)
+  legal = subst (λ (v : Knowledge). ∥ LegalHistory (view.view_controller v) (opening (view.view_controller v)) (view.view_shown v) ∥₁)
+      (sym e)
       st.legal;
-  exact = subst (λ (v : View). own c (view.view_shown v) ≡ view.mine v) (sym e) st.exact;
-  place = ap (λ (v : View). own_place c (view.state_in v).place) e ∙ st.place;
+  exact = subst (λ (v : Knowledge). own c (view.view_shown v) ≡ view.mine v) (sym e) st.exact;
+  place = ap (λ (v : Knowledge). own_place c (view.state_in v).place) e ∙ st.place;
 }
 
 -- a look returns the flags of the state that it leaves
@@ -150,7 +151,7 @@ busy_looked q st busy g = busy_kept q st busy g (λ n s. refl)
 
 pub busy_moved : {b : Bool} {c : ℕ} {p : Pass} (q : Pass) → Stands Polling c p → KnowsBusyPoll b p → view_of q ≡ view_of p
     → KnowsBusyPoll b q
-busy_moved {b} q st busy e = ap (λ (v : View). (view.state_in v).flags.in_busy_poll) e ∙ busy
+busy_moved {b} q st busy e = ap (λ (v : Knowledge). (view.state_in v).flags.in_busy_poll) e ∙ busy
 
 -- the context is taken out of the slot as the pass has it there
 pub outside : (p q : Pass) (x : RxCtx) → q.holds ≡ Out → view_of q ≡ view_of p → instance_ring p ≡ Some (ring_name x)
@@ -159,7 +160,7 @@ outside p q x out same ring is = record {
   holds = out;
   ring = ap view.view_ring same ∙ ring;
   received =
-      subst (λ (v : View). view.Continues (view.received_in v) (received_list x)) (sym same)
+      subst (λ (v : Knowledge). view.Continues (view.received_in v) (received_list x)) (sym same)
       (subst (λ (l : List Packet). view.Continues (view.received_in (view_of p)) l) (sym is) p.received);
 }
 
@@ -183,7 +184,7 @@ pub controls_moved : {r : ℕ → Place} {b : Bool} {p : Pass} (q : Pass) → Co
     → ControllerKnows r b q
 controls_moved {r} {b} {p} q k e = record {
   stands = subst (λ (n : ℕ). Stands r n q) (ap view.view_controller (sym e)) (moved q k.stands e);
-  flag = ap (λ (v : View). (view.state_in v).flags.disable) e ∙ k.flag;
+  flag = ap (λ (v : Knowledge). (view.state_in v).flags.disable) e ∙ k.flag;
 }
 
 -- the flag after an event that sets it, and after one that keeps it

@@ -1,19 +1,20 @@
 -- What one step says about the seat that made it.
 use Rattle.std.proofs.Common.{◌≡◌, ℕ, Bool, true, false, List, [], ◌∷◌, ◌++◌, refl, sym, ap, ◌∙◌, subst, append_assoc}
 use Rattle.napi_model.specs.{declared.{event.{Event.Event, Operation.Operation}, state.State.State}, Step.{event, opening, after_by}}
-use Rattle.{napi_model.specs.History.{LegalHistory, own}, napi_word.specs.{declared.{table.Pass.Pass, view.Strand.Strand}, View.View}}
+use Rattle.napi_model.specs.History.{LegalHistory, own}
+use Rattle.napi_word.specs.{declared.{table.Pass.Pass, history.LocalHistory.LocalHistory}, Knowledge.Knowledge}
 use Rattle.{napi_word.{specs.{Events.Steps, Passes.view_of}, proofs.Knowing.{found_state, state_then}}, napi_calls.specs.Seats.pass_number}
 use Rattle.{napi_calls.specs.Seats.{shown, state_shown, ShowsLegal}, napi_word.proofs.Deliveries.prefix_self}
-use Rattle.napi_word.specs.{declared.view.Delivery.Delivery, Slot.{SlotDelivers, GivesSlotBack, Moves, Shifts, owns_slot}}
+use Rattle.napi_word.specs.{declared.history.Delivery.Delivery, Slot.{SlotDelivers, GivesSlotBack, Moves, Shifts, owns_slot}}
 use mathlib.Core.{Option.Option as Maybe, List.IsPrefix}
 use lib.ListN.{get_elem?}
-use Rattle.napi_word.specs.View as view
+use Rattle.napi_word.specs.Knowledge as view
 use Rattle.napi_word.specs.Slot as slot
 
 pub prefix_trans : {A : Type 0} (xs ys zs : List A) → IsPrefix xs ys → IsPrefix ys zs → IsPrefix xs zs
 prefix_trans xs ys zs p q = (p.0 ++ q.0, sym (append_assoc xs p.0 q.0) ∙ ap (λ l. l ++ q.0) p.1 ∙ q.1)
 
-own_begins : (v : View) (h : List Event) → ((k : ℕ) (x : Strand) → get_elem? v k ≡ Maybe.some x → IsPrefix x.seen h)
+own_begins : (v : Knowledge) (h : List Event) → ((k : ℕ) (x : LocalHistory) → get_elem? v k ≡ Maybe.some x → IsPrefix x.seen h)
     → IsPrefix (view.view_shown v) h
 own_begins [] h all = (h, refl)
 own_begins (x ∷ xs) h all = all 0 x refl
@@ -40,7 +41,8 @@ module _ (p : Pass) (o : Operation) (q : Pass) (g : Steps (view_of p) o (view_of
 
 -- ---- the deliveries known before a step are a prefix of those known after it
 
-delivered_begins : (v : View) (ds : List Delivery) → ((k : ℕ) (x : Strand) → get_elem? v k ≡ Maybe.some x → IsPrefix x.delivered ds)
+delivered_begins : (v : Knowledge) (ds : List Delivery)
+    → ((k : ℕ) (x : LocalHistory) → get_elem? v k ≡ Maybe.some x → IsPrefix x.delivered ds)
     → IsPrefix (view.view_delivered v) ds
 delivered_begins [] ds all = (ds, refl)
 delivered_begins (x ∷ xs) ds all = all 0 x refl

@@ -1,14 +1,15 @@
 -- What a value knows after a survey.
 use Rattle.std.proofs.Common.{◌≡◌, ℕ, Bool, true, List, [], ◌∷◌, ◌++◌, Option, Some, None, refl, sym, ap, ◌∙◌, subst, eq-eqb}
 use Rattle.{rx_ring.specs.{declared.{ends.RxCtx.RxCtx, packet.Packet.Packet}, Ends.received_list}, napi_word.proofs.Deliveries.ring_as}
-use Rattle.napi_word.{proofs.{Deliveries.{of_prefix, prefix_self, received_as}, CatchingUp.state_looked}, specs.declared.table.Pass.Pass}
-use Rattle.napi_word.specs.{declared.view.Delivery.Delivery, View.Continues, Slot.has_slot, Passes.view_of, Surveys.{IsWhole, CatchesUp}}
+use Rattle.napi_word.{proofs.{Deliveries.{of_prefix, prefix_self, received_as}, Syncing.state_looked}, specs.declared.table.Pass.Pass}
+use Rattle.napi_word.specs.{declared.history.Delivery.Delivery, Knowledge.Continues, Slot.has_slot, Passes.view_of}
+use Rattle.napi_word.specs.Surveys.{IsWhole, Syncs}
 use Rattle.{napi_word.specs.Surveys.IsSurveyed, napi_model.specs.declared.event.{Event.Event, Operation.TheVariants.Look}}
 use Rattle.napi_model.specs.{declared.state.{State.State, Seen.Seen, Place.Place}, Step.{event, opening}, History.LegalHistory}
 use Rattle.{napi_model.specs.{History.{state_after, own}, Laws.is_owner}, napi_calls.specs.Seats.{controller_of, pass_number, state_shown}}
 use Rattle.napi_calls.{specs.Knows.{own_place, Stands, KnowsBusyPoll, ControllerKnows, Has, received_held}}
 use Rattle.napi_calls.{proofs.Standing.{is_kept, is_polling}}
-use Rattle.napi_word.specs.View as view
+use Rattle.napi_word.specs.Knowledge as view
 use Rattle.napi_model.specs.declared.state.Place.TheVariants as place
 
 module _ (k : ℕ) (h : List Event) (looker : ℕ) (seen : Seen) (ds : List Delivery) (w : IsWhole k (h ++ event looker (Look seen) ∷ []) ds)
@@ -16,7 +17,7 @@ module _ (k : ℕ) (h : List Event) (looker : ℕ) (seen : Seen) (ds : List Deli
   abbrev whole : List Event
   whole = h ++ event looker (Look seen) ∷ []
 
-  abbrev u : CatchesUp h (event looker (Look seen)) ds (view_of p) (view_of q)
+  abbrev u : Syncs h (event looker (Look seen)) ds (view_of p) (view_of q)
   u = s.view
 
   state_is : state_shown q ≡ state_after (opening (controller_of p)) h

@@ -2,8 +2,9 @@
 use Rattle.std.specs.Prelude.{◌≡◌, ◌<◌, ◌≤◌, ℕ, nat_eq, List, [], ◌∷◌, ◌++◌, flat_map, MatchBool}
 use Rattle.{rx_ring.specs.declared.packet.Packet.Packet, napi_model.specs.declared.event.{Event.Event, Call.Call, Operation.Operation}}
 use Rattle.napi_model.specs.{declared.{event.Operation.TheVariants.Look, state.{Seen.Seen, State.State}}, Step.{event, opening}}
-use Rattle.{napi_model.specs.History.{LegalHistory, own, state_after}, napi_word.specs.declared.{table.Pass.Pass, view.Delivery.Delivery}}
-use Rattle.{napi_word.specs.{View.{own_deliveries, packets_of}, Surveys.Surveys}, napi_calls.specs.{Dealt.Delivers, Packets.delivered}}
+use Rattle.napi_model.specs.History.{LegalHistory, own, state_after}
+use Rattle.napi_word.specs.declared.{table.Pass.Pass, history.Delivery.Delivery}
+use Rattle.{napi_word.specs.{Knowledge.{own_deliveries, packets_of}, Surveys.Surveys}, napi_calls.specs.{Dealt.Delivers, Packets.delivered}}
 use Rattle.napi_calls.specs.{Made.{Lost, Made, events, looks}, Seats.{controller_of, pass_number, own_list, shown}}
 
 -- the seat of this number shows this history, in which its own list is exact, and these deliveries

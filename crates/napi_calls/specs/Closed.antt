@@ -3,7 +3,7 @@ use Rattle.std.specs.Prelude.{◌≡◌, ℕ, ◌<◌, ◌≤◌, List, [], ◌�
 use Rattle.rx_ring.specs.{declared.ends.RxCtx.RxCtx, Ends.{ring_name, received_list}}
 use Rattle.napi_model.specs.{declared.{state.Place.TheVariants.Control, event.Event.Event}, Step.opening, History.LegalHistory}
 use Rattle.{napi_model.specs.History.{state_after, own, IsAcceptedSchedule}, napi_word.specs.declared.table.Pass.Pass}
-use Rattle.napi_word.specs.{declared.view.Delivery.Delivery, View.{own_deliveries, received_by, deliverers}, Slot.givers}
+use Rattle.napi_word.specs.{declared.history.Delivery.Delivery, Knowledge.{own_deliveries, received_by, deliverers}, Slot.givers}
 use Rattle.napi_calls.specs.{declared.types.{Napi.Napi, Caller.Caller}, Seats.{pass_number, shown, own_list}, Instance.callers_of}
 use Rattle.napi_calls.specs.{Instance.{ring_of_instance, first_of_instance}, Packets.own_delivered, Served.IsPolledBeforeRelease}
 use mathlib.Core.List.{IsPrefix}

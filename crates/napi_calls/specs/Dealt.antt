@@ -1,7 +1,7 @@
 -- What two pollers, the callers 0 and 1, received from one ring.
 use Rattle.std.specs.Prelude.{◌≡◌, ℕ, ◌<◌, List, [], ◌++◌}
 use Rattle.rx_ring.specs.declared.packet.Packet.{Packet}
-use Rattle.napi_word.specs.{declared.{table.Pass.Pass, view.Delivery.Delivery}, View.{own_deliveries, packets_of}}
+use Rattle.napi_word.specs.{declared.{table.Pass.Pass, history.Delivery.Delivery}, Knowledge.{own_deliveries, packets_of}}
 use Rattle.napi_calls.specs.Packets.{own_delivered}
 
 -- between p and q its caller delivered these packets

@@ -3,8 +3,8 @@ use Rattle.std.specs.Prelude.{◌≡◌, ℕ, Bool, cond, List, Option, Some, No
 use Rattle.rx_ring.specs.declared.ends.RxCtx.{RxCtx}
 use Rattle.rx_ring.specs.{declared.packet.Packet.Packet, Ends.{RingName, ring_name, received_list}}
 use Rattle.napi_model.specs.{declared.state.Place.Place, Laws.is_owner, Step.opening, History.{LegalHistory, own}}
-use Rattle.napi_word.specs.{View.{received_in, Continues}, Passes.view_of, declared.{table.Pass.Pass, view.Holds.Holds}}
-use Rattle.{napi_word.specs.declared.view.Holds.TheVariants.{Nothing, Out}, napi_calls.specs.Seats.{pass_number, controller_of, shown}}
+use Rattle.napi_word.specs.{Knowledge.{received_in, Continues}, Passes.view_of, declared.{table.Pass.Pass, history.Holds.Holds}}
+use Rattle.{napi_word.specs.declared.history.Holds.TheVariants.{Nothing, Out}, napi_calls.specs.Seats.{pass_number, controller_of, shown}}
 use Rattle.napi_calls.specs.Seats.{own_list, state_shown, instance_ring}
 use Rattle.napi_model.specs.declared.state.Place.TheVariants as place
 

@@ -3,7 +3,7 @@ use Rattle.std.specs.Prelude.{◌≡◌, ◌≢◌, ℕ, true, false, List, [], 
 use Rattle.napi_model.specs.declared.{state.{Flags.Flags, Seen.Seen}, event.{Call.Call, Event.Event, Operation.Operation}}
 use Rattle.napi_model.specs.{declared.event.Operation.TheVariants.{Look, TakeDisable}, Step.{event, MayBusyTake}}
 use Rattle.{napi_word.specs.declared.table.Pass.Pass, napi_calls.specs.Seats.{SameSeat, ShowsLegal, pass_number, shown, own_list}}
-use Rattle.napi_word.specs.{Passes.view_of, View.{view_delivered, first_in}}
+use Rattle.napi_word.specs.{Passes.view_of, Knowledge.{view_delivered, first_in}}
 use mathlib.Core.List.{IsPrefix}
 use Rattle.napi_model.specs.declared.event.Call.TheVariants as call
 

@@ -2,11 +2,11 @@
 -- that gives it back delivers what it polled since.
 use Rattle.std.specs.Prelude.{◌≡◌, ℕ, false, List, [], ◌∷◌, ◌++◌, length, drop, Result, Ok, Err}
 use Rattle.rx_ring.specs.{declared.{packet.Packet.Packet, ends.RxCtx.RxCtx}, Ends.{SameCtx, received_list, known_list, polls_of, is_beside}}
-use Rattle.napi_word.specs.{declared.{table.Pass.Pass, view.Delivery.Delivery}, Passes.view_of}
+use Rattle.napi_word.specs.{declared.{table.Pass.Pass, history.Delivery.Delivery}, Passes.view_of}
 use Rattle.napi_calls.specs.declared.{types.{Caller.Caller, Polling.Polling, Busy.Busy}, answers.{TryPrep.TryPrep, Sched.Sched}}
 use Rattle.napi_calls.specs.declared.answers.{TryDone.TryDone, Completed.Completed, TryBusy.TryBusy, TryStop.TryStop, TryTake.TryTake}
 use Rattle.napi_calls.specs.{Seats.pass_number, Calls.seat_of}
-use Rattle.napi_word.specs.View as view
+use Rattle.napi_word.specs.Knowledge as view
 use Rattle.napi_calls.specs.declared.answers.Sched.TheVariants as sched
 use Rattle.napi_calls.specs.declared.answers.TryDone.TheVariants as try_done
 use Rattle.napi_calls.specs.declared.answers.Completed.TheVariants as completed
@@ -55,9 +55,9 @@ pub record IsFresh (p q : Pass) (ctx : RxCtx) : Type 0 where
 
 -- it gave the context back as it was: one more delivery, of what was polled since it was taken
 pub record GivesBack (p : Pass) (ctx : RxCtx) (q : Pass) : Type 0 where
-  pub laid : RxCtx
-  pub same : IsSame ctx laid
-  pub deliveries : delivered q ≡ delivered p ++ view.delivery (pass_number p) (polled p ctx) laid ∷ []
+  pub stored : RxCtx
+  pub same : IsSame ctx stored
+  pub deliveries : delivered q ≡ delivered p ++ view.delivery (pass_number p) (polled p ctx) stored ∷ []
 
 -- ---- by each result
 

@@ -4,7 +4,7 @@ use Rattle.rx_ring.specs.{declared.ends.{RxIn.RxIn, RxCtx.RxCtx}, Ends.RingName}
 use Rattle.{rx_ring.specs.Ends.{ring_name, IsOneRing}, napi_model.specs.{declared.{event.Event.Event, state.State.State}, Step.opening}}
 use Rattle.{napi_model.specs.History.{LegalHistory, state_after, own}, napi_word.specs.{declared.table.Pass.Pass, Passes.view_of}}
 use Rattle.napi_word.specs.Passes.{SameTable}
-use Rattle.napi_word.specs.View as view
+use Rattle.napi_word.specs.Knowledge as view
 
 -- the seat's number, and the controller's, which is the greatest
 abbrev pub pass_number : Pass → ℕ

@@ -1,7 +1,7 @@
 //! The values on which calls are made. Each has a seat of the instance, with what its type says about it, and is linear.
 ghost use Rattle.std.specs.Prelude.{◌≡◌, Some, true, false};
 ghost use Rattle.napi_model.specs.declared.state.Place.TheVariants as place;
-ghost use Rattle.napi_word.specs.View.{received_in};
+ghost use Rattle.napi_word.specs.Knowledge.{received_in};
 ghost use Rattle.napi_word.specs.Passes.{view_of, controller_of_table};
 ghost use Rattle.napi_calls.specs.Knows.{Free, Stands, KnowsBusyPoll, ControllerKnows, Has, received_held};
 

@@ -1,8 +1,10 @@
 -- A step is allowed if, in each state that the view allows, it is legal and writes the right word.
-use Rattle.napi_word.specs.{Told.{makes_as_seen, laid_down}}
-use Rattle.napi_word.specs.{View.{View, is_pass, view_number, place_in, view_ring, delivery, own_deliveries, view_delivered}}
-use Rattle.napi_word.specs.{View.{received_by, received_in, first_in, last_of, Continues}, declared.view.{Key.Key, Delivery.Delivery}}
-use Rattle.napi_word.specs.{declared.view.Holds.{Holds, TheVariants.{Nothing, Within, Out}}, Rule.{Home, Homes, Owned, Fits, Kept, Holding}}
+use Rattle.napi_word.specs.{Told.{makes_as_seen, slot_returned}}
+use Rattle.napi_word.specs.{Knowledge.{Knowledge, is_pass, view_number, place_in, view_ring, delivery, own_deliveries, view_delivered}}
+use Rattle.napi_word.specs.Knowledge.{received_by, received_in, first_in, last_of, Continues}
+use Rattle.napi_word.specs.declared.history.{Key.Key, Delivery.Delivery}
+use Rattle.napi_word.specs.declared.history.Holds.{Holds, TheVariants.{Nothing, Within, Out}}
+use Rattle.napi_word.specs.Rule.{Home, Homes, Owned, Fits, Kept, Holding}
 use Rattle.napi_word.specs.Slot.{Content, Carried, has_at, is_out, owns_slot, hold_of, has_slot, ring_in, beside_in, carried_received, Tied}
 use Rattle.napi_word.{specs.Slot.{Moves, stays, taken, given, moved, GivesSlotBack, Shifts, SlotDelivers}}
 use Rattle.napi_word.{proofs.Places.{has_out, has_same}}
@@ -47,7 +49,7 @@ within Nothing e n = absurd (true≢false (sym e))
 within Within e n = refl
 within Out e n = absurd (n refl)
 
-pub ring_kept : (l : Carried) (v w : View) → ring_in l v ≡ view_ring v → view_ring v ≡ view_ring w → ring_in l w ≡ view_ring w
+pub ring_kept : (l : Carried) (v w : Knowledge) → ring_in l v ≡ view_ring v → view_ring v ≡ view_ring w → ring_in l w ≡ view_ring w
 ring_kept [] v w e f = refl
 ring_kept ((k, Some y) ∷ l) v w e f = e ∙ f
 ring_kept ((k, None) ∷ l) v w e f = refl
@@ -73,7 +75,7 @@ pub record Turn (k : ℕ) (now : Napi) (c : ℕ) (o : Operation) (m : Moves) (g 
   pub word : g (word_of (seen_of now)) ≡ word_of (seen_of (after_by c o now))
   pub slot : Fitting m c now.place (after_by c o now).place
 
-module _ (key : Key) (id : ℕ) (me : Me Content View) (h : Holds) (tie : Tied h me) (s : St) (r : Kept key s) (len : length s.homes ≡ 1)
+module _ (key : Key) (id : ℕ) (me : Me Content Knowledge) (h : Holds) (tie : Tied h me) (s : St) (r : Kept key s) (len : length s.homes ≡ 1)
     (at : get_elem? s.views id ≡ Maybe.some me.0) (o : Open me.0) where
   abbrev start : Napi
   start = opening key.controller
@@ -111,11 +113,11 @@ module _ (key : Key) (id : ℕ) (me : Me Content View) (h : Holds) (tie : Tied h
   received_now : received_in me.0 ≡ received_by ring o.first.delivered
   received_now = ap received_in o.is ∙ ap (λ (x : RxCtx). received_by x o.first.delivered) fits_now.ring
 
-  delivers_by : (m : Moves) (me' : Me Content View) → first_in me'.0 ≡ Some o.first.ring → Shifts m r.deliveries me me'
+  delivers_by : (m : Moves) (me' : Me Content Knowledge) → first_in me'.0 ≡ Some o.first.ring → Shifts m r.deliveries me me'
       → SlotDelivers m me me'
   delivers_by m me' first y = record {
     before = r.deliveries;
-    begins = λ k x is. (r.strands id me.0 at k x is).delivered;
+    begins = λ k x is. (r.histories id me.0 at k x is).delivered;
     exact = owned_now.delivers ∙ ap (own_deliveries c) (sym shown_now);
     held = λ owns. sym (shown_now ∙ all_known (has_now ∙ sym tie.right ∙ owns));
     first = first ∙ sym (ap first_in o.is);
@@ -126,7 +128,7 @@ module _ (key : Key) (id : ℕ) (me : Me Content View) (h : Holds) (tie : Tied h
   after_place d = (after_by c d now).place
 
   module _ (d : Operation) where
-    abbrev w : List Delivery → View
+    abbrev w : List Delivery → Knowledge
     w ds = grown o.first c r.history d ds ∷ []
 
     abbrev q : Place
@@ -243,7 +245,8 @@ module _ (key : Key) (id : ℕ) (me : Me Content View) (h : Holds) (tie : Tied h
               (subst (λ (b : Bool). GivesSlotBack b r.deliveries me (w ds, rest me.1)) owns (held.0, more.0, held.1, sym more.1, refl));
         }
 
-module _ (key : Key) (slots id : ℕ) (me : Me Content View) (one : slots ≡ 1) (p : is_pass me.0 ≡ true) (h : Holds) (tie : Tied h me) where
+module _ (key : Key) (slots id : ℕ) (me : Me Content Knowledge) (one : slots ≡ 1) (p : is_pass me.0 ≡ true) (h : Holds)
+    (tie : Tied h me) where
   pub allowed : (g : ℕ → ℕ) (f : Seen → Operation) (m : Seen → Moves) → ((x : Seen) → m x ≡ given → h ≢ Out)
       → ((now : Napi) (c : ℕ) → Knows key.controller me.0 c now → Turn key.controller now c (f (seen_of now)) (m (seen_of now)) g)
       → Allows (Holding key) slots id me 0 g (makes_as_seen f m me)
@@ -274,8 +277,8 @@ module _ (key : Key) (slots id : ℕ) (me : Me Content View) (one : slots ≡ 1)
       )
 
   -- an empty slot is returned, if the view says that the pass owns it
-  pub lays_down : h ≡ Out → Allows (Holding key) slots id me 0 (λ n. n) (laid_down me)
-  lays_down out s holding len at fits =
+  pub returns_slot : h ≡ Out → Allows (Holding key) slots id me 0 (λ n. n) (slot_returned me)
+  returns_slot out s holding len at fits =
       let r = running key s holding id me.0 at p in
       let o = opened me.0 p in
       let now = state_after (opening key.controller) r.history in

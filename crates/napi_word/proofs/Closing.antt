@@ -1,13 +1,13 @@
--- The end of a table: what its passes held, and the strands of their views.
+-- The end of a table: what its passes held, and the local histories of their views.
 use Rattle.napi_word.proofs.{Keeps.{St, Open, opened, running, owner_since, place_since}, Deliveries.some_is, Places.{has_owner, has_same}}
 use Rattle.napi_word.proofs.{Places.is_false, Whole.whole, Counting.{numbers_of, numbers_length, find_number, every_number, no_more}}
-use Rattle.napi_word.specs.{Rule.{Fits, Kept, Holding}, declared.view.{Key.Key, Holds.{Holds, TheVariants.{Nothing, Within, Out}}}}
-use Rattle.napi_word.specs.declared.{view.{Delivery.Delivery, Strand.Strand}, table.{Pass.Pass, StateTable.StateTable}}
+use Rattle.napi_word.specs.{Rule.{Fits, Kept, Holding}, declared.history.{Key.Key, Holds.{Holds, TheVariants.{Nothing, Within, Out}}}}
+use Rattle.napi_word.specs.declared.{history.{Delivery.Delivery, LocalHistory.LocalHistory}, table.{Pass.Pass, StateTable.StateTable}}
 use Rattle.napi_word.specs.{declared.gathering.Found.Found, Ends.{Finds, picked, IsOut, IsClosedTable, views_of, Gathered}}
-use Rattle.napi_word.specs.{View.{View, first_in}}
-use Rattle.napi_word.specs.View.{view_delivered, own_deliveries, received_by, last_of, is_pass, view_shown, mine, view_number}
-use Rattle.napi_word.specs.View.{view_controller, place_in}
-use Rattle.napi_word.specs.{View.view_ring, Passes.{view_of, controller_of_table}, Slot.{Content, is_out, has_at, has_slot}}
+use Rattle.napi_word.specs.{Knowledge.{Knowledge, first_in}}
+use Rattle.napi_word.specs.Knowledge.{view_delivered, own_deliveries, received_by, last_of, is_pass, view_shown, mine, view_number}
+use Rattle.napi_word.specs.Knowledge.{view_controller, place_in}
+use Rattle.napi_word.specs.{Knowledge.view_ring, Passes.{view_of, controller_of_table}, Slot.{Content, is_out, has_at, has_slot}}
 use Rattle.rx_ring.{proofs.Names.same_name, specs.{Ends.{RingName, ring_name, received_list}, declared.ends.RxCtx.RxCtx}}
 use Rattle.{atomic_table.{proofs.Lists.at_longer, specs.Table.{Final, Seen}}, std.specs.List.{AllByRecursion, IsDistinct, list_any}}
 use Rattle.std.proofs.Common.{◌<◌, ◌+◌, ◌≡◌, ◌≢◌, ℕ, zero, suc, ◌≤◌, List, [], ◌∷◌, ◌++◌, length, length-append, slice_get, Option, Some}
@@ -19,9 +19,9 @@ use mathlib.Core.{Logic.dite, List.IsPrefix, Option.{Option as Maybe, some-injec
 use native.Mathlib.Decide.{dec_le}
 use lib.ListN.{get_elem?}
 
--- ---- strands of one view in another
-abbrev pub Stands : View → View → Type 0
-Stands xs ys = (k : ℕ) (x : Strand) → get_elem? xs k ≡ Maybe.some x → (j : ℕ) × (get_elem? ys j ≡ Maybe.some x)
+-- ---- local histories of one view in another
+abbrev pub Stands : Knowledge → Knowledge → Type 0
+Stands xs ys = (k : ℕ) (x : LocalHistory) → get_elem? xs k ≡ Maybe.some x → (j : ℕ) × (get_elem? ys j ≡ Maybe.some x)
 
 at_right : {A : Type 0} (l m : List A) (k : ℕ) (x : A) → get_elem? m k ≡ Maybe.some x → (j : ℕ) × (get_elem? (l ++ m) j ≡ Maybe.some x)
 at_right [] m k x e = (k, e)
@@ -31,7 +31,7 @@ pub get_mid : {A : Type 0} (xs ys : List A) (y : A) → slice_get (xs ++ y ∷ y
 get_mid [] ys y = refl
 get_mid (x ∷ xs) ys y = get_mid xs ys y
 
-pub is_pass_more : (xs ys : View) → is_pass xs ≡ true → is_pass (xs ++ ys) ≡ true
+pub is_pass_more : (xs ys : Knowledge) → is_pass xs ≡ true → is_pass (xs ++ ys) ≡ true
 is_pass_more [] ys e = absurd (true≢false (sym e))
 is_pass_more (x ∷ xs) ys e = e
 
@@ -41,8 +41,8 @@ stands_in [] k p e = absurd (cc)
 stands_in (q ∷ ps) zero p e = subst (λ (y : Pass). Stands (view_of y) (views_of (q ∷ ps))) (some_is e) (at_right (views_of ps) (view_of q))
 stands_in (q ∷ ps) (suc k) p e = λ i x at. let r = stands_in ps k p e i x at in (r.0, at_longer (views_of ps) (view_of q) r.0 x r.1)
 
-at_mid : (l m : View) (x : Strand) (xs : View) → m ≡ x ∷ xs → get_elem? (l ++ m) (length l) ≡ Maybe.some x
-at_mid [] m x xs is = ap (λ (y : View). get_elem? y 0) is
+at_mid : (l m : Knowledge) (x : LocalHistory) (xs : Knowledge) → m ≡ x ∷ xs → get_elem? (l ++ m) (length l) ≡ Maybe.some x
+at_mid [] m x xs is = ap (λ (y : Knowledge). get_elem? y 0) is
 at_mid (y ∷ l) m x xs is = at_mid l m x xs is
 
 -- ---- what the passes held
@@ -60,12 +60,12 @@ all_more : (P : Pass → Type 0) (p : Pass) (taken : List Pass) → P p → ((k 
 all_more P p taken one all zero q e = subst P (some_is e) one
 all_more P p taken one all (suc k) q e = all k q e
 
-pub gathered_more : (p : Pass) (taken : List Pass) (v w : View) (f f' : Found) → Gathered taken v f
+pub gathered_more : (p : Pass) (taken : List Pass) (v w : Knowledge) (f f' : Found) → Gathered taken v f
     → Finds p.holds (view_ring (view_of p)) f f' → w ≡ v ++ view_of p → Gathered (p ∷ taken) w f'
 gathered_more p taken v w f f' g finds both = by p.holds refl finds
   where
     views : w ≡ views_of (p ∷ taken)
-    views = both ∙ ap (λ (l : View). l ++ view_of p) g.views
+    views = both ∙ ap (λ (l : Knowledge). l ++ view_of p) g.views
 
     by : (h : Holds) → p.holds ≡ h → Finds h (view_ring (view_of p)) f f' → Gathered (p ∷ taken) w f'
     by Nothing is same = record {
@@ -101,7 +101,7 @@ third Within a b = absurd (b refl)
 third Out a b = absurd (a refl)
 
 -- ---- the last state
-module _ (t : StateTable) (passes : List Pass) (v : View) (id : ℕ) (f : Found) (g : Gathered passes v f)
+module _ (t : StateTable) (passes : List Pass) (v : Knowledge) (id : ℕ) (f : Found) (g : Gathered passes v f)
     (count : controller_of_table t + 1 ≤ length passes)
     (s : St) (r : Kept t.table.shared.key s) (at : get_elem? s.views id ≡ Maybe.some v) where
   abbrev key : Key
@@ -116,19 +116,19 @@ module _ (t : StateTable) (passes : List Pass) (v : View) (id : ℕ) (f : Found)
   abbrev front : (q : Pass) → Open (view_of q)
   front q = opened (view_of q) q.is_pass
 
-  -- the rule for a pass's own strand
+  -- the rule for a pass's own local history
   stood : (k : ℕ) (q : Pass) → slice_get passes k ≡ Some q → (j : ℕ) × Fits key h r.deliveries r.seat (id, j) (front q).first
   stood k q e =
       let o = front q in
-      let y = stands_in passes k q e 0 o.first (ap (λ (l : View). get_elem? l 0) o.is) in
-      (y.0, r.strands id v at y.0 o.first (ap (λ (l : View). get_elem? l y.0) g.views ∙ y.1))
+      let y = stands_in passes k q e 0 o.first (ap (λ (l : Knowledge). get_elem? l 0) o.is) in
+      (y.0, r.histories id v at y.0 o.first (ap (λ (l : Knowledge). get_elem? l y.0) g.views ∙ y.1))
       -- ---- no number occurs twice, so all occur
 
   abbrev place_of : ℕ → ℕ
   place_of n = (r.seat n).1
 
   abbrev Front : List Pass → Type 0
-  Front ps = (k : ℕ) (x : Strand) → get_elem? (views_of ps) k ≡ Maybe.some x → get_elem? v k ≡ Maybe.some x
+  Front ps = (k : ℕ) (x : LocalHistory) → get_elem? (views_of ps) k ≡ Maybe.some x → get_elem? v k ≡ Maybe.some x
 
   front_less : (p : Pass) (ps : List Pass) → Front (p ∷ ps) → Front ps
   front_less p ps f k x e = f k x (at_longer (views_of ps) (view_of p) k x e)
@@ -137,7 +137,7 @@ module _ (t : StateTable) (passes : List Pass) (v : View) (id : ℕ) (f : Found)
   at_first p ps f =
       let o = front p in
       let fit =
-      r.strands id v at (length (views_of ps)) o.first
+      r.histories id v at (length (views_of ps)) o.first
       (f (length (views_of ps)) o.first (at_mid (views_of ps) (view_of p) o.first o.extra o.is)) in
       ap (λ (q : ℕ × ℕ). q.1) (fit.owned (view_number (view_of p)) o.numbered).here
 
@@ -145,7 +145,7 @@ module _ (t : StateTable) (passes : List Pass) (v : View) (id : ℕ) (f : Found)
   longer p ps =
       let o = front p in
       let n : length (views_of ps ++ view_of p) ≡ length (views_of ps) + length (view_of p) = length-append (views_of ps) (view_of p) in
-      let m : length (view_of p) ≡ suc (length o.extra) = ap (λ (l : View). length l) o.is in
+      let m : length (view_of p) ≡ suc (length o.extra) = ap (λ (l : Knowledge). length l) o.is in
       omega (arith, n, m)
 
   before : (m : ℕ) (ps : List Pass) → Front ps → length (views_of ps) ≤ m → AllByRecursion (λ n. place_of n < m) (numbers_of ps)
@@ -170,7 +170,7 @@ module _ (t : StateTable) (passes : List Pass) (v : View) (id : ℕ) (f : Found)
   )
 
   all_distinct : IsDistinct eqb (numbers_of passes)
-  all_distinct = distinct passes (λ k x e. ap (λ (l : View). get_elem? l k) g.views ∙ e)
+  all_distinct = distinct passes (λ k x e. ap (λ (l : Knowledge). get_elem? l k) g.views ∙ e)
 
   all_below : (q : ℕ) → list_any (eqb q) (numbers_of passes) ≡ true → q ≤ key.controller
   all_below q h =
@@ -207,7 +207,7 @@ module _ (t : StateTable) (passes : List Pass) (v : View) (id : ℕ) (f : Found)
       → own_deliveries (view_number (view_of q)) r.deliveries ≡ own_deliveries (view_number (view_of q)) (view_delivered (view_of q))
   deliveries_exact k q e = let o = front q in
       ((stood k q e).1.owned (view_number (view_of q)) o.numbered).delivers
-      ∙ ap (λ (l : View). own_deliveries (view_number (view_of q)) (view_delivered l)) (sym o.is)
+      ∙ ap (λ (l : Knowledge). own_deliveries (view_number (view_of q)) (view_delivered l)) (sym o.is)
 
   pub longest : (k : ℕ) (p : Pass) → slice_get passes k ≡ Some p
       → ((j : ℕ) (q : Pass) → slice_get passes j ≡ Some q → length (view_shown (view_of q)) ≤ length (view_shown (view_of p)))
@@ -378,7 +378,7 @@ module _ (t : StateTable) (passes : List Pass) (v : View) (id : ℕ) (f : Found)
       same = λ x e. same_name key.ring.value x (right f.out f.ctx refl refl x e);
     }
 
-pub ended : (t : StateTable) (passes : List Pass) (v : View) (id : ℕ) (f : Found) → Gathered passes v f
+pub ended : (t : StateTable) (passes : List Pass) (v : Knowledge) (id : ℕ) (f : Found) → Gathered passes v f
     → controller_of_table t + 1 ≤ length passes
     → is_pass v ≡ true → (ws : List ℕ) (slots : List Content) (slot : Content) → Final (Seen (Holding t.table.shared.key) id v) ws slots
     → get_elem? slots 0 ≡ Maybe.some slot

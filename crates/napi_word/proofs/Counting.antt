@@ -2,7 +2,7 @@
 use Rattle.std.proofs.Common.{◌≡◌, ℕ, suc, ◌+◌, ◌<◌, ◌≤◌, ◌||◌, List, [], ◌∷◌, length, slice_get, Some, Bool, true, false, eqb, refl, sym}
 use Rattle.std.{proofs.Common.{ap, ◌∙◌, arith, true≢false}, specs.List.{AllByRecursion, IsDistinct, list_any}}
 use Rattle.std.proofs.lemmas.{Bool.{eqb-true, or_parts}, Map.Steps.length-le_from_distinct_below}
-use Rattle.napi_word.specs.{declared.table.Pass.Pass, View.view_number, Passes.view_of}
+use Rattle.napi_word.specs.{declared.table.Pass.Pass, Knowledge.view_number, Passes.view_of}
 
 abbrev pub numbers_of : List Pass → List ℕ
 numbers_of [] = []

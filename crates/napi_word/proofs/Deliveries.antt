@@ -5,9 +5,10 @@ use Rattle.{std.proofs.lemmas.{List.Elements.filter-append, Bool.eqb-true}, atom
 use Rattle.rx_ring.specs.{declared.{packet.Packet.Packet, ends.RxCtx.RxCtx}, Ends.{received_list, ring_name}}
 use Rattle.napi_model.specs.declared.{state.{State.State as Napi, Place.{Place, TheVariants.{Polling, Control}}}, event.Event.Event}
 use Rattle.napi_model.{specs.{Step.after, History.{LegalHistory, IsLegalFor, state_after}, Laws.IsSound}, proofs.Owners.ownership_kept}
-use Rattle.{napi_model.proofs.Owners.owner_kept, napi_word.specs.{declared.view.Delivery.Delivery, View.{View, first_in, received_in}}}
-use Rattle.napi_word.specs.View.{view_delivered, delivery, packets_of, own_deliveries, received_by, last_of, deliverers, Continues}
-use Rattle.napi_word.specs.View.{view_ring}
+use Rattle.napi_model.proofs.Owners.owner_kept
+use Rattle.napi_word.specs.{declared.history.Delivery.Delivery, Knowledge.{Knowledge, first_in, received_in}}
+use Rattle.napi_word.specs.Knowledge.{view_delivered, delivery, packets_of, own_deliveries, received_by, last_of, deliverers, Continues}
+use Rattle.napi_word.specs.Knowledge.{view_ring}
 use Rattle.napi_word.{specs.Slot.{Content, stays, SlotDelivers, owns_slot, has_at, is_out, is_given, one_if, givers}}
 use Rattle.napi_word.{proofs.Places.has_same}
 use Rattle.napi_word.proofs.{Places.has_out, Owns.own_no}
@@ -128,21 +129,22 @@ own_deliveries_none c = refl
 -- ---- what a view shows once its deliveries are known
 
 -- the same context and deliveries: the same ring, and the same packets received
-pub ring_as : (v w : View) → first_in w ≡ first_in v → view_ring w ≡ view_ring v
+pub ring_as : (v w : Knowledge) → first_in w ≡ first_in v → view_ring w ≡ view_ring v
 ring_as [] [] e = refl
 ring_as (x ∷ xs) (y ∷ ys) e = ap (λ (r : Option RxCtx). Some (ring_name (unwrap_or r x.ring))) e
 ring_as v w e = absurd (cc)
 
-pub received_as : (v w : View) → first_in w ≡ first_in v → view_delivered w ≡ view_delivered v → received_in w ≡ received_in v
+pub received_as : (v w : Knowledge) → first_in w ≡ first_in v → view_delivered w ≡ view_delivered v → received_in w ≡ received_in v
 received_as [] [] e d = refl
 received_as (x ∷ xs) (y ∷ ys) e d = λ i. received_by (unwrap_or (e i) x.ring) (d i)
 received_as v w e d = absurd (cc)
 
 -- a step that leaves the slot with its owner keeps what was received before it
-pub received_stays : (me me' : Me Content View) → SlotDelivers stays me me' → owns_slot me.0 ≡ true → received_in me'.0 ≡ received_in me.0
+pub received_stays : (me me' : Me Content Knowledge) → SlotDelivers stays me me' → owns_slot me.0 ≡ true
+    → received_in me'.0 ≡ received_in me.0
 received_stays me me' g owns = received_as me.0 me'.0 g.first (g.shifts.0 ∙ g.held owns)
 
-pub received_is : (v : View) (r : RxCtx) (ds : List Delivery) → first_in v ≡ Some r → view_delivered v ≡ ds
+pub received_is : (v : Knowledge) (r : RxCtx) (ds : List Delivery) → first_in v ≡ Some r → view_delivered v ≡ ds
     → received_in v ≡ received_by r ds
 received_is [] r ds e d = absurd (cc)
 received_is (x ∷ xs) r ds e d = λ i. received_by (unwrap_or (e i) r) (d i)

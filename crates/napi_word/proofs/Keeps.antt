@@ -2,8 +2,9 @@
 use Rattle.napi_word.proofs.{Owns.{own_mine, own_other, own_rest, begins_self, begins_more}, Deliveries.{prefix_self, has_others}}
 use Rattle.napi_word.{proofs.Deliveries.{givers_snoc, More, some_is}, specs.{Events.Steps, Slot.{Content, has_at, is_out, is_given}}}
 use Rattle.napi_word.specs.{Slot.one_if}
-use Rattle.napi_word.specs.{View.{View, is_pass, view_number, view_controller, mine, view_ring, state_in, place_in, disable_in}}
-use Rattle.napi_word.specs.{View.busy_in, declared.view.{Strand.Strand, Key.Key, Delivery.Delivery}, Rule.{first_view, Home, Homes, Owned}}
+use Rattle.napi_word.specs.{Knowledge.{Knowledge, is_pass, view_number, view_controller, mine, view_ring, state_in, place_in, disable_in}}
+use Rattle.napi_word.specs.{Knowledge.busy_in, declared.history.{LocalHistory.LocalHistory, Key.Key, Delivery.Delivery}}
+use Rattle.napi_word.specs.Rule.{first_view, Home, Homes, Owned}
 use Rattle.{napi_word.specs.Rule.{Fits, Kept, Starts, Holding}, napi_model.specs.History.{LegalHistory, IsLegalFor, state_after, own}}
 use Rattle.napi_model.specs.{Laws.{IsSound, ThreadsIsHanded, IsControlled, is_owner, stand_of}, Step.{event, opening, seen_of, after}}
 use Rattle.napi_model.specs.{declared.{state.{State.State as Napi, Place.Place}, event.{Event.Event, Operation.Operation}}, Word.word_of}
@@ -17,12 +18,12 @@ use lib.ListN.{get_elem?}
 use mathlib.Core.Option as maybe
 
 abbrev pub St : Type 0
-St = State Content View
+St = State Content Knowledge
 
--- ---- the first strand of a pass's view
-pub record Open (v : View) : Type 0 where
-  pub first : Strand
-  pub extra : View
+-- ---- the first local history of a pass's view
+pub record Open (v : Knowledge) : Type 0 where
+  pub first : LocalHistory
+  pub extra : Knowledge
   pub is : v ≡ first ∷ extra
   pub numbered : first.number ≡ Some (view_number v)
 
@@ -30,19 +31,19 @@ numbered_of : (n : Option ℕ) → is_some n ≡ true → n ≡ Some (unwrap_or 
 numbered_of (Some c) e = refl
 numbered_of None e = absurd (true≢false (sym e))
 
-pub opened : (v : View) → is_pass v ≡ true → Open v
+pub opened : (v : Knowledge) → is_pass v ≡ true → Open v
 opened [] p = absurd (true≢false (sym p))
 opened (x ∷ xs) p = record { first = x; extra = xs; is = refl; numbered = numbered_of x.number p }
 
--- the strand after the event, which follows the history h
-abbrev pub grown : Strand → ℕ → List Event → Operation → List Delivery → Strand
+-- the local history after the event, which follows the history h
+abbrev pub grown : LocalHistory → ℕ → List Event → Operation → List Delivery → LocalHistory
 grown x c h o ds = record x { seen = h ++ event c o ∷ []; mine = x.mine ++ event c o ∷ []; delivered = ds }
 
 -- a pass is made after the start
-pub running : (key : Key) (s : St) → Holding key s → (id : ℕ) (v : View) → get_elem? s.views id ≡ maybe.some v → is_pass v ≡ true
+pub running : (key : Key) (s : St) → Holding key s → (id : ℕ) (v : Knowledge) → get_elem? s.views id ≡ maybe.some v → is_pass v ≡ true
     → Kept key s
 running key s h id v at p = ⊎_elim
-    (λ (t : Starts key s). absurd (none id (ap (λ (l : List View). get_elem? l id) (sym t.views) ∙ at)))
+    (λ (t : Starts key s). absurd (none id (ap (λ (l : List Knowledge). get_elem? l id) (sym t.views) ∙ at)))
     (λ (r : Kept key s). r)
     h
   where
@@ -51,7 +52,7 @@ running key s h id v at p = ⊎_elim
     none (suc j) e = maybe.some-ne-none v (sym e)
 
 -- what a pass's view determines of the state
-pub record Knows (k : ℕ) (v : View) (c : ℕ) (now : Napi) : Type 0 where
+pub record Knows (k : ℕ) (v : Knowledge) (c : ℕ) (now : Napi) : Type 0 where
   pub number : view_number v ≡ c
   pub controller : view_controller v ≡ k
   pub sound : IsSound now
@@ -62,8 +63,8 @@ pub record Knows (k : ℕ) (v : View) (c : ℕ) (now : Napi) : Type 0 where
   pub busy : is_owner c (place_in v) ≡ true → now.flags.in_busy_poll ≡ busy_in v
   pub disable : c ≡ k → now.flags.disable ≡ disable_in v
 
--- ---- the rule for a strand with a number: since the list that it has seen, only others made events
-module _ (key : Key) (s : St) (r : Kept key s) (p : ℕ × ℕ) (x : Strand) (f : Fits key r.history r.deliveries r.seat p x) (c : ℕ)
+-- ---- the rule for a local history with a number: since the list that it has seen, only others made events
+module _ (key : Key) (s : St) (r : Kept key s) (p : ℕ × ℕ) (x : LocalHistory) (f : Fits key r.history r.deliveries r.seat p x) (c : ℕ)
     (numbered : x.number ≡ Some c) where
   abbrev state_first : Napi
   state_first = opening key.controller
@@ -107,8 +108,8 @@ module _ (key : Key) (s : St) (r : Kept key s) (p : ℕ × ℕ) (x : Strand) (f 
   disable_since y = ap (λ (u : Napi). u.flags.disable) parts
       ∙ disable_kept key.controller state_seen later back (subst (λ (d : ℕ). own d later ≡ []) y none)
 
--- ---- one more event, which other strands of the seat may have seen
-module _ (key : Key) (s : St) (r : Kept key s) (id : ℕ) (v : View) (at : get_elem? s.views id ≡ maybe.some v) (o : Open v) where
+-- ---- one more event, which other local histories of the seat may have seen
+module _ (key : Key) (s : St) (r : Kept key s) (id : ℕ) (v : Knowledge) (at : get_elem? s.views id ≡ maybe.some v) (o : Open v) where
   abbrev c : ℕ
   c = view_number v
 
@@ -125,7 +126,7 @@ module _ (key : Key) (s : St) (r : Kept key s) (id : ℕ) (v : View) (at : get_e
   t = state_after (opening key.controller) seen
 
   pub own_fits : Fits key h r.deliveries r.seat (id, 0) o.first
-  own_fits = r.strands id v at 0 o.first (ap (λ (l : View). get_elem? l 0) o.is)
+  own_fits = r.histories id v at 0 o.first (ap (λ (l : Knowledge). get_elem? l 0) o.is)
 
   pub owned : Owned key h r.deliveries r.seat (id, 0) o.first c
   owned = own_fits.owned c o.numbered
@@ -155,25 +156,25 @@ module _ (key : Key) (s : St) (r : Kept key s) (id : ℕ) (v : View) (at : get_e
   pub found : get_or s.words 0 0 ≡ word_of (seen_of now)
   found = ap (λ (ws : List ℕ). get_or ws 0 0) r.word
 
-  -- ---- one event more, beside which other strands of the seat may have seen it
-  module _ (d : Operation) (ds : List Delivery) (tail : View) where
+  -- ---- one event more, beside which other local histories of the seat may have seen it
+  module _ (d : Operation) (ds : List Delivery) (tail : Knowledge) where
     abbrev e : Event
     e = event c d
 
-    abbrev pub next : Strand
+    abbrev pub next : LocalHistory
     next = grown o.first c h d ds
 
-    abbrev w : View
+    abbrev w : Knowledge
     w = next ∷ tail
 
     abbrev pub TailFits : Type 0
-    TailFits = (k : ℕ) (x : Strand) → get_elem? tail k ≡ maybe.some x → Fits key (h ++ e ∷ []) ds r.seat (id, suc k) x
+    TailFits = (k : ℕ) (x : LocalHistory) → get_elem? tail k ≡ maybe.some x → Fits key (h ++ e ∷ []) ds r.seat (id, suc k) x
 
     exact : own c (h ++ e ∷ []) ≡ o.first.mine ++ e ∷ []
     exact = own_mine c h e refl ∙ ap (λ (l : List Event). l ++ e ∷ []) owned.whole
 
-    -- the strands of other seats don't change
-    others : IsLegalFor key.controller now e → More now e r.deliveries ds → (j k : ℕ) → j ≢ id → (x : Strand)
+    -- the local histories of other seats don't change
+    others : IsLegalFor key.controller now e → More now e r.deliveries ds → (j k : ℕ) → j ≢ id → (x : LocalHistory)
         → Fits key h r.deliveries r.seat (j, k) x → Fits key (h ++ e ∷ []) ds r.seat (j, k) x
     others legal more j k apart x f = record {
       begins = begins_more x.seen h e f.begins;
@@ -195,7 +196,7 @@ module _ (key : Key) (s : St) (r : Kept key s) (id : ℕ) (v : View) (at : get_e
       begun = f.begun;
     }
 
-    next_fits : TailFits → (k : ℕ) (x : Strand) → get_elem? w k ≡ maybe.some x → Fits key (h ++ e ∷ []) ds r.seat (id, k) x
+    next_fits : TailFits → (k : ℕ) (x : LocalHistory) → get_elem? w k ≡ maybe.some x → Fits key (h ++ e ∷ []) ds r.seat (id, k) x
     next_fits fits zero x is = subst (Fits key (h ++ e ∷ []) ds r.seat (id, 0)) (maybe.some-injective _ _ is) record {
       begins = begins_self (h ++ e ∷ []);
       delivered = prefix_self ds;
@@ -224,10 +225,10 @@ module _ (key : Key) (s : St) (r : Kept key s) (id : ℕ) (v : View) (at : get_e
       word = ap (λ (u : Napi). word_of (seen_of u) ∷ []) (sym (state_after-snoc (opening key.controller) h e));
       slot = subst (λ (u : Napi). is_out u.place ≡ false → Home key.ring.value ds homes)
           (sym (state_after-snoc (opening key.controller) h e)) slot;
-      strands = λ j u there k x is. ⊎_elim
+      histories = λ j u there k x is. ⊎_elim
           (λ (y : (j ≡ id) × (w ≡ u)). subst (λ (i : ℕ). Fits key (h ++ e ∷ []) ds r.seat (i, k) x) (sym y.0)
-          (next_fits fits k x (ap (λ (z : View). get_elem? z k) y.1 ∙ is)))
-          (λ (y : (j ≢ id) × (get_elem? s.views j ≡ maybe.some u)). others legal more j k y.0 x (r.strands j u y.1 k x is))
+          (next_fits fits k x (ap (λ (z : Knowledge). get_elem? z k) y.1 ∙ is)))
+          (λ (y : (j ≢ id) × (get_elem? s.views j ≡ maybe.some u)). others legal more j k y.0 x (r.histories j u y.1 k x is))
           (at_set s.views id j w u there);
       few = λ n above. own_other n h e (λ (same : c ≡ n). let low = owned.few in absurd (omega arith)) ∙ r.few n above;
       order = more.order ∙ ap (λ (l : List ℕ). l ++ one_if (is_given now e) c) r.order ∙ sym (givers_snoc (opening key.controller) h e);
@@ -248,7 +249,7 @@ module _ (key : Key) (s : St) (r : Kept key s) (id : ℕ) (v : View) (at : get_e
     pub grew : IsLegalFor key.controller now e → Steps v d w
     grew legal = record {
       before = h;
-      begins = λ k x is. (r.strands id v at k x is).begins;
+      begins = λ k x is. (r.histories id v at k x is).begins;
       ends = refl;
       legal =
           subst (λ (k : ℕ). LegalHistory k (opening k) (h ++ e ∷ [])) (sym knows.controller)
@@ -280,7 +281,7 @@ module _ (key : Key) (s : St) (r : Kept key s) (id : ℕ) (v : View) (at : get_e
     legal = r.legal;
     word = subst (λ (ws : List ℕ). set ws 0 (get_or ws 0 0) ≡ word_of (seen_of now) ∷ []) (sym r.word) refl;
     slot = slot;
-    strands = λ j u there. r.strands j u (ap (λ (l : List View). get_elem? l j) (sym (set_again s.views id v at)) ∙ there);
+    histories = λ j u there. r.histories j u (ap (λ (l : List Knowledge). get_elem? l j) (sym (set_again s.views id v at)) ∙ there);
     few = r.few;
     order = r.order;
     few_deliver = r.few_deliver;

@@ -5,7 +5,8 @@ use Rattle.napi_model.specs.declared.event.{Done.TheVariants.{Again, Held}, Even
 use Rattle.napi_model.specs.{declared.event.{Operation.TheVariants.{Schedule, Take, Complete}, Prep.Prep}, Step.{event, opening, after_by}}
 use Rattle.napi_model.specs.{Step.place_of, History.{LegalHistory, IsLegalFor, state_after}, Laws.{is_owner, IsPollingPlace}}
 use Rattle.napi_model.proofs.{Histories.{legal_front, legal_back, state_after-snoc}, Owners.{busy_after, opens_sound, opens_unbusy}}
-use Rattle.napi_word.specs.{View.{View, view_number, view_controller, state_at, state_in, place_in, disable_in}, Events.Steps, Told.done_of}
+use Rattle.napi_word.specs.{Knowledge.{Knowledge, view_number, view_controller, state_at, state_in, place_in, disable_in}, Events.Steps}
+use Rattle.napi_word.specs.Told.done_of
 use Rattle.napi_word.{specs.Passes.{HasController, HasPoll}, proofs.Places.is_false}
 
 -- IN_BUSY_POLL is set only if the place is a Polling
@@ -15,7 +16,7 @@ unbusy k h legal none =
     is_false (state_after (opening k) h).flags.in_busy_poll
     (λ e. none (busy_after k (opening k) h (opens_sound k) (opens_unbusy k) legal e))
 
-module _ (v : View) (o : Operation) (w : View) (g : Steps v o w) where
+module _ (v : Knowledge) (o : Operation) (w : Knowledge) (g : Steps v o w) where
   -- the state in which the event took place
   abbrev pub found_state : Napi
   found_state = state_at v g.before
@@ -50,13 +51,13 @@ not_polled Kind.List is = is
 not_polled Kind.Thread is = is
 
 -- a pass that was granted the instance, or polls it
-pub schedule_grants : (v w : View) → Steps v (Schedule Prep.Granted) w → place_in w ≡ Granted (view_number w)
+pub schedule_grants : (v w : Knowledge) → Steps v (Schedule Prep.Granted) w → place_in w ≡ Granted (view_number w)
 schedule_grants v w g = place_then v (Schedule Prep.Granted) w g ∙ ap Granted (sym g.number)
 
-pub again_grants : (v w : View) → Steps v (Complete Again) w → place_in w ≡ Granted (view_number w)
+pub again_grants : (v w : Knowledge) → Steps v (Complete Again) w → place_in w ≡ Granted (view_number w)
 again_grants v w g = place_then v (Complete Again) w g ∙ ap Granted (sym g.number)
 
-pub take_polls : (v w : View) (k : Kind) → Steps v (Take k true) w → HasPoll false w
+pub take_polls : (v w : Knowledge) (k : Kind) → Steps v (Take k true) w → HasPoll false w
 take_polls v w k g =
     let off = found_unbusy v (Take k true) w g (λ is. not_polled k (subst IsPollingPlace (step_of v (Take k true) w g).0 is)) in (
       place_then v (Take k true) w g ∙ ap Polling (sym g.number),
@@ -70,7 +71,7 @@ never_held true e = cc
 never_held false e = cc
 
 -- an event that changes nothing keeps what its pass knows
-module _ (v : View) (o : Operation) (w : View) (g : Steps v o w)
+module _ (v : Knowledge) (o : Operation) (w : Knowledge) (g : Steps v o w)
     (quiet : after_by (view_number v) o (found_state v o w g) ≡ found_state v o w g) where
   pub quiet_polls : {b : Bool} → HasPoll b v → HasPoll b w
   quiet_polls is =
@@ -81,7 +82,7 @@ module _ (v : View) (o : Operation) (w : View) (g : Steps v o w)
       )
 
 -- looks: of the poller, and of the controller
-module _ (v : View) (x : Seen) (w : View) (g : Steps v (Look x) w) where
+module _ (v : Knowledge) (x : Seen) (w : Knowledge) (g : Steps v (Look x) w) where
   pub look_polls : {b : Bool} → HasPoll b v → HasPoll b w
   look_polls = quiet_polls v (Look x) w g refl
 

@@ -13,4 +13,4 @@ pub mod Meets
 pub mod Whole
 pub mod Counting
 pub mod Closing
-pub mod CatchingUp
+pub mod Syncing

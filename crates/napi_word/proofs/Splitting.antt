@@ -3,8 +3,8 @@ use Rattle.std.proofs.Common.{◌≡◌, ◌≢◌, ◌⊎◌, ℕ, zero, suc, �
 use Rattle.std.proofs.Common.{ne_eqb, refl, sym, ap, ◌∙◌, subst, inl, inr, ⊎_elim, arith}
 use Rattle.atomic_table.specs.Table.{Splits, Joins}
 use Rattle.{atomic_table.proofs.Lists.{at_longer, at_set, at_snoc, set_again}, napi_model.specs.declared.event.Event.Event}
-use Rattle.napi_word.specs.{declared.view.{Key.Key, Strand.Strand, Delivery.Delivery}, View.{View, is_pass}}
-use Rattle.napi_word.specs.Rule.{Fits, Kept, Holding, left_of, right_of, note, note_of, joined, spent_view}
+use Rattle.napi_word.specs.{declared.history.{Key.Key, LocalHistory.LocalHistory, Delivery.Delivery}, Knowledge.{Knowledge, is_pass}}
+use Rattle.napi_word.specs.Rule.{Fits, Kept, Holding, left_of, right_of, copy, copy_of, joined, spent_view}
 use Rattle.napi_word.{specs.Surveys.{front, with_front, but_last, last_alone}, proofs.Keeps.{St, opened, running}}
 use lib.ListN.{get_elem?}
 use mathlib.Core.Option as maybe
@@ -29,8 +29,8 @@ at_join [] m b j e = inr (j, omega arith, e)
 at_join (x ∷ xs) m b zero e = inl e
 at_join (x ∷ xs) m b (suc j) e = ⊎_elim (λ t. inl t) (λ t. let h = t.1 in inr (t.0, omega (arith, h), t.2)) (at_join xs m b j e)
 
--- a strand moves to another position
-refit : (key : Key) (h : List Event) (ds : List Delivery) (seat seat' : ℕ → ℕ × ℕ) (p q : ℕ × ℕ) (x : Strand)
+-- a local history moves to another position
+refit : (key : Key) (h : List Event) (ds : List Delivery) (seat seat' : ℕ → ℕ × ℕ) (p q : ℕ × ℕ) (x : LocalHistory)
     → ((c : ℕ) → seat c ≡ p → seat' c ≡ q) → Fits key h ds seat p x → Fits key h ds seat' q x
 refit key h ds seat seat' p q x goes f = record {
   begins = f.begins;
@@ -42,12 +42,12 @@ refit key h ds seat seat' p q x goes f = record {
   begun = f.begun;
 }
 
--- other views of the same history, whose strands fit their positions
-other_views : {key : Key} {s : St} (r : Kept key s) (seat : ℕ → ℕ × ℕ) (views : List View)
-    → ((j : ℕ) (u : View) → get_elem? views j ≡ maybe.some u → (k : ℕ) (z : Strand) → get_elem? u k ≡ maybe.some z
+-- other views of the same history, whose local histories fit their positions
+other_views : {key : Key} {s : St} (r : Kept key s) (seat : ℕ → ℕ × ℕ) (views : List Knowledge)
+    → ((j : ℕ) (u : Knowledge) → get_elem? views j ≡ maybe.some u → (k : ℕ) (z : LocalHistory) → get_elem? u k ≡ maybe.some z
     → Fits key r.history r.deliveries seat (j, k) z)
     → Kept key record { words = s.words; homes = s.homes; views = views }
-other_views r seat views strands =
+other_views r seat views histories =
     record {
       history = r.history;
       deliveries = r.deliveries;
@@ -55,14 +55,14 @@ other_views r seat views strands =
       legal = r.legal;
       word = r.word;
       slot = r.slot;
-      strands = strands;
+      histories = histories;
       few = r.few;
       order = r.order;
       few_deliver = r.few_deliver;
     }
 
--- ---- the second strand becomes a seat of its own
-module _ (key : Key) (id : ℕ) (x y : Strand) (ys : View) (s : St) (r : Kept key s)
+-- ---- the second local history becomes a seat of its own
+module _ (key : Key) (id : ℕ) (x y : LocalHistory) (ys : Knowledge) (s : St) (r : Kept key s)
     (at : get_elem? s.views id ≡ maybe.some (x ∷ y ∷ ys)) where
   abbrev N : ℕ
   N = length (set s.views id (x ∷ ys))
@@ -81,16 +81,18 @@ module _ (key : Key) (id : ℕ) (x y : Strand) (ys : View) (s : St) (r : Kept ke
   there : (j k c : ℕ) → j ≢ id → r.seat c ≡ (j, k) → moved (r.seat c) ≡ (j, k)
   there j k c apart e = ap moved e ∙ ap (λ (b : Bool). cond b (shift k) (j, k)) (ne_eqb j id apart)
 
-  left_fits : (k : ℕ) (z : Strand) → get_elem? (x ∷ ys) k ≡ maybe.some z → Fits key r.history r.deliveries (λ c. moved (r.seat c)) (id, k) z
+  left_fits : (k : ℕ) (z : LocalHistory) → get_elem? (x ∷ ys) k ≡ maybe.some z
+      → Fits key r.history r.deliveries (λ c. moved (r.seat c)) (id, k) z
   left_fits zero z e =
-      refit key r.history r.deliveries r.seat (λ c. moved (r.seat c)) (id, 0) (id, 0) z (here 0) (r.strands id (x ∷ y ∷ ys) at 0 z e)
+      refit key r.history r.deliveries r.seat (λ c. moved (r.seat c)) (id, 0) (id, 0) z (here 0) (r.histories id (x ∷ y ∷ ys) at 0 z e)
   left_fits (suc k) z e =
       refit key r.history r.deliveries r.seat (λ c. moved (r.seat c)) (id, suc (suc k)) (id, suc k) z (here (suc (suc k)))
-      (r.strands id (x ∷ y ∷ ys) at (suc (suc k)) z e)
+      (r.histories id (x ∷ y ∷ ys) at (suc (suc k)) z e)
 
-  right_fits : (k : ℕ) (z : Strand) → get_elem? (y ∷ []) k ≡ maybe.some z → Fits key r.history r.deliveries (λ c. moved (r.seat c)) (N, k) z
+  right_fits : (k : ℕ) (z : LocalHistory) → get_elem? (y ∷ []) k ≡ maybe.some z
+      → Fits key r.history r.deliveries (λ c. moved (r.seat c)) (N, k) z
   right_fits zero z e =
-      refit key r.history r.deliveries r.seat (λ c. moved (r.seat c)) (id, 1) (N, 0) z (here 1) (r.strands id (x ∷ y ∷ ys) at 1 z e)
+      refit key r.history r.deliveries r.seat (λ c. moved (r.seat c)) (id, 1) (N, 0) z (here 1) (r.histories id (x ∷ y ∷ ys) at 1 z e)
   right_fits (suc k) z e = absurd (maybe.some-ne-none z (sym e))
 
   divided : Kept key record { words = s.words; homes = s.homes; views = set s.views id (x ∷ ys) ++ (y ∷ []) ∷ [] }
@@ -98,35 +100,35 @@ module _ (key : Key) (id : ℕ) (x y : Strand) (ys : View) (s : St) (r : Kept ke
       (λ j u is k z e. ⊎_elim
       (λ (t : get_elem? (set s.views id (x ∷ ys)) j ≡ maybe.some u). ⊎_elim
       (λ (d : (j ≡ id) × (x ∷ ys ≡ u)). subst (λ (i : ℕ). Fits key r.history r.deliveries (λ c. moved (r.seat c)) (i, k) z) (sym d.0)
-      (left_fits k z (ap (λ (v : View). get_elem? v k) d.1 ∙ e)))
+      (left_fits k z (ap (λ (v : Knowledge). get_elem? v k) d.1 ∙ e)))
       (λ (d : (j ≢ id) × (get_elem? s.views j ≡ maybe.some u)). refit key r.history r.deliveries r.seat (λ c. moved (r.seat c)) (j, k)
-      (j, k) z (λ c. there j k c d.0) (r.strands j u d.1 k z e))
+      (j, k) z (λ c. there j k c d.0) (r.histories j u d.1 k z e))
       (at_set s.views id j (x ∷ ys) u t))
       (λ (t : (j ≡ N) × (y ∷ [] ≡ u)). subst (λ (i : ℕ). Fits key r.history r.deliveries (λ c. moved (r.seat c)) (i, k) z) (sym t.0)
-      (right_fits k z (ap (λ (v : View). get_elem? v k) t.1 ∙ e)))
+      (right_fits k z (ap (λ (v : Knowledge). get_elem? v k) t.1 ∙ e)))
       (at_end (set s.views id (x ∷ ys)) (y ∷ []) u j is))
 
-pub gives_number : (key : Key) (id : ℕ) (x y : Strand) (ys v : View) → v ≡ x ∷ y ∷ ys → is_pass v ≡ true
+pub gives_number : (key : Key) (id : ℕ) (x y : LocalHistory) (ys v : Knowledge) → v ≡ x ∷ y ∷ ys → is_pass v ≡ true
     → Splits (Holding key) id v (left_of v) (right_of v)
-gives_number key id x y ys v is p = subst (λ (u : View). Splits (Holding key) id u (left_of u) (right_of u)) (sym is)
+gives_number key id x y ys v is p = subst (λ (u : Knowledge). Splits (Holding key) id u (left_of u) (right_of u)) (sym is)
     (λ s holding at. inr (divided key id x y ys s (running key s holding id (x ∷ y ∷ ys) at (ap is_pass (sym is) ∙ p)) at))
 
--- ---- a note
-pub notes : (key : Key) (id : ℕ) (v : View) → is_pass v ≡ true → Splits (Holding key) id v v (note_of v)
-notes key id v p s holding at =
+-- ---- a copy
+pub copies : (key : Key) (id : ℕ) (v : Knowledge) → is_pass v ≡ true → Splits (Holding key) id v v (copy_of v)
+copies key id v p s holding at =
     let r = running key s holding id v at p in
     let o = opened v p in
-    let shown : note o.first ∷ [] ≡ note_of v = ap note_of (sym o.is) in
-    inr (other_views r r.seat (set s.views id v ++ note_of v ∷ [])
+    let shown : copy o.first ∷ [] ≡ copy_of v = ap copy_of (sym o.is) in
+    inr (other_views r r.seat (set s.views id v ++ copy_of v ∷ [])
     (λ j u is k z e. ⊎_elim
-    (λ (t : get_elem? (set s.views id v) j ≡ maybe.some u). r.strands j u
-    (ap (λ (l : List View). get_elem? l j) (sym (set_again s.views id v at)) ∙ t) k z e)
-    (λ (t : note_of v ≡ u). one r o.first (r.strands id v at 0 o.first (ap (λ (l : View). get_elem? l 0) o.is)) j k z
-    (ap (λ (l : View). get_elem? l k) (shown ∙ t) ∙ e))
-    (at_snoc (set s.views id v) (note_of v) u j is)))
+    (λ (t : get_elem? (set s.views id v) j ≡ maybe.some u). r.histories j u
+    (ap (λ (l : List Knowledge). get_elem? l j) (sym (set_again s.views id v at)) ∙ t) k z e)
+    (λ (t : copy_of v ≡ u). one r o.first (r.histories id v at 0 o.first (ap (λ (l : Knowledge). get_elem? l 0) o.is)) j k z
+    (ap (λ (l : Knowledge). get_elem? l k) (shown ∙ t) ∙ e))
+    (at_snoc (set s.views id v) (copy_of v) u j is)))
   where
-    one : (r : Kept key s) (x : Strand) → Fits key r.history r.deliveries r.seat (id, 0) x → (j k : ℕ) (z : Strand)
-        → get_elem? (note x ∷ []) k ≡ maybe.some z → Fits key r.history r.deliveries r.seat (j, k) z
+    one : (r : Kept key s) (x : LocalHistory) → Fits key r.history r.deliveries r.seat (id, 0) x → (j k : ℕ) (z : LocalHistory)
+        → get_elem? (copy x ∷ []) k ≡ maybe.some z → Fits key r.history r.deliveries r.seat (j, k) z
     one r x f j zero z e =
         subst (Fits key r.history r.deliveries r.seat (j, 0)) (maybe.some-injective _ _ e) record {
           begins = f.begins;
@@ -138,9 +140,9 @@ notes key id v p s holding at =
         }
     one r x f j (suc k) z e = absurd (maybe.some-ne-none z (sym e))
 
--- ---- a seat is joined, or its first strand
-module _ (key : Key) (id : ℕ) (v : View) (other : ℕ) (w u : View)
-    (from : (i : ℕ) (z : Strand) → get_elem? u i ≡ maybe.some z → get_elem? w i ≡ maybe.some z) (s : St) (r : Kept key s)
+-- ---- a seat is joined, or its first local history
+module _ (key : Key) (id : ℕ) (v : Knowledge) (other : ℕ) (w u : Knowledge)
+    (from : (i : ℕ) (z : LocalHistory) → get_elem? u i ≡ maybe.some z → get_elem? w i ≡ maybe.some z) (s : St) (r : Kept key s)
     (at : get_elem? s.views id ≡ maybe.some v) (apart : other ≢ id)
     (beside : get_elem? (set s.views id (joined v u)) other ≡ maybe.some w) where
   abbrev shifted : ℕ × ℕ → ℕ × ℕ
@@ -157,45 +159,45 @@ module _ (key : Key) (id : ℕ) (v : View) (other : ℕ) (w u : View)
   stays : (j k c : ℕ) → j ≢ other → r.seat c ≡ (j, k) → shifted (r.seat c) ≡ (j, k)
   stays j k c n e = ap shifted e ∙ ap (λ (b : Bool). cond b (id, length v + k) (j, k)) (ne_eqb j other n)
 
-  both_fit : (k : ℕ) (z : Strand) → get_elem? (joined v u) k ≡ maybe.some z
+  both_fit : (k : ℕ) (z : LocalHistory) → get_elem? (joined v u) k ≡ maybe.some z
       → Fits key r.history r.deliveries (λ c. shifted (r.seat c)) (id, k) z
   both_fit k z e = ⊎_elim
       (λ (t : get_elem? v k ≡ maybe.some z). refit key r.history r.deliveries r.seat (λ c. shifted (r.seat c)) (id, k) (id, k) z
-      (λ c. stays id k c (λ n. apart (sym n))) (r.strands id v at k z t))
+      (λ c. stays id k c (λ n. apart (sym n))) (r.histories id v at k z t))
       (λ (t : (i : ℕ) × (length v + i ≡ k) × (get_elem? u i ≡ maybe.some z)).
       subst (λ (i : ℕ). Fits key r.history r.deliveries (λ c. shifted (r.seat c)) (id, i) z) t.1
       (refit key r.history r.deliveries r.seat (λ c. shifted (r.seat c)) (other, t.0) (id, length v + t.0) z (comes t.0)
-      (r.strands other w stood t.0 z (from t.0 z t.2))))
+      (r.histories other w stood t.0 z (from t.0 z t.2))))
       (at_join v u z k e)
 
   merged : Kept key record { words = s.words; homes = s.homes; views = set (set s.views id (joined v u)) other spent_view }
   merged = other_views r (λ c. shifted (r.seat c)) (set (set s.views id (joined v u)) other spent_view)
       (λ j y is k z e. ⊎_elim
-      (λ (t : (j ≡ other) × (spent_view ≡ y)). absurd (maybe.some-ne-none z (sym (ap (λ (l : View). get_elem? l k) t.1 ∙ e))))
+      (λ (t : (j ≡ other) × (spent_view ≡ y)). absurd (maybe.some-ne-none z (sym (ap (λ (l : Knowledge). get_elem? l k) t.1 ∙ e))))
       (λ (t : (j ≢ other) × (get_elem? (set s.views id (joined v u)) j ≡ maybe.some y)). ⊎_elim
       (λ (d : (j ≡ id) × (joined v u ≡ y)). subst (λ (i : ℕ). Fits key r.history r.deliveries (λ c. shifted (r.seat c)) (i, k) z) (sym d.0)
-      (both_fit k z (ap (λ (l : View). get_elem? l k) d.1 ∙ e)))
+      (both_fit k z (ap (λ (l : Knowledge). get_elem? l k) d.1 ∙ e)))
       (λ (d : (j ≢ id) × (get_elem? s.views j ≡ maybe.some y)). refit key r.history r.deliveries r.seat (λ c. shifted (r.seat c)) (j, k)
-      (j, k) z (λ c. stays j k c t.0) (r.strands j y d.1 k z e))
+      (j, k) z (λ c. stays j k c t.0) (r.histories j y d.1 k z e))
       (at_set s.views id j (joined v u) y t.1))
       (at_set (set s.views id (joined v u)) other j spent_view y is))
 
-pub joins : (key : Key) (id : ℕ) (v : View) (other : ℕ) (w : View) → is_pass v ≡ true
+pub joins : (key : Key) (id : ℕ) (v : Knowledge) (other : ℕ) (w : Knowledge) → is_pass v ≡ true
     → Joins (Holding key) id v other w (joined v w) spent_view
 joins key id v other w p s holding at apart beside =
     inr (merged key id v other w w (λ i z e. e) s (running key s holding id v at p) at apart beside)
 
-front_from : (w : View) (i : ℕ) (z : Strand) → get_elem? (front w) i ≡ maybe.some z → get_elem? w i ≡ maybe.some z
+front_from : (w : Knowledge) (i : ℕ) (z : LocalHistory) → get_elem? (front w) i ≡ maybe.some z → get_elem? w i ≡ maybe.some z
 front_from (x ∷ xs) (suc i) z e = absurd (maybe.some-ne-none z (sym e))
 front_from w i z e = e
 
-pub joins_front : (key : Key) (id : ℕ) (v : View) (other : ℕ) (w : View) → is_pass v ≡ true
+pub joins_front : (key : Key) (id : ℕ) (v : Knowledge) (other : ℕ) (w : Knowledge) → is_pass v ≡ true
     → Joins (Holding key) id v other w (with_front v w) spent_view
 joins_front key id v other w p s holding at apart beside =
     inr (merged key id v other w (front w) (front_from w) s (running key s holding id v at p) at apart beside)
 
--- ---- the last strand becomes a seat of its own
-module _ (key : Key) (id : ℕ) (xs : View) (y : Strand) (s : St) (r : Kept key s)
+-- ---- the last local history becomes a seat of its own
+module _ (key : Key) (id : ℕ) (xs : Knowledge) (y : LocalHistory) (s : St) (r : Kept key s)
     (at : get_elem? s.views id ≡ maybe.some (xs ++ y ∷ [])) where
   abbrev M : ℕ
   M = length (set s.views id xs)
@@ -215,18 +217,19 @@ module _ (key : Key) (id : ℕ) (xs : View) (y : Strand) (s : St) (r : Kept key 
   parts_not : (j k c : ℕ) → j ≢ id → r.seat c ≡ (j, k) → parted (r.seat c) ≡ (j, k)
   parts_not j k c apart e = ap parted e ∙ ap (λ (b : Bool). cond b (cond (eqb k (length xs)) (M, 0) (j, k)) (j, k)) (ne_eqb j id apart)
 
-  at_length : (l : View) → get_elem? (l ++ y ∷ []) (length l) ≡ maybe.some y
+  at_length : (l : Knowledge) → get_elem? (l ++ y ∷ []) (length l) ≡ maybe.some y
   at_length [] = refl
   at_length (x ∷ l) = at_length l
 
-  stay_fit : (k : ℕ) (z : Strand) → get_elem? xs k ≡ maybe.some z → Fits key r.history r.deliveries (λ c. parted (r.seat c)) (id, k) z
+  stay_fit : (k : ℕ) (z : LocalHistory) → get_elem? xs k ≡ maybe.some z → Fits key r.history r.deliveries (λ c. parted (r.seat c)) (id, k) z
   stay_fit k z e =
       refit key r.history r.deliveries r.seat (λ c. parted (r.seat c)) (id, k) (id, k) z (λ c. parts_from k c (within_length xs z k e))
-      (r.strands id (xs ++ y ∷ []) at k z (at_longer xs (y ∷ []) k z e))
+      (r.histories id (xs ++ y ∷ []) at k z (at_longer xs (y ∷ []) k z e))
 
-  last_fit : (k : ℕ) (z : Strand) → get_elem? (y ∷ []) k ≡ maybe.some z → Fits key r.history r.deliveries (λ c. parted (r.seat c)) (M, k) z
+  last_fit : (k : ℕ) (z : LocalHistory) → get_elem? (y ∷ []) k ≡ maybe.some z
+      → Fits key r.history r.deliveries (λ c. parted (r.seat c)) (M, k) z
   last_fit zero z e = refit key r.history r.deliveries r.seat (λ c. parted (r.seat c)) (id, length xs) (M, 0) z parts_last
-      (r.strands id (xs ++ y ∷ []) at (length xs) z (at_length xs ∙ e))
+      (r.histories id (xs ++ y ∷ []) at (length xs) z (at_length xs ∙ e))
   last_fit (suc k) z e = absurd (maybe.some-ne-none z (sym e))
 
   cut : Kept key record { words = s.words; homes = s.homes; views = set s.views id xs ++ (y ∷ []) ∷ [] }
@@ -234,28 +237,29 @@ module _ (key : Key) (id : ℕ) (xs : View) (y : Strand) (s : St) (r : Kept key 
       (λ j u is k z e. ⊎_elim
       (λ (t : get_elem? (set s.views id xs) j ≡ maybe.some u). ⊎_elim
       (λ (d : (j ≡ id) × (xs ≡ u)). subst (λ (i : ℕ). Fits key r.history r.deliveries (λ c. parted (r.seat c)) (i, k) z) (sym d.0)
-      (stay_fit k z (ap (λ (v : View). get_elem? v k) d.1 ∙ e)))
+      (stay_fit k z (ap (λ (v : Knowledge). get_elem? v k) d.1 ∙ e)))
       (λ (d : (j ≢ id) × (get_elem? s.views j ≡ maybe.some u)). refit key r.history r.deliveries r.seat (λ c. parted (r.seat c)) (j, k)
-      (j, k) z (λ c. parts_not j k c d.0) (r.strands j u d.1 k z e))
+      (j, k) z (λ c. parts_not j k c d.0) (r.histories j u d.1 k z e))
       (at_set s.views id j xs u t))
       (λ (t : (j ≡ M) × (y ∷ [] ≡ u)). subst (λ (i : ℕ). Fits key r.history r.deliveries (λ c. parted (r.seat c)) (i, k) z) (sym t.0)
-      (last_fit k z (ap (λ (v : View). get_elem? v k) t.1 ∙ e)))
+      (last_fit k z (ap (λ (v : Knowledge). get_elem? v k) t.1 ∙ e)))
       (at_end (set s.views id xs) (y ∷ []) u j is))
 
-pub but_last_is : (xs : View) (y : Strand) → but_last (xs ++ y ∷ []) ≡ xs
-but_last_is (x ∷ z ∷ zs) y = ap (λ (l : View). x ∷ l) (but_last_is (z ∷ zs) y)
+pub but_last_is : (xs : Knowledge) (y : LocalHistory) → but_last (xs ++ y ∷ []) ≡ xs
+but_last_is (x ∷ z ∷ zs) y = ap (λ (l : Knowledge). x ∷ l) (but_last_is (z ∷ zs) y)
 but_last_is xs y = refl
 
-pub last_alone_is : (xs : View) (y : Strand) → last_alone (xs ++ y ∷ []) ≡ y ∷ []
+pub last_alone_is : (xs : Knowledge) (y : LocalHistory) → last_alone (xs ++ y ∷ []) ≡ y ∷ []
 last_alone_is (x ∷ z ∷ zs) y = last_alone_is (z ∷ zs) y
 last_alone_is xs y = refl
 
-pub parts_last_of : (key : Key) (id : ℕ) (xs : View) (y : Strand) (v : View) → v ≡ xs ++ y ∷ [] → is_pass v ≡ true
+pub parts_last_of : (key : Key) (id : ℕ) (xs : Knowledge) (y : LocalHistory) (v : Knowledge) → v ≡ xs ++ y ∷ [] → is_pass v ≡ true
     → Splits (Holding key) id v (but_last v) (last_alone v)
-parts_last_of key id xs y v is p = subst (λ (u : View). Splits (Holding key) id u (but_last u) (last_alone u)) (sym is)
+parts_last_of key id xs y v is p = subst (λ (u : Knowledge). Splits (Holding key) id u (but_last u) (last_alone u)) (sym is)
     (λ s holding at. inr
-    (subst (λ (l : View). Kept key record { words = s.words; homes = s.homes; views = set s.views id l ++ last_alone (xs ++ y ∷ []) ∷ [] })
+    (subst (λ (l : Knowledge).
+    Kept key record { words = s.words; homes = s.homes; views = set s.views id l ++ last_alone (xs ++ y ∷ []) ∷ [] })
     (sym (but_last_is xs y))
-    (subst (λ (l : View). Kept key record { words = s.words; homes = s.homes; views = set s.views id xs ++ l ∷ [] })
+    (subst (λ (l : Knowledge). Kept key record { words = s.words; homes = s.homes; views = set s.views id xs ++ l ∷ [] })
     (sym (last_alone_is xs y))
     (cut key id xs y s (running key s holding id (xs ++ y ∷ []) at (ap is_pass (sym is) ∙ p)) at))))

@@ -3,11 +3,13 @@ use Rattle.std.proofs.Common.{◌≡◌, ◌⊎◌, ℕ, zero, suc, ◌+◌, ◌
 use Rattle.std.proofs.Common.{Bool, true, false, cond, eqb, eq-eqb, ne_eqb, unwrap_or, refl, sym, ap, ◌∙◌, subst, inl, inr, ⊎_elim, arith}
 use Rattle.{std.proofs.Common.true≢false, atomic_table.specs.Table.{Me, opening, takes, Allows}, rx_ring.specs.declared.ends.RxCtx.RxCtx}
 use Rattle.napi_model.specs.{Step.seen_of, History.{LegalHistory, state_after}, Word.word_of, declared.state.Place.TheVariants.Control}
-use Rattle.napi_word.specs.declared.{view.{Key.Key, Strand.Strand, Holds.TheVariants.Within}, table.{Pass.Pass, StateTable.StateTable}}
-use Rattle.napi_word.specs.{View.{View, view_number, place_in, disable_in}, Slot.{Content, is_out, owns_slot}, Rule.{strand, strands_from}}
+use Rattle.napi_word.specs.declared.history.{Key.Key, LocalHistory.LocalHistory, Holds.TheVariants.Within}
+use Rattle.napi_word.specs.declared.table.{Pass.Pass, StateTable.StateTable}
+use Rattle.napi_word.specs.{Knowledge.{Knowledge, view_number, place_in, disable_in}, Slot.{Content, is_out, owns_slot}}
+use Rattle.napi_word.specs.Rule.{new_history, new_histories_from}
 use Rattle.napi_word.specs.{Rule.{maker_at, first_view, begun_view, begun_slot, Homes, Owned, Fits, Kept, Starts, Holding}}
 use Rattle.napi_word.specs.{Told.table_begun}
-use Rattle.napi_word.{specs.Passes.{ctx_of, IsLaid, view_of, IsPassOf, IsNewPass, Controls, Disable}, proofs.Owns.own_none}
+use Rattle.napi_word.{specs.Passes.{ctx_of, IsStored, view_of, IsPassOf, IsNewPass, Controls, Disable}, proofs.Owns.own_none}
 use Rattle.napi_word.proofs.Deliveries.{own_deliveries_none, givers_none, some_is}
 use lib.ListN.{get_elem?}
 use mathlib.Core.Option as maybe
@@ -32,28 +34,29 @@ pub owns_at_start : (last : ℕ) (of : RxCtx) (n : ℕ) → owns_slot (maker_at 
 unfolding state_after
 owns_at_start last of n = eq-eqb last last refl
 
--- the k-th strand from n on
-at_from : (last : ℕ) (of : RxCtx) (n count k : ℕ) (x : Strand) → get_elem? (strands_from last of n count) k ≡ maybe.some x
-    → (strand last of (n + k) ≡ x) × (k < count)
+-- the k-th local history from n on
+at_from : (last : ℕ) (of : RxCtx) (n count k : ℕ) (x : LocalHistory) → get_elem? (new_histories_from last of n count) k ≡ maybe.some x
+    → (new_history last of (n + k) ≡ x) × (k < count)
 at_from last of n zero k x e = absurd (maybe.some-ne-none x (sym e))
-at_from last of n (suc m) zero x e = (ap (strand last of) (omega arith) ∙ maybe.some-injective _ _ e, omega arith)
+at_from last of n (suc m) zero x e = (ap (new_history last of) (omega arith) ∙ maybe.some-injective _ _ e, omega arith)
 at_from last of n (suc m) (suc k) x e =
     let r = at_from last of (n + 1) m k x e in
     let low = r.1 in
-    (ap (strand last of) (omega arith) ∙ r.0, omega (arith, low))
+    (ap (new_history last of) (omega arith) ∙ r.0, omega (arith, low))
 
-pub owns_nothing : (last : ℕ) (of : RxCtx) (c : ℕ) → c < last → owns_slot (strand last of c ∷ []) ≡ false
+pub owns_nothing : (last : ℕ) (of : RxCtx) (c : ℕ) → c < last → owns_slot (new_history last of c ∷ []) ≡ false
 unfolding state_after
 owns_nothing last of c low = ne_eqb last c (λ e. omega (arith, low, e))
 
--- the strand of the next number is the second
+-- the local history of the next number is the second
 pub maker_more : (last : ℕ) (of : RxCtx) (n : ℕ) → n < last
-    → maker_at last of n ≡ strand last of last ∷ strand last of n ∷ strands_from last of (n + 1) (last - (n + 1))
+    → maker_at last of n ≡ new_history last of last ∷ new_history last of n ∷ new_histories_from last of (n + 1) (last - (n + 1))
 maker_more last of n low = let e : last - n ≡ suc (last - (n + 1)) = omega (arith, low) in
-    ap (λ (m : ℕ). strand last of last ∷ strands_from last of n m) e
+    ap (λ (m : ℕ). new_history last of last ∷ new_histories_from last of n m) e
 
-pub maker_alone : (last : ℕ) (of : RxCtx) → maker_at last of last ≡ strand last of last ∷ []
-maker_alone last of = let e : last - last ≡ 0 = omega arith in ap (λ (m : ℕ). strand last of last ∷ strands_from last of last m) e
+pub maker_alone : (last : ℕ) (of : RxCtx) → maker_at last of last ≡ new_history last of last ∷ []
+maker_alone last of = let e : last - last ≡ 0 = omega arith in
+    ap (λ (m : ℕ). new_history last of last ∷ new_histories_from last of last m) e
 
 module _ (key : Key) where
   abbrev last : ℕ
@@ -62,15 +65,15 @@ module _ (key : Key) where
   abbrev of : RxCtx
   of = key.ring.value
 
-  -- the position of each number's strand
+  -- the position of each number's local history
   abbrev seat : ℕ → ℕ × ℕ
   seat c = (0, cond (eqb c last) 0 (suc c))
 
-  new_fits : (c k : ℕ) → seat c ≡ (0, k) → c ≤ last → Fits key [] [] seat (0, k) (strand last of c)
+  new_fits : (c k : ℕ) → seat c ≡ (0, k) → c ≤ last → Fits key [] [] seat (0, k) (new_history last of c)
   new_fits c k here few = record {
     begins = ([], refl);
     delivered = ([], refl);
-    owned = λ d same. subst (Owned key [] [] seat (0, k) (strand last of c)) (some_is same) record {
+    owned = λ d same. subst (Owned key [] [] seat (0, k) (new_history last of c)) (some_is same) record {
       whole = own_none c;
       shown = own_none c;
       delivers = refl;
@@ -83,14 +86,14 @@ module _ (key : Key) where
     begun = refl;
   }
 
-  maker_fits : (k : ℕ) (x : Strand) → get_elem? (maker_at last of 0) k ≡ maybe.some x → Fits key [] [] seat (0, k) x
+  maker_fits : (k : ℕ) (x : LocalHistory) → get_elem? (maker_at last of 0) k ≡ maybe.some x → Fits key [] [] seat (0, k) x
   maker_fits zero x e = subst (Fits key [] [] seat (0, 0)) (maybe.some-injective _ _ e)
       (new_fits last 0 (ap (λ (b : Bool). (0, cond b 0 (suc last))) (eq-eqb last last refl)) (omega arith))
   maker_fits (suc k) x e =
       let r = at_from last of 0 (last - 0) k x e in
       let low = r.1 in
       let is : k ≡ 0 + k = omega arith in
-      subst (Fits key [] [] seat (0, suc k)) (ap (strand last of) is ∙ r.0)
+      subst (Fits key [] [] seat (0, suc k)) (ap (new_history last of) is ∙ r.0)
       (new_fits k (suc k) (ap (λ (b : Bool). (0, cond b 0 (suc k))) (ne_eqb k last (λ e. omega (arith, low)))) (omega (arith, low)))
 
   begun_kept : (ws : List ℕ) (homes : Homes) → ws ≡ 9 ∷ []
@@ -102,46 +105,46 @@ module _ (key : Key) where
     legal = legal_at_start last;
     word = ap (λ (l : List ℕ). set l 0 (get_or l 0 0)) is ∙ ap (λ (n : ℕ). n ∷ []) (sym (word_at_start last));
     slot = λ y. absurd (true≢false (sym (out_at_start last) ∙ y));
-    strands = at_only;
+    histories = at_only;
     few = λ c above. own_none c;
     order = sym (givers_none (model.opening last));
     few_deliver = λ c above. own_deliveries_none c;
   }
     where
-      at_only : (j : ℕ) (u : View) → get_elem? (maker_at last of 0 ∷ []) j ≡ maybe.some u → (k : ℕ) (x : Strand)
+      at_only : (j : ℕ) (u : Knowledge) → get_elem? (maker_at last of 0 ∷ []) j ≡ maybe.some u → (k : ℕ) (x : LocalHistory)
           → get_elem? u k ≡ maybe.some x → Fits key [] [] seat (j, k) x
-      at_only zero u there k x e = maker_fits k x (ap (λ (v : View). get_elem? v k) (maybe.some-injective _ _ there) ∙ e)
+      at_only zero u there k x e = maker_fits k x (ap (λ (v : Knowledge). get_elem? v k) (maybe.some-injective _ _ there) ∙ e)
       at_only (suc j) u there k x e = absurd (maybe.some-ne-none u (sym there))
 
-  only_first : (id : ℕ) (v : View) → get_elem? (first_view key ∷ []) id ≡ maybe.some v → id ≡ 0
+  only_first : (id : ℕ) (v : Knowledge) → get_elem? (first_view key ∷ []) id ≡ maybe.some v → id ≡ 0
   only_first zero v e = refl
   only_first (suc id) v e = absurd (maybe.some-ne-none v (sym e))
 
-  pub begins : (slots id : ℕ) (me : Me Content View) → me ≡ (first_view key, [])
+  pub begins : (slots id : ℕ) (me : Me Content Knowledge) → me ≡ (first_view key, [])
       → Allows (Holding key) slots id me 0 (λ n. n) (table_begun me)
   begins slots id me is s holding len at fits = ⊎_elim
       (λ (t : Starts key s).
-      let first = only_first id me.0 (ap (λ (l : List View). get_elem? l id) (sym t.views) ∙ at) in
+      let first = only_first id me.0 (ap (λ (l : List Knowledge). get_elem? l id) (sym t.views) ∙ at) in
       let views : set s.views id (maker_at last of 0) ≡ maker_at last of 0 ∷ [] = λ i. set (t.views i) (first i) (maker_at last of 0) in (
         maker_at last of 0,
         takes 0 (Some of),
         ap (λ (hs : Homes). get_elem? hs 0) t.home,
         inr (subst
-            (λ (vs : List View). Kept key record {
+            (λ (vs : List Knowledge). Kept key record {
               words = set s.words 0 (get_or s.words 0 0);
               homes = set s.homes 0 maybe.none;
               views = vs;
             }) (sym views) (begun_kept s.words (set s.homes 0 maybe.none) t.word)),
         (
-          ap (λ (m : Me Content View). begun_view m.0) (sym is),
-          ap (λ (m : Me Content View). (0, Some of) ∷ m.1) is ∙ ap (λ (m : Me Content View). begun_slot m.0) (sym is),
+          ap (λ (m : Me Content Knowledge). begun_view m.0) (sym is),
+          ap (λ (m : Me Content Knowledge). (0, Some of) ∷ m.1) is ∙ ap (λ (m : Me Content Knowledge). begun_slot m.0) (sym is),
         ),
       ))
       (λ (r : Kept key s).
       absurd (true≢false
-      (sym (r.strands id me.0 at 0
+      (sym (r.histories id me.0 at 0
       (record { begun = false; number = None; seen = []; mine = []; delivered = []; controller = key.controller; ring = key.ring.value })
-      (ap (λ (m : Me Content View). get_elem? m.0 0) is)).begun)))
+      (ap (λ (m : Me Content Knowledge). get_elem? m.0 0) is)).begun)))
       holding
 
 pub at_push : {A : Type 0} (xs : List A) (y p : A) (k : ℕ) → slice_get (xs ++ y ∷ []) k ≡ Some p
@@ -156,9 +159,9 @@ pub new_as : {t : StateTable} (k l : ℕ) (x y : RxCtx) (i j : ℕ) (p q : Pass)
 new_as {t} k l x y i j p q a b d e new = subst (λ (z : ℕ × RxCtx × ℕ × Pass). IsNewPass t z.0 z.1 z.2 z.3) (λ f. (a f, b f, d f, e f)) new
 
 -- the slot still has the same content
-pub still_laid : {x : RxCtx} (p q : Pass) → ctx_of q ≡ ctx_of p → IsLaid x p → IsLaid x q
-still_laid p q same l = record {
-  laid = l.laid;
+pub still_stored : {x : RxCtx} (p q : Pass) → ctx_of q ≡ ctx_of p → IsStored x p → IsStored x q
+still_stored p q same l = record {
+  stored = l.stored;
   within = same ∙ l.within;
   ring = l.ring;
   received = l.received;
@@ -168,13 +171,13 @@ still_laid p q same l = record {
 }
 
 pub new_last : {t : StateTable} (last : ℕ) (x : RxCtx) (n : ℕ) (p : Pass) → n ≡ last → IsPassOf t p → view_of p ≡ maker_at last x n
-    → p.holds ≡ Within → IsLaid x p → IsNewPass t last x last p
-new_last {t} last x n p at table view holds laid = record {
+    → p.holds ≡ Within → IsStored x p → IsNewPass t last x last p
+new_last {t} last x n p at table view holds stored = record {
   table = table;
   view = view ∙ ap (λ (m : ℕ). maker_at last x m) at ∙ maker_alone last x;
   others = λ low. absurd (omega (arith, low));
   own = λ same. holds;
-  laid = λ same. laid;
+  stored = λ same. stored;
 }
 
 -- ---- what the controller's pass knows at first

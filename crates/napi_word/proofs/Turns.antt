@@ -8,14 +8,14 @@ use Rattle.napi_model.{specs.declared.state.Place.{TheVariants.{Polling, Control
 use Rattle.{napi_model.proofs.Tells.tells_next, atomic_table.specs.Table.Me, napi_word.proofs.{Places.is_false, Keeps.Knows}}
 use Rattle.napi_word.proofs.Bits.{hand_bits, take_mask, added, subtracted, hand_list, hand_thread, take_word, threaded_word}
 use Rattle.napi_word.proofs.{Bits.{unthreaded_word, mark_word, unmark_word}, Allowed.{nothing, Fitting, Turn, allowed}}
-use Rattle.napi_word.specs.{declared.{view.Holds.Holds, table.{Pass.Pass, StateTable.StateTable}}, Slot.{Content, has_at, is_out}}
+use Rattle.napi_word.specs.{declared.{history.Holds.Holds, table.{Pass.Pass, StateTable.StateTable}}, Slot.{Content, has_at, is_out}}
 use Rattle.napi_word.specs.{Slot.{owns_slot, Tied, Moves, stays, taken, given, GivesSlotBack, SlotDelivers}}
 use Rattle.napi_word.specs.{Passes.{tie_of, IsSlotFilled, PassMayHand}}
 use Rattle.napi_word.specs.{Passes.{HasPoll, PassPolls, IsController, Controls, IsNoOwner, Disable}, Atoms.{MayMake, MayExchange}, Told.Did}
 use Rattle.napi_word.specs.{Told.{when, either_op, no_move, load_op, prep_of, done_of, is_marked, shows_busy, busy_op}}
-use Rattle.napi_word.specs.{View.{View, view_number}}
+use Rattle.napi_word.specs.{Knowledge.{Knowledge, view_number}}
 use Rattle.std.proofs.Common.{◌≡◌, ◌⊎◌, ℕ, eqb, eq-eqb, None, Bool, true, false}
-use Rattle.napi_word.specs.View.{view_controller, place_in}
+use Rattle.napi_word.specs.Knowledge.{view_controller, place_in}
 use Rattle.std.proofs.{Common.{refl, sym, ap, ◌∙◌, subst, inl, inr, ⊎_elim, true≢false, bit_and, bit_or}, lemmas.Bool.{eqb-true, or_cases}}
 use prog.Atomic.{either}
 use Rattle.napi_model.specs.Step as step
@@ -50,18 +50,19 @@ gift false m f e = absurd (cc)
 
 -- ---- what the owner and the controller know
 
-owned_place : (k : ℕ) (v : View) (c : ℕ) (now : Napi) → Knows k v c now → (q : Place) → place_in v ≡ q → is_owner c q ≡ true → now.place ≡ q
+owned_place : (k : ℕ) (v : Knowledge) (c : ℕ) (now : Napi) → Knows k v c now → (q : Place) → place_in v ≡ q → is_owner c q ≡ true
+    → now.place ≡ q
 owned_place k v c now kn q is mine = kn.place (ap (is_owner c) is ∙ mine) ∙ is
 
-is_polling : (k : ℕ) (v : View) (c : ℕ) (now : Napi) (b : Bool) → Knows k v c now → HasPoll b v → step.CallerPolls c b now
+is_polling : (k : ℕ) (v : Knowledge) (c : ℕ) (now : Napi) (b : Bool) → Knows k v c now → HasPoll b v → step.CallerPolls c b now
 is_polling k v c now b kn is =
     let place = is.0 ∙ ap Polling kn.number in
     (owned_place k v c now kn (Polling c) place (eq-eqb c c refl), kn.busy (ap (is_owner c) place ∙ eq-eqb c c refl) ∙ is.1)
 
-is_control : (k : ℕ) (v : View) (c : ℕ) (now : Napi) → Knows k v c now → place_in v ≡ Control (view_number v) → now.place ≡ Control c
+is_control : (k : ℕ) (v : Knowledge) (c : ℕ) (now : Napi) → Knows k v c now → place_in v ≡ Control (view_number v) → now.place ≡ Control c
 is_control k v c now kn is = owned_place k v c now kn (Control c) (is ∙ ap Control kn.number) (eq-eqb c c refl)
 
-is_last : (k : ℕ) (v : View) (c : ℕ) (now : Napi) → Knows k v c now → view_number v ≡ view_controller v → c ≡ k
+is_last : (k : ℕ) (v : Knowledge) (c : ℕ) (now : Napi) → Knows k v c now → view_number v ≡ view_controller v → c ≡ k
 is_last k v c now kn top = sym kn.number ∙ top ∙ kn.controller
 
 -- an exchange is its operation if it succeeds, otherwise a look
@@ -73,7 +74,7 @@ exchange_turn k now c seen next o m hit true e = let t = hit (word_of-injective 
 exchange_turn k now c seen next o m hit false e = record { legal = (refl, tt); word = rw e refl; slot = (refl, refl) }
 
 module _ (t : StateTable) (p : Pass) where
-  abbrev me : Me Content View
+  abbrev me : Me Content Knowledge
   me = p.seat.me
 
   abbrev last : ℕ
@@ -204,7 +205,7 @@ module _ (t : StateTable) (p : Pass) where
       turn now c (Hand Kind.Thread) stays (added (hand_bits Kind.Thread)) kn (is, tt)
       (hand_thread (seen_of now) (ap handed_at is) unthreaded) (sym (ap is_out is), sym (ap (has_at c) is))
 
-  gives_nothing : (x y : Me Content View) → owns_slot x.0 ≡ false → SlotDelivers stays x y → SlotDelivers given x y
+  gives_nothing : (x y : Me Content Knowledge) → owns_slot x.0 ≡ false → SlotDelivers stays x y → SlotDelivers given x y
   gives_nothing x y none g = record {
     before = g.before;
     begins = g.begins;
@@ -215,7 +216,7 @@ module _ (t : StateTable) (p : Pass) where
   }
 
   -- a caller that was granted the instance doesn't have the slot, so it doesn't give it back
-  nothing_given : (o : Operation) (me' : Me Content View) → place_in me.0 ≡ Granted (view_number me.0) → Did o stays me me'
+  nothing_given : (o : Operation) (me' : Me Content Knowledge) → place_in me.0 ≡ Granted (view_number me.0) → Did o stays me me'
       → Did o given me me'
   nothing_given o me' is d =
       let none : owns_slot me.0 ≡ false = ap (has_at (view_number me.0)) is in

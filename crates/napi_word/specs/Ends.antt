@@ -3,11 +3,13 @@ use Rattle.std.specs.Prelude.{◌≡◌, ◌↔◌, ℕ, ◌<◌, ◌≤◌, ◌
 use Rattle.std.specs.Prelude.{◌++◌}
 use Rattle.rx_ring.specs.{declared.ends.RxCtx.RxCtx, Ends.{RingName, ring_name, received_list, SameCtx}}
 use Rattle.napi_model.specs.{declared.event.Event.Event, Step.opening, History.{LegalHistory, state_after, own}, Laws.is_owner}
-use Rattle.napi_word.specs.declared.{view.{Holds.{Holds, TheVariants.{Nothing, Within, Out}}, Delivery.Delivery}, gathering.Found.Found}
-use Rattle.napi_word.specs.{declared.{gathering.Gathering.Gathering, table.{Pass.Pass, StateTable.StateTable}}, View.{View, first_in}}
-use Rattle.napi_word.specs.View.{view_delivered, own_deliveries, received_by, last_of, deliverers, view_ring, place_in, view_controller}
-use Rattle.napi_word.specs.View.{view_shown, mine}
-use Rattle.napi_word.specs.{View.view_number, Slot.givers, Passes.{view_of, controller_of_table, ring_of_table, first_of_table}}
+use Rattle.napi_word.specs.declared.{history.{Holds.{Holds, TheVariants.{Nothing, Within, Out}}, Delivery.Delivery}, gathering.Found.Found}
+use Rattle.napi_word.specs.declared.{gathering.Gathering.Gathering, table.{Pass.Pass, StateTable.StateTable}}
+use Rattle.napi_word.specs.Knowledge.{Knowledge, first_in}
+use Rattle.napi_word.specs.Knowledge.{view_delivered, own_deliveries, received_by, last_of, deliverers, view_ring, place_in}
+use Rattle.napi_word.specs.Knowledge.view_controller
+use Rattle.napi_word.specs.Knowledge.{view_shown, mine}
+use Rattle.napi_word.specs.{Knowledge.view_number, Slot.givers, Passes.{view_of, controller_of_table, ring_of_table, first_of_table}}
 use mathlib.Core.List.{IsPrefix}
 
 -- what a pass with this hold adds to what was found
@@ -26,7 +28,7 @@ abbrev pub IsOut : List Pass → Type 0
 IsOut passes = (k : ℕ) × (p : Pass) × (slice_get passes k ≡ Some p) × (p.holds ≡ Out)
 
 -- the concatenated views of the passes
-abbrev pub views_of : List Pass → View
+abbrev pub views_of : List Pass → Knowledge
 views_of [] = []
 views_of (p ∷ ps) = views_of ps ++ view_of p
 
@@ -34,7 +36,7 @@ abbrev pub IsGatheredOf : StateTable → Gathering → Type 0
 IsGatheredOf t g = g.seat.table_id ≡ t.table.shared.table_id
 
 -- one seat has joined these passes, the last of them first, and found this in them
-pub record Gathered (taken : List Pass) (v : View) (f : Found) : Type 0 where
+pub record Gathered (taken : List Pass) (v : Knowledge) (f : Found) : Type 0 where
   pub views : v ≡ views_of taken
   pub some_out : f.out ≡ true → IsOut taken
   pub none_out : f.out ≡ false → (k : ℕ) (p : Pass) → slice_get taken k ≡ Some p → p.holds ≢ Out

@@ -2,20 +2,21 @@
 use Rattle.std.specs.Prelude.{◌≡◌, ℕ, Bool, true, false, List, [], ◌∷◌, ◌++◌, Option, Some, None, Result, Ok, Err}
 use Rattle.napi_model.specs.declared.{state.Seen.Seen, event.{Prep.Prep, Done.Done, Operation.{Operation, TheVariants.{Look, Schedule}}}}
 use Rattle.napi_model.specs.{declared.event.{Operation.TheVariants.{Complete, TakeDisable}, Event.Event}, Step.{event, opening}}
-use Rattle.{napi_model.specs.{History.{LegalHistory, own}, Laws.is_owner}, napi_word.specs.{declared.view.Strand.Strand, View.View}}
-use Rattle.napi_word.specs.View.{is_pass, view_shown, mine, view_number, view_controller, view_ring, state_at, place_in, disable_in}
-use Rattle.napi_word.specs.View.{busy_in}
+use Rattle.napi_model.specs.{History.{LegalHistory, own}, Laws.is_owner}
+use Rattle.napi_word.specs.{declared.history.LocalHistory.LocalHistory, Knowledge.Knowledge}
+use Rattle.napi_word.specs.Knowledge.{is_pass, view_shown, mine, view_number, view_controller, view_ring, state_at, place_in, disable_in}
+use Rattle.napi_word.specs.Knowledge.{busy_in}
 use mathlib.Core.List.{IsPrefix}
 use lib.ListN.{get_elem?}
 use mathlib.Core.Option as maybe
 use Rattle.napi_model.specs.declared.event.Prep.TheVariants as prep
 
 -- the pass made its event, after everything that had happened until then
-pub record Steps (v : View) (o : Operation) (w : View) : Type 0 where
+pub record Steps (v : Knowledge) (o : Operation) (w : Knowledge) : Type 0 where
   -- the whole history, just before
   pub before : List Event
   -- it begins with all that the pass had seen, by itself or from passes that it met
-  pub begins : (k : ℕ) (x : Strand) → get_elem? v k ≡ maybe.some x → IsPrefix x.seen before
+  pub begins : (k : ℕ) (x : LocalHistory) → get_elem? v k ≡ maybe.some x → IsPrefix x.seen before
   -- the event comes next, and then the pass shows the whole history
   pub ends : view_shown w ≡ before ++ event (view_number v) o ∷ []
   -- the history is legal

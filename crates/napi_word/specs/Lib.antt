@@ -1,4 +1,4 @@
-pub mod View
+pub mod Knowledge
 pub mod Slot
 pub mod Rule
 pub mod Events

@@ -2,14 +2,16 @@
 use Rattle.std.specs.Prelude.{◌≡◌, ◌≢◌, ℕ, ◌<◌, Bool, true, false, List, [], ◌∷◌, Option, Some}
 use Rattle.rx_ring.specs.{declared.{packet.Packet.Packet, ends.RxCtx.RxCtx}, Ends.{RingName, ring_name, SameCtx, received_list, known_list}}
 use Rattle.{rx_ring.specs.Ends.{polls_of, is_beside}, napi_model.specs.declared.state.{Kind.Kind, Place.TheVariants.Control}}
-use Rattle.{napi_model.specs.{declared.event.Operation.Operation, Laws.is_owner}, napi_word.specs.declared.view.Holds.TheVariants.Nothing}
-use Rattle.napi_word.specs.{declared.{view.Holds.TheVariants.{Within, Out}, table.{Pass.Pass, StateTable.StateTable}}, View.View}
-use Rattle.napi_word.specs.{View.{view_number, view_controller, state_in, place_in, disable_in, view_ring}}
+use Rattle.napi_model.specs.{declared.event.Operation.Operation, Laws.is_owner}
+use Rattle.napi_word.specs.declared.history.Holds.TheVariants.Nothing
+use Rattle.napi_word.specs.declared.{history.Holds.TheVariants.{Within, Out}, table.{Pass.Pass, StateTable.StateTable}}
+use Rattle.napi_word.specs.Knowledge.Knowledge
+use Rattle.napi_word.specs.{Knowledge.{view_number, view_controller, state_in, place_in, disable_in, view_ring}}
 use Rattle.napi_word.specs.{Slot.{Tied, Moves, moved, owns_slot}}
-use Rattle.napi_word.specs.{Slot.{ctx_in, carried_received, SlotDelivers}, Rule.strand, Events.Steps}
+use Rattle.napi_word.specs.{Slot.{ctx_in, carried_received, SlotDelivers}, Rule.new_history, Events.Steps}
 use Rattle.napi_model.specs.Step as step
 
-abbrev pub view_of : Pass → View
+abbrev pub view_of : Pass → Knowledge
 view_of p = p.seat.me.0
 
 -- the context in the slot, if the pass owns the slot and the context is in it
@@ -17,14 +19,14 @@ abbrev pub ctx_of : Pass → Option RxCtx
 ctx_of p = ctx_in p.seat.me.1
 
 -- the context was put into the slot: it is the same, except that the mark of `beside` is cleared
-pub record IsLaid (ctx : RxCtx) (p : Pass) : Type 0 where
-  pub laid : RxCtx
-  pub within : ctx_of p ≡ Some laid
-  pub ring : SameCtx ctx laid
-  pub received : received_list laid ≡ received_list ctx
-  pub known : known_list laid ≡ known_list ctx
-  pub polls : polls_of laid ≡ polls_of ctx
-  pub unmarked : is_beside laid ≡ false
+pub record IsStored (ctx : RxCtx) (p : Pass) : Type 0 where
+  pub stored : RxCtx
+  pub within : ctx_of p ≡ Some stored
+  pub ring : SameCtx ctx stored
+  pub received : received_list stored ≡ received_list ctx
+  pub known : known_list stored ≡ known_list ctx
+  pub polls : polls_of stored ≡ polls_of ctx
+  pub unmarked : is_beside stored ≡ false
 
 -- the packets that the context in the slot has received, if the pass owns it; otherwise those delivered, as far as the pass has
 -- seen
@@ -71,7 +73,7 @@ abbrev pub PassMayHand : Kind → Pass → Type 0
 PassMayHand kind p = step.MayHand (view_number (view_of p)) kind (state_in (view_of p))
 
 -- by the list that it shows, a pass polls the instance, and busy polls it or not
-abbrev pub HasPoll : Bool → View → Type 0
+abbrev pub HasPoll : Bool → Knowledge → Type 0
 HasPoll busy v = step.CallerPolls (view_number v) busy (state_in v)
 
 abbrev pub PassPolls : Bool → Pass → Type 0
@@ -80,7 +82,7 @@ PassPolls busy p = HasPoll busy (view_of p)
 abbrev pub OwnsSlot : Pass → Type 0
 OwnsSlot p = owns_slot (view_of p) ≡ true
 
-abbrev pub HasController : View → Type 0
+abbrev pub HasController : Knowledge → Type 0
 HasController v = view_number v ≡ view_controller v
 
 abbrev pub IsController : Pass → Type 0
@@ -106,8 +108,8 @@ tie_of p = record { marked = p.marked; right = p.right; ring = p.ring; unmarked 
 -- the pass of number c, which has seen and done nothing; the controller's has the slot, with the context in it
 pub record IsNewPass (t : StateTable) (controller : ℕ) (ctx : RxCtx) (c : ℕ) (p : Pass) : Type 0 where
   pub table : IsPassOf t p
-  pub view : view_of p ≡ strand controller ctx c ∷ []
+  pub view : view_of p ≡ new_history controller ctx c ∷ []
   pub others : c < controller → p.holds ≡ Nothing
   pub own : c ≡ controller → p.holds ≡ Within
   -- the controller's has the context that the table was made with, except for the mark of `beside`
-  pub laid : c ≡ controller → IsLaid ctx p
+  pub stored : c ≡ controller → IsStored ctx p

@@ -3,8 +3,9 @@
 use Rattle.std.specs.Prelude.{◌≡◌, ◌⊎◌, ℕ, zero, suc, ◌+◌, ◌-◌, ◌<◌, ◌≤◌, true, false, List, [], ◌∷◌, ◌++◌, Some, None}
 use Rattle.{atomic_table.specs.Table.State, rx_ring.specs.{declared.ends.RxCtx.RxCtx, Ends.{ring_name, is_beside, received_list}}}
 use Rattle.napi_model.specs.{declared.event.Event.Event, Step.{opening, seen_of}, History.{LegalHistory, state_after, own}, Word.word_of}
-use Rattle.napi_word.specs.{declared.view.{Key.Key, Strand.Strand, Delivery.Delivery}, View.{View, own_deliveries, received_by, last_of}}
-use Rattle.napi_word.specs.{View.deliverers, Slot.{Content, Carried, has_at, is_out, givers}}
+use Rattle.napi_word.specs.declared.history.{Key.Key, LocalHistory.LocalHistory, Delivery.Delivery}
+use Rattle.napi_word.specs.Knowledge.{Knowledge, own_deliveries, received_by, last_of}
+use Rattle.napi_word.specs.{Knowledge.deliverers, Slot.{Content, Carried, has_at, is_out, givers}}
 use mathlib.Core.List.{IsPrefix}
 use lib.ListN.{get_elem?}
 use mathlib.Core.Option as maybe
@@ -19,9 +20,9 @@ abbrev pub Home : RxCtx → List Delivery → Homes → Type 0
 Home ring ds homes = (x : RxCtx) × (homes ≡ maybe.some (Some x) ∷ []) × (ring_name x ≡ ring_name ring) × (is_beside x ≡ false)
     × (received_list x ≡ received_by ring ds) × (x ≡ last_of ring ds)
 
--- a strand of number c, at its position among the seats' strands: the only one of c, whose own list is c's events in the
+-- a local history of number c, at its position among the seats' local histories: the only one of c, whose own list is c's events in the
 -- history, and which has seen all of them
-pub record Owned (key : Key) (h : List Event) (ds : List Delivery) (seat : ℕ → ℕ × ℕ) (at : ℕ × ℕ) (x : Strand) (c : ℕ) : Type 0 where
+pub record Owned (key : Key) (h : List Event) (ds : List Delivery) (seat : ℕ → ℕ × ℕ) (at : ℕ × ℕ) (x : LocalHistory) (c : ℕ) : Type 0 where
   pub whole : own c h ≡ x.mine
   pub shown : own c x.seen ≡ x.mine
   -- its own deliveries are those that it has seen; while it has the slot it has seen all deliveries
@@ -30,7 +31,7 @@ pub record Owned (key : Key) (h : List Event) (ds : List Delivery) (seat : ℕ �
   pub here : seat c ≡ at
   pub few : c ≤ key.controller
 
-pub record Fits (key : Key) (h : List Event) (ds : List Delivery) (seat : ℕ → ℕ × ℕ) (at : ℕ × ℕ) (x : Strand) : Type 0 where
+pub record Fits (key : Key) (h : List Event) (ds : List Delivery) (seat : ℕ → ℕ × ℕ) (at : ℕ × ℕ) (x : LocalHistory) : Type 0 where
   pub begins : IsPrefix x.seen h
   pub delivered : IsPrefix x.delivered ds
   pub owned : (c : ℕ) → x.number ≡ Some c → Owned key h ds seat at x c
@@ -39,17 +40,17 @@ pub record Fits (key : Key) (h : List Event) (ds : List Delivery) (seat : ℕ �
   pub begun : x.begun ≡ true
 
 -- the rule, for the words, the content of the slot and all views
-pub record Kept (key : Key) (s : State Content View) : Type 0 where
+pub record Kept (key : Key) (s : State Content Knowledge) : Type 0 where
   pub history : List Event
   -- what each owner of the slot received, in the order in which it gave the slot back
   pub deliveries : List Delivery
-  -- the seat of each number, and which of its strands is the number's
+  -- the seat of each number, and which of its local histories is the number's
   pub seat : ℕ → ℕ × ℕ
   pub legal : LegalHistory key.controller (opening key.controller) history
   pub word : s.words ≡ word_of (seen_of (state_after (opening key.controller) history)) ∷ []
   -- while a caller polls or controls, that caller knows the content of the slot
   pub slot : is_out (state_after (opening key.controller) history).place ≡ false → Home key.ring.value deliveries s.homes
-  pub strands : (id : ℕ) (v : View) → get_elem? s.views id ≡ maybe.some v → (k : ℕ) (x : Strand) → get_elem? v k ≡ maybe.some x
+  pub histories : (id : ℕ) (v : Knowledge) → get_elem? s.views id ≡ maybe.some v → (k : ℕ) (x : LocalHistory) → get_elem? v k ≡ maybe.some x
       → Fits key history deliveries seat (id, k) x
   -- only numbers up to the controller's have events
   pub few : (c : ℕ) → key.controller < c → own c history ≡ []
@@ -60,63 +61,63 @@ pub record Kept (key : Key) (s : State Content View) : Type 0 where
 -- ---- how a table is made: the first seat takes the slot for the controller, and gives each other number to a seat of its own
 
 -- number c, which has seen and done nothing
-abbrev pub strand : ℕ → RxCtx → ℕ → Strand
-strand controller ring c =
+abbrev pub new_history : ℕ → RxCtx → ℕ → LocalHistory
+new_history controller ring c =
     record { begun = true; number = Some c; seen = []; mine = []; delivered = []; controller = controller; ring = ring }
 
 -- this many of them, from n on
-abbrev pub strands_from : ℕ → RxCtx → ℕ → ℕ → View
-strands_from controller ring n zero = []
-strands_from controller ring n (suc k) = strand controller ring n ∷ strands_from controller ring (n + 1) k
+abbrev pub new_histories_from : ℕ → RxCtx → ℕ → ℕ → Knowledge
+new_histories_from controller ring n zero = []
+new_histories_from controller ring n (suc k) = new_history controller ring n ∷ new_histories_from controller ring (n + 1) k
 
 -- the controller's, and those from n on, which are still to be given to seats of their own
-abbrev pub maker_at : ℕ → RxCtx → ℕ → View
-maker_at controller ring n = strand controller ring controller ∷ strands_from controller ring n (controller - n)
+abbrev pub maker_at : ℕ → RxCtx → ℕ → Knowledge
+maker_at controller ring n = new_history controller ring controller ∷ new_histories_from controller ring n (controller - n)
 
-abbrev pub first_view : Key → View
+abbrev pub first_view : Key → Knowledge
 first_view key =
     record { begun = false; number = None; seen = []; mine = []; delivered = []; controller = key.controller; ring = key.ring.value } ∷ []
 
-abbrev pub begun_slot : View → Carried
+abbrev pub begun_slot : Knowledge → Carried
 begun_slot [] = []
 begun_slot (x ∷ xs) = (0, Some x.ring) ∷ []
 
-abbrev pub begun_view : View → View
+abbrev pub begun_view : Knowledge → Knowledge
 begun_view [] = []
 begun_view (x ∷ xs) = maker_at x.controller x.ring 0
 
 -- before the first seat has the slot: it contains the context with which the table is made
-pub record Starts (key : Key) (s : State Content View) : Type 0 where
+pub record Starts (key : Key) (s : State Content Knowledge) : Type 0 where
   pub word : s.words ≡ 9 ∷ []
   pub home : s.homes ≡ maybe.some (Some key.ring.value) ∷ []
   pub views : s.views ≡ first_view key ∷ []
 
-abbrev pub Holding : Key → State Content View → Type 0
+abbrev pub Holding : Key → State Content Knowledge → Type 0
 Holding key s = Starts key s ⊎ Kept key s
 
 -- ---- how seats are split and joined
 
--- the view after its second strand was split off
-abbrev pub left_of : View → View
+-- the view after its second local history was split off
+abbrev pub left_of : Knowledge → Knowledge
 left_of [] = []
 left_of (x ∷ []) = x ∷ []
 left_of (x ∷ y ∷ ys) = x ∷ ys
 
-abbrev pub right_of : View → View
+abbrev pub right_of : Knowledge → Knowledge
 right_of [] = []
 right_of (x ∷ []) = []
 right_of (x ∷ y ∷ ys) = y ∷ []
 
--- a note: the list that a pass shows, without a number
-abbrev pub note : Strand → Strand
-note x = record x { number = None; mine = [] }
+-- a copy: the list that a pass shows, without a number
+abbrev pub copy : LocalHistory → LocalHistory
+copy x = record x { number = None; mine = [] }
 
-abbrev pub note_of : View → View
-note_of [] = []
-note_of (x ∷ xs) = note x ∷ []
+abbrev pub copy_of : Knowledge → Knowledge
+copy_of [] = []
+copy_of (x ∷ xs) = copy x ∷ []
 
-abbrev pub joined : View → View → View
+abbrev pub joined : Knowledge → Knowledge → Knowledge
 joined v w = v ++ w
 
-abbrev pub spent_view : View
+abbrev pub spent_view : Knowledge
 spent_view = []

@@ -3,10 +3,11 @@ use Rattle.std.specs.Prelude.{◌≡◌, ℕ, zero, Bool, true, false, not, ◌&
 use Rattle.{atomic_table.specs.Table.Me, rx_ring.specs.{declared.{packet.Packet.Packet, ends.RxCtx.RxCtx}, Ends.{RingName, ring_name}}}
 use Rattle.{rx_ring.specs.Ends.{is_beside, received_list}, napi_model.specs.declared.state.Place.{Place, TheVariants.{Nobody, Granted}}}
 use Rattle.napi_model.specs.declared.{state.{Place.TheVariants.{Listed, ToThread, Polling, Control}, State.State}, event.Event.Event}
-use Rattle.{napi_model.specs.Step.after, napi_word.specs.declared.view.{Holds.{Holds, TheVariants.{Nothing, Within, Out}}, Strand.Strand}}
-use Rattle.napi_word.specs.{declared.view.Delivery.Delivery}
-use Rattle.napi_word.specs.{View.{View, view_number, place_in, view_ring, delivery, own_deliveries, view_delivered}}
-use Rattle.napi_word.specs.View.{received_in, last_in, first_in, Continues}
+use Rattle.napi_model.specs.Step.after
+use Rattle.napi_word.specs.declared.history.{Holds.{Holds, TheVariants.{Nothing, Within, Out}}, LocalHistory.LocalHistory}
+use Rattle.napi_word.specs.{declared.history.Delivery.Delivery}
+use Rattle.napi_word.specs.{Knowledge.{Knowledge, view_number, place_in, view_ring, delivery, own_deliveries, view_delivered}}
+use Rattle.napi_word.specs.Knowledge.{received_in, last_in, first_in, Continues}
 use mathlib.Core.List.{IsPrefix}
 use lib.ListN.{get_elem?}
 use mathlib.Core.Option as maybe
@@ -43,7 +44,7 @@ givers s [] = []
 givers s (e ∷ es) = one_if (is_given s e) e.caller ++ givers (after s e) es
 
 -- by the list that it shows, a pass owns the slot
-abbrev pub owns_slot : View → Bool
+abbrev pub owns_slot : Knowledge → Bool
 owns_slot v = has_at (view_number v) (place_in v)
 
 -- ---- what a seat holds, and the mark that says so
@@ -66,7 +67,7 @@ has_slot Within = true
 has_slot Out = true
 
 -- the ring of the context in the slot that is held, otherwise the view's
-abbrev pub ring_in : Carried → View → Option RingName
+abbrev pub ring_in : Carried → Knowledge → Option RingName
 ring_in ((k, Some x) ∷ l) v = Some (ring_name x)
 ring_in ((k, None) ∷ l) v = view_ring v
 ring_in [] v = view_ring v
@@ -83,13 +84,13 @@ beside_in ((k, None) ∷ l) = false
 beside_in [] = false
 
 -- what the context in the slot that is held has received, otherwise what the view shows
-abbrev pub carried_received : Carried → View → List Packet
+abbrev pub carried_received : Carried → Knowledge → List Packet
 carried_received ((k, Some x) ∷ l) v = received_list x
 carried_received ((k, None) ∷ l) v = received_in v
 carried_received [] v = received_in v
 
 -- the mark says what the seat holds: the slot exactly if the view says so, with the context of that ring in it or with none
-pub record Tied (h : Holds) (me : View × Carried) : Type 0 where
+pub record Tied (h : Holds) (me : Knowledge × Carried) : Type 0 where
   pub marked : hold_of me.1 ≡ Some h
   pub right : owns_slot me.0 ≡ has_slot h
   pub ring : ring_in me.1 me.0 ≡ view_ring me.0
@@ -112,24 +113,24 @@ moved given h = Nothing
 -- ---- what a step shows of the deliveries: all until then, which the caller knows from then on
 
 -- a slot with its context in it is given back: one more delivery, of what was received since it was taken
-abbrev pub GivesSlotBack : Bool → List Delivery → Me Content View → Me Content View → Type 0
+abbrev pub GivesSlotBack : Bool → List Delivery → Me Content Knowledge → Me Content Knowledge → Type 0
 GivesSlotBack true before me me' =
     (x : RxCtx) × (packets : List Packet) × (me.1 ≡ (0, Some x) ∷ []) × (received_list x ≡ received_in me.0 ++ packets)
     × (view_delivered me'.0 ≡ before ++ delivery (view_number me.0) packets x ∷ [])
 GivesSlotBack false before me me' = (view_delivered me'.0 ≡ before) × (me'.1 ≡ me.1)
 
-abbrev pub Shifts : Moves → List Delivery → Me Content View → Me Content View → Type 0
+abbrev pub Shifts : Moves → List Delivery → Me Content Knowledge → Me Content Knowledge → Type 0
 Shifts stays before me me' = (view_delivered me'.0 ≡ before) × (me'.1 ≡ me.1)
 -- the context that is taken is the one that was given back last, and has received all packets delivered
 Shifts taken before me me' = (view_delivered me'.0 ≡ before)
     × ((x : RxCtx) × (me'.1 ≡ (0, Some x) ∷ []) × (received_list x ≡ received_in me'.0) × (last_in me'.0 ≡ Some x))
 Shifts given before me me' = GivesSlotBack (owns_slot me.0) before me me'
 
-pub record SlotDelivers (m : Moves) (me : Me Content View) (me' : Me Content View) : Type 0 where
+pub record SlotDelivers (m : Moves) (me : Me Content Knowledge) (me' : Me Content Knowledge) : Type 0 where
   -- all deliveries, just before
   pub before : List Delivery
   -- they begin with all that the pass had seen, by itself or from passes that it met
-  pub begins : (k : ℕ) (x : Strand) → get_elem? me.0 k ≡ maybe.some x → IsPrefix x.delivered before
+  pub begins : (k : ℕ) (x : LocalHistory) → get_elem? me.0 k ≡ maybe.some x → IsPrefix x.delivered before
   -- the caller's own ones are those that it knew
   pub exact : own_deliveries (view_number me.0) before ≡ own_deliveries (view_number me.0) (view_delivered me.0)
   -- while the caller has the slot, no other caller delivers

@@ -3,15 +3,16 @@ use Rattle.std.specs.Prelude.{◌≡◌, ℕ, ◌<◌, true, List, [], ◌∷◌
 use Rattle.atomic_table.specs.Table.{Me}
 use Rattle.{rx_ring.specs.declared.ends.RxCtx.RxCtx, napi_model.specs.declared.{state.Seen.Seen, event.Event.Event}}
 use Rattle.napi_model.specs.{declared.event.Operation.TheVariants.Look, Step.{event, opening, seen_of}, Word.word_of, History.LegalHistory}
-use Rattle.{napi_model.specs.{History.{state_after, own}, Laws.is_owner}, napi_word.specs.declared.view.{Strand.Strand, Delivery.Delivery}}
+use Rattle.napi_model.specs.{History.{state_after, own}, Laws.is_owner}
+use Rattle.napi_word.specs.declared.history.{LocalHistory.LocalHistory, Delivery.Delivery}
 use Rattle.napi_word.specs.{declared.table.Pass.Pass}
-use Rattle.napi_word.specs.{View.{View, is_pass, view_number, view_controller, first_in, own_deliveries, deliverers}}
-use Rattle.napi_word.specs.{View.{place_in, busy_in, disable_in, state_at}, Slot.{Content, givers, has_at, owns_slot}, Passes.view_of}
+use Rattle.napi_word.specs.{Knowledge.{Knowledge, is_pass, view_number, view_controller, first_in, own_deliveries, deliverers}}
+use Rattle.napi_word.specs.{Knowledge.{place_in, busy_in, disable_in, state_at}, Slot.{Content, givers, has_at, owns_slot}, Passes.view_of}
 use Rattle.napi_word.specs.Passes.{SameTable}
 use mathlib.Core.List.{IsPrefix}
 use lib.ListN.{get_elem?}
 use mathlib.Core.Option as maybe
-use Rattle.napi_word.specs.View as view
+use Rattle.napi_word.specs.Knowledge as view
 
 -- the whole history and all deliveries, for a controller with this number
 pub record IsWhole (k : ℕ) (h : List Event) (ds : List Delivery) : Type 0 where
@@ -24,7 +25,7 @@ pub record IsWhole (k : ℕ) (h : List Event) (ds : List Delivery) : Type 0 wher
 
 -- a view before and after a survey: it then shows the whole, which is the history that the look e found and the look itself;
 -- that history had no own events beyond those that the pass knew
-pub record CatchesUp (found : List Event) (e : Event) (ds : List Delivery) (v w : View) : Type 0 where
+pub record Syncs (found : List Event) (e : Event) (ds : List Delivery) (v w : Knowledge) : Type 0 where
   pub shown : view.view_shown w ≡ found ++ e ∷ []
   pub begins : IsPrefix (view.view_shown v) found
   pub knew : own (view_number v) found ≡ view.mine v
@@ -50,7 +51,7 @@ pub record IsSurveyed (found : List Event) (e : Event) (ds : List Delivery) (p q
   pub table : SameTable p q
   pub holds : q.holds ≡ p.holds
   pub slot : q.seat.me.1 ≡ p.seat.me.1
-  pub view : CatchesUp found e ds (view_of p) (view_of q)
+  pub view : Syncs found e ds (view_of p) (view_of q)
 
 -- these passes of the table whose controller has number k were surveyed, by a look of number c that returned x
 pub record Surveys (k c : ℕ) (x : Seen) (before after : List Pass) : Type 0 where
@@ -66,35 +67,35 @@ pub record Surveys (k c : ℕ) (x : Seen) (before after : List Pass) : Type 0 wh
   pub each : (i : ℕ) (p q : Pass) → slice_get before i ≡ Some p → slice_get after i ≡ Some q
       → IsSurveyed found (event c (Look x)) deliveries p q
 
--- ---- how it is made: the strands are joined, learn the whole by one look, and are split again
+-- ---- how it is made: the local histories are joined, learn the whole by one look, and are split again
 
--- only a pass's own strand
-abbrev pub front : View → View
+-- only a pass's own local history
+abbrev pub front : Knowledge → Knowledge
 front [] = []
 front (x ∷ xs) = x ∷ []
 
-abbrev pub with_front : View → View → View
+abbrev pub with_front : Knowledge → Knowledge → Knowledge
 with_front v w = v ++ front w
 
-abbrev pub but_last : View → View
+abbrev pub but_last : Knowledge → Knowledge
 but_last [] = []
 but_last (x ∷ []) = []
 but_last (x ∷ y ∷ ys) = x ∷ but_last (y ∷ ys)
 
-abbrev pub last_alone : View → View
+abbrev pub last_alone : Knowledge → Knowledge
 last_alone [] = []
 last_alone (x ∷ []) = x ∷ []
 last_alone (x ∷ y ∷ ys) = last_alone (y ∷ ys)
 
-abbrev pub caught_up : List Event → List Delivery → Strand → Strand
-caught_up h ds x = record x { seen = h; delivered = ds }
+abbrev pub synced : List Event → List Delivery → LocalHistory → LocalHistory
+synced h ds x = record x { seen = h; delivered = ds }
 
-abbrev pub all_caught_up : List Event → List Delivery → View → View
-all_caught_up h ds [] = []
-all_caught_up h ds (x ∷ xs) = caught_up h ds x ∷ all_caught_up h ds xs
+abbrev pub all_synced : List Event → List Delivery → Knowledge → Knowledge
+all_synced h ds [] = []
+all_synced h ds (x ∷ xs) = synced h ds x ∷ all_synced h ds xs
 
--- how the whole relates to a strand with this number
-pub record Knew (k : ℕ) (h : List Event) (ds : List Delivery) (x : Strand) (c : ℕ) : Type 0 where
+-- how the whole relates to a local history with this number
+pub record Knew (k : ℕ) (h : List Event) (ds : List Delivery) (x : LocalHistory) (c : ℕ) : Type 0 where
   pub controller : x.controller ≡ k
   pub begins : IsPrefix x.seen h
   pub exact : own c h ≡ x.mine
@@ -108,17 +109,17 @@ pub record Knew (k : ℕ) (h : List Event) (ds : List Delivery) (x : Strand) (c 
       → (state_after (opening k) h).flags.in_busy_poll ≡ (state_after (opening k) x.seen).flags.in_busy_poll
   pub disable : c ≡ k → (state_after (opening k) h).flags.disable ≡ (state_after (opening k) x.seen).flags.disable
 
--- a seat's own strand after the look e
-abbrev pub looked : List Event → Event → List Delivery → Strand → Strand
+-- a seat's own local history after the look e
+abbrev pub looked : List Event → Event → List Delivery → LocalHistory → LocalHistory
 looked found e ds x = record x { seen = found ++ e ∷ []; mine = x.mine ++ e ∷ []; delivered = ds }
 
--- and its other strands, which have learned the whole
-abbrev pub all_looked : List Event → Event → List Delivery → View → View
+-- and its other local histories, which have learned the whole
+abbrev pub all_looked : List Event → Event → List Delivery → Knowledge → Knowledge
 all_looked found e ds [] = []
-all_looked found e ds (x ∷ xs) = looked found e ds x ∷ all_caught_up (found ++ e ∷ []) ds xs
+all_looked found e ds (x ∷ xs) = looked found e ds x ∷ all_synced (found ++ e ∷ []) ds xs
 
--- a look under the seat's own number, by which all strands of the seat learn the whole
-pub record Surveyed (me : Me Content View) (n : ℕ) (me' : Me Content View) : Type 0 where
+-- a look under the seat's own number, by which all local histories of the seat learn the whole
+pub record Surveyed (me : Me Content Knowledge) (n : ℕ) (me' : Me Content Knowledge) : Type 0 where
   pub seen : Seen
   pub word : n ≡ word_of seen
   pub found : List Event
@@ -128,12 +129,12 @@ pub record Surveyed (me : Me Content View) (n : ℕ) (me' : Me Content View) : T
   pub whole : IsWhole (view_controller me.0) (found ++ event (view_number me.0) (Look seen) ∷ []) deliveries
   pub view : me'.0 ≡ all_looked found (event (view_number me.0) (Look seen)) deliveries me.0
   pub slot : me'.1 ≡ me.1
-  pub knew : (k : ℕ) (x : Strand) (c : ℕ) → get_elem? me.0 k ≡ maybe.some x → x.number ≡ Some c
+  pub knew : (k : ℕ) (x : LocalHistory) (c : ℕ) → get_elem? me.0 k ≡ maybe.some x → x.number ≡ Some c
       → Knew (view_controller me.0) found deliveries x c
   -- the number that looks occurs once
-  pub once : (k : ℕ) (x : Strand) → get_elem? me.0 k ≡ maybe.some x → x.number ≡ Some (view_number me.0) → k ≡ 0
-  -- all strands, with a number or not, had seen a prefix, and name the same context
-  pub seen_begins : (k : ℕ) (x : Strand) → get_elem? me.0 k ≡ maybe.some x → IsPrefix x.seen found
-  pub delivered_begins : (k : ℕ) (x : Strand) → get_elem? me.0 k ≡ maybe.some x → IsPrefix x.delivered deliveries
+  pub once : (k : ℕ) (x : LocalHistory) → get_elem? me.0 k ≡ maybe.some x → x.number ≡ Some (view_number me.0) → k ≡ 0
+  -- all local histories, with a number or not, had seen a prefix, and name the same context
+  pub seen_begins : (k : ℕ) (x : LocalHistory) → get_elem? me.0 k ≡ maybe.some x → IsPrefix x.seen found
+  pub delivered_begins : (k : ℕ) (x : LocalHistory) → get_elem? me.0 k ≡ maybe.some x → IsPrefix x.delivered deliveries
   pub first : RxCtx
-  pub firsts : (k : ℕ) (x : Strand) → get_elem? me.0 k ≡ maybe.some x → x.ring ≡ first
+  pub firsts : (k : ℕ) (x : LocalHistory) → get_elem? me.0 k ≡ maybe.some x → x.ring ≡ first

@@ -3,17 +3,18 @@ use Rattle.std.specs.Prelude.{◌≡◌, ℕ, ◌==◌, Bool, true, false, ◌||
 use Rattle.atomic_table.specs.Table.{Me}
 use Rattle.napi_model.specs.declared.{state.{Kind.Kind, Seen.Seen}, event.{Prep.Prep, Done.{Done, TheVariants.{Released, Again}}}}
 use Rattle.napi_model.specs.{declared.event.Operation.{Operation, TheVariants.{Look, Schedule, TakeDisable}}, Word.word_of}
-use Rattle.napi_word.specs.{declared.view.Holds.Holds, View.View, Slot.{Content, Tied, Moves, stays, moved, SlotDelivers}, Rule.begun_view}
+use Rattle.napi_word.specs.{declared.history.Holds.Holds, Knowledge.Knowledge, Slot.{Content, Tied, Moves, stays, moved, SlotDelivers}}
+use Rattle.napi_word.specs.Rule.begun_view
 use Rattle.napi_word.specs.{Rule.begun_slot, Events.Steps}
 use Rattle.napi_model.specs.declared.state.Kind.TheVariants as kind
 use Rattle.napi_model.specs.declared.event.Prep.TheVariants as prep
 
 -- the seat made this operation, and its hold on the slot changed accordingly
-abbrev pub Did : Operation → Moves → Me Content View → Me Content View → Type 0
+abbrev pub Did : Operation → Moves → Me Content Knowledge → Me Content Knowledge → Type 0
 Did o m me me' = Steps me.0 o me'.0 × ((h : Holds) → Tied h me → Tied (moved m h) me') × SlotDelivers m me me'
 
 -- the word showed x, so the operation and the move are these
-abbrev pub makes_as_seen : (Seen → Operation) → (Seen → Moves) → Me Content View → ℕ → Me Content View → Type 0
+abbrev pub makes_as_seen : (Seen → Operation) → (Seen → Moves) → Me Content Knowledge → ℕ → Me Content Knowledge → Type 0
 makes_as_seen f m me n me' = (x : Seen) × (n ≡ word_of x) × Did (f x) (m x) me me'
 
 abbrev pub when : Bool → Moves → Moves
@@ -25,7 +26,7 @@ abbrev pub either_op : Bool → Operation → Seen → Operation
 either_op true o x = o
 either_op false o x = Look x
 
-abbrev pub exchanged : (Seen → Operation) → (Seen → Moves) → ℕ → Me Content View → ℕ → Me Content View → Type 0
+abbrev pub exchanged : (Seen → Operation) → (Seen → Moves) → ℕ → Me Content Knowledge → ℕ → Me Content Knowledge → Type 0
 exchanged f m expected = makes_as_seen (λ x. either_op (word_of x == expected) (f x) x) (λ x. when (word_of x == expected) (m x))
 
 abbrev pub no_move : Seen → Moves
@@ -64,10 +65,10 @@ busy_op false x = Look x
 
 -- ---- loads that are no events
 
--- the first seat takes the slot with the first context, and has the strands of all numbers
-abbrev pub table_begun : Me Content View → ℕ → Me Content View → Type 0
+-- the first seat takes the slot with the first context, and has the local histories of all numbers
+abbrev pub table_begun : Me Content Knowledge → ℕ → Me Content Knowledge → Type 0
 table_begun me n me' = (me'.0 ≡ begun_view me.0) × (me'.1 ≡ begun_slot me.0)
 
 -- a slot that the seat owns goes back; the view doesn't change
-abbrev pub laid_down : Me Content View → ℕ → Me Content View → Type 0
-laid_down me n me' = (me'.0 ≡ me.0) × (me'.1 ≡ [])
+abbrev pub slot_returned : Me Content Knowledge → ℕ → Me Content Knowledge → Type 0
+slot_returned me n me' = (me'.0 ≡ me.0) × (me'.1 ≡ [])

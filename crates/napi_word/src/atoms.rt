@@ -7,9 +7,9 @@ ghost use Rattle.napi_word.specs.Slot.{stays};
 ghost use Rattle.napi_word.specs.Told.{Did};
 ghost use Rattle.napi_word.specs.Atoms.{MayMake, MayExchange};
 
+use crate::history::Knowledge;
 use crate::step_kinds::{Exchanged, Step, Told};
 use crate::table::StateTable;
-use crate::view::View;
 use atomic_table::Seat;
 use napi_model::bits::{MISSED, SCHED, SCHED_THREADED};
 use napi_model::{Done, Operation, Prep, Seen, decode_known, encode};
@@ -35,7 +35,7 @@ fn word_after(seen: Seen, word: u64, operation: Operation) -> u64
 impl StateTable {
     // Reads the word, and returns what it showed.
     #[inline]
-    pub(crate) fn load<K: Step>(&self, seat: &mut Seat<Option<RxCtx>, View>) -> Seen
+    pub(crate) fn load<K: Step>(&self, seat: &mut Seat<Option<RxCtx>, Knowledge>) -> Seen
         requires table { seat.old.table_id ≡ self.now.table.shared.table_id }
         requires may { MayMake self.now seat.old (λ n. n) K.operation K.moves }
         ensures table { seat.new.table_id ≡ seat.old.table_id }
@@ -47,7 +47,7 @@ impl StateTable {
 
     // Sets these bits, and returns what the word showed before.
     #[inline]
-    pub(crate) fn set<K: Step>(&self, seat: &mut Seat<Option<RxCtx>, View>, bits: u64) -> Seen
+    pub(crate) fn set<K: Step>(&self, seat: &mut Seat<Option<RxCtx>, Knowledge>, bits: u64) -> Seen
         requires table { seat.old.table_id ≡ self.now.table.shared.table_id }
         requires may { MayMake self.now seat.old (λ n. bit_or n bits) K.operation K.moves }
         ensures table { seat.new.table_id ≡ seat.old.table_id }
@@ -59,7 +59,7 @@ impl StateTable {
 
     // Sets these bits, which are clear, and returns what the word showed before: an addition, which is one instruction.
     #[inline]
-    pub(crate) fn add<K: Step>(&self, seat: &mut Seat<Option<RxCtx>, View>, bits: u64) -> Seen
+    pub(crate) fn add<K: Step>(&self, seat: &mut Seat<Option<RxCtx>, Knowledge>, bits: u64) -> Seen
         requires table { seat.old.table_id ≡ self.now.table.shared.table_id }
         requires may { MayMake self.now seat.old (λ n. (n + bits) % 2 ^ 64) K.operation K.moves }
         ensures table { seat.new.table_id ≡ seat.old.table_id }
@@ -71,7 +71,11 @@ impl StateTable {
 
     // Clears these bits, which are set, and returns what the word showed before.
     #[inline]
-    pub(crate) fn subtract<K: Step>(&self, seat: &mut Seat<Option<RxCtx>, View>, bits: u64) -> Seen
+    pub(crate) fn subtract<K: Step>(
+        &self,
+        seat: &mut Seat<Option<RxCtx>, Knowledge>,
+        bits: u64,
+    ) -> Seen
         requires table { seat.old.table_id ≡ self.now.table.shared.table_id }
         requires may { MayMake self.now seat.old (λ n. (n + (2 ^ 64 - bits)) % 2 ^ 64) K.operation
             K.moves }
@@ -84,7 +88,7 @@ impl StateTable {
 
     // Clears all other bits, and returns what the word showed before.
     #[inline]
-    pub(crate) fn keep<K: Step>(&self, seat: &mut Seat<Option<RxCtx>, View>, bits: u64) -> Seen
+    pub(crate) fn keep<K: Step>(&self, seat: &mut Seat<Option<RxCtx>, Knowledge>, bits: u64) -> Seen
         requires table { seat.old.table_id ≡ self.now.table.shared.table_id }
         requires may { MayMake self.now seat.old (λ n. bit_and n bits) K.operation K.moves }
         ensures table { seat.new.table_id ≡ seat.old.table_id }
@@ -99,7 +103,7 @@ impl StateTable {
     #[inline(always)]
     pub(crate) fn exchange<K: Step>(
         &self,
-        seat: &mut Seat<Option<RxCtx>, View>,
+        seat: &mut Seat<Option<RxCtx>, Knowledge>,
         seen: Seen,
         operation: Operation,
     ) -> Result<(), Seen>
@@ -134,7 +138,7 @@ impl StateTable {
     #[inline(always)]
     fn exchange_seen<K: Step>(
         &self,
-        seat: &mut Seat<Option<RxCtx>, View>,
+        seat: &mut Seat<Option<RxCtx>, Knowledge>,
         seen: Seen,
         operation: Operation,
     ) -> Result<(), Seen>

@@ -8,9 +8,9 @@ ghost use Rattle.napi_word.specs.Events.{by_swap};
 ghost use Rattle.napi_word.specs.Told.{when};
 ghost use Rattle.napi_word.specs.Passes.{IsPassOf, Makes, PassPolls};
 
+use crate::history::Holds;
 use crate::step_kinds::{CompletesHeld, StopsBusy, TakesBusy};
 use crate::table::{Pass, StateTable};
-use crate::view::Holds;
 use napi_model::{Operation, Seen};
 
 impl StateTable {

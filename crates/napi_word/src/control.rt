@@ -7,9 +7,9 @@ ghost use Rattle.napi_word.specs.Told as told;
 ghost use Rattle.napi_word.specs.Told.{when};
 ghost use Rattle.napi_word.specs.Passes.{IsPassOf, Makes, IsSlotFilled, IsController, Controls, IsNoOwner, Disable};
 
+use crate::history::Holds;
 use crate::step_kinds::{Asks, Disables, Enables, EnablesThreaded, Marks, Unmarks};
 use crate::table::{Pass, StateTable};
-use crate::view::Holds;
 use napi_model::bits::DISABLE;
 use napi_model::{Operation, Seen};
 

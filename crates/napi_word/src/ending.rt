@@ -1,14 +1,14 @@
 //! Closing a table, after all its passes are joined.
 ghost use Rattle.std.specs.Prelude.{◌≡◌, ℕ, ◌+◌, ◌≤◌, List, [], ◌∷◌, length, Some, slice_get};
-ghost use Rattle.napi_word.specs.declared.view.Holds.TheVariants as holds;
-ghost use Rattle.napi_word.specs.View.{view_ring};
+ghost use Rattle.napi_word.specs.declared.history.Holds.TheVariants as holds;
+ghost use Rattle.napi_word.specs.Knowledge.{view_ring};
 ghost use Rattle.napi_word.specs.Passes.{view_of, IsPassOf, controller_of_table};
 ghost use Rattle.napi_word.specs.Ends.{Finds, picked, IsGatheredOf, Gathered, IsClosedTable};
 
 use crate::gathering::{Found, Gathering};
-use crate::step_kinds::{LaysDown, TakesIn};
+use crate::history::{Holds, Knowledge};
+use crate::step_kinds::{JoinsPass, ReturnsSlot};
 use crate::table::{Pass, StateTable};
-use crate::view::{Holds, View};
 use atomic_table::Seat;
 use rx_ring::RxCtx;
 
@@ -35,19 +35,19 @@ fn pick(found: Found, slot: Option<RxCtx>) -> Option<RxCtx>
 
 impl StateTable {
     // Returns the seat of a pass that owns the slot and has the context out of it: the slot goes back empty.
-    fn lay_down(&self, pass: Pass) -> Seat<Option<RxCtx>, View>
+    fn lay_down(&self, pass: Pass) -> Seat<Option<RxCtx>, Knowledge>
         requires table { IsPassOf self.now pass }
         requires out { pass.holds ≡ holds.Out }
         ensures table { result.table_id ≡ self.now.table.shared.table_id }
         ensures seat { result.me ≡ (view_of pass, []) }
     {
         let Pass { mut seat, holds: _ } = pass;
-        self.table.shared.load::<LaysDown>(&mut seat, 0);
+        self.table.shared.load::<ReturnsSlot>(&mut seat, 0);
         seat
     }
 
     // Returns the seat of a pass, which holds nothing any more. What it held is added to `found`.
-    fn give_up(&self, pass: Pass, found: &mut Found) -> Seat<Option<RxCtx>, View>
+    fn give_up(&self, pass: Pass, found: &mut Found) -> Seat<Option<RxCtx>, Knowledge>
         requires table { IsPassOf self.now pass }
         ensures table { result.table_id ≡ self.now.table.shared.table_id }
         ensures seat { result.me ≡ (view_of pass, []) }
@@ -97,7 +97,7 @@ impl StateTable {
         let seat = self.give_up(pass, &mut gathering.found);
         self.table
             .shared
-            .join_seat::<TakesIn>(&mut gathering.seat, seat);
+            .join_seat::<JoinsPass>(&mut gathering.seat, seat);
     }
 
     /// Closes the table. If all its passes were gathered, this yields its one history.

@@ -1,8 +1,8 @@
 //! The passes of a table, gathered to close it.
 ghost use Rattle.std.specs.Prelude.{◌≡◌, [], true};
-ghost use Rattle.napi_word.specs.View.{is_pass};
+ghost use Rattle.napi_word.specs.Knowledge.{is_pass};
 
-use crate::view::View;
+use crate::history::Knowledge;
 use atomic_table::Seat;
 use rx_ring::RxCtx;
 
@@ -17,7 +17,7 @@ pub struct Found {
 
 /// One seat that has joined those of other passes, to close their table.
 pub struct Gathering {
-    pub(crate) seat: Seat<Option<RxCtx>, View>,
+    pub(crate) seat: Seat<Option<RxCtx>, Knowledge>,
     pub(crate) found: Found,
     ghost is_pass: { is_pass seat.me.0 ≡ true },
     ghost empty: { seat.me.1 ≡ [] },

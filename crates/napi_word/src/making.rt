@@ -1,13 +1,13 @@
 //! Making a table with its passes.
 ghost use Rattle.std.specs.Prelude.{◌≡◌, ℕ, ◌+◌, ◌-◌, ◌<◌, ◌≤◌, [], ◌∷◌, length, vec_len, IfOk, IfErr, Some, slice_get};
-ghost use Rattle.napi_word.specs.declared.view.Holds.TheVariants as holds;
+ghost use Rattle.napi_word.specs.declared.history.Holds.TheVariants as holds;
 ghost use Rattle.rx_ring.specs.Ends.{ring_name};
-ghost use Rattle.napi_word.specs.Rule.{strand, maker_at, first_view};
-ghost use Rattle.napi_word.specs.Passes.{view_of, ctx_of, IsPassOf, SameTable, IsLaid, IsNewPass, controller_of_table, ring_of_table, first_of_table};
+ghost use Rattle.napi_word.specs.Rule.{new_history, maker_at, first_view};
+ghost use Rattle.napi_word.specs.Passes.{view_of, ctx_of, IsPassOf, SameTable, IsStored, IsNewPass, controller_of_table, ring_of_table, first_of_table};
 
+use crate::history::{Holds, Key, Knowledge};
 use crate::step_kinds::{GivesNumber, TakesFirstSlot};
 use crate::table::{Pass, StateTable};
-use crate::view::{Holds, Key, View};
 use atomic_table::{Refused, Seat, Table};
 use rx_ring::RxCtx;
 use std::alloc::{AllocFailed, Global};
@@ -47,16 +47,16 @@ fn back(mut slots: Vec<Option<RxCtx>>) -> TableBack
     TableBack { ctx }
 }
 
-// Takes the slot for the controller, by the first seat, and clears a mark of `beside` on the context. The seat has the strands
+// Takes the slot for the controller, by the first seat, and clears a mark of `beside` on the context. The seat has the local histories
 // of all numbers, the controller's first.
-fn begin(table: &StateTable, mut seat: Seat<Option<RxCtx>, View>) -> Pass
+fn begin(table: &StateTable, mut seat: Seat<Option<RxCtx>, Knowledge>) -> Pass
     requires table { seat.table_id ≡ table.now.table.shared.table_id }
     requires first { seat.me ≡ (first_view table.now.table.shared.key, []) }
     ensures table { IsPassOf table.now result }
     ensures view { view_of result
         ≡ maker_at table.now.table.shared.key.controller table.now.table.shared.key.ring.value 0 }
     ensures holds { result.holds ≡ holds.Within }
-    ensures laid { IsLaid table.now.table.shared.key.ring.value result }
+    ensures stored { IsStored table.now.table.shared.key.ring.value result }
 {
     table.table.shared.load::<TakesFirstSlot>(&mut seat, 0);
     let Some(mut ctx) = table.table.shared.exchange(&mut seat, 0, None) else {
@@ -72,7 +72,7 @@ fn begin(table: &StateTable, mut seat: Seat<Option<RxCtx>, View>) -> Pass
     }
 }
 
-// Splits off the strand of the next number, as a pass of its own.
+// Splits off the local history of the next number, as a pass of its own.
 fn next_pass(table: &StateTable, maker: &mut Pass, number: u32) -> Pass
     requires table { IsPassOf table.now maker.old }
     requires number { number < table.now.table.shared.key.controller }

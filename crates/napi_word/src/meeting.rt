@@ -2,11 +2,11 @@
 ghost use Rattle.std.specs.Prelude.{◌≡◌};
 ghost use mathlib.Core.List.{IsPrefix};
 ghost use Rattle.napi_model.specs.declared.event.Operation.TheVariants.{Look};
-ghost use Rattle.napi_word.specs.View.{view_shown};
+ghost use Rattle.napi_word.specs.Knowledge.{view_shown};
 ghost use Rattle.napi_word.specs.Slot.{stays};
 ghost use Rattle.napi_word.specs.Passes.{view_of, IsPassOf, Makes};
 
-use crate::step_kinds::{Notes, TakesIn};
+use crate::step_kinds::{CopiesHistory, JoinsPass};
 use crate::table::{Pass, StateTable};
 use napi_model::Seen;
 
@@ -21,10 +21,13 @@ impl StateTable {
         ensures met { IsPrefix (view_shown (view_of first.new)) (view_shown (view_of second.new)) }
     {
         let found = self.look(first);
-        let note = self.table.shared.split_seat::<Notes>(&mut first.seat);
+        let copy = self
+            .table
+            .shared
+            .split_seat::<CopiesHistory>(&mut first.seat);
         self.table
             .shared
-            .join_seat::<TakesIn>(&mut second.seat, note);
+            .join_seat::<JoinsPass>(&mut second.seat, copy);
         (found, self.look(second))
     }
 }

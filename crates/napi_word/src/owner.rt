@@ -6,9 +6,9 @@ ghost use Rattle.napi_word.specs.Events.{by_complete};
 ghost use Rattle.napi_word.specs.Told.{when, is_marked, done_of};
 ghost use Rattle.napi_word.specs.Passes.{IsPassOf, Makes, IsSlotFilled, PassMayHand, PassPolls};
 
+use crate::history::Holds;
 use crate::step_kinds::{Completes, HandsToList, HandsToThread, TakesFromList, TakesFromThread};
 use crate::table::{Pass, StateTable};
-use crate::view::Holds;
 use napi_model::bits::{QUEUED, SCHED_THREADED, TO_THREAD};
 use napi_model::{Done, Kind, Operation, Seen};
 

@@ -1,14 +1,14 @@
 //! The rule that every step preserves.
 ghost use Rattle.napi_word.specs.Rule.{Holding, first_view};
 
-use crate::view::{Key, View};
+use crate::history::{Key, Knowledge};
 use atomic_table::TableRule;
 use rx_ring::RxCtx;
 
 /// There is one legal history, whose state the word encodes and of which every pass shows a prefix.
 pub struct InOneHistory;
 
-impl TableRule<Option<RxCtx>, View, Key> for InOneHistory {
+impl TableRule<Option<RxCtx>, Knowledge, Key> for InOneHistory {
     ghost holds = { Holding };
 
     ghost first = { first_view };

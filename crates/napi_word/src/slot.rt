@@ -2,12 +2,12 @@
 ghost use Rattle.std.specs.Prelude.{◌≡◌, false, Some};
 ghost use mathlib.Core.List.{IsPrefix};
 ghost use Rattle.rx_ring.specs.Ends.{is_beside, received_list};
-ghost use Rattle.napi_word.specs.View.{received_in};
-ghost use Rattle.napi_word.specs.declared.view.Holds.TheVariants.{Within, Out};
-ghost use Rattle.napi_word.specs.Passes.{view_of, ctx_of, received_of, IsLaid, IsPassOf, Keeps, IsSlotFilled, OwnsSlot, OfItsRing};
+ghost use Rattle.napi_word.specs.Knowledge.{received_in};
+ghost use Rattle.napi_word.specs.declared.history.Holds.TheVariants.{Within, Out};
+ghost use Rattle.napi_word.specs.Passes.{view_of, ctx_of, received_of, IsStored, IsPassOf, Keeps, IsSlotFilled, OwnsSlot, OfItsRing};
 
+use crate::history::Holds;
 use crate::table::{Pass, StateTable};
-use crate::view::Holds;
 use rx_ring::RxCtx;
 
 impl StateTable {
@@ -41,7 +41,7 @@ impl StateTable {
         requires received { IsPrefix (received_in (view_of pass.old)) (received_list ctx) }
         ensures keeps { Keeps pass.old pass.new }
         ensures holds { pass.new.holds ≡ Within }
-        ensures laid { IsLaid ctx pass.new }
+        ensures stored { IsStored ctx pass.new }
         ensures received { received_of pass.new ≡ received_list ctx }
     {
         let mut ctx = ctx;

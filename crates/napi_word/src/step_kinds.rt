@@ -1,9 +1,9 @@
 //! The kinds of steps: for each, its operation and its move of the slot, by the word that it finds.
-ghost use Rattle.napi_word.specs.Rule.{left_of, right_of, note_of, joined, spent_view};
-ghost use Rattle.napi_word.specs.Told.{makes_as_seen, exchanged, table_begun, laid_down};
+ghost use Rattle.napi_word.specs.Rule.{left_of, right_of, copy_of, joined, spent_view};
+ghost use Rattle.napi_word.specs.Told.{makes_as_seen, exchanged, table_begun, slot_returned};
 ghost use Rattle.napi_word.specs.Surveys.{Surveyed, with_front, but_last, last_alone};
 
-use crate::view::View;
+use crate::history::Knowledge;
 use atomic_table::{Join, Play, Split};
 use rx_ring::RxCtx;
 use std::marker::PhantomData;
@@ -24,7 +24,7 @@ pub(crate) struct Told<K: Step> {
     marker: PhantomData<K>,
 }
 
-impl<K: Step> Play<Option<RxCtx>, View> for Told<K> {
+impl<K: Step> Play<Option<RxCtx>, Knowledge> for Told<K> {
     ghost then = { λ s. makes_as_seen K.operation K.moves };
 }
 
@@ -33,7 +33,7 @@ pub(crate) struct Exchanged<K: Step> {
     marker: PhantomData<K>,
 }
 
-impl<K: Step> Play<Option<RxCtx>, View> for Exchanged<K> {
+impl<K: Step> Play<Option<RxCtx>, Knowledge> for Exchanged<K> {
     ghost then = { λ s. exchanged K.operation K.moves s.first };
 }
 
@@ -257,68 +257,68 @@ impl Step for EnablesThreaded {
     ghost moves = { λ x. given };
 }
 
-/// The first seat takes the slot for the controller, and has the strands of all numbers. It is no event.
+/// The first seat takes the slot for the controller, and has the local histories of all numbers. It is no event.
 pub(crate) struct TakesFirstSlot;
 
-impl Play<Option<RxCtx>, View> for TakesFirstSlot {
+impl Play<Option<RxCtx>, Knowledge> for TakesFirstSlot {
     ghost then = { λ s. table_begun };
 }
 
 /// A pass whose context is out of the slot returns the empty slot, when its table is closed. It is no event.
-pub(crate) struct LaysDown;
+pub(crate) struct ReturnsSlot;
 
-impl Play<Option<RxCtx>, View> for LaysDown {
-    ghost then = { λ s. laid_down };
+impl Play<Option<RxCtx>, Knowledge> for ReturnsSlot {
+    ghost then = { λ s. slot_returned };
 }
 
 /// The first seat gives a number to a new seat.
 pub(crate) struct GivesNumber;
 
-impl Split<View> for GivesNumber {
+impl Split<Knowledge> for GivesNumber {
     ghost left = { left_of };
 
     ghost right = { right_of };
 }
 
-/// A pass makes a note, for another pass, of the list that it has seen.
-pub(crate) struct Notes;
+/// A pass makes a copy, for another pass, of the list that it has seen.
+pub(crate) struct CopiesHistory;
 
-impl Split<View> for Notes {
+impl Split<Knowledge> for CopiesHistory {
     ghost left = { λ v. v };
 
-    ghost right = { note_of };
+    ghost right = { copy_of };
 }
 
 /// One pass joins another.
-pub(crate) struct TakesIn;
+pub(crate) struct JoinsPass;
 
-impl Join<View> for TakesIn {
+impl Join<Knowledge> for JoinsPass {
     ghost both = { joined };
 
     ghost spent = { spent_view };
 }
 
-/// One pass joins the own strand of another.
-pub(crate) struct TakesFront;
+/// One pass joins the own local history of another.
+pub(crate) struct JoinsOwn;
 
-impl Join<View> for TakesFront {
+impl Join<Knowledge> for JoinsOwn {
     ghost both = { with_front };
 
     ghost spent = { spent_view };
 }
 
-/// The strand that was joined last becomes a seat of its own again.
+/// The local history that was joined last becomes a seat of its own again.
 pub(crate) struct PartsLast;
 
-impl Split<View> for PartsLast {
+impl Split<Knowledge> for PartsLast {
     ghost left = { but_last };
 
     ghost right = { last_alone };
 }
 
-/// A look of the seat's own strand, by which its other strands learn the whole history.
+/// A look of the seat's own local history, by which its other local histories learn the whole history.
 pub(crate) struct Surveying;
 
-impl Play<Option<RxCtx>, View> for Surveying {
+impl Play<Option<RxCtx>, Knowledge> for Surveying {
     ghost then = { λ s. Surveyed };
 }

@@ -2,15 +2,15 @@
 ghost use Rattle.std.specs.Prelude.{◌≡◌, [], ◌∷◌};
 ghost use Rattle.napi_model.specs.declared.event.Operation.TheVariants.{Look};
 ghost use Rattle.napi_model.specs.Step.{seen_of};
-ghost use Rattle.napi_word.specs.declared.view.Holds.TheVariants.{Nothing};
-ghost use Rattle.napi_word.specs.View.{view_controller, mine, view_number, state_in};
+ghost use Rattle.napi_word.specs.declared.history.Holds.TheVariants.{Nothing};
+ghost use Rattle.napi_word.specs.Knowledge.{view_controller, mine, view_number, state_in};
 ghost use Rattle.napi_word.specs.Slot.{stays};
 ghost use Rattle.napi_word.specs.Passes.{view_of, IsPassOf, Makes};
 ghost use Rattle.napi_word.specs.Surveys.{Surveys};
 
-use crate::step_kinds::{PartsLast, Surveying, TakesFront};
+use crate::history::Holds;
+use crate::step_kinds::{JoinsOwn, PartsLast, Surveying};
 use crate::table::{Pass, StateTable};
-use crate::view::Holds;
 use napi_model::{Seen, decode_known};
 
 impl StateTable {
@@ -55,9 +55,9 @@ impl StateTable {
             seat: third,
             holds: _,
         } = third;
-        table.join_seat::<TakesFront>(&mut last.seat, first);
-        table.join_seat::<TakesFront>(&mut last.seat, second);
-        table.join_seat::<TakesFront>(&mut last.seat, third);
+        table.join_seat::<JoinsOwn>(&mut last.seat, first);
+        table.join_seat::<JoinsOwn>(&mut last.seat, second);
+        table.join_seat::<JoinsOwn>(&mut last.seat, third);
         let seen = decode_known(table.load::<Surveying>(&mut last.seat, 0));
         let third = table.split_seat::<PartsLast>(&mut last.seat);
         let second = table.split_seat::<PartsLast>(&mut last.seat);

@@ -1,10 +1,10 @@
 //! The table of an instance, and its passes.
 ghost use Rattle.std.specs.Prelude.{◌≡◌, true, false, Some};
-ghost use Rattle.napi_word.specs.View.{is_pass, view_ring, received_in, Continues};
+ghost use Rattle.napi_word.specs.Knowledge.{is_pass, view_ring, received_in, Continues};
 ghost use Rattle.napi_word.specs.Slot.{hold_of, has_slot, owns_slot, ring_in, beside_in, carried_received};
 
+use crate::history::{Holds, Key, Knowledge};
 use crate::rule::InOneHistory;
-use crate::view::{Holds, Key, View};
 use atomic_table::{Seat, Table};
 use rx_ring::RxCtx;
 use std::alloc::Global;
@@ -12,7 +12,7 @@ use std::alloc::Global;
 /// The state word of an instance (`napi->state`), and the slot of its poll context.
 #[derive(Drop)]
 pub struct StateTable {
-    pub(crate) table: Table<Option<RxCtx>, View, Key, InOneHistory, Global>,
+    pub(crate) table: Table<Option<RxCtx>, Knowledge, Key, InOneHistory, Global>,
     ghost one_word: { table.shared.table_id.words ≡ 1 },
     ghost one_slot: { table.shared.table_id.slots ≡ 1 },
 }
@@ -21,7 +21,7 @@ pub struct StateTable {
 /// slot. It can be sent to another thread. It is linear in effect: if one is dropped, its table can't be closed any more.
 #[derive(Drop)]
 pub struct Pass {
-    pub(crate) seat: Seat<Option<RxCtx>, View>,
+    pub(crate) seat: Seat<Option<RxCtx>, Knowledge>,
     pub(crate) holds: Holds,
     ghost is_pass: { is_pass seat.me.0 ≡ true },
     ghost marked: { hold_of seat.me.1 ≡ Some holds },

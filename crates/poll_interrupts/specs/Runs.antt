@@ -5,7 +5,7 @@ use Rattle.rx_ring.specs.{declared.packet.{Packet.Packet, Totals.Totals}, Receiv
 use Rattle.napi_model.specs.declared.{state.Seen.Seen, event.{Prep.Prep, Event.Event, Operation.{Operation, TheVariants.{Look, Schedule}}}}
 use Rattle.napi_model.specs.declared.event.Operation.TheVariants.{Hand, MarkDisable, TakeDisable, Unmark, Enable, SetThreaded}
 use Rattle.{napi_model.specs.Step.opening, napi_calls.specs.{Made.Lost, Packets.own_delivered, Seats.{pass_number, own_list}}}
-use Rattle.napi_word.specs.{declared.view.Delivery.Delivery, View.{deliverers, own_deliveries, packets_of}, Slot.givers}
+use Rattle.napi_word.specs.{declared.history.Delivery.Delivery, Knowledge.{deliverers, own_deliveries, packets_of}, Slot.givers}
 use Rattle.{napi_calls.specs.{Closed.{Each, IsHistoryOf}, Made.{events, looks, take_attempt}}, poll_interrupts.specs.Closings.seats_in}
 use Rattle.poll_interrupts.specs.{declared.{acts.Act.Act, station.Closed.Closed}, Acts.after_acts}
 use mathlib.Core.List.{IsPrefix}

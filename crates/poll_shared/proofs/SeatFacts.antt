@@ -3,7 +3,7 @@ use Rattle.std.proofs.Common.{◌≡◌, ◌≢◌, ◌∙◌, ℕ, List, [], �
 use Rattle.std.proofs.Common.{ap, refl, sym, append-nil, append_assoc}
 use Rattle.rx_ring.specs.{declared.{packet.Packet.Packet, ends.RxCtx.RxCtx}, Ends.{GivesNext, received_list}}
 use Rattle.napi_model.specs.declared.event.Operation.{Operation}
-use Rattle.napi_word.specs.{declared.table.Pass.Pass, View.{own_deliveries, packets_of}}
+use Rattle.napi_word.specs.{declared.table.Pass.Pass, Knowledge.{own_deliveries, packets_of}}
 use Rattle.napi_calls.specs.{Made.Made, Packets.{GivesBack, HoldsOn, IsFresh, own_delivered, polled}, Seats.pass_number, Dealt.Delivers}
 use Rattle.napi_calls.{specs.declared.types.Caller.Caller, proofs.Dealing.{delivers_back, polled_none}}
 use Rattle.poll_runs.specs.{Plan.{Action, Does, Plan, gave, given, made, operations}, Polling.{HasLast, gives}}

@@ -1,7 +1,7 @@
 -- The effect of the calls of a caller's seat at a shared instance.
 use Rattle.std.specs.Prelude.{◌≡◌, List, [], ◌∷◌, ◌++◌, Option, Some, None}
 use Rattle.rx_ring.specs.{Ends.GivesNext, declared.{ends.RxCtx.RxCtx, packet.Packet.Packet}}
-use Rattle.{napi_model.specs.declared.event.Operation.Operation, napi_word.specs.{declared.table.Pass.Pass, View.packets_of}}
+use Rattle.{napi_model.specs.declared.event.Operation.Operation, napi_word.specs.{declared.table.Pass.Pass, Knowledge.packets_of}}
 use Rattle.napi_calls.specs.{declared.types.Napi.Napi, Instance.IsSeatOf, Made.Made, Packets.{own_delivered, polled}}
 use Rattle.{poll_runs.specs.Plan.{Action, gave, given, made, operations}}
 use Rattle.{poll_shared.specs.declared.seat.{HandleState.HandleState, SharedHandle.SharedHandle}}

@@ -1,6 +1,6 @@
 use Rattle.std.proofs.Common.{◌≡◌, ℕ, ◌<◌, Option, Some, unwrap_or, List, [], ◌++◌, length, drop, refl, sym, ap, ◌∙◌, subst}
 use Rattle.rx_ring.specs.{declared.packet.Packet.Packet, Ends.{RingName, ring_name, put_list, received_list}}
-use Rattle.napi_word.{specs.View.{own_deliveries, packets_of}, proofs.Deliveries.of_prefix}
+use Rattle.napi_word.{specs.Knowledge.{own_deliveries, packets_of}, proofs.Deliveries.of_prefix}
 use Rattle.napi_calls.proofs.Dealing.{back_unpolled, delivers_before, delivers_behind, delivers_last, delivered_all, others, named_ring}
 use Rattle.calls_tests.proofs.dealing.deal.Goals as goal
 

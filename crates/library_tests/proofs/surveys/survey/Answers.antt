@@ -1,6 +1,6 @@
 use Rattle.std.proofs.Common.{[], ◌∷◌, ◌++◌, ◌∙◌, arith}
 use Rattle.napi_model.specs.{declared.event.Operation.TheVariants.Look, Step.event}
-use Rattle.napi_word.specs.View.{mine, view_number}
+use Rattle.napi_word.specs.Knowledge.{mine, view_number}
 use Rattle.library_tests.proofs.surveys.survey.Goals as goal
 
 pub survey-first-requires-clause-rest : goal.survey-first-requires-clause-rest

@@ -1,6 +1,6 @@
 use Rattle.std.proofs.Common.{◌≡◌, ℕ, [], ◌∷◌, ◌++◌, refl, sym, ap, ◌∙◌, subst}
 use Rattle.napi_model.specs.{declared.event.Operation.TheVariants.{Look, Schedule}, Step.{event, opening}, History.{LegalHistory, own}}
-use Rattle.napi_word.specs.View.{view_number, mine}
+use Rattle.napi_word.specs.Knowledge.{view_number, mine}
 use Rattle.napi_model.specs.declared.event.Prep.TheVariants as prep
 use Rattle.library_tests.proofs.word.lost_exchange.Goals as goal
 

@@ -1,5 +1,5 @@
 use Rattle.std.proofs.Common.{◌≡◌, ◌+◌, ◌*◌, ◌≤◌, length}
-use Rattle.napi_word.specs.{View.mine, Passes.{view_of, IsPassOf}}
+use Rattle.napi_word.specs.{Knowledge.mine, Passes.{view_of, IsPassOf}}
 use Rattle.library_tests.proofs.word.schedule_often.Given as goal
 
 abbrev pub invariant-loop : goal.invariant-loop

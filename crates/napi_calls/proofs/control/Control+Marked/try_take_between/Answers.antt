@@ -2,7 +2,7 @@ use Rattle.std.proofs.Common.{refl, sym, ◌∙◌}
 use Rattle.napi_calls.proofs.Standing.{control_looked, control_busy, control_taken, control_unmarked}
 use Rattle.napi_calls.proofs.{Standing.{controls_moved, is_control, outside, stays_has, has_none, fresh}, Packets.{owns, quiet_step}}
 use Rattle.napi_calls.proofs.{Packets.{quiet_more, held_step, taken, fresh_behind, fresh_held}, Making.{nothing, step, still, lost}}
-use Rattle.napi_word.specs.declared.view.Holds.TheVariants.{Out}
+use Rattle.napi_word.specs.declared.history.Holds.TheVariants.{Out}
 use Rattle.napi_model.specs.declared.event.Call.TheVariants as call
 use Rattle.napi_calls.proofs.control.Control+Marked.try_take_between.Goals as goal
 

@@ -1,5 +1,5 @@
 use Rattle.std.proofs.Common.{refl, sym, ap, ◌∙◌}
-use Rattle.napi_word.specs.{declared.view.Holds.TheVariants.{Within, Out}, View.view_number}
+use Rattle.napi_word.specs.{declared.history.Holds.TheVariants.{Within, Out}, Knowledge.view_number}
 use Rattle.napi_model.specs.declared.{state.Flags.Flags, event.Call.Call}
 use Rattle.napi_calls.proofs.Standing.{looked_flags, control_looked, control_enabled, controls_moved, is_control, outside, has_none}
 use Rattle.napi_calls.proofs.{Packets.{owns, held_step, held_still, gives_back, got_back}, Making.{nothing, step, still, lost}}
@@ -42,7 +42,7 @@ invariant_of-result-in-Err g c =
     let holds = held_still q (held_step p c.look-seen.new.pass (owns p Out c.args.self.has.holds refl) one.packets) s.keeps.view in
     let e = c.slot_out-ctx.ensures in
     let kept =
-    got_back p q c.enable_swap.new.pass c.slot_out-ctx.new.pass _ c.slot_out-ctx.result holds s.laid
+    got_back p q c.enable_swap.new.pass c.slot_out-ctx.new.pass _ c.slot_out-ctx.result holds s.stored
     (owns q Within s.holds refl) c.in-Err.ensures.step.packets e.keeps.view e.ctx in record {
       controls = controls_moved c.slot_out-ctx.new.pass (control_looked c.enable_swap.new.pass k c.in-Err.ensures.step.event) e.keeps.view;
       has = outside c.enable_swap.new.pass c.slot_out-ctx.new.pass _ e.holds e.keeps.view e.ring e.received;
@@ -72,7 +72,7 @@ returns-in-Ok-clause-packets g c =
     let s = c.slot_in.ensures in
     let one = c.look-seen.ensures.step in
     let holds = held_still q (held_step p c.look-seen.new.pass (owns p Out c.args.self.has.holds refl) one.packets) s.keeps.view in
-    gives_back p q c.enable_swap.new.pass c.args.self.state.ctx holds (ap view_number s.keeps.view ∙ one.event.number) s.laid
+    gives_back p q c.enable_swap.new.pass c.args.self.state.ctx holds (ap view_number s.keeps.view ∙ one.event.number) s.stored
     (owns q Within s.holds refl) c.in-Ok.ensures.step.packets
 
 pub returns-in-Err-clause-packets : goal.returns-in-Err-clause-packets
@@ -83,5 +83,5 @@ returns-in-Err-clause-packets g c =
     let one = c.look-seen.ensures.step in
     let holds = held_still q (held_step p c.look-seen.new.pass (owns p Out c.args.self.has.holds refl) one.packets) s.keeps.view in
     let e = c.slot_out-ctx.ensures in
-    got_back p q c.enable_swap.new.pass c.slot_out-ctx.new.pass _ c.slot_out-ctx.result holds s.laid
+    got_back p q c.enable_swap.new.pass c.slot_out-ctx.new.pass _ c.slot_out-ctx.result holds s.stored
     (owns q Within s.holds refl) c.in-Err.ensures.step.packets e.keeps.view e.ctx

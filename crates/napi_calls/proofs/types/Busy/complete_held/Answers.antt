@@ -1,5 +1,5 @@
 use Rattle.{std.proofs.Common.refl, napi_calls.proofs.{Standing.{kept, busy_kept, is_polling, stays_has}, Packets.{owns, held_step}}}
-use Rattle.{napi_calls.proofs.Making.{nothing, step}, napi_word.specs.declared.view.Holds.TheVariants.Out}
+use Rattle.{napi_calls.proofs.Making.{nothing, step}, napi_word.specs.declared.history.Holds.TheVariants.Out}
 use Rattle.napi_calls.proofs.types.Busy.complete_held.Goals as goal
 
 pub complete_load-requires-clause-owner : goal.complete_load-requires-clause-owner

@@ -1,7 +1,7 @@
 use Rattle.std.proofs.Common.{◌∙◌, ap, refl}
 use Rattle.napi_model.specs.declared.{state.Flags.Flags, event.Call.Call}
 use Rattle.napi_calls.proofs.Standing.{looked, looked_flags, kept, busy_looked, busy_made, is_polling, stays_has}
-use Rattle.napi_word.specs.declared.view.Holds.TheVariants.{Out}
+use Rattle.napi_word.specs.declared.history.Holds.TheVariants.{Out}
 use Rattle.napi_calls.proofs.{Packets.{owns, held_step, held_more}, Making.{nothing, step, lost}}
 use Rattle.napi_calls.proofs.types.Busy.try_stop_between.Goals as goal
 

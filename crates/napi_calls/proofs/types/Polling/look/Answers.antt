@@ -1,4 +1,4 @@
-use Rattle.{std.proofs.Common.refl, napi_word.specs.declared.view.Holds.TheVariants.Out}
+use Rattle.{std.proofs.Common.refl, napi_word.specs.declared.history.Holds.TheVariants.Out}
 use Rattle.napi_calls.proofs.{Standing.{looked, busy_looked, stays_has}, Packets.{owns, held_step}, Making.{nothing, step}}
 use Rattle.napi_calls.proofs.types.Polling.look.Goals as goal
 

@@ -1,4 +1,4 @@
-use Rattle.{std.proofs.Common.{refl, ap}, napi_word.specs.{declared.view.Holds.TheVariants.Within, View.view_number}}
+use Rattle.{std.proofs.Common.{refl, ap}, napi_word.specs.{declared.history.Holds.TheVariants.Within, Knowledge.view_number}}
 use Rattle.napi_calls.{specs.Knows.Free, proofs.{Standing.{made, moved}, Packets.{owns, held_self, held_still, gives_back}}}
 use Rattle.napi_calls.proofs.Making.{nothing, step, still}
 use Rattle.napi_calls.proofs.types.Polling.requeue.Goals as goal
@@ -21,5 +21,5 @@ returns-clause-packets c =
     let p = c.args.self.pass in
     let q = c.slot_in.new.pass in
     let s = c.slot_in.ensures in
-    gives_back p q c.hand.new.pass c.args.self.ctx (held_still q (held_self p) s.keeps.view) (ap view_number s.keeps.view) s.laid
+    gives_back p q c.hand.new.pass c.args.self.ctx (held_still q (held_self p) s.keeps.view) (ap view_number s.keeps.view) s.stored
     (owns q Within s.holds refl) c.hand.ensures.step.packets

@@ -1,5 +1,5 @@
 use Rattle.std.proofs.Common.{refl, ap, ◌∙◌}
-use Rattle.napi_word.{specs.{declared.view.Holds.TheVariants.{Within, Out}, View.view_number}, proofs.Knowing.never_held}
+use Rattle.napi_word.{specs.{declared.history.Holds.TheVariants.{Within, Out}, Knowledge.view_number}, proofs.Knowing.never_held}
 use Rattle.{napi_calls.specs.Knows.Free, napi_model.specs.declared.state.Flags.Flags}
 use Rattle.napi_calls.proofs.Standing.{looked, looked_flags, made, self_granted, moved, is_polling, busy_looked, busy_moved, outside}
 use Rattle.napi_calls.proofs.{Packets.{owns, held_step, held_still, gives_back, got_back}, Making.{nothing, step, still, lost}}
@@ -85,7 +85,7 @@ returns-in-Ok-Released-clause-packets g c =
     let s = c.slot_in.ensures in
     let one = c.look-seen.ensures.step in
     let holds = held_still q (held_step p c.look-seen.new.pass (owns p Out c.args.self.has.holds refl) one.packets) s.keeps.view in
-    gives_back p q c.complete_swap.new.pass c.args.self.ctx holds (ap view_number s.keeps.view ∙ one.event.number) s.laid
+    gives_back p q c.complete_swap.new.pass c.args.self.ctx holds (ap view_number s.keeps.view ∙ one.event.number) s.stored
     (owns q Within s.holds refl) (rw c.in-Ok-Released.field-0-is at c.in-Ok-Released.ensures).step.packets
 
 pub returns-in-Ok-Again-clause-packets : goal.returns-in-Ok-Again-clause-packets
@@ -95,7 +95,7 @@ returns-in-Ok-Again-clause-packets g c =
     let s = c.slot_in.ensures in
     let one = c.look-seen.ensures.step in
     let holds = held_still q (held_step p c.look-seen.new.pass (owns p Out c.args.self.has.holds refl) one.packets) s.keeps.view in
-    gives_back p q c.complete_swap.new.pass c.args.self.ctx holds (ap view_number s.keeps.view ∙ one.event.number) s.laid
+    gives_back p q c.complete_swap.new.pass c.args.self.ctx holds (ap view_number s.keeps.view ∙ one.event.number) s.stored
     (owns q Within s.holds refl) (rw c.in-Ok-Again.field-0-is at c.in-Ok-Again.ensures).step.packets
 
 pub returns-in-Err-clause-packets : goal.returns-in-Err-clause-packets
@@ -106,5 +106,5 @@ returns-in-Err-clause-packets g c =
     let one = c.look-seen.ensures.step in
     let holds = held_still q (held_step p c.look-seen.new.pass (owns p Out c.args.self.has.holds refl) one.packets) s.keeps.view in
     let e = c.slot_out-ctx.ensures in
-    got_back p q c.complete_swap.new.pass c.slot_out-ctx.new.pass _ c.slot_out-ctx.result holds s.laid
+    got_back p q c.complete_swap.new.pass c.slot_out-ctx.new.pass _ c.slot_out-ctx.result holds s.stored
     (owns q Within s.holds refl) c.in-Err.ensures.step.packets e.keeps.view e.ctx

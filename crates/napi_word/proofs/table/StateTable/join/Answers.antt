@@ -1,5 +1,5 @@
 use Rattle.std.proofs.Common.{◌++◌, ap, ◌∙◌}
-use Rattle.napi_word.{specs.View.View, proofs.{Said.one_there, Splitting.joins, Closing.gathered_more}}
+use Rattle.napi_word.{specs.Knowledge.Knowledge, proofs.{Said.one_there, Splitting.joins, Closing.gathered_more}}
 use Rattle.napi_word.proofs.table.StateTable.join.Goals as goal
 
 pub join_seat-requires : goal.join_seat-requires
@@ -11,7 +11,7 @@ pub returns-clause-has : goal.returns-clause-has
 returns-clause-has c =
     let g = c.give_up-seat.ensures in
     let j = c.join_seat.ensures in
-    let xs : View = c.args.gathering.now.seat.me.0 in
-    let both = ap (λ m. m.0) j.2 ∙ ap (λ (l : View). xs ++ l) (ap (λ m. m.0) g.seat) in
+    let xs : Knowledge = c.args.gathering.now.seat.me.0 in
+    let both = ap (λ m. m.0) j.2 ∙ ap (λ (l : Knowledge). xs ++ l) (ap (λ m. m.0) g.seat) in
     λ taken old.
     gathered_more c.args.pass taken xs c.join_seat.new.seat.me.0 c.args.gathering.now.found c.give_up-seat.new.found old g.found both

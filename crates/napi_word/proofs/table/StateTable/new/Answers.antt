@@ -1,7 +1,7 @@
 use Rattle.std.proofs.Common.{rules, ◌≡◌, ◌+◌, ◌-◌, [], ◌∷◌, Option, List, slice_get, length, refl, sym, ap, ◌∙◌, subst, ⊎_elim, arith}
 use Rattle.{std.proofs.Common.length-append, atomic_table.specs.Table.opening, rx_ring.specs.declared.ends.RxCtx.RxCtx}
-use Rattle.napi_word.specs.{declared.view.Key.Key, Rule.{Holding, first_view, maker_at}}
-use Rattle.napi_word.proofs.Start.{opens, at_push, new_as, new_last, still_laid}
+use Rattle.napi_word.specs.{declared.history.Key.Key, Rule.{Holding, first_view, maker_at}}
+use Rattle.napi_word.proofs.Start.{opens, at_push, new_as, new_last, still_stored}
 use Rattle.napi_word.proofs.table.StateTable.new.Goals as goal
 
 pub new-requires : goal.new-requires
@@ -29,7 +29,7 @@ loop-number-preserved c =
           new_as _ _ _ _ _ _ _ _ i.3 i.4 (sym (t.0 ∙ i.0)) t.1 n.made)
           (at_push c.loop-number.passes.items c.next_pass-pass.result p k (ap (λ l. slice_get l k) (sym push.items) ∙ e)),
       push.len ∙ ap (λ k. k + 1) i.8,
-      still_laid c.loop-number.maker c.next_pass-pass.new.maker n.slot i.9,
+      still_stored c.loop-number.maker c.next_pass-pass.new.maker n.slot i.9,
     )
 
 pub returns-clause-new : goal.returns-clause-new

@@ -1,6 +1,6 @@
 use Rattle.std.proofs.Common.{◌≡◌, ℕ, ◌-◌, ◌≤◌, vec_len, vec_capacity, Some, slice_get, length}
 use Rattle.napi_word.specs.declared.table.Pass.{Pass}
-use Rattle.napi_word.specs.{declared.view.Holds.TheVariants.Within, Rule.maker_at, Passes.{view_of, IsPassOf, IsLaid, IsNewPass}}
+use Rattle.napi_word.specs.{declared.history.Holds.TheVariants.Within, Rule.maker_at, Passes.{view_of, IsPassOf, IsStored, IsNewPass}}
 use Rattle.napi_word.proofs.table.StateTable.new.Given as goal
 
 abbrev pub invariant-loop-number : goal.invariant-loop-number
@@ -14,4 +14,4 @@ invariant-loop-number l =
     × (l.maker.holds ≡ Within)
     × ((k : ℕ) (p : Pass) → slice_get l.passes.items k ≡ Some p → IsNewPass l.made (l.fn.seats - 1) l.fn.ctx k p)
     × (vec_len l.passes ≡ l.number)
-    × IsLaid l.fn.ctx l.maker
+    × IsStored l.fn.ctx l.maker

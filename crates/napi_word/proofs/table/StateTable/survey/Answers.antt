@@ -1,12 +1,12 @@
 use Rattle.std.proofs.Common.{ℕ, List, Some, ap, ◌∙◌, sym, refl}
 use Rattle.{atomic_table.specs.Table.Me, napi_model.specs.declared.event.Event.Event}
 use Rattle.napi_model.specs.{declared.event.Operation.TheVariants.Look, Step.{event, opening, seen_of}, History.state_after}
-use Rattle.napi_word.specs.{declared.table.Pass.Pass, View.{View, view_number}, Passes.view_of, Slot.Content, Surveys.IsSurveyed}
-use Rattle.napi_word.proofs.{Said.one_there, Allowed.hold_nothing, Splitting.{joins_front, parts_last_of}, CatchingUp.answers_step}
-use Rattle.napi_word.proofs.CatchingUp.{answers_survey, surveys, first_pass, second_pass, third_pass, caught_is, caught_is_pass}
-use Rattle.napi_word.proofs.CatchingUp.{second_left, second_left_pass, first_left, first_left_pass, first_back, second_back, third_back}
-use Rattle.napi_word.proofs.CatchingUp.{last_back, last_slot, last_tied, rest_tied, last_steps, whole_is, told_is, all_led, all_named}
-use Rattle.napi_word.proofs.CatchingUp.{of_both_four}
+use Rattle.napi_word.specs.{declared.table.Pass.Pass, Knowledge.{Knowledge, view_number}, Passes.view_of, Slot.Content, Surveys.IsSurveyed}
+use Rattle.napi_word.proofs.{Said.one_there, Allowed.hold_nothing, Splitting.{joins_front, parts_last_of}, Syncing.answers_step}
+use Rattle.napi_word.proofs.Syncing.{answers_survey, surveys, first_pass, second_pass, third_pass, synced_is, synced_is_pass}
+use Rattle.napi_word.proofs.Syncing.{second_left, second_left_pass, first_left, first_left_pass, first_back, second_back, third_back}
+use Rattle.napi_word.proofs.Syncing.{last_back, last_slot, last_tied, rest_tied, last_steps, whole_is, told_is, all_led, all_named}
+use Rattle.napi_word.proofs.Syncing.{of_both_four}
 use Rattle.napi_word.proofs.table.StateTable.survey.Goals as goal
 
 pub join_seat-requires : goal.join_seat-requires
@@ -66,9 +66,9 @@ split_seat-third-requires c =
       u.0 ∙ l.0 ∙ k.0 ∙ j.0 ∙ c.requires.last,
       one_there c.args.self.now,
       parts_last_of _ _ _ _ _
-          (caught_is c.args.first c.args.second c.args.third c.args.last.now c.join_seat.new.seat.me c.join_seat-2.new.seat.me
+          (synced_is c.args.first c.args.second c.args.third c.args.last.now c.join_seat.new.seat.me c.join_seat-2.new.seat.me
           c.join_seat-3.new.seat.me j.2 k.2 l.2 c.load.result c.load.new.seat.me u.2)
-          (caught_is_pass c.args.first c.args.second c.args.third c.args.last.now c.join_seat.new.seat.me c.join_seat-2.new.seat.me
+          (synced_is_pass c.args.first c.args.second c.args.third c.args.last.now c.join_seat.new.seat.me c.join_seat-2.new.seat.me
           c.join_seat-3.new.seat.me j.2 k.2 l.2 c.load.result c.load.new.seat.me u.2),
     )
 
@@ -258,19 +258,19 @@ returns-clause-surveys c =
           (record {
             table = z.3 ∙ y.0 ∙ x.0 ∙ table ∙ sym r.first;
             holds = sym r.rest.0;
-            slot = ap (λ (m : Me Content View). m.1) z.4 ∙ sym none0;
+            slot = ap (λ (m : Me Content Knowledge). m.1) z.4 ∙ sym none0;
             view = one.0;
           })
           (record {
             table = y.3 ∙ x.0 ∙ table ∙ sym r.second;
             holds = sym r.rest.1;
-            slot = ap (λ (m : Me Content View). m.1) y.4 ∙ sym none1;
+            slot = ap (λ (m : Me Content Knowledge). m.1) y.4 ∙ sym none1;
             view = two.0;
           })
           (record {
             table = x.3 ∙ table ∙ sym r.third;
             holds = sym r.rest.2;
-            slot = ap (λ (m : Me Content View). m.1) x.4 ∙ sym none2;
+            slot = ap (λ (m : Me Content Knowledge). m.1) x.4 ∙ sym none2;
             view = three.0;
           })
           (record { table = z.0 ∙ y.0 ∙ x.0 ∙ u.0 ∙ l.0 ∙ k.0 ∙ j.0; holds = refl; slot = slot; view = four.0 });

@@ -2,38 +2,39 @@
 use Rattle.std.specs.Prelude.{ℕ, nat_eq, Bool, false, is_some, unwrap_or, List, [], ◌∷◌, ◌++◌, filter, length, drop, ◌≡◌, Option, Some}
 use Rattle.{std.specs.Prelude.None, rx_ring.specs.{declared.{packet.Packet.Packet, ends.RxCtx.RxCtx}, Ends.{RingName, ring_name}}}
 use Rattle.{rx_ring.specs.Ends.received_list, napi_model.specs.declared.{state.{Place.Place, State.State}, event.Event.Event}}
-use Rattle.{napi_model.specs.{Step.opening, History.state_after}, napi_word.specs.declared.view.{Strand.Strand, Delivery.Delivery}}
+use Rattle.napi_model.specs.{Step.opening, History.state_after}
+use Rattle.napi_word.specs.declared.history.{LocalHistory.LocalHistory, Delivery.Delivery}
 
--- the first strand is the pass's own; the others are from the seats that it joined
-abbrev pub View : Type 0
-View = List Strand
+-- the first local history is the pass's own; the others are from the seats that it joined
+abbrev pub Knowledge : Type 0
+Knowledge = List LocalHistory
 
 -- a pass has a number and its own list
-abbrev pub is_pass : View → Bool
+abbrev pub is_pass : Knowledge → Bool
 is_pass [] = false
 is_pass (x ∷ xs) = is_some x.number
 
 -- the list that a pass shows: a prefix of the one history
-abbrev pub view_shown : View → List Event
+abbrev pub view_shown : Knowledge → List Event
 view_shown [] = []
 view_shown (x ∷ xs) = x.seen
 
 -- its own events
-abbrev pub mine : View → List Event
+abbrev pub mine : Knowledge → List Event
 mine [] = []
 mine (x ∷ xs) = x.mine
 
-abbrev pub view_number : View → ℕ
+abbrev pub view_number : Knowledge → ℕ
 view_number [] = 0
 view_number (x ∷ xs) = unwrap_or x.number 0
 
 -- the controller's number
-abbrev pub view_controller : View → ℕ
+abbrev pub view_controller : Knowledge → ℕ
 view_controller [] = 0
 view_controller (x ∷ xs) = x.controller
 
 -- the ring of the table's first context
-abbrev pub view_ring : View → Option RingName
+abbrev pub view_ring : Knowledge → Option RingName
 view_ring [] = None
 view_ring (x ∷ xs) = Some (ring_name x.ring)
 
@@ -70,38 +71,38 @@ abbrev pub Continues : List Packet → List Packet → Type 0
 Continues before after = after ≡ before ++ drop (length before) after
 
 -- the deliveries that a pass shows: a prefix of all
-abbrev pub view_delivered : View → List Delivery
+abbrev pub view_delivered : Knowledge → List Delivery
 view_delivered [] = []
 view_delivered (x ∷ xs) = x.delivered
 
 -- the packets that the context has received by these
-abbrev pub received_in : View → List Packet
+abbrev pub received_in : Knowledge → List Packet
 received_in [] = []
 received_in (x ∷ xs) = received_by x.ring x.delivered
 
 -- the first context of the table
-abbrev pub first_in : View → Option RxCtx
+abbrev pub first_in : Knowledge → Option RxCtx
 first_in [] = None
 first_in (x ∷ xs) = Some x.ring
 
 -- the context that was given back last
-abbrev pub last_in : View → Option RxCtx
+abbrev pub last_in : Knowledge → Option RxCtx
 last_in [] = None
 last_in (x ∷ xs) = Some (last_of x.ring x.delivered)
 
 -- the state after a list of events, from the state of a new table
-abbrev pub state_at : View → List Event → State
+abbrev pub state_at : Knowledge → List Event → State
 state_at v h = state_after (opening (view_controller v)) h
 
 -- the state after the list shown
-abbrev pub state_in : View → State
+abbrev pub state_in : Knowledge → State
 state_in v = state_at v (view_shown v)
 
-abbrev pub place_in : View → Place
+abbrev pub place_in : Knowledge → Place
 place_in v = (state_in v).place
 
-abbrev pub disable_in : View → Bool
+abbrev pub disable_in : Knowledge → Bool
 disable_in v = (state_in v).flags.disable
 
-abbrev pub busy_in : View → Bool
+abbrev pub busy_in : Knowledge → Bool
 busy_in v = (state_in v).flags.in_busy_poll

@@ -1,4 +1,4 @@
-//! What a thread knows of the instance. It exists only in contracts: no `Strand` or `View` is made at run time.
+//! What a thread knows of the instance. It exists only in contracts: no `LocalHistory` or `Knowledge` is made at run time.
 use napi_model::Event;
 use rx_ring::{Packet, RxCtx};
 use std::collections::LinkedList;
@@ -24,10 +24,10 @@ pub struct Delivery {
 }
 
 /// What one caller knows.
-pub struct Strand {
+pub struct LocalHistory {
     /// False only in the first seat, until it has the slot.
     pub begun: bool,
-    /// The caller's number; a note has none.
+    /// The caller's number; a copy has none.
     pub number: Option<u32>,
     /// The list of events that it has seen: a prefix of the one history.
     pub seen: LinkedList<Event>,
@@ -41,8 +41,8 @@ pub struct Strand {
     pub ring: RxCtx,
 }
 
-/// A pass has its own strand, and those of each pass that it joined. A seat that was joined has none.
-pub type View = LinkedList<Strand>;
+/// A pass has its own local history, and those of each pass that it joined. A seat that was joined has none.
+pub type Knowledge = LinkedList<LocalHistory>;
 
 /// What a pass holds of the slot.
 #[derive(Clone, Copy, PartialEq, Eq, Debug)]

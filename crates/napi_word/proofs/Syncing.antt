@@ -1,17 +1,19 @@
--- By a look, all strands of one seat learn the whole history.
+-- By a look, all local histories of one seat learn the whole history.
 use Rattle.std.proofs.Common.{◌≡◌, ◌≢◌, ℕ, zero, suc, List, [], ◌∷◌, ◌++◌, length, slice_get, Some, None, Bool, true, unwrap_or, is_some}
 use Rattle.std.proofs.Common.{refl, sym, ap, ◌∙◌, subst, inr, arith, true≢false}
 use Rattle.atomic_table.specs.Table.{Me, keeps, Allows}
 use Rattle.{atomic_table.proofs.Lists.at_longer, rx_ring.specs.{declared.{packet.Packet.Packet, ends.RxCtx.RxCtx}, Ends.received_list}}
 use Rattle.napi_model.specs.declared.{event.{Event.Event, Operation.TheVariants.Look}, state.{Seen.Seen, State.State as Napi, Place.Place}}
 use Rattle.napi_model.specs.{Step.{event, opening, seen_of}, History.{LegalHistory, state_after, own}, Laws.is_owner}
-use Rattle.{napi_model.proofs.Histories.{legal_snoc, state_after-snoc}, napi_word.specs.declared.view.{Key.Key, Strand.Strand}}
-use Rattle.napi_word.specs.{declared.{view.{Delivery.Delivery, Holds.{Holds, TheVariants.Nothing}}, table.Pass.Pass}, View.{View, is_pass}}
-use Rattle.napi_word.specs.{View.{mine, view_number, view_controller, first_in, received_in, own_deliveries, place_in, Continues}}
+use Rattle.napi_model.proofs.Histories.{legal_snoc, state_after-snoc}
+use Rattle.napi_word.specs.declared.history.{Key.Key, LocalHistory.LocalHistory}
+use Rattle.napi_word.specs.declared.{history.{Delivery.Delivery, Holds.{Holds, TheVariants.Nothing}}, table.Pass.Pass}
+use Rattle.napi_word.specs.Knowledge.{Knowledge, is_pass}
+use Rattle.napi_word.specs.{Knowledge.{mine, view_number, view_controller, first_in, received_in, own_deliveries, place_in, Continues}}
 use Rattle.napi_word.specs.{Slot.Content}
 use Rattle.napi_word.specs.{Slot.{Carried, stays, has_at, is_given, one_if, hold_of, has_slot, carried_received, Tied}, Rule.{Fits, Kept}}
-use Rattle.napi_word.specs.{Rule.Holding, Surveys.{IsWhole, CatchesUp, Knew, Surveyed, Surveys, front, with_front, but_last, last_alone}}
-use Rattle.napi_word.specs.{Surveys.{caught_up, looked, all_looked, all_caught_up}, Passes.{Makes, SameTable, view_of, tie_of}}
+use Rattle.napi_word.specs.{Rule.Holding, Surveys.{IsWhole, Syncs, Knew, Surveyed, Surveys, front, with_front, but_last, last_alone}}
+use Rattle.napi_word.specs.{Surveys.{synced, looked, all_looked, all_synced}, Passes.{Makes, SameTable, view_of, tie_of}}
 use Rattle.napi_word.proofs.{Splitting.{but_last_is, last_alone_is}, Owns.{own_mine, own_other}, Places.has_same, Closing.is_pass_more}
 use Rattle.napi_word.proofs.Deliveries.{prefix_self, of_prefix, More, more_none, not_given, givers_snoc, some_is, ring_as, received_as}
 use Rattle.napi_word.proofs.{Allowed.{ring_kept, some_held, hold_nothing}, Keeps.{St, Open, opened, running, found, grown, steps, own_fits}}
@@ -20,13 +22,14 @@ use lib.ListN.{get_elem?}
 use mathlib.Core.List.{IsPrefix}
 use mathlib.Core.Option as maybe
 
-at_caught : (h : List Event) (ds : List Delivery) (v : View) (k : ℕ) (z : Strand) → get_elem? (all_caught_up h ds v) k ≡ maybe.some z
-    → (x : Strand) × (get_elem? v k ≡ maybe.some x) × (caught_up h ds x ≡ z)
-at_caught h ds [] k z e = absurd (maybe.some-ne-none z (sym e))
-at_caught h ds (x ∷ xs) zero z e = (x, refl, maybe.some-injective _ _ e)
-at_caught h ds (x ∷ xs) (suc k) z e = at_caught h ds xs k z e
+at_synced : (h : List Event) (ds : List Delivery) (v : Knowledge) (k : ℕ) (z : LocalHistory)
+    → get_elem? (all_synced h ds v) k ≡ maybe.some z
+    → (x : LocalHistory) × (get_elem? v k ≡ maybe.some x) × (synced h ds x ≡ z)
+at_synced h ds [] k z e = absurd (maybe.some-ne-none z (sym e))
+at_synced h ds (x ∷ xs) zero z e = (x, refl, maybe.some-injective _ _ e)
+at_synced h ds (x ∷ xs) (suc k) z e = at_synced h ds xs k z e
 
-module _ (key : Key) (s : St) (r : Kept key s) (id : ℕ) (v : View) (at : get_elem? s.views id ≡ maybe.some v) (o : Open v) where
+module _ (key : Key) (s : St) (r : Kept key s) (id : ℕ) (v : Knowledge) (at : get_elem? s.views id ≡ maybe.some v) (o : Open v) where
   abbrev state_found : Napi
   state_found = state_after (opening key.controller) r.history
 
@@ -36,18 +39,18 @@ module _ (key : Key) (s : St) (r : Kept key s) (id : ℕ) (v : View) (at : get_e
   abbrev all_made : List Event
   all_made = r.history ++ look_made ∷ []
 
-  -- among the strands, only the first has the number of the caller that looks
-  front_alone : (k : ℕ) (x : Strand) → get_elem? v k ≡ maybe.some x → x.number ≡ Some (view_number v) → k ≡ 0
+  -- among the local histories, only the first has the number of the caller that looks
+  front_alone : (k : ℕ) (x : LocalHistory) → get_elem? v k ≡ maybe.some x → x.number ≡ Some (view_number v) → k ≡ 0
   front_alone k x is n =
-      ap (λ (p : ℕ × ℕ). p.1) (sym ((r.strands id v at k x is).owned (view_number v) n).here ∙ (owned key s r id v at o).here)
+      ap (λ (p : ℕ × ℕ). p.1) (sym ((r.histories id v at k x is).owned (view_number v) n).here ∙ (owned key s r id v at o).here)
 
-  behind : (k : ℕ) (x : Strand) → get_elem? o.extra k ≡ maybe.some x → get_elem? v (suc k) ≡ maybe.some x
-  behind k x is = ap (λ (l : View). get_elem? l (suc k)) o.is ∙ is
+  behind : (k : ℕ) (x : LocalHistory) → get_elem? o.extra k ≡ maybe.some x → get_elem? v (suc k) ≡ maybe.some x
+  behind k x is = ap (λ (l : Knowledge). get_elem? l (suc k)) o.is ∙ is
 
-  refreshed : (k : ℕ) (x : Strand) → get_elem? v (suc k) ≡ maybe.some x
-      → Fits key all_made r.deliveries r.seat (id, suc k) (caught_up all_made r.deliveries x)
+  refreshed : (k : ℕ) (x : LocalHistory) → get_elem? v (suc k) ≡ maybe.some x
+      → Fits key all_made r.deliveries r.seat (id, suc k) (synced all_made r.deliveries x)
   refreshed k x is =
-      let f = r.strands id v at (suc k) x is in record {
+      let f = r.histories id v at (suc k) x is in record {
         begins = prefix_self all_made;
         delivered = prefix_self r.deliveries;
         owned = λ c n.
@@ -60,18 +63,19 @@ module _ (key : Key) (s : St) (r : Kept key s) (id : ℕ) (v : View) (at : get_e
         begun = f.begun;
       }
 
-  tail_fits : (k : ℕ) (z : Strand) → get_elem? (all_caught_up all_made r.deliveries o.extra) k ≡ maybe.some z
+  tail_fits : (k : ℕ) (z : LocalHistory) → get_elem? (all_synced all_made r.deliveries o.extra) k ≡ maybe.some z
       → Fits key all_made r.deliveries r.seat (id, suc k) z
   tail_fits k z is =
-      let x = at_caught all_made r.deliveries o.extra k z is in
+      let x = at_synced all_made r.deliveries o.extra k z is in
       subst (Fits key all_made r.deliveries r.seat (id, suc k)) x.2 (refreshed k x.0 (behind k x.0 x.1))
 
   none_given : More state_found look_made r.deliveries r.deliveries
   none_given = more_none state_found look_made r.deliveries (not_given (view_number v) state_found.place state_found.place refl)
 
-  knew : (k : ℕ) (x : Strand) (c : ℕ) → get_elem? v k ≡ maybe.some x → x.number ≡ Some c → Knew key.controller r.history r.deliveries x c
+  knew : (k : ℕ) (x : LocalHistory) (c : ℕ) → get_elem? v k ≡ maybe.some x → x.number ≡ Some c
+      → Knew key.controller r.history r.deliveries x c
   knew k x c e is =
-      let f = r.strands id v at k x e in
+      let f = r.histories id v at k x e in
       let w = f.owned c is in record {
         controller = f.controller;
         begins = f.begins;
@@ -96,7 +100,7 @@ module _ (key : Key) (s : St) (r : Kept key s) (id : ℕ) (v : View) (at : get_e
             ∙ sym (givers_snoc (opening key.controller) r.history look_made);
       }
 
-pub surveys : (key : Key) (slots id : ℕ) (me : Me Content View) → is_pass me.0 ≡ true
+pub surveys : (key : Key) (slots id : ℕ) (me : Me Content Knowledge) → is_pass me.0 ≡ true
     → Allows (Holding key) slots id me 0 (λ n. n) (Surveyed me)
 surveys key slots id me p s holding len at fits =
     let r = running key s holding id me.0 at p in
@@ -104,7 +108,7 @@ surveys key slots id me p s holding len at fits =
     let same : view_controller me.0 ≡ key.controller = ap view_controller o.is ∙ (own_fits key s r id me.0 at o).controller in
     let x = seen_of (state_after (opening key.controller) r.history) in
     let e = event (view_number me.0) (Look x) in
-    let tail = all_caught_up (r.history ++ e ∷ []) r.deliveries o.extra in (
+    let tail = all_synced (r.history ++ e ∷ []) r.deliveries o.extra in (
       grown o.first (view_number me.0) r.history (Look x) r.deliveries ∷ tail,
       keeps,
       tt,
@@ -121,24 +125,24 @@ surveys key slots id me p s holding len at fits =
         slot = refl;
         knew = λ k x c e is. subst (λ (n : ℕ). Knew n r.history r.deliveries x c) (sym same) (knew key s r id me.0 at o k x c e is);
         once = front_alone key s r id me.0 at o;
-        seen_begins = λ k x e. (r.strands id me.0 at k x e).begins;
-        delivered_begins = λ k x e. (r.strands id me.0 at k x e).delivered;
+        seen_begins = λ k x e. (r.histories id me.0 at k x e).begins;
+        delivered_begins = λ k x e. (r.histories id me.0 at k x e).delivered;
         first = key.ring.value;
-        firsts = λ k x e. (r.strands id me.0 at k x e).ring;
+        firsts = λ k x e. (r.histories id me.0 at k x e).ring;
       },
     )
 
 -- ---- what a view shows of the history
 
--- a strand that shows all, with this own list
-abbrev pub shows_all : List Event → List Delivery → List Event → Strand → Strand
+-- a local history that shows all, with this own list
+abbrev pub shows_all : List Event → List Delivery → List Event → LocalHistory → LocalHistory
 shows_all h ds own x = record x { seen = h; mine = own; delivered = ds }
 
-pub catches_up : (k : ℕ) (h : List Event) (e : Event) (ds : List Delivery) (v w : View) (o : Open v) (list : List Event) (more : View)
+pub syncs : (k : ℕ) (h : List Event) (e : Event) (ds : List Delivery) (v w : Knowledge) (o : Open v) (list : List Event) (more : Knowledge)
     → Knew k h ds o.first (view_number v)
-    → own (view_number v) (h ++ e ∷ []) ≡ list → w ≡ shows_all (h ++ e ∷ []) ds list o.first ∷ more → CatchesUp h e ds v w
-catches_up k h e ds v w o list more n exact is =
-    subst (λ (u : View). CatchesUp h e ds u w) (sym o.is) (subst (λ (u : View). CatchesUp h e ds (o.first ∷ o.extra) u) (sym is)
+    → own (view_number v) (h ++ e ∷ []) ≡ list → w ≡ shows_all (h ++ e ∷ []) ds list o.first ∷ more → Syncs h e ds v w
+syncs k h e ds v w o list more n exact is =
+    subst (λ (u : Knowledge). Syncs h e ds u w) (sym o.is) (subst (λ (u : Knowledge). Syncs h e ds (o.first ∷ o.extra) u) (sym is)
     record {
       shown = refl;
       begins = n.begins;
@@ -191,10 +195,10 @@ catches_up k h e ds v w o list more n exact is =
 -- the caller that looked made a step
 pub made_step : (h : List Event) (x : Seen) (ds : List Delivery) (p q : Pass)
     → IsWhole (view_controller (view_of p)) (h ++ event (view_number (view_of p)) (Look x) ∷ []) ds
-    → CatchesUp h (event (view_number (view_of p)) (Look x)) ds (view_of p) (view_of q)
+    → Syncs h (event (view_number (view_of p)) (Look x)) ds (view_of p) (view_of q)
     → mine (view_of q) ≡ mine (view_of p) ++ event (view_number (view_of p)) (Look x) ∷ []
-    → ((k : ℕ) (z : Strand) → get_elem? (view_of p) k ≡ maybe.some z → IsPrefix z.seen h)
-    → ((k : ℕ) (z : Strand) → get_elem? (view_of p) k ≡ maybe.some z → IsPrefix z.delivered ds)
+    → ((k : ℕ) (z : LocalHistory) → get_elem? (view_of p) k ≡ maybe.some z → IsPrefix z.seen h)
+    → ((k : ℕ) (z : LocalHistory) → get_elem? (view_of p) k ≡ maybe.some z → IsPrefix z.delivered ds)
     → SameTable p q → q.holds ≡ p.holds → q.seat.me.1 ≡ p.seat.me.1 → Makes p (Look x) stays q
 made_step h x ds p q whole u grows begins delivered_begins table holds slot = record {
   table = table;
@@ -229,19 +233,20 @@ made_step h x ds p q whole u grows begins delivered_begins table holds slot = re
     k = view_controller (view_of p)
 
 -- a slot that the pass owns stays with it
-received_caught : (l : Carried) (hold : Holds) (v w : View) → hold_of l ≡ Some hold → (has_slot hold ≡ true → received_in w ≡ received_in v)
+received_synced : (l : Carried) (hold : Holds) (v w : Knowledge) → hold_of l ≡ Some hold
+    → (has_slot hold ≡ true → received_in w ≡ received_in v)
     → Continues (received_in v) (carried_received l v) → Continues (received_in w) (carried_received l w)
-received_caught [] hold v w e same p = of_prefix _ _ (prefix_self (received_in w))
-received_caught ((k, None) ∷ l) hold v w e same p = of_prefix _ _ (prefix_self (received_in w))
-received_caught ((k, Some x) ∷ l) hold v w e same p =
+received_synced [] hold v w e same p = of_prefix _ _ (prefix_self (received_in w))
+received_synced ((k, None) ∷ l) hold v w e same p = of_prefix _ _ (prefix_self (received_in w))
+received_synced ((k, Some x) ∷ l) hold v w e same p =
     subst (λ (xs : List Packet). Continues xs (received_list x)) (sym (same (some_held k x l e))) p
 
 -- a look doesn't change the state
 pub state_looked : (s : Napi) (h : List Event) (c : ℕ) (x : Seen) → state_after s (h ++ event c (Look x) ∷ []) ≡ state_after s h
 state_looked s h c x = state_after-snoc s h (event c (Look x))
 
-pub tied_up : (h : List Event) (c : ℕ) (x : Seen) (ds : List Delivery) (v w : View) (l : Carried) (hold : Holds)
-    → CatchesUp h (event c (Look x)) ds v w → Tied hold (v, l) → Tied hold (w, l)
+pub tied_up : (h : List Event) (c : ℕ) (x : Seen) (ds : List Delivery) (v w : Knowledge) (l : Carried) (hold : Holds)
+    → Syncs h (event c (Look x)) ds v w → Tied hold (v, l) → Tied hold (w, l)
 tied_up h c x ds v w l hold u tie = record {
   marked = tie.marked;
   right = (λ i. has_at (u.number i) (state_after (opening (u.controller i)) (u.shown i)).place)
@@ -250,34 +255,34 @@ tied_up h c x ds v w l hold u tie = record {
   ring = ring_kept l v w tie.ring (sym (ring_as v w u.ring));
   unmarked = tie.unmarked;
   received =
-      received_caught l hold v w tie.marked (λ has. received_as v w u.ring (u.delivered ∙ sym (u.held (tie.right ∙ has)))) tie.received;
+      received_synced l hold v w tie.marked (λ has. received_as v w u.ring (u.delivered ∙ sym (u.held (tie.right ∙ has)))) tie.received;
 }
 
--- ---- the strands of four passes, joined and split again
-at_length : (l : View) (y : Strand) → get_elem? (l ++ y ∷ []) (length l) ≡ maybe.some y
+-- ---- the local histories of four passes, joined and split again
+at_length : (l : Knowledge) (y : LocalHistory) → get_elem? (l ++ y ∷ []) (length l) ≡ maybe.some y
 at_length [] y = refl
 at_length (x ∷ l) y = at_length l y
 
-caught_more : (h : List Event) (ds : List Delivery) (l : View) (y : Strand)
-    → all_caught_up h ds (l ++ y ∷ []) ≡ all_caught_up h ds l ++ caught_up h ds y ∷ []
-caught_more h ds [] y = refl
-caught_more h ds (x ∷ l) y = ap (λ (m : View). caught_up h ds x ∷ m) (caught_more h ds l y)
+synced_more : (h : List Event) (ds : List Delivery) (l : Knowledge) (y : LocalHistory)
+    → all_synced h ds (l ++ y ∷ []) ≡ all_synced h ds l ++ synced h ds y ∷ []
+synced_more h ds [] y = refl
+synced_more h ds (x ∷ l) y = ap (λ (m : Knowledge). synced h ds x ∷ m) (synced_more h ds l y)
 
-looked_more : (h : List Event) (e : Event) (ds : List Delivery) (l : View) (y : Strand) → is_pass l ≡ true
-    → all_looked h e ds (l ++ y ∷ []) ≡ all_looked h e ds l ++ caught_up (h ++ e ∷ []) ds y ∷ []
+looked_more : (h : List Event) (e : Event) (ds : List Delivery) (l : Knowledge) (y : LocalHistory) → is_pass l ≡ true
+    → all_looked h e ds (l ++ y ∷ []) ≡ all_looked h e ds l ++ synced (h ++ e ∷ []) ds y ∷ []
 looked_more h e ds [] y p = absurd (true≢false (sym p))
-looked_more h e ds (x ∷ l) y p = ap (λ (m : View). looked h e ds x ∷ m) (caught_more (h ++ e ∷ []) ds l y)
+looked_more h e ds (x ∷ l) y p = ap (λ (m : Knowledge). looked h e ds x ∷ m) (synced_more (h ++ e ∷ []) ds l y)
 
--- the strand after a pass's own ones isn't the first
-not_front : (l : View) → is_pass l ≡ true → length l ≢ 0
+-- the local history after a pass's own ones isn't the first
+not_front : (l : Knowledge) → is_pass l ≡ true → length l ≢ 0
 not_front [] p e = true≢false (sym p)
 not_front (x ∷ xs) p e = absurd (omega (arith, e))
 
-module _ (v0 v1 v2 v3 : View) (o0 : Open v0) (o1 : Open v1) (o2 : Open v2) (o3 : Open v3) (pass : is_pass v3 ≡ true) where
-  abbrev pub one : View
+module _ (v0 v1 v2 v3 : Knowledge) (o0 : Open v0) (o1 : Open v1) (o2 : Open v2) (o3 : Open v3) (pass : is_pass v3 ≡ true) where
+  abbrev pub one : Knowledge
   one = v3 ++ o0.first ∷ []
 
-  abbrev pub two : View
+  abbrev pub two : Knowledge
   two = one ++ o1.first ∷ []
 
   pub one_pass : is_pass one ≡ true
@@ -286,41 +291,42 @@ module _ (v0 v1 v2 v3 : View) (o0 : Open v0) (o1 : Open v1) (o2 : Open v2) (o3 :
   pub two_pass : is_pass two ≡ true
   two_pass = is_pass_more one (o1.first ∷ []) one_pass
 
-  pub together : (a b j : View) → a ≡ with_front v3 v0 → b ≡ with_front a v1 → j ≡ with_front b v2 → j ≡ two ++ o2.first ∷ []
+  pub together : (a b j : Knowledge) → a ≡ with_front v3 v0 → b ≡ with_front a v1 → j ≡ with_front b v2 → j ≡ two ++ o2.first ∷ []
   together a b j e f g =
-      let one_is : a ≡ one = e ∙ ap (λ (l : View). v3 ++ front l) o0.is in
-      let two_is : b ≡ two = f ∙ ap (λ (l : View). with_front l v1) one_is ∙ ap (λ (l : View). one ++ front l) o1.is in
-      g ∙ ap (λ (l : View). with_front l v2) two_is ∙ ap (λ (l : View). two ++ front l) o2.is
+      let one_is : a ≡ one = e ∙ ap (λ (l : Knowledge). v3 ++ front l) o0.is in
+      let two_is : b ≡ two = f ∙ ap (λ (l : Knowledge). with_front l v1) one_is ∙ ap (λ (l : Knowledge). one ++ front l) o1.is in
+      g ∙ ap (λ (l : Knowledge). with_front l v2) two_is ∙ ap (λ (l : Knowledge). two ++ front l) o2.is
 
-  module _ (j : View) (is : j ≡ two ++ o2.first ∷ []) where
+  module _ (j : Knowledge) (is : j ≡ two ++ o2.first ∷ []) where
     pub led_by : view_controller j ≡ view_controller v3
-    led_by = ap view_controller is ∙ ap (λ (l : View). view_controller (((l ++ o0.first ∷ []) ++ o1.first ∷ []) ++ o2.first ∷ [])) o3.is
+    led_by = ap view_controller is
+        ∙ ap (λ (l : Knowledge). view_controller (((l ++ o0.first ∷ []) ++ o1.first ∷ []) ++ o2.first ∷ [])) o3.is
         ∙ sym (ap view_controller o3.is)
 
     pub looked_by : view_number j ≡ view_number v3
-    looked_by = ap view_number is ∙ ap (λ (l : View). view_number (((l ++ o0.first ∷ []) ++ o1.first ∷ []) ++ o2.first ∷ [])) o3.is
+    looked_by = ap view_number is ∙ ap (λ (l : Knowledge). view_number (((l ++ o0.first ∷ []) ++ o1.first ∷ []) ++ o2.first ∷ [])) o3.is
         ∙ sym (ap view_number o3.is)
 
-    -- the position of each strand
+    -- the position of each local history
     at_third : get_elem? j (length two) ≡ maybe.some o2.first
-    at_third = ap (λ (l : View). get_elem? l (length two)) is ∙ at_length two o2.first
+    at_third = ap (λ (l : Knowledge). get_elem? l (length two)) is ∙ at_length two o2.first
 
     at_second : get_elem? j (length one) ≡ maybe.some o1.first
     at_second =
-        ap (λ (l : View). get_elem? l (length one)) is ∙ at_longer two (o2.first ∷ []) (length one) o1.first (at_length one o1.first)
+        ap (λ (l : Knowledge). get_elem? l (length one)) is ∙ at_longer two (o2.first ∷ []) (length one) o1.first (at_length one o1.first)
 
     at_first : get_elem? j (length v3) ≡ maybe.some o0.first
-    at_first = ap (λ (l : View). get_elem? l (length v3)) is
+    at_first = ap (λ (l : Knowledge). get_elem? l (length v3)) is
         ∙ at_longer two (o2.first ∷ []) (length v3) o0.first (at_longer one (o1.first ∷ []) (length v3) o0.first (at_length v3 o0.first))
 
-    pub at_last : (k : ℕ) (z : Strand) → get_elem? v3 k ≡ maybe.some z → get_elem? j k ≡ maybe.some z
-    at_last k z there = ap (λ (l : View). get_elem? l k) is
+    pub at_last : (k : ℕ) (z : LocalHistory) → get_elem? v3 k ≡ maybe.some z → get_elem? j k ≡ maybe.some z
+    at_last k z there = ap (λ (l : Knowledge). get_elem? l k) is
         ∙ at_longer two (o2.first ∷ []) k z (at_longer one (o1.first ∷ []) k z (at_longer v3 (o0.first ∷ []) k z there))
 
     at_front : get_elem? j 0 ≡ maybe.some o3.first
-    at_front = at_last 0 o3.first (ap (λ (l : View). get_elem? l 0) o3.is)
+    at_front = at_last 0 o3.first (ap (λ (l : Knowledge). get_elem? l 0) o3.is)
 
-    module _ (ring : RxCtx) (rings : (k : ℕ) (x : Strand) → get_elem? j k ≡ maybe.some x → x.ring ≡ ring) where
+    module _ (ring : RxCtx) (rings : (k : ℕ) (x : LocalHistory) → get_elem? j k ≡ maybe.some x → x.ring ≡ ring) where
       pub third_named : first_in v2 ≡ Some ring
       third_named = ap first_in o2.is ∙ ap Some (rings (length two) o2.first at_third)
 
@@ -340,73 +346,73 @@ module _ (v0 v1 v2 v3 : View) (o0 : Open v0) (o1 : Open v1) (o2 : Open v2) (o3 :
       abbrev all_by : List Event
       all_by = h ++ look_by ∷ []
 
-      module _ (u : View) (caught : u ≡ all_looked h look_by ds j) where
-        pub parts_two : u ≡ all_looked h look_by ds two ++ caught_up all_by ds o2.first ∷ []
+      module _ (u : Knowledge) (caught : u ≡ all_looked h look_by ds j) where
+        pub parts_two : u ≡ all_looked h look_by ds two ++ synced all_by ds o2.first ∷ []
         parts_two = caught ∙ ap (all_looked h look_by ds) is ∙ looked_more h look_by ds two o2.first two_pass
 
-        pub parts_one : but_last u ≡ all_looked h look_by ds one ++ caught_up all_by ds o1.first ∷ []
-        parts_one = ap but_last parts_two ∙ but_last_is (all_looked h look_by ds two) (caught_up all_by ds o2.first)
+        pub parts_one : but_last u ≡ all_looked h look_by ds one ++ synced all_by ds o1.first ∷ []
+        parts_one = ap but_last parts_two ∙ but_last_is (all_looked h look_by ds two) (synced all_by ds o2.first)
             ∙ looked_more h look_by ds one o1.first one_pass
 
-        pub parts_none : but_last (but_last u) ≡ all_looked h look_by ds v3 ++ caught_up all_by ds o0.first ∷ []
-        parts_none = ap but_last parts_one ∙ but_last_is (all_looked h look_by ds one) (caught_up all_by ds o1.first)
+        pub parts_none : but_last (but_last u) ≡ all_looked h look_by ds v3 ++ synced all_by ds o0.first ∷ []
+        parts_none = ap but_last parts_one ∙ but_last_is (all_looked h look_by ds one) (synced all_by ds o1.first)
             ∙ looked_more h look_by ds v3 o0.first pass
 
-        pub rest_is : but_last (but_last (but_last u)) ≡ looked h look_by ds o3.first ∷ all_caught_up all_by ds o3.extra
-        rest_is = ap but_last parts_none ∙ but_last_is (all_looked h look_by ds v3) (caught_up all_by ds o0.first)
+        pub rest_is : but_last (but_last (but_last u)) ≡ looked h look_by ds o3.first ∷ all_synced all_by ds o3.extra
+        rest_is = ap but_last parts_none ∙ but_last_is (all_looked h look_by ds v3) (synced all_by ds o0.first)
             ∙ ap (all_looked h look_by ds) o3.is
 
-        pub third_is : last_alone u ≡ caught_up all_by ds o2.first ∷ []
-        third_is = ap last_alone parts_two ∙ last_alone_is (all_looked h look_by ds two) (caught_up all_by ds o2.first)
+        pub third_is : last_alone u ≡ synced all_by ds o2.first ∷ []
+        third_is = ap last_alone parts_two ∙ last_alone_is (all_looked h look_by ds two) (synced all_by ds o2.first)
 
-        pub second_is : last_alone (but_last u) ≡ caught_up all_by ds o1.first ∷ []
-        second_is = ap last_alone parts_one ∙ last_alone_is (all_looked h look_by ds one) (caught_up all_by ds o1.first)
+        pub second_is : last_alone (but_last u) ≡ synced all_by ds o1.first ∷ []
+        second_is = ap last_alone parts_one ∙ last_alone_is (all_looked h look_by ds one) (synced all_by ds o1.first)
 
-        pub first_is : last_alone (but_last (but_last u)) ≡ caught_up all_by ds o0.first ∷ []
-        first_is = ap last_alone parts_none ∙ last_alone_is (all_looked h look_by ds v3) (caught_up all_by ds o0.first)
+        pub first_is : last_alone (but_last (but_last u)) ≡ synced all_by ds o0.first ∷ []
+        first_is = ap last_alone parts_none ∙ last_alone_is (all_looked h look_by ds v3) (synced all_by ds o0.first)
 
-        module _ (knows : (k : ℕ) (z : Strand) (c : ℕ) → get_elem? j k ≡ maybe.some z → z.number ≡ Some c
+        module _ (knows : (k : ℕ) (z : LocalHistory) (c : ℕ) → get_elem? j k ≡ maybe.some z → z.number ≡ Some c
             → Knew (view_controller j) h ds z c)
-            (once : (k : ℕ) (z : Strand) → get_elem? j k ≡ maybe.some z → z.number ≡ Some (view_number j) → k ≡ 0) where
-          pub knows_at : (k : ℕ) (z : Strand) (c : ℕ) → get_elem? j k ≡ maybe.some z → z.number ≡ Some c
+            (once : (k : ℕ) (z : LocalHistory) → get_elem? j k ≡ maybe.some z → z.number ≡ Some (view_number j) → k ≡ 0) where
+          pub knows_at : (k : ℕ) (z : LocalHistory) (c : ℕ) → get_elem? j k ≡ maybe.some z → z.number ≡ Some c
               → Knew (view_controller v3) h ds z c
           knows_at k z c there n = subst (λ (m : ℕ). Knew m h ds z c) led_by (knows k z c there n)
 
-          -- a strand that isn't the first has another number
-          apart : (k : ℕ) (v : View) (o : Open v) → get_elem? j k ≡ maybe.some o.first → k ≢ 0 → view_number v3 ≢ view_number v
+          -- a local history that isn't the first has another number
+          apart : (k : ℕ) (v : Knowledge) (o : Open v) → get_elem? j k ≡ maybe.some o.first → k ≢ 0 → view_number v3 ≢ view_number v
           apart k v o there behind same = behind (once k o.first there (o.numbered ∙ ap Some (sym same ∙ sym looked_by)))
 
-          other_exact : (k : ℕ) (v : View) (o : Open v) → get_elem? j k ≡ maybe.some o.first → k ≢ 0
+          other_exact : (k : ℕ) (v : Knowledge) (o : Open v) → get_elem? j k ≡ maybe.some o.first → k ≢ 0
               → own (view_number v) all_by ≡ o.first.mine
           other_exact k v o there behind =
               own_other (view_number v) h look_by (apart k v o there behind) ∙ (knows_at k o.first (view_number v) there o.numbered).exact
 
-          other_catches : (k : ℕ) (v : View) (o : Open v) → get_elem? j k ≡ maybe.some o.first → k ≢ 0 → (w : View)
-              → w ≡ caught_up all_by ds o.first ∷ [] → CatchesUp h look_by ds v w × (mine w ≡ mine v)
-          other_catches k v o there behind w back = (
-            catches_up (view_controller v3) h look_by ds v w o o.first.mine [] (knows_at k o.first (view_number v) there o.numbered)
+          other_syncs : (k : ℕ) (v : Knowledge) (o : Open v) → get_elem? j k ≡ maybe.some o.first → k ≢ 0 → (w : Knowledge)
+              → w ≡ synced all_by ds o.first ∷ [] → Syncs h look_by ds v w × (mine w ≡ mine v)
+          other_syncs k v o there behind w back = (
+            syncs (view_controller v3) h look_by ds v w o o.first.mine [] (knows_at k o.first (view_number v) there o.numbered)
                 (other_exact k v o there behind) back,
             ap mine back ∙ sym (ap mine o.is),
           )
 
-          pub third_catches : CatchesUp h look_by ds v2 (last_alone u) × (mine (last_alone u) ≡ mine v2)
-          third_catches = other_catches (length two) v2 o2 at_third (not_front two two_pass) (last_alone u) third_is
+          pub third_syncs : Syncs h look_by ds v2 (last_alone u) × (mine (last_alone u) ≡ mine v2)
+          third_syncs = other_syncs (length two) v2 o2 at_third (not_front two two_pass) (last_alone u) third_is
 
-          pub second_catches : CatchesUp h look_by ds v1 (last_alone (but_last u)) × (mine (last_alone (but_last u)) ≡ mine v1)
-          second_catches = other_catches (length one) v1 o1 at_second (not_front one one_pass) (last_alone (but_last u)) second_is
+          pub second_syncs : Syncs h look_by ds v1 (last_alone (but_last u)) × (mine (last_alone (but_last u)) ≡ mine v1)
+          second_syncs = other_syncs (length one) v1 o1 at_second (not_front one one_pass) (last_alone (but_last u)) second_is
 
-          pub first_catches : CatchesUp h look_by ds v0 (last_alone (but_last (but_last u)))
+          pub first_syncs : Syncs h look_by ds v0 (last_alone (but_last (but_last u)))
               × (mine (last_alone (but_last (but_last u))) ≡ mine v0)
-          first_catches = other_catches (length v3) v0 o0 at_first (not_front v3 pass) (last_alone (but_last (but_last u))) first_is
+          first_syncs = other_syncs (length v3) v0 o0 at_first (not_front v3 pass) (last_alone (but_last (but_last u))) first_is
 
-          pub last_catches : CatchesUp h look_by ds v3 (but_last (but_last (but_last u)))
+          pub last_syncs : Syncs h look_by ds v3 (but_last (but_last (but_last u)))
               × (mine (but_last (but_last (but_last u))) ≡ mine v3 ++ look_by ∷ [])
-          last_catches =
+          last_syncs =
               let knew = knows_at 0 o3.first (view_number v3) at_front o3.numbered in (
-                catches_up (view_controller v3) h look_by ds v3 (but_last (but_last (but_last u))) o3 (o3.first.mine ++ look_by ∷ [])
-                    (all_caught_up all_by ds o3.extra) knew
+                syncs (view_controller v3) h look_by ds v3 (but_last (but_last (but_last u))) o3 (o3.first.mine ++ look_by ∷ [])
+                    (all_synced all_by ds o3.extra) knew
                     (own_mine (view_number v3) h look_by refl ∙ ap (λ (l : List Event). l ++ look_by ∷ []) knew.exact) rest_is,
-                ap mine rest_is ∙ ap (λ (v : View). mine v ++ look_by ∷ []) (sym o3.is),
+                ap mine rest_is ∙ ap (λ (v : Knowledge). mine v ++ look_by ∷ []) (sym o3.is),
               )
 
           pub others_led : (view_controller v0 ≡ view_controller v3) × (view_controller v1 ≡ view_controller v3)
@@ -443,7 +449,7 @@ pub answers_survey : {k c : ℕ} {x y : Seen} {before after : List Pass} → y �
 answers_survey {k} {c} {x} {y} {before} {after} e s = subst (λ (z : Seen). Surveys k c z before after) (sym e) s
 
 -- ---- a survey, step by step
-looked_pass : (h : List Event) (e : Event) (ds : List Delivery) (v : View) → is_pass v ≡ true → is_pass (all_looked h e ds v) ≡ true
+looked_pass : (h : List Event) (e : Event) (ds : List Delivery) (v : Knowledge) → is_pass v ≡ true → is_pass (all_looked h e ds v) ≡ true
 looked_pass h e ds [] p = p
 looked_pass h e ds (x ∷ xs) p = p
 
@@ -452,7 +458,7 @@ at_rest p none =
     let l = hold_nothing p.seat.me.1 (p.marked ∙ ap Some none) in
     subst (λ (m : Carried). Tied Nothing (view_of p, m)) l (subst (λ (k : Holds). Tied k p.seat.me) none (tie_of p))
 
-module _ (p0 p1 p2 p3 : Pass) (m1 m2 m3 : Me Content View) (e1 : m1 ≡ (with_front (view_of p3) (view_of p0), p3.seat.me.1))
+module _ (p0 p1 p2 p3 : Pass) (m1 m2 m3 : Me Content Knowledge) (e1 : m1 ≡ (with_front (view_of p3) (view_of p0), p3.seat.me.1))
     (e2 : m2 ≡ (with_front m1.0 (view_of p1), m1.1))
     (e3 : m3 ≡ (with_front m2.0 (view_of p2), m2.1)) where
   abbrev q0 : Open (view_of p0)
@@ -468,23 +474,23 @@ module _ (p0 p1 p2 p3 : Pass) (m1 m2 m3 : Me Content View) (e1 : m1 ≡ (with_fr
   q3 = opened (view_of p3) p3.is_pass
 
   pub first_pass : is_pass m1.0 ≡ true
-  first_pass = ap (λ (m : Me Content View). is_pass m.0) e1 ∙ is_pass_more (view_of p3) (front (view_of p0)) p3.is_pass
+  first_pass = ap (λ (m : Me Content Knowledge). is_pass m.0) e1 ∙ is_pass_more (view_of p3) (front (view_of p0)) p3.is_pass
 
   pub second_pass : is_pass m2.0 ≡ true
-  second_pass = ap (λ (m : Me Content View). is_pass m.0) e2 ∙ is_pass_more m1.0 (front (view_of p1)) first_pass
+  second_pass = ap (λ (m : Me Content Knowledge). is_pass m.0) e2 ∙ is_pass_more m1.0 (front (view_of p1)) first_pass
 
   pub third_pass : is_pass m3.0 ≡ true
-  third_pass = ap (λ (m : Me Content View). is_pass m.0) e3 ∙ is_pass_more m2.0 (front (view_of p2)) second_pass
+  third_pass = ap (λ (m : Me Content Knowledge). is_pass m.0) e3 ∙ is_pass_more m2.0 (front (view_of p2)) second_pass
 
-  abbrev one_of : View
+  abbrev one_of : Knowledge
   one_of = one (view_of p0) (view_of p1) (view_of p2) (view_of p3) q0 q1 q2 q3 p3.is_pass
 
-  abbrev two_of : View
+  abbrev two_of : Knowledge
   two_of = two (view_of p0) (view_of p1) (view_of p2) (view_of p3) q0 q1 q2 q3 p3.is_pass
 
   all_in : m3.0 ≡ two_of ++ q2.first ∷ []
   all_in = together (view_of p0) (view_of p1) (view_of p2) (view_of p3) q0 q1 q2 q3 p3.is_pass m1.0 m2.0 m3.0
-      (ap (λ (m : Me Content View). m.0) e1) (ap (λ (m : Me Content View). m.0) e2) (ap (λ (m : Me Content View). m.0) e3)
+      (ap (λ (m : Me Content Knowledge). m.0) e1) (ap (λ (m : Me Content Knowledge). m.0) e2) (ap (λ (m : Me Content Knowledge). m.0) e3)
 
   led : view_controller m3.0 ≡ view_controller (view_of p3)
   led = led_by (view_of p0) (view_of p1) (view_of p2) (view_of p3) q0 q1 q2 q3 p3.is_pass m3.0 all_in
@@ -492,10 +498,10 @@ module _ (p0 p1 p2 p3 : Pass) (m1 m2 m3 : Me Content View) (e1 : m1 ≡ (with_fr
   number_led : view_number m3.0 ≡ view_number (view_of p3)
   number_led = looked_by (view_of p0) (view_of p1) (view_of p2) (view_of p3) q0 q1 q2 q3 p3.is_pass m3.0 all_in
 
-  in_all : (k : ℕ) (z : Strand) → get_elem? (view_of p3) k ≡ maybe.some z → get_elem? m3.0 k ≡ maybe.some z
+  in_all : (k : ℕ) (z : LocalHistory) → get_elem? (view_of p3) k ≡ maybe.some z → get_elem? m3.0 k ≡ maybe.some z
   in_all = at_last (view_of p0) (view_of p1) (view_of p2) (view_of p3) q0 q1 q2 q3 p3.is_pass m3.0 all_in
 
-  module _ (n : ℕ) (u : Me Content View) (t : Surveyed m3 n u) where
+  module _ (n : ℕ) (u : Me Content Knowledge) (t : Surveyed m3 n u) where
     abbrev pub hs : List Event
     hs = t.found
 
@@ -509,85 +515,87 @@ module _ (p0 p1 p2 p3 : Pass) (m1 m2 m3 : Me Content View) (e1 : m1 ≡ (with_fr
     whole_now = hs ++ look_then ∷ []
 
     slot_then : u.1 ≡ p3.seat.me.1
-    slot_then = t.slot ∙ ap (λ (m : Me Content View). m.1) e3 ∙ ap (λ (m : Me Content View). m.1) e2 ∙ ap (λ (m : Me Content View). m.1) e1
+    slot_then = t.slot ∙ ap (λ (m : Me Content Knowledge). m.1) e3 ∙ ap (λ (m : Me Content Knowledge). m.1) e2
+        ∙ ap (λ (m : Me Content Knowledge). m.1) e1
 
     caught : u.0 ≡ all_looked hs look_then es m3.0
     caught = t.view ∙ ap (λ (c : ℕ). all_looked hs (event c (Look t.seen)) es m3.0) number_led
 
-    pub caught_is : u.0 ≡ all_looked hs look_then es two_of ++ caught_up whole_now es q2.first ∷ []
-    caught_is = parts_two (view_of p0) (view_of p1) (view_of p2) (view_of p3) q0 q1 q2 q3 p3.is_pass m3.0 all_in hs t.seen es u.0 caught
+    pub synced_is : u.0 ≡ all_looked hs look_then es two_of ++ synced whole_now es q2.first ∷ []
+    synced_is = parts_two (view_of p0) (view_of p1) (view_of p2) (view_of p3) q0 q1 q2 q3 p3.is_pass m3.0 all_in hs t.seen es u.0 caught
 
-    pub caught_is_pass : is_pass u.0 ≡ true
-    caught_is_pass = ap is_pass caught ∙ looked_pass hs look_then es m3.0 third_pass
+    pub synced_is_pass : is_pass u.0 ≡ true
+    synced_is_pass = ap is_pass caught ∙ looked_pass hs look_then es m3.0 third_pass
 
-    module _ (s1 : Me Content View) (f1 : s1 ≡ (but_last u.0, u.1)) where
-      pub second_left : s1.0 ≡ all_looked hs look_then es one_of ++ caught_up whole_now es q1.first ∷ []
-      second_left = ap (λ (m : Me Content View). m.0) f1
+    module _ (s1 : Me Content Knowledge) (f1 : s1 ≡ (but_last u.0, u.1)) where
+      pub second_left : s1.0 ≡ all_looked hs look_then es one_of ++ synced whole_now es q1.first ∷ []
+      second_left = ap (λ (m : Me Content Knowledge). m.0) f1
           ∙ parts_one (view_of p0) (view_of p1) (view_of p2) (view_of p3) q0 q1 q2 q3 p3.is_pass m3.0 all_in hs t.seen es u.0 caught
 
       pub second_left_pass : is_pass s1.0 ≡ true
       second_left_pass =
-          ap is_pass second_left ∙ is_pass_more (all_looked hs look_then es one_of) (caught_up whole_now es q1.first ∷ [])
+          ap is_pass second_left ∙ is_pass_more (all_looked hs look_then es one_of) (synced whole_now es q1.first ∷ [])
           (looked_pass hs look_then es one_of (is_pass_more (view_of p3) (q0.first ∷ []) p3.is_pass))
 
-      module _ (s2 : Me Content View) (f2 : s2 ≡ (but_last s1.0, s1.1)) where
+      module _ (s2 : Me Content Knowledge) (f2 : s2 ≡ (but_last s1.0, s1.1)) where
         left_two : s2.0 ≡ but_last (but_last u.0)
-        left_two = ap (λ (m : Me Content View). m.0) f2 ∙ ap (λ (m : Me Content View). but_last m.0) f1
+        left_two = ap (λ (m : Me Content Knowledge). m.0) f2 ∙ ap (λ (m : Me Content Knowledge). but_last m.0) f1
 
-        pub first_left : s2.0 ≡ all_looked hs look_then es (view_of p3) ++ caught_up whole_now es q0.first ∷ []
+        pub first_left : s2.0 ≡ all_looked hs look_then es (view_of p3) ++ synced whole_now es q0.first ∷ []
         first_left = left_two
             ∙ parts_none (view_of p0) (view_of p1) (view_of p2) (view_of p3) q0 q1 q2 q3 p3.is_pass m3.0 all_in hs t.seen es u.0 caught
 
         pub first_left_pass : is_pass s2.0 ≡ true
         first_left_pass =
-            ap is_pass first_left ∙ is_pass_more (all_looked hs look_then es (view_of p3)) (caught_up whole_now es q0.first ∷ [])
+            ap is_pass first_left ∙ is_pass_more (all_looked hs look_then es (view_of p3)) (synced whole_now es q0.first ∷ [])
             (looked_pass hs look_then es (view_of p3) p3.is_pass)
 
-        pub first_back : (r : Me Content View) → r ≡ (last_alone s2.0, [])
-            → CatchesUp hs look_then es (view_of p0) r.0 × (mine r.0 ≡ mine (view_of p0))
+        pub first_back : (r : Me Content Knowledge) → r ≡ (last_alone s2.0, [])
+            → Syncs hs look_then es (view_of p0) r.0 × (mine r.0 ≡ mine (view_of p0))
         first_back r e =
-            subst (λ (w : View). CatchesUp hs look_then es (view_of p0) w × (mine w ≡ mine (view_of p0)))
-            (sym (ap (λ (m : Me Content View). m.0) e ∙ ap last_alone left_two))
-            (first_catches (view_of p0) (view_of p1) (view_of p2)
+            subst (λ (w : Knowledge). Syncs hs look_then es (view_of p0) w × (mine w ≡ mine (view_of p0)))
+            (sym (ap (λ (m : Me Content Knowledge). m.0) e ∙ ap last_alone left_two))
+            (first_syncs (view_of p0) (view_of p1) (view_of p2)
             (view_of p3) q0 q1 q2 q3 p3.is_pass m3.0 all_in hs t.seen es u.0 caught t.knew t.once)
 
-        pub last_back : (s3 : Me Content View) → s3 ≡ (but_last s2.0, s2.1)
-            → CatchesUp hs look_then es (view_of p3) s3.0 × (mine s3.0 ≡ mine (view_of p3) ++ look_then ∷ [])
+        pub last_back : (s3 : Me Content Knowledge) → s3 ≡ (but_last s2.0, s2.1)
+            → Syncs hs look_then es (view_of p3) s3.0 × (mine s3.0 ≡ mine (view_of p3) ++ look_then ∷ [])
         last_back s3 e =
-            subst (λ (w : View). CatchesUp hs look_then es (view_of p3) w × (mine w ≡ mine (view_of p3) ++ look_then ∷ []))
-            (sym (ap (λ (m : Me Content View). m.0) e ∙ ap but_last left_two))
-            (last_catches (view_of p0) (view_of p1) (view_of p2)
+            subst (λ (w : Knowledge). Syncs hs look_then es (view_of p3) w × (mine w ≡ mine (view_of p3) ++ look_then ∷ []))
+            (sym (ap (λ (m : Me Content Knowledge). m.0) e ∙ ap but_last left_two))
+            (last_syncs (view_of p0) (view_of p1) (view_of p2)
             (view_of p3) q0 q1 q2 q3 p3.is_pass m3.0 all_in hs t.seen es u.0 caught t.knew t.once)
 
-        pub last_slot : (s3 : Me Content View) → s3 ≡ (but_last s2.0, s2.1) → s3.1 ≡ p3.seat.me.1
+        pub last_slot : (s3 : Me Content Knowledge) → s3 ≡ (but_last s2.0, s2.1) → s3.1 ≡ p3.seat.me.1
         last_slot s3 e =
-            ap (λ (m : Me Content View). m.1) e ∙ ap (λ (m : Me Content View). m.1) f2 ∙ ap (λ (m : Me Content View). m.1) f1 ∙ slot_then
+            ap (λ (m : Me Content Knowledge). m.1) e ∙ ap (λ (m : Me Content Knowledge). m.1) f2
+            ∙ ap (λ (m : Me Content Knowledge). m.1) f1 ∙ slot_then
 
-        pub last_tied : (s3 : Me Content View) → s3 ≡ (but_last s2.0, s2.1) → Tied p3.holds s3
+        pub last_tied : (s3 : Me Content Knowledge) → s3 ≡ (but_last s2.0, s2.1) → Tied p3.holds s3
         last_tied s3 e =
             subst (λ (l : Carried). Tied p3.holds (s3.0, l)) (sym (last_slot s3 e))
             (tied_up hs (view_number (view_of p3)) t.seen es (view_of p3) s3.0 p3.seat.me.1 p3.holds (last_back s3 e).0 (tie_of p3))
 
-      pub second_back : (r : Me Content View) → r ≡ (last_alone s1.0, [])
-          → CatchesUp hs look_then es (view_of p1) r.0 × (mine r.0 ≡ mine (view_of p1))
+      pub second_back : (r : Me Content Knowledge) → r ≡ (last_alone s1.0, [])
+          → Syncs hs look_then es (view_of p1) r.0 × (mine r.0 ≡ mine (view_of p1))
       second_back r e =
-          subst (λ (w : View). CatchesUp hs look_then es (view_of p1) w × (mine w ≡ mine (view_of p1)))
-          (sym (ap (λ (m : Me Content View). m.0) e ∙ ap (λ (m : Me Content View). last_alone m.0) f1))
-          (second_catches (view_of p0) (view_of p1) (view_of p2)
+          subst (λ (w : Knowledge). Syncs hs look_then es (view_of p1) w × (mine w ≡ mine (view_of p1)))
+          (sym (ap (λ (m : Me Content Knowledge). m.0) e ∙ ap (λ (m : Me Content Knowledge). last_alone m.0) f1))
+          (second_syncs (view_of p0) (view_of p1) (view_of p2)
           (view_of p3) q0 q1 q2 q3 p3.is_pass m3.0 all_in hs t.seen es u.0 caught t.knew t.once)
 
-    pub third_back : (r : Me Content View) → r ≡ (last_alone u.0, [])
-        → CatchesUp hs look_then es (view_of p2) r.0 × (mine r.0 ≡ mine (view_of p2))
+    pub third_back : (r : Me Content Knowledge) → r ≡ (last_alone u.0, [])
+        → Syncs hs look_then es (view_of p2) r.0 × (mine r.0 ≡ mine (view_of p2))
     third_back r e =
-        subst (λ (w : View). CatchesUp hs look_then es (view_of p2) w × (mine w ≡ mine (view_of p2)))
-        (sym (ap (λ (m : Me Content View). m.0) e))
-        (third_catches (view_of p0) (view_of p1) (view_of p2)
+        subst (λ (w : Knowledge). Syncs hs look_then es (view_of p2) w × (mine w ≡ mine (view_of p2)))
+        (sym (ap (λ (m : Me Content Knowledge). m.0) e))
+        (third_syncs (view_of p0) (view_of p1) (view_of p2)
         (view_of p3) q0 q1 q2 q3 p3.is_pass m3.0 all_in hs t.seen es u.0 caught t.knew t.once)
 
-    pub rest_tied : (p : Pass) → p.holds ≡ Nothing → (v : View) (r : Me Content View) → r ≡ (v, [])
-        → CatchesUp hs look_then es (view_of p) r.0 → Tied Nothing r
+    pub rest_tied : (p : Pass) → p.holds ≡ Nothing → (v : Knowledge) (r : Me Content Knowledge) → r ≡ (v, [])
+        → Syncs hs look_then es (view_of p) r.0 → Tied Nothing r
     rest_tied p none v r e u =
-        subst (λ (l : Carried). Tied Nothing (r.0, l)) (sym (ap (λ (m : Me Content View). m.1) e))
+        subst (λ (l : Carried). Tied Nothing (r.0, l)) (sym (ap (λ (m : Me Content Knowledge). m.1) e))
         (tied_up hs (view_number (view_of p3)) t.seen es (view_of p) r.0 [] Nothing u (at_rest p none))
 
     pub whole_is : IsWhole (view_controller (view_of p3)) whole_now es
@@ -614,7 +622,7 @@ module _ (p0 p1 p2 p3 : Pass) (m1 m2 m3 : Me Content View) (e1 : m1 ≡ (with_fr
         of_four (λ p. view_controller (view_of p) ≡ view_controller (view_of p3)) p0 p1 p2 p3 l.0 l.1 l.2 refl
 
     pub last_steps : (q : Pass)
-        → CatchesUp hs look_then es (view_of p3) (view_of q) × (mine (view_of q) ≡ mine (view_of p3) ++ look_then ∷ []) → SameTable p3 q
+        → Syncs hs look_then es (view_of p3) (view_of q) × (mine (view_of q) ≡ mine (view_of p3) ++ look_then ∷ []) → SameTable p3 q
         → q.holds ≡ p3.holds → q.seat.me.1 ≡ p3.seat.me.1 → Makes p3 (Look t.seen) stays q
     last_steps q c table holds slot =
         made_step hs t.seen es p3 q whole_is c.0 c.1 (λ k z e. t.seen_begins k z (in_all k z e))
