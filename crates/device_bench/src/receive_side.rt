@@ -139,14 +139,14 @@ pub trait ReceiveSide {
 
 /// A linear receive side: only [`end`](SpentSide::end) consumes it.
 pub trait SpentSide: ReceiveSide {
-    /// The counts of its ring.
-    type Totals: Copy;
+    /// What it leaves at its end.
+    type End: Drop;
 
-    /// `ended side totals`: a receive side in this state was ended, and these are the counts of its ring.
-    ghost ended: { ReceiveView → Self.Totals → Type 0 };
+    /// `ended side end`: a receive side in this state was ended, and left this.
+    ghost ended: { ReceiveView → Self.End → Type 0 };
 
-    /// Waits until no caller owns the instance, disables it, and polls all packets in the ring. Returns the counts of the ring.
-    fn end(self) -> Self::Totals
+    /// Waits until no caller owns the instance, disables it, and polls all packets in the ring.
+    fn end(self) -> Self::End
         ensures { ended (Self.side self) result };
 }
 

@@ -8,6 +8,7 @@
 
 mod acting;
 mod bench;
+mod closed_side;
 mod ending;
 mod meeting;
 mod opening;
@@ -17,5 +18,6 @@ mod seats;
 mod shared_receive;
 
 pub use bench::SharedBench;
+pub use closed_side::ClosedSide;
 pub use opening::SharedOpener;
 pub use shared_receive::SharedReceive;
