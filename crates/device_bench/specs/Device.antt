@@ -27,15 +27,15 @@ new_device capacity = record { side = opened_side capacity; threaded = false; co
 -- ---- a packet
 
 -- the reply to the interrupt's request is counted
-abbrev pub counts_after_reply : Prep → DeviceCounts → DeviceCounts
-counts_after_reply Granted t = record t { granted = raised t.granted 1 }
-counts_after_reply Missed t = record t { missed = raised t.missed 1 }
-counts_after_reply Disabled t = record t { disabled = raised t.disabled 1 }
+abbrev pub counted_reply : Prep → DeviceCounts → DeviceCounts
+counted_reply Granted t = record t { granted = raised t.granted 1 }
+counted_reply Missed t = record t { missed = raised t.missed 1 }
+counted_reply Disabled t = record t { disabled = raised t.disabled 1 }
 
 -- the interrupt requests a poll, and has this reply
 abbrev pub after_reply : Prep → DeviceView → Option Kind × DeviceView
 after_reply reply d =
-    (queued_kind reply d.side.napi, record (with_napi (requested reply d.side.napi) d) { counts = counts_after_reply reply d.counts })
+    (queued_kind reply d.side.napi, record (with_napi (requested reply d.side.napi) d) { counts = counted_reply reply d.counts })
 
 unfoldable pub after_request : DeviceView → Option Kind × DeviceView
 after_request d = after_reply (schedule_reply d.side.napi) d
@@ -62,15 +62,15 @@ device_polled weight d = record d {
 -- ---- polling, by the rule that `poll_runs` states
 
 -- a completion is counted
-abbrev pub counts_after_operation : Operation → DeviceCounts → DeviceCounts
-counts_after_operation (operation.Complete Again) t = record t { again = raised t.again 1 }
-counts_after_operation (operation.Complete Released) t = record t { released = raised t.released 1 }
-counts_after_operation (operation.Complete Held) t = record t { held = raised t.held 1 }
-counts_after_operation o t = t
+abbrev pub counted_after : Operation → DeviceCounts → DeviceCounts
+counted_after (operation.Complete Again) t = record t { again = raised t.again 1 }
+counted_after (operation.Complete Released) t = record t { released = raised t.released 1 }
+counted_after (operation.Complete Held) t = record t { held = raised t.held 1 }
+counted_after o t = t
 
 -- an operation of polling is made and counted
 abbrev pub acted : Operation → DeviceView → DeviceView
-acted o d = record (operated (caller_of o d.side.napi.place) o d) { counts = counts_after_operation o d.counts }
+acted o d = record (operated (caller_of o d.side.napi.place) o d) { counts = counted_after o d.counts }
 
 -- a plan executed on its own, in which each call gets its reply at once: its result, and the device afterwards
 unfoldable pub carried_out : {A : Type 0} → Plan ℕ A → DeviceView → A × DeviceView

@@ -2,7 +2,7 @@
 
 ghost use Rattle.std.specs.Prelude.{◌≡◌, ◌≤◌, ◌<◌, ◌^◌, true, if◌then◌else◌};
 ghost use Rattle.napi_model.specs.declared.event.{Done.TheVariants.{Again, Released}, Operation.TheVariants.{Complete}};
-ghost use Rattle.device_bench.specs.Device.{after_disable, after_enable, device_after_packet, after_request, after_threaded, is_pending, new_device, device_polled, polled_busily, polled_by_thread, polled_once, settled, device_state, counts_after_operation};
+ghost use Rattle.device_bench.specs.Device.{after_disable, after_enable, device_after_packet, after_request, after_threaded, is_pending, new_device, device_polled, polled_busily, polled_by_thread, polled_once, settled, device_state, counted_after};
 ghost use Rattle.device_bench.specs.Counts.{device_counts};
 ghost use Rattle.device_bench.specs.Receive.{polled_bytes, given_of, is_polling_place, opened_side};
 ghost use Rattle.device_places.specs.Range.{IsWithin};
@@ -315,7 +315,7 @@ impl<S: ReceiveSide> BusyInstance for BenchDevice<S> {
 
 // Counts a completion that isn't held.
 fn count_completion(counts: &mut DeviceCounts, again: bool)
-    ensures { counts.new ≡ counts_after_operation (Complete (if again then Again else Released)) counts.old }
+    ensures { counts.new ≡ counted_after (Complete (if again then Again else Released)) counts.old }
 {
     if again {
         counts.again = counts.again.saturating_add(1);
