@@ -17,6 +17,7 @@ import os
 import re
 import shutil
 import subprocess
+import sys
 import tempfile
 
 from build import BUILT, TOP, build, child, crates, end_by, read, sums
@@ -242,6 +243,12 @@ def prove_all(room, names):
 
 
 def gate(words):
+    if words[:1] in (["-h"], ["--help"]):
+        print(__doc__, end="", flush=True)
+        return 0
+    if words[:1] not in (["proofs"], ["edits"], ["uncompiled"]) or words == ["proofs"]:
+        print("scripts/gate.py: the first argument is proofs ROOM, edits or uncompiled; --help says more", file=sys.stderr, flush=True)
+        return 64
     if words[0] == "proofs":
         passed, failed = prove_all(words[1], words[2:])
     elif words[0] == "uncompiled":

@@ -45,6 +45,12 @@ edit one/must-fail/the-second-one.edit 'a < b' 'a > b'
 mv "$scratch/low/crates/one/must-fail/the-second-one.edit.edit" "$scratch/low/crates/one/must-fail/misnamed"
 status=0
 gate() { python3 -EsSB "$scratch/low/scripts/gate.py" "$@" > "$scratch/out" 2>&1; }
+is_refused() { gate "$@"; [ "$?" = 64 ] && grep -q -- '--help says more' "$scratch/out"; }
+gate --help
+check 'its help is printed, and nothing is proved' grep -q '^scripts/gate.py proofs ROOM' "$scratch/out"
+check 'it has to know what to do' is_refused
+check 'and to know the word' is_refused --version
+check 'and where' is_refused proofs
 gate proofs "$scratch/room" low one || status=$?
 check 'the crate is proved' grep -qE '^rt: low (proved$|is kept: )' "$scratch/out" # by an earlier run, with a kit that keeps it
 check 'and the other, and they are counted' [ "$(tail -n 1 "$scratch/out") $status" = '2 passed, 0 failed 0' ]

@@ -10,24 +10,24 @@ use Rattle.napi_calls.specs.Made.{Made}
 use Rattle.napi_calls.specs.Calls.{Prepares}
 
 -- a look that showed this word, a look within a call, two looks of a failed attempt, or another operation
-pub data Told : Type 0 where
-  says : ℕ → Told
-  looks : Told
-  changed : Told
-  does : Operation → Told
+pub data ExpectedStep : Type 0 where
+  says : ℕ → ExpectedStep
+  looks : ExpectedStep
+  changed : ExpectedStep
+  does : Operation → ExpectedStep
 
-abbrev pub IsTold : List Told → List Operation → Type 0
-IsTold [] [] = Unit {0}
-IsTold (says w ∷ ts) (Look x ∷ os) = (word_of x ≡ w) × IsTold ts os
-IsTold (looks ∷ ts) (Look x ∷ os) = IsTold ts os
-IsTold (changed ∷ ts) (Look x ∷ Look y ∷ os) = (y ≢ x) × IsTold ts os
-IsTold (does o ∷ ts) (p ∷ os) = (p ≡ o) × IsTold ts os
-IsTold _ _ = ⊥
+abbrev pub AreExpected : List ExpectedStep → List Operation → Type 0
+AreExpected [] [] = Unit {0}
+AreExpected (says w ∷ ts) (Look x ∷ os) = (word_of x ≡ w) × AreExpected ts os
+AreExpected (looks ∷ ts) (Look x ∷ os) = AreExpected ts os
+AreExpected (changed ∷ ts) (Look x ∷ Look y ∷ os) = (y ≢ x) × AreExpected ts os
+AreExpected (does o ∷ ts) (p ∷ os) = (p ≡ o) × AreExpected ts os
+AreExpected _ _ = ⊥
 
 -- from p to q the own list grew by these
-pub record OwnGrewBy (p : Pass) (ts : List Told) (q : Pass) : Type 0 where
+pub record OwnGrewBy (p : Pass) (ts : List ExpectedStep) (q : Pass) : Type 0 where
   pub operations : List Operation
-  pub told : IsTold ts operations
+  pub expected : AreExpected ts operations
   pub made : Made p operations q
 
 -- a caller that schedules while another is within a call, and the result

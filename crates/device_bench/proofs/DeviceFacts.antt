@@ -69,7 +69,7 @@ request-keeps d sound = by d.side.napi.flags.disable d.side.napi.flags.sched ref
     by false true e = record { sound = sound; pending = refl; listed = omega arith }
     by false false e =
         hands d.side.napi.flags.threaded INTERRUPT d (record (operated INTERRUPT (operation.Schedule Granted) d) {
-          told = record d.told { granted = raised d.told.granted 1 };
+          counts = record d.counts { granted = raised d.counts.granted 1 };
         }) refl refl
         (unheld d.side.napi.place d.side.napi.flags.sched sound e)
 
@@ -79,11 +79,11 @@ unfolding device_after_packet
 packet-keeps bytes d sound = by (ring_has_place d.side)
   where
     put : DeviceView
-    put = record d { side = put_if true bytes d.side; told = record d.told { arrived = raised d.told.arrived 1 } }
+    put = record d { side = put_if true bytes d.side; counts = record d.counts { arrived = raised d.counts.arrived 1 } }
 
     by : (b : Bool) → let after =
         if◌then◌else◌ {A = Option Kind × DeviceView} b (after_request put)
-        (None, record d { told = record d.told { arrived = raised d.told.arrived 1; dropped = raised d.told.dropped 1 } }) in
+        (None, record d { counts = record d.counts { arrived = raised d.counts.arrived 1; dropped = raised d.counts.dropped 1 } }) in
         Keeps d after.1 (entries after.0)
     by true = let kept = request-keeps put sound in record { sound = kept.sound; pending = kept.pending; listed = kept.listed }
     by false = record { sound = sound; pending = refl; listed = omega arith }

@@ -8,7 +8,7 @@ use Rattle.napi_model.specs.declared.event.Operation.TheVariants.{Look, Take, Ha
 use Rattle.napi_model.specs.Step.{CallerPolls, after, complete_reply, event, seen_of}
 use Rattle.poll_runs.specs.Plan.{Answers, Action, Does, Follows, Plan, gave, made, ◌>>=◌, ends, asks, acts, polls}
 use Rattle.poll_runs.specs.Polling.{busy_takes, completed, flags_in, gives, is_taken, makes, next_of}
-use Rattle.device_bench.specs.Device.{acted, carried_out, device_polled, told_after, with_napi}
+use Rattle.device_bench.specs.Device.{acted, carried_out, device_polled, counted_after, with_napi}
 use Rattle.device_bench.specs.{DeviceView.DeviceView, Instance.{AtOnce, DeviceDid, IsAnswer, IsDevicePolled}}
 use Rattle.device_bench.specs.Receive.{answered, busy_taken, polled_bytes, done_by, given_of}
 use Rattle.device_bench.specs.Receive.{handed_again, is_idle, state_kind, poller_in, taker_of}
@@ -119,7 +119,7 @@ does-poll weight d e work load is works loads =
 pub does-complete : (d e : DeviceView) (again : Option Kind) → IsDevicePolled d
     → again ≡ handed_again (complete_reply d.side.napi) d.side.napi
     → e ≡ record (with_napi (done_by (poller_in d.side.napi.place) (complete_reply d.side.napi) d.side.napi) d) {
-      told = told_after (Complete (if is_some again then Again else Released)) d.told;
+      counts = counted_after (Complete (if is_some again then Again else Released)) d.counts;
     }
     → Does AtOnce DeviceDid (completed true) d (next_of again) e
 does-complete d e again hand to is = by d.side.napi.flags.missed refl

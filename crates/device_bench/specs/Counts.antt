@@ -5,7 +5,7 @@ use Rattle.device_transmit.specs.declared.transmit.TxCounts.{TxCounts}
 
 -- what the device counted, the content of its ring, its state word, and its transmit side
 abbrev pub device_counts : DeviceView → TxCounts → DeviceCounts
-device_counts d tx = record d.told {
+device_counts d tx = record d.counts {
   state = device_state d;
   left = length d.side.packets;
   word = word_of (seen_of d.side.napi);

@@ -22,19 +22,20 @@ abbrev pub operated : ℕ → Operation → DeviceView → DeviceView
 operated caller operation d = with_napi (after d.side.napi (event caller operation)) d
 
 abbrev pub new_device : ℕ → DeviceView
-new_device capacity = record { side = opened_side capacity; threaded = false; told = OPENED }
+new_device capacity = record { side = opened_side capacity; threaded = false; counts = OPENED }
 
 -- ---- a packet
 
 -- the reply to the interrupt's request is counted
-abbrev pub asked_told : Prep → DeviceCounts → DeviceCounts
-asked_told Granted t = record t { granted = raised t.granted 1 }
-asked_told Missed t = record t { missed = raised t.missed 1 }
-asked_told Disabled t = record t { disabled = raised t.disabled 1 }
+abbrev pub counted_reply : Prep → DeviceCounts → DeviceCounts
+counted_reply Granted t = record t { granted = raised t.granted 1 }
+counted_reply Missed t = record t { missed = raised t.missed 1 }
+counted_reply Disabled t = record t { disabled = raised t.disabled 1 }
 
 -- the interrupt requests a poll, and has this reply
 abbrev pub after_reply : Prep → DeviceView → Option Kind × DeviceView
-after_reply reply d = (queued_kind reply d.side.napi, record (with_napi (requested reply d.side.napi) d) { told = asked_told reply d.told })
+after_reply reply d =
+    (queued_kind reply d.side.napi, record (with_napi (requested reply d.side.napi) d) { counts = counted_reply reply d.counts })
 
 unfoldable pub after_request : DeviceView → Option Kind × DeviceView
 after_request d = after_reply (schedule_reply d.side.napi) d
@@ -43,33 +44,33 @@ after_request d = after_reply (schedule_reply d.side.napi) d
 -- the queue in which this put the instance, and the device afterwards.
 unfoldable pub device_after_packet : ℕ → DeviceView → Option Kind × DeviceView
 device_after_packet bytes d =
-    let counted = record d { told = record d.told { arrived = raised d.told.arrived 1 } } in
+    let counted = record d { counts = record d.counts { arrived = raised d.counts.arrived 1 } } in
     if ring_has_place d.side then after_request (record counted { side = put_if true bytes d.side })
-    else (None, record counted { told = record counted.told { dropped = raised d.told.dropped 1 } })
+    else (None, record counted { counts = record counted.counts { dropped = raised d.counts.dropped 1 } })
 
 -- a poll takes the ring's next packets, and is counted
 unfoldable pub device_polled : ℕ → DeviceView → DeviceView
 device_polled weight d = record d {
   side = record d.side { packets = drop (given_of weight d.side) d.side.packets };
-  told = record d.told {
-    polled = raised d.told.polled (given_of weight d.side);
-    bytes = raised d.told.bytes (polled_bytes weight d.side);
-    polls = raised d.told.polls 1;
+  counts = record d.counts {
+    polled = raised d.counts.polled (given_of weight d.side);
+    bytes = raised d.counts.bytes (polled_bytes weight d.side);
+    polls = raised d.counts.polls 1;
   };
 }
 
 -- ---- polling, by the rule that `poll_runs` states
 
 -- a completion is counted
-abbrev pub told_after : Operation → DeviceCounts → DeviceCounts
-told_after (operation.Complete Again) t = record t { again = raised t.again 1 }
-told_after (operation.Complete Released) t = record t { released = raised t.released 1 }
-told_after (operation.Complete Held) t = record t { held = raised t.held 1 }
-told_after o t = t
+abbrev pub counted_after : Operation → DeviceCounts → DeviceCounts
+counted_after (operation.Complete Again) t = record t { again = raised t.again 1 }
+counted_after (operation.Complete Released) t = record t { released = raised t.released 1 }
+counted_after (operation.Complete Held) t = record t { held = raised t.held 1 }
+counted_after o t = t
 
 -- an operation of polling is made and counted
 abbrev pub acted : Operation → DeviceView → DeviceView
-acted o d = record (operated (caller_of o d.side.napi.place) o d) { told = told_after o d.told }
+acted o d = record (operated (caller_of o d.side.napi.place) o d) { counts = counted_after o d.counts }
 
 -- a plan executed on its own, in which each call gets its reply at once: its result, and the device afterwards
 unfoldable pub carried_out : {A : Type 0} → Plan ℕ A → DeviceView → A × DeviceView

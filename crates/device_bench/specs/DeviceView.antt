@@ -7,4 +7,4 @@ pub record DeviceView : Type 0 where
   -- its threaded setting, which an enable gives to the instance
   pub threaded : Bool
   -- its counts; the other fields of these are computed when they are read
-  pub told : DeviceCounts
+  pub counts : DeviceCounts

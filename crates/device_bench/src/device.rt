@@ -2,7 +2,7 @@
 
 ghost use Rattle.std.specs.Prelude.{◌≡◌, ◌≤◌, ◌<◌, ◌^◌, true, if◌then◌else◌};
 ghost use Rattle.napi_model.specs.declared.event.{Done.TheVariants.{Again, Released}, Operation.TheVariants.{Complete}};
-ghost use Rattle.device_bench.specs.Device.{after_disable, after_enable, device_after_packet, after_request, after_threaded, is_pending, new_device, device_polled, polled_busily, polled_by_thread, polled_once, settled, device_state, told_after};
+ghost use Rattle.device_bench.specs.Device.{after_disable, after_enable, device_after_packet, after_request, after_threaded, is_pending, new_device, device_polled, polled_busily, polled_by_thread, polled_once, settled, device_state, counted_after};
 ghost use Rattle.device_bench.specs.Counts.{device_counts};
 ghost use Rattle.device_bench.specs.Receive.{polled_bytes, given_of, is_polling_place, opened_side};
 ghost use Rattle.device_places.specs.Range.{IsWithin};
@@ -36,7 +36,7 @@ pub(crate) struct BenchDevice<S: ReceiveSide> {
     pub(crate) side: S,
     threaded: bool,
     // The counts; the other fields are computed when they are read.
-    told: DeviceCounts,
+    counts: DeviceCounts,
 }
 
 impl<S: ReceiveSide> Model for BenchDevice<S> {
@@ -44,7 +44,7 @@ impl<S: ReceiveSide> Model for BenchDevice<S> {
 
     ghost Value = { DeviceView };
 
-    ghost view = { λ d. record { side = S.side d.side; threaded = d.threaded; told = d.told } };
+    ghost view = { λ d. record { side = S.side d.side; threaded = d.threaded; counts = d.counts } };
 }
 
 impl<S: ReceiveSide> BenchDevice<S> {
@@ -58,7 +58,7 @@ impl<S: ReceiveSide> BenchDevice<S> {
         BenchDevice {
             side,
             threaded: false,
-            told: DeviceCounts::OPENED,
+            counts: DeviceCounts::OPENED,
         }
     }
 
@@ -71,7 +71,7 @@ impl<S: ReceiveSide> BenchDevice<S> {
             left: self.side.left() as u64,
             word: encode(self.side.seen()),
             tx,
-            ..self.told
+            ..self.counts
         }
     }
 
@@ -83,9 +83,9 @@ impl<S: ReceiveSide> BenchDevice<S> {
     {
         let (reply, kind) = self.side.request();
         match reply {
-            Prep::Granted => self.told.granted = self.told.granted.saturating_add(1),
-            Prep::Missed => self.told.missed = self.told.missed.saturating_add(1),
-            Prep::Disabled => self.told.disabled = self.told.disabled.saturating_add(1),
+            Prep::Granted => self.counts.granted = self.counts.granted.saturating_add(1),
+            Prep::Missed => self.counts.missed = self.counts.missed.saturating_add(1),
+            Prep::Disabled => self.counts.disabled = self.counts.disabled.saturating_add(1),
         }
         kind
     }
@@ -97,9 +97,9 @@ impl<S: ReceiveSide> BenchDevice<S> {
         ensures device { self.new ≡ (device_after_packet bytes self.old).1 }
         ensures kind { result ≡ (device_after_packet bytes self.old).0 }
     {
-        self.told.arrived = self.told.arrived.saturating_add(1);
+        self.counts.arrived = self.counts.arrived.saturating_add(1);
         if !self.side.put(bytes) {
-            self.told.dropped = self.told.dropped.saturating_add(1);
+            self.counts.dropped = self.counts.dropped.saturating_add(1);
             return None;
         }
         self.request()
@@ -178,9 +178,9 @@ impl<S: ReceiveSide> BenchDevice<S> {
     {
         let (count, bytes) = self.side.receive(weight);
         load.bytes = bytes;
-        self.told.polled = self.told.polled.saturating_add(u64::from(count));
-        self.told.bytes = self.told.bytes.saturating_add(bytes);
-        self.told.polls = self.told.polls.saturating_add(1);
+        self.counts.polled = self.counts.polled.saturating_add(u64::from(count));
+        self.counts.bytes = self.counts.bytes.saturating_add(bytes);
+        self.counts.polls = self.counts.polls.saturating_add(1);
         count
     }
 
@@ -225,7 +225,7 @@ impl<S: SpentSide> BenchDevice<S> {
         let BenchDevice {
             side,
             threaded: _,
-            told: _,
+            counts: _,
         } = self;
         side.end()
     }
@@ -271,7 +271,7 @@ impl<S: ReceiveSide> Instance for BenchDevice<S> {
 
     fn complete(&mut self) -> Option<Kind> {
         let again = self.side.complete();
-        count_completion(&mut self.told, again.is_some());
+        count_completion(&mut self.counts, again.is_some());
         again
     }
 
@@ -301,7 +301,7 @@ impl<S: ReceiveSide> BusyInstance for BenchDevice<S> {
 
     fn hold(&mut self) {
         self.side.hold();
-        self.told.held = self.told.held.saturating_add(1);
+        self.counts.held = self.counts.held.saturating_add(1);
     }
 
     fn stop(&mut self) {
@@ -314,13 +314,13 @@ impl<S: ReceiveSide> BusyInstance for BenchDevice<S> {
 }
 
 // Counts a completion that isn't held.
-fn count_completion(told: &mut DeviceCounts, again: bool)
-    ensures { told.new ≡ told_after (Complete (if again then Again else Released)) told.old }
+fn count_completion(counts: &mut DeviceCounts, again: bool)
+    ensures { counts.new ≡ counted_after (Complete (if again then Again else Released)) counts.old }
 {
     if again {
-        told.again = told.again.saturating_add(1);
+        counts.again = counts.again.saturating_add(1);
     } else {
-        told.released = told.released.saturating_add(1);
+        counts.released = counts.released.saturating_add(1);
     }
 }
 

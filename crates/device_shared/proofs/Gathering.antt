@@ -102,7 +102,7 @@ module _ (c : ℕ) (os : List Operation) (n : Napi) (h : List Event) (ds : List 
   leads_to = state_now ∙ grew.leads
 
   pub seen_now : x ≡ seen_of (seats_state s2)
-  seen_now = m.meet.told ∙ ap seen_of (sym (state_looked (opening 3) s.found m.meet.looker x)) ∙ ap seen_of (sym state_now)
+  seen_now = m.meet.state ∙ ap seen_of (sym (state_looked (opening 3) s.found m.meet.looker x)) ∙ ap seen_of (sym state_now)
 
   received_now : received_in (view_of r3) ≡ received_list s.first ++ packets_of s.deliveries
   received_now = received_from (view_of r3) s.first (first_is 3 (omega arith))

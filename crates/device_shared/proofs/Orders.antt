@@ -7,10 +7,10 @@ use Rattle.napi_word.{specs.{declared.table.Pass.Pass, Surveys.Surveys}, proofs.
 use Rattle.{napi_calls.specs.Seats.{controller_of, state_shown}, device_shared.specs.Meeting.Meet}
 
 -- what was seen is the state after the whole history
-pub told_by : {k looker : ℕ} {ps qs : List Pass} {x : Seen} (s : Surveys k looker x ps qs) (i : ℕ) (p q : Pass) → k ≡ 3
+pub state_by : {k looker : ℕ} {ps qs : List Pass} {x : Seen} (s : Surveys k looker x ps qs) (i : ℕ) (p q : Pass) → k ≡ 3
     → slice_get ps i ≡ Some p → slice_get qs i ≡ Some q → x ≡ seen_of (state_shown q)
     → x ≡ seen_of (state_after (opening 3) s.found)
-told_by {k} {looker} {ps} {qs} {x} s i p q three was is seen =
+state_by {k} {looker} {ps} {qs} {x} s i p q three was is seen =
     let u = s.each i p q was is in
     let number : controller_of q ≡ 3 = u.view.controller ∙ s.controllers i p was ∙ three in
     seen ∙ (λ j. seen_of (state_after (opening (number j)) (u.view.shown j))) ∙ ap seen_of (state_looked (opening 3) s.found looker x)
@@ -53,7 +53,7 @@ module _ {a b c d a' b' c' d' : Pass} {k looker : ℕ} {x : Seen} (three : k ≡
   meet_straight s seen = by (subst (λ (n : ℕ). Surveys n looker x (a ∷ b ∷ c ∷ d ∷ []) (a' ∷ b' ∷ c' ∷ d' ∷ [])) three s)
     where
       by : Surveys 3 looker x (a ∷ b ∷ c ∷ d ∷ []) (a' ∷ b' ∷ c' ∷ d' ∷ []) → Meet (a ∷ b ∷ c ∷ d ∷ []) (a' ∷ b' ∷ c' ∷ d' ∷ []) x
-      by t = record { looker = looker; surveys = t; told = told_by t 3 d d' refl refl refl seen }
+      by t = record { looker = looker; surveys = t; state = state_by t 3 d d' refl refl refl seen }
 
   pub meet_second_last : Surveys k looker x (a ∷ c ∷ d ∷ b ∷ []) (a' ∷ c' ∷ d' ∷ b' ∷ []) → x ≡ seen_of (state_shown b')
       → Meet (a ∷ b ∷ c ∷ d ∷ []) (a' ∷ b' ∷ c' ∷ d' ∷ []) x
@@ -63,7 +63,7 @@ module _ {a b c d a' b' c' d' : Pass} {k looker : ℕ} {x : Seen} (three : k ≡
       by t = record {
         looker = looker;
         surveys = reordered second_from (second_last a b c d) (second_last a' b' c' d') t;
-        told = told_by t 3 b b' refl refl refl seen;
+        state = state_by t 3 b b' refl refl refl seen;
       }
 
   pub meet_third_last : Surveys k looker x (a ∷ b ∷ d ∷ c ∷ []) (a' ∷ b' ∷ d' ∷ c' ∷ []) → x ≡ seen_of (state_shown c')
@@ -74,5 +74,5 @@ module _ {a b c d a' b' c' d' : Pass} {k looker : ℕ} {x : Seen} (three : k ≡
       by t = record {
         looker = looker;
         surveys = reordered third_from (third_last a b c d) (third_last a' b' c' d') t;
-        told = told_by t 3 c c' refl refl refl seen;
+        state = state_by t 3 c c' refl refl refl seen;
       }

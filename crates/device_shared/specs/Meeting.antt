@@ -16,7 +16,7 @@ passes_of s = s.interrupt.pass ∷ poller_of s.turn ∷ thread_of s.turn ∷ con
 pub record Meet (before after : List Pass) (seen : Seen) : Type 0 where
   pub looker : ℕ
   pub surveys : Surveys 3 looker seen before after
-  pub told : seen ≡ seen_of (state_after (opening 3) surveys.found)
+  pub state : seen ≡ seen_of (state_after (opening 3) surveys.found)
 
 pub record SeatsMeet (before after : Seats) (seen : Seen) : Type 0 where
   pub meet : Meet (passes_of before) (passes_of after) seen

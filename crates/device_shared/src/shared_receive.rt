@@ -65,9 +65,9 @@ fn keep(napi: &Napi, place: &mut Option<Seats>, seen: &mut Seen, seats: Seats)
     requires seats { AreSeats napi.now seats }
     ensures { (met : Seats) × (place.new ≡ Some met) × SeatsMeet seats met seen.new }
 {
-    let (seats, told) = seats.meet(napi);
+    let (seats, state) = seats.meet(napi);
     put_back(place, seats);
-    *seen = told;
+    *seen = state;
 }
 
 impl<R: Wait + Drop> ReceiveSide for SharedReceive<R> {

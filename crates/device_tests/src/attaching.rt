@@ -1,6 +1,6 @@
 //! Devices that are attached again, and devices of all numbers.
 
-use crate::sides::told_of;
+use crate::sides::counts_of;
 use device_model::{ReplayBench, SerialBench, SharedBench};
 use std::alloc::{AllocError, Global};
 use std::test::Fail;
@@ -11,12 +11,12 @@ fn attached_again(rt: HostRuntime) -> Result<(), Fail> {
     let mut bench = SerialBench::new(rt.alloc())?;
     bench.attach(rt.alloc(), 1, 256, 0)?;
     bench.arrive(1, 100);
-    let before = told_of(&bench, 1);
+    let before = counts_of(&bench, 1);
     assert!(rt; !bench.is_attached(2));
     bench.attach(rt.alloc(), 2, 4, 0)?;
     assert!(rt; bench.is_attached(2));
     bench.attach(rt.alloc(), 1, 4, 0)?;
-    assert_eq!(rt; told_of(&bench, 1), before);
+    assert_eq!(rt; counts_of(&bench, 1), before);
     assert_eq!(rt; bench.attached(), 2);
     Ok(())
 }

@@ -1,6 +1,6 @@
 //! A bench of one thread over instances that threads could share: its devices, and its end.
 
-use crate::sides::told_of;
+use crate::sides::counts_of;
 use device_model::{ReplayBench, SharedBench};
 use napi_model::Kind;
 use poll_engine::{Bench, Next};
@@ -47,8 +47,8 @@ fn packets_at_the_end(rt: HostRuntime) -> Result<(), Fail> {
             7 => Some((3, 2, 30, 1)),
             _ => None,
         };
-        let packets = match told_of(&bench, number) {
-            Some(told) => Some((told.arrived, told.polled, told.bytes, told.left)),
+        let packets = match counts_of(&bench, number) {
+            Some(counts) => Some((counts.arrived, counts.polled, counts.bytes, counts.left)),
             None => None,
         };
         assert_eq!(rt; packets, wanted, "of device {number}");
@@ -84,11 +84,11 @@ fn another_device_stays(rt: HostRuntime) -> Result<(), Fail> {
     bench.arrive(1, 100);
     bench.send(1, 1500);
     assert!(rt; bench.uses_transmit(1));
-    let before = told_of(&bench, 1);
+    let before = counts_of(&bench, 1);
     // A device that is there stays as it is.
     assert_eq!(rt; bench.attach(rt.alloc(), 1, 8, 5), Ok(()));
     assert_eq!(rt; bench.attach(rt.alloc(), 3, 65536, 5), Ok(()));
-    assert_eq!(rt; told_of(&bench, 1), before);
+    assert_eq!(rt; counts_of(&bench, 1), before);
     assert_eq!(rt; bench.attached(), 2);
     let ends = bench.end();
     assert!(rt; ends[2].is_none());

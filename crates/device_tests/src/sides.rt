@@ -5,7 +5,7 @@ use poll_engine::{Act, Device};
 use std::test::Fail;
 
 /// Returns the counts of a device, if it is attached.
-pub(crate) fn told_of<B: ReplayBench>(bench: &B, device: u32) -> Option<DeviceCounts> {
+pub(crate) fn counts_of<B: ReplayBench>(bench: &B, device: u32) -> Option<DeviceCounts> {
     if bench.is_attached(device) {
         Some(bench.counts(device))
     } else {

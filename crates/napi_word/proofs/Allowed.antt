@@ -1,5 +1,5 @@
 -- A step is allowed if, in each state that the view allows, it is legal and writes the right word.
-use Rattle.napi_word.specs.{Told.{makes_as_seen, slot_returned}}
+use Rattle.napi_word.specs.{Operations.{makes_as_seen, slot_returned}}
 use Rattle.napi_word.specs.{Knowledge.{Knowledge, is_pass, view_number, place_in, view_ring, delivery, own_deliveries, view_delivered}}
 use Rattle.napi_word.specs.Knowledge.{received_by, received_in, first_in, last_of, Continues}
 use Rattle.napi_word.specs.declared.history.{Key.Key, Delivery.Delivery}
@@ -161,7 +161,7 @@ module _ (key : Key) (id : ℕ) (me : Me Content Knowledge) (h : Holds) (tie : T
       pub valid : Valid s.homes me.1 act
       pub home : is_out q ≡ false → Home key.ring.value ds (homes_after s.homes me.1 act)
       pub tied : Tied (moved m h) (w ds, carried_after me.1 act)
-      pub told : SlotDelivers m me (w ds, carried_after me.1 act)
+      pub state : SlotDelivers m me (w ds, carried_after me.1 act)
 
     pub slot_step : (m : Moves) → Fitting m c now.place q → (m ≡ given → h ≢ Out) → Went m
     slot_step stays f n = record {
@@ -177,7 +177,7 @@ module _ (key : Key) (id : ℕ) (me : Me Content Knowledge) (h : Holds) (tie : T
         unmarked = tie.unmarked;
         received = of_prefix _ _ (received_kept me.1 tie.marked (to_prefix _ _ tie.received));
       };
-      told = delivers_by stays (w r.deliveries, me.1) refl (refl, refl);
+      state = delivers_by stays (w r.deliveries, me.1) refl (refl, refl);
     }
     slot_step taken f n =
         let home = r.slot f.0 in
@@ -198,7 +198,7 @@ module _ (key : Key) (id : ℕ) (me : Me Content Knowledge) (h : Holds) (tie : T
                 (subst (λ (xs : List Packet). IsPrefix (received_in (w r.deliveries)) xs) (sym all)
                 (prefix_self (received_in (w r.deliveries))));
           };
-          told = delivers_by taken (w r.deliveries, (0, Some home.0) ∷ me.1) refl (
+          state = delivers_by taken (w r.deliveries, (0, Some home.0) ∷ me.1) refl (
             refl,
             (
               home.0,
@@ -241,7 +241,7 @@ module _ (key : Key) (id : ℕ) (me : Me Content Knowledge) (h : Holds) (tie : T
                 subst (λ (l : Carried). Continues (received_in (w ds)) (carried_received (rest l) (w ds))) (sym held.1)
                 (of_prefix _ _ (prefix_self (received_in (w ds))));
           };
-          told = delivers_by given (w ds, rest me.1) refl
+          state = delivers_by given (w ds, rest me.1) refl
               (subst (λ (b : Bool). GivesSlotBack b r.deliveries me (w ds, rest me.1)) owns (held.0, more.0, held.1, sym more.1, refl));
         }
 
@@ -271,7 +271,7 @@ module _ (key : Key) (slots id : ℕ) (me : Me Content Knowledge) (one : slots �
             λ h' tie'. subst
                 (λ (y : Holds). Tied (moved (m x) y) (grown o.first (view_number me.0) r.history d a.ds ∷ [], carried_after me.1 a.act))
                 (some_is (sym tie.marked ∙ tie'.marked)) a.tied,
-            a.told,
+            a.state,
           ),
         ),
       )

@@ -8,7 +8,7 @@ use Rattle.napi_word.specs.declared.table.{Pass.Pass, StateTable.StateTable}
 use Rattle.napi_word.specs.{Knowledge.{Knowledge, view_number, place_in, disable_in}, Slot.{Content, is_out, owns_slot}}
 use Rattle.napi_word.specs.Rule.{new_history, new_histories_from}
 use Rattle.napi_word.specs.{Rule.{maker_at, first_view, begun_view, begun_slot, Homes, Owned, Fits, Kept, Starts, Holding}}
-use Rattle.napi_word.specs.{Told.table_begun}
+use Rattle.napi_word.specs.{Operations.table_begun}
 use Rattle.napi_word.{specs.Passes.{ctx_of, IsStored, view_of, IsPassOf, IsNewPass, Controls, Disable}, proofs.Owns.own_none}
 use Rattle.napi_word.proofs.Deliveries.{own_deliveries_none, givers_none, some_is}
 use lib.ListN.{get_elem?}

@@ -119,7 +119,7 @@ surveys key slots id me p s holding len at fits =
         word = found key s r id me.0 at o;
         found = r.history;
         deliveries = r.deliveries;
-        told = ap (λ (k : ℕ). seen_of (state_after (opening k) r.history)) (sym same);
+        state = ap (λ (k : ℕ). seen_of (state_after (opening k) r.history)) (sym same);
         whole = subst (λ (k : ℕ). IsWhole k (r.history ++ e ∷ []) r.deliveries) (sym same) (whole_then key s r id me.0 at o);
         view = ap (all_looked r.history e r.deliveries) (sym o.is);
         slot = refl;
@@ -609,8 +609,8 @@ module _ (p0 p1 p2 p3 : Pass) (m1 m2 m3 : Me Content Knowledge) (e1 : m1 ≡ (wi
         (last_named (view_of p0) (view_of p1) (view_of p2) (view_of p3) q0 q1 q2 q3 p3.is_pass m3.0 all_in t.first t.firsts)
 
     -- the word encodes the state after the whole history
-    pub told_is : t.seen ≡ seen_of (state_after (opening (view_controller (view_of p3))) whole_now)
-    told_is = t.told ∙ ap (λ (k : ℕ). seen_of (state_after (opening k) hs)) led
+    pub state_is : t.seen ≡ seen_of (state_after (opening (view_controller (view_of p3))) whole_now)
+    state_is = t.state ∙ ap (λ (k : ℕ). seen_of (state_after (opening k) hs)) led
         ∙ ap seen_of (sym (state_looked (opening (view_controller (view_of p3))) hs (view_number (view_of p3)) t.seen))
 
     pub all_led : (i : ℕ) (p : Pass) → slice_get (p0 ∷ p1 ∷ p2 ∷ p3 ∷ []) i ≡ Some p

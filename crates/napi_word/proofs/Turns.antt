@@ -11,8 +11,9 @@ use Rattle.napi_word.proofs.{Bits.{unthreaded_word, mark_word, unmark_word}, All
 use Rattle.napi_word.specs.{declared.{history.Holds.Holds, table.{Pass.Pass, StateTable.StateTable}}, Slot.{Content, has_at, is_out}}
 use Rattle.napi_word.specs.{Slot.{owns_slot, Tied, Moves, stays, taken, given, GivesSlotBack, SlotDelivers}}
 use Rattle.napi_word.specs.{Passes.{tie_of, IsSlotFilled, PassMayHand}}
-use Rattle.napi_word.specs.{Passes.{HasPoll, PassPolls, IsController, Controls, IsNoOwner, Disable}, Atoms.{MayMake, MayExchange}, Told.Did}
-use Rattle.napi_word.specs.{Told.{when, either_op, no_move, load_op, prep_of, done_of, is_marked, shows_busy, busy_op}}
+use Rattle.napi_word.specs.{Passes.{HasPoll, PassPolls, IsController, Controls, IsNoOwner, Disable}, Atoms.{MayMake, MayExchange}}
+use Rattle.napi_word.specs.ByWord.Did
+use Rattle.napi_word.specs.{Operations.{when, either_op, no_move, load_op, prep_of, done_of, is_marked, shows_busy, busy_op}}
 use Rattle.napi_word.specs.{Knowledge.{Knowledge, view_number}}
 use Rattle.std.proofs.Common.{◌≡◌, ◌⊎◌, ℕ, eqb, eq-eqb, None, Bool, true, false}
 use Rattle.napi_word.specs.Knowledge.{view_controller, place_in}

@@ -4,7 +4,7 @@ use Rattle.std.specs.Prelude.{ℕ, ◌==◌}
 use Rattle.atomic_table.specs.{Table.Allows, declared.shared.Seat.Seat}
 use Rattle.napi_model.specs.{declared.{state.Seen.Seen, event.Operation.Operation}, Step.seen_after, Word.word_of}
 use Rattle.napi_word.specs.{declared.table.StateTable.StateTable, Knowledge.Knowledge, Slot.{Content, Moves}, Rule.Holding}
-use Rattle.napi_word.specs.{Told.{makes_as_seen, exchanged}}
+use Rattle.napi_word.specs.{Operations.{makes_as_seen, exchanged}}
 use prog.Atomic.{either}
 
 -- a step that replaces the word by g of it

@@ -125,7 +125,7 @@ pub record Surveyed (me : Me Content Knowledge) (n : ℕ) (me' : Me Content Know
   pub found : List Event
   pub deliveries : List Delivery
   -- what was seen is the state then
-  pub told : seen ≡ seen_of (state_after (opening (view_controller me.0)) found)
+  pub state : seen ≡ seen_of (state_after (opening (view_controller me.0)) found)
   pub whole : IsWhole (view_controller me.0) (found ++ event (view_number me.0) (Look seen) ∷ []) deliveries
   pub view : me'.0 ≡ all_looked found (event (view_number me.0) (Look seen)) deliveries me.0
   pub slot : me'.1 ≡ me.1

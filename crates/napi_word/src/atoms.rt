@@ -4,11 +4,11 @@ ghost use Rattle.napi_model.specs.declared.event.Operation.TheVariants.{Look};
 ghost use Rattle.napi_model.specs.Step.{seen_after};
 ghost use Rattle.napi_model.specs.Word.{word_of};
 ghost use Rattle.napi_word.specs.Slot.{stays};
-ghost use Rattle.napi_word.specs.Told.{Did};
+ghost use Rattle.napi_word.specs.Operations.{Did};
 ghost use Rattle.napi_word.specs.Atoms.{MayMake, MayExchange};
 
 use crate::history::Knowledge;
-use crate::step_kinds::{Exchanged, Step, Told};
+use crate::step_kinds::{ByWord, Exchanged, Step};
 use crate::table::StateTable;
 use atomic_table::Seat;
 use napi_model::bits::{MISSED, SCHED, SCHED_THREADED};
@@ -41,7 +41,7 @@ impl StateTable {
         ensures table { seat.new.table_id ≡ seat.old.table_id }
         ensures did { Did (K.operation result) (K.moves result) seat.old.me seat.new.me }
     {
-        let word = self.table.shared.load::<Told<K>>(seat, 0);
+        let word = self.table.shared.load::<ByWord<K>>(seat, 0);
         decode_known(word)
     }
 
@@ -53,7 +53,7 @@ impl StateTable {
         ensures table { seat.new.table_id ≡ seat.old.table_id }
         ensures did { Did (K.operation result) (K.moves result) seat.old.me seat.new.me }
     {
-        let word = self.table.shared.fetch_or::<Told<K>>(seat, 0, bits);
+        let word = self.table.shared.fetch_or::<ByWord<K>>(seat, 0, bits);
         decode_known(word)
     }
 
@@ -65,7 +65,7 @@ impl StateTable {
         ensures table { seat.new.table_id ≡ seat.old.table_id }
         ensures did { Did (K.operation result) (K.moves result) seat.old.me seat.new.me }
     {
-        let word = self.table.shared.fetch_add::<Told<K>>(seat, 0, bits);
+        let word = self.table.shared.fetch_add::<ByWord<K>>(seat, 0, bits);
         decode_known(word)
     }
 
@@ -82,7 +82,7 @@ impl StateTable {
         ensures table { seat.new.table_id ≡ seat.old.table_id }
         ensures did { Did (K.operation result) (K.moves result) seat.old.me seat.new.me }
     {
-        let word = self.table.shared.fetch_sub::<Told<K>>(seat, 0, bits);
+        let word = self.table.shared.fetch_sub::<ByWord<K>>(seat, 0, bits);
         decode_known(word)
     }
 
@@ -94,7 +94,7 @@ impl StateTable {
         ensures table { seat.new.table_id ≡ seat.old.table_id }
         ensures did { Did (K.operation result) (K.moves result) seat.old.me seat.new.me }
     {
-        let word = self.table.shared.fetch_and::<Told<K>>(seat, 0, bits);
+        let word = self.table.shared.fetch_and::<ByWord<K>>(seat, 0, bits);
         decode_known(word)
     }
 

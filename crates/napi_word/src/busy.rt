@@ -5,7 +5,7 @@ ghost use Rattle.napi_model.specs.declared.event.Operation.TheVariants.{Complete
 ghost use Rattle.napi_model.specs.Step.{MayBusyTake};
 ghost use Rattle.napi_word.specs.Slot.{stays, taken};
 ghost use Rattle.napi_word.specs.Events.{by_swap};
-ghost use Rattle.napi_word.specs.Told.{when};
+ghost use Rattle.napi_word.specs.Operations.{when};
 ghost use Rattle.napi_word.specs.Passes.{IsPassOf, Makes, PassPolls};
 
 use crate::history::Holds;

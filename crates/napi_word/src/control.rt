@@ -3,8 +3,8 @@ ghost use Rattle.std.specs.Prelude.{◌≡◌, ◌≢◌, true, false, IfSome, I
 ghost use Rattle.napi_model.specs.declared.event.Operation.TheVariants.{MarkDisable, TakeDisable, Unmark, Enable};
 ghost use Rattle.napi_word.specs.Slot.{stays, taken, given};
 ghost use Rattle.napi_word.specs.Events.{by_take_load, by_swap};
-ghost use Rattle.napi_word.specs.Told as told;
-ghost use Rattle.napi_word.specs.Told.{when};
+ghost use Rattle.napi_word.specs.Operations as operations;
+ghost use Rattle.napi_word.specs.Operations.{when};
 ghost use Rattle.napi_word.specs.Passes.{IsPassOf, Makes, IsSlotFilled, IsController, Controls, IsNoOwner, Disable};
 
 use crate::history::Holds;
@@ -14,7 +14,7 @@ use napi_model::bits::DISABLE;
 use napi_model::{Operation, Seen};
 
 fn is_busy(seen: Seen) -> bool
-    ensures { result ≡ told.shows_busy seen }
+    ensures { result ≡ operations.shows_busy seen }
 {
     seen.flags.sched || seen.flags.npsvc
 }

@@ -35,7 +35,7 @@ fn pick(found: Found, slot: Option<RxCtx>) -> Option<RxCtx>
 
 impl StateTable {
     // Returns the seat of a pass that owns the slot and has the context out of it: the slot goes back empty.
-    fn lay_down(&self, pass: Pass) -> Seat<Option<RxCtx>, Knowledge>
+    fn return_slot(&self, pass: Pass) -> Seat<Option<RxCtx>, Knowledge>
         requires table { IsPassOf self.now pass }
         requires out { pass.holds ≡ holds.Out }
         ensures table { result.table_id ≡ self.now.table.shared.table_id }
@@ -62,11 +62,11 @@ impl StateTable {
             Holds::Within => {
                 let ctx = self.slot_out(&mut pass);
                 found.ctx = Some(ctx);
-                self.lay_down(pass)
+                self.return_slot(pass)
             }
             Holds::Out => {
                 found.out = true;
-                self.lay_down(pass)
+                self.return_slot(pass)
             }
         }
     }

@@ -3,7 +3,7 @@ ghost use Rattle.std.specs.Prelude.{◌≡◌, ◌≢◌, false, IfOk, IfErr, is
 ghost use Rattle.napi_model.specs.declared.event.Operation.TheVariants.{Hand, Take};
 ghost use Rattle.napi_word.specs.Slot.{taken, given};
 ghost use Rattle.napi_word.specs.Events.{by_complete};
-ghost use Rattle.napi_word.specs.Told.{when, is_marked, done_of};
+ghost use Rattle.napi_word.specs.Operations.{when, is_marked, done_of};
 ghost use Rattle.napi_word.specs.Passes.{IsPassOf, Makes, IsSlotFilled, PassMayHand, PassPolls};
 
 use crate::history::Holds;

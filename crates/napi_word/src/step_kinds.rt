@@ -1,6 +1,6 @@
 //! The kinds of steps: for each, its operation and its move of the slot, by the word that it finds.
 ghost use Rattle.napi_word.specs.Rule.{left_of, right_of, copy_of, joined, spent_view};
-ghost use Rattle.napi_word.specs.Told.{makes_as_seen, exchanged, table_begun, slot_returned};
+ghost use Rattle.napi_word.specs.Operations.{makes_as_seen, exchanged, table_begun, slot_returned};
 ghost use Rattle.napi_word.specs.Surveys.{Surveyed, with_front, but_last, last_alone};
 
 use crate::history::Knowledge;
@@ -20,11 +20,11 @@ pub(crate) trait Step {
 }
 
 /// A load, an or, or an and that makes a step.
-pub(crate) struct Told<K: Step> {
+pub(crate) struct ByWord<K: Step> {
     marker: PhantomData<K>,
 }
 
-impl<K: Step> Play<Option<RxCtx>, Knowledge> for Told<K> {
+impl<K: Step> Play<Option<RxCtx>, Knowledge> for ByWord<K> {
     ghost then = { λ s. makes_as_seen K.operation K.moves };
 }
 
@@ -41,7 +41,7 @@ pub(crate) struct Looks;
 
 impl Step for Looks {
     ghost use Rattle.napi_model.specs.declared.event.Operation.TheVariants.{Look};
-    ghost use Rattle.napi_word.specs.Told.{no_move};
+    ghost use Rattle.napi_word.specs.Operations.{no_move};
 
     ghost operation = { λ x. Look x };
 
@@ -51,7 +51,7 @@ impl Step for Looks {
 pub(crate) struct Tries;
 
 impl Step for Tries {
-    ghost use Rattle.napi_word.specs.Told.{load_op, no_move};
+    ghost use Rattle.napi_word.specs.Operations.{load_op, no_move};
 
     ghost operation = { λ x. load_op x.flags.disable x };
 
@@ -62,7 +62,7 @@ pub(crate) struct Schedules;
 
 impl Step for Schedules {
     ghost use Rattle.napi_model.specs.declared.event.Operation.TheVariants.{Schedule};
-    ghost use Rattle.napi_word.specs.Told.{prep_of, no_move};
+    ghost use Rattle.napi_word.specs.Operations.{prep_of, no_move};
 
     ghost operation = { λ x. Schedule (prep_of x.flags.sched) };
 
@@ -99,7 +99,7 @@ impl Step for TakesFromList {
     ghost use Rattle.napi_model.specs.declared.event.Operation.TheVariants.{Take};
     ghost use Rattle.napi_model.specs.declared.state.Kind.TheVariants as kind;
     ghost use Rattle.napi_word.specs.Slot.{taken};
-    ghost use Rattle.napi_word.specs.Told.{is_marked, when};
+    ghost use Rattle.napi_word.specs.Operations.{is_marked, when};
 
     ghost operation = { λ x. Take kind.List (is_marked kind.List x.handed) };
 
@@ -112,7 +112,7 @@ impl Step for TakesFromThread {
     ghost use Rattle.napi_model.specs.declared.event.Operation.TheVariants.{Take};
     ghost use Rattle.napi_model.specs.declared.state.Kind.TheVariants as kind;
     ghost use Rattle.napi_word.specs.Slot.{taken};
-    ghost use Rattle.napi_word.specs.Told.{is_marked, when};
+    ghost use Rattle.napi_word.specs.Operations.{is_marked, when};
 
     ghost operation = { λ x. Take kind.Thread (is_marked kind.Thread x.handed) };
 
@@ -124,7 +124,7 @@ pub(crate) struct Completes;
 impl Step for Completes {
     ghost use Rattle.napi_model.specs.declared.event.Operation.TheVariants.{Complete};
     ghost use Rattle.napi_word.specs.Slot.{given};
-    ghost use Rattle.napi_word.specs.Told.{done_of};
+    ghost use Rattle.napi_word.specs.Operations.{done_of};
 
     ghost operation = { λ x. Complete (done_of x.flags.missed) };
 
@@ -146,7 +146,7 @@ pub(crate) struct StopsBusy;
 
 impl Step for StopsBusy {
     ghost use Rattle.napi_model.specs.declared.event.Operation.TheVariants.{BusyStop};
-    ghost use Rattle.napi_word.specs.Told.{no_move};
+    ghost use Rattle.napi_word.specs.Operations.{no_move};
 
     ghost operation = { λ x. BusyStop };
 
@@ -158,7 +158,7 @@ pub(crate) struct CompletesHeld;
 impl Step for CompletesHeld {
     ghost use Rattle.napi_model.specs.declared.event.Done.TheVariants.{Held};
     ghost use Rattle.napi_model.specs.declared.event.Operation.TheVariants.{Complete};
-    ghost use Rattle.napi_word.specs.Told.{no_move};
+    ghost use Rattle.napi_word.specs.Operations.{no_move};
 
     ghost operation = { λ x. Complete Held };
 
@@ -170,7 +170,7 @@ pub(crate) struct SetsThreaded;
 impl Step for SetsThreaded {
     ghost use Rattle.std.specs.Prelude.{true};
     ghost use Rattle.napi_model.specs.declared.event.Operation.TheVariants.{SetThreaded};
-    ghost use Rattle.napi_word.specs.Told.{no_move};
+    ghost use Rattle.napi_word.specs.Operations.{no_move};
 
     ghost operation = { λ x. SetThreaded true };
 
@@ -182,7 +182,7 @@ pub(crate) struct ClearsThreaded;
 impl Step for ClearsThreaded {
     ghost use Rattle.std.specs.Prelude.{false};
     ghost use Rattle.napi_model.specs.declared.event.Operation.TheVariants.{SetThreaded};
-    ghost use Rattle.napi_word.specs.Told.{no_move};
+    ghost use Rattle.napi_word.specs.Operations.{no_move};
 
     ghost operation = { λ x. SetThreaded false };
 
@@ -193,7 +193,7 @@ pub(crate) struct Marks;
 
 impl Step for Marks {
     ghost use Rattle.napi_model.specs.declared.event.Operation.TheVariants.{MarkDisable};
-    ghost use Rattle.napi_word.specs.Told.{no_move};
+    ghost use Rattle.napi_word.specs.Operations.{no_move};
 
     ghost operation = { λ x. MarkDisable };
 
@@ -203,7 +203,7 @@ impl Step for Marks {
 pub(crate) struct Asks;
 
 impl Step for Asks {
-    ghost use Rattle.napi_word.specs.Told.{shows_busy, busy_op, no_move};
+    ghost use Rattle.napi_word.specs.Operations.{shows_busy, busy_op, no_move};
 
     ghost operation = { λ x. busy_op (shows_busy x) x };
 
@@ -226,7 +226,7 @@ pub(crate) struct Unmarks;
 
 impl Step for Unmarks {
     ghost use Rattle.napi_model.specs.declared.event.Operation.TheVariants.{Unmark};
-    ghost use Rattle.napi_word.specs.Told.{no_move};
+    ghost use Rattle.napi_word.specs.Operations.{no_move};
 
     ghost operation = { λ x. Unmark };
 

@@ -4,7 +4,7 @@ ghost use Rattle.napi_model.specs.declared.event.Operation.TheVariants.{Look, Se
 ghost use Rattle.napi_model.specs.declared.event.Prep.TheVariants as prep;
 ghost use Rattle.napi_word.specs.Slot.{stays};
 ghost use Rattle.napi_word.specs.Events.{by_load, by_schedule};
-ghost use Rattle.napi_word.specs.Told.{prep_of};
+ghost use Rattle.napi_word.specs.Operations.{prep_of};
 ghost use Rattle.napi_word.specs.Passes.{IsPassOf, Makes};
 
 use crate::step_kinds::{ClearsThreaded, Looks, Schedules, SetsThreaded, Tries};

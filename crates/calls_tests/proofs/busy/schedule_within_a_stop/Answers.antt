@@ -1,6 +1,6 @@
 use Rattle.std.proofs.Common.{true, false, subst, Option, Some}
 use Rattle.napi_model.specs.declared.event.Operation.TheVariants.{Schedule, Complete}
-use Rattle.calls_tests.proofs.Telling.{then, tried, lost, said}
+use Rattle.calls_tests.proofs.Expecting.{then, tried, lost, said}
 use Rattle.{napi_calls.specs.declared.answers.TryPrep.TryPrep, calls_tests.specs.OwnLists.SchedulesMeanwhile}
 use Rattle.napi_model.specs.declared.event.Call.TheVariants as call
 use Rattle.napi_model.specs.declared.event.Prep.TheVariants as prep

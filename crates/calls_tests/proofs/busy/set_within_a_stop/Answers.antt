@@ -1,6 +1,6 @@
 use Rattle.std.proofs.Common.{true, false}
 use Rattle.napi_model.specs.declared.event.Operation.TheVariants.{Complete, MarkDisable, TakeDisable, Unmark, SetThreaded}
-use Rattle.calls_tests.proofs.Telling.{then, one, tried, lost, disabled, said}
+use Rattle.calls_tests.proofs.Expecting.{then, one, tried, lost, disabled, said}
 use Rattle.napi_model.specs.declared.event.Call.TheVariants as call
 use Rattle.napi_model.specs.declared.event.Done.TheVariants as done
 use Rattle.calls_tests.proofs.busy.set_within_a_stop.Goals as goal

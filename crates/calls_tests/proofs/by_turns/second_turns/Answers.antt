@@ -1,6 +1,6 @@
 use Rattle.std.proofs.Common.{true}
 use Rattle.napi_model.specs.declared.event.Operation.TheVariants.{Hand, Take, Complete}
-use Rattle.calls_tests.proofs.Telling.{then, one, tried}
+use Rattle.calls_tests.proofs.Expecting.{then, one, tried}
 use Rattle.napi_model.specs.declared.state.Kind.TheVariants as kind
 use Rattle.napi_model.specs.declared.event.Done.TheVariants as done
 use Rattle.calls_tests.proofs.by_turns.second_turns.Goals as goal

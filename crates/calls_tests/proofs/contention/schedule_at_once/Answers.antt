@@ -1,5 +1,5 @@
 use Rattle.{std.proofs.Common.{true, false, subst, Option, Some}, napi_model.specs.declared.event.Operation.TheVariants.{Schedule, Hand}}
-use Rattle.calls_tests.proofs.Telling.{then, one, tried, lost, said}
+use Rattle.calls_tests.proofs.Expecting.{then, one, tried, lost, said}
 use Rattle.{napi_calls.specs.declared.answers.TryPrep.TryPrep, calls_tests.specs.OwnLists.SchedulesMeanwhile}
 use Rattle.napi_model.specs.declared.event.Call.TheVariants as call
 use Rattle.napi_model.specs.declared.state.Kind.TheVariants as kind

@@ -1,6 +1,6 @@
 use Rattle.std.proofs.Common.{true, false}
 use Rattle.napi_model.specs.declared.event.Operation.TheVariants.{MarkDisable, TakeDisable, Unmark, SetThreaded}
-use Rattle.calls_tests.proofs.Telling.{then, one, lost, disabled, said}
+use Rattle.calls_tests.proofs.Expecting.{then, one, lost, disabled, said}
 use Rattle.napi_model.specs.declared.event.Call.TheVariants as call
 use Rattle.calls_tests.proofs.contention.set_within_a_disable.Goals as goal
 

@@ -1,6 +1,6 @@
 use Rattle.std.proofs.Common.{true, false, subst, [], ◌∷◌}
 use Rattle.napi_model.specs.declared.event.Operation.TheVariants.{Look, Schedule, Hand, Take, Complete}
-use Rattle.calls_tests.proofs.Telling.{then, one, met, tried, said}
+use Rattle.calls_tests.proofs.Expecting.{then, one, met, tried, said}
 use Rattle.{napi_word.specs.declared.table.Pass.Pass, napi_calls.specs.Made.Made}
 use Rattle.napi_model.specs.declared.state.Kind.TheVariants as kind
 use Rattle.napi_model.specs.declared.event.Prep.TheVariants as prep

@@ -1,5 +1,5 @@
 use Rattle.std.proofs.Common.{◌≡◌, Bool, true, false, refl}
-use Rattle.napi_word.specs.Told.{prep_of}
+use Rattle.napi_word.specs.Operations.{prep_of}
 use Rattle.napi_calls.proofs.{Standing.{kept, looked, made, self_granted}, Packets.{quiet_step, quiet_more}, Making.{nothing, step, lost}}
 use Rattle.napi_model.specs.declared.event.Prep.TheVariants as prep
 use Rattle.napi_model.specs.declared.state.Place.TheVariants as place

@@ -1,5 +1,5 @@
 use Rattle.napi_word.{specs.Passes.tie_of, proofs.{Allowed.returns_slot, Said.one_there}}
-use Rattle.napi_word.proofs.table.StateTable.lay_down.Goals as goal
+use Rattle.napi_word.proofs.table.StateTable.return_slot.Goals as goal
 
 pub load-requires : goal.load-requires
 load-requires c = (

@@ -5,7 +5,7 @@ use Rattle.napi_word.specs.{declared.table.Pass.Pass, Knowledge.{Knowledge, view
 use Rattle.napi_word.proofs.{Said.one_there, Allowed.hold_nothing, Splitting.{joins_front, parts_last_of}, Syncing.answers_step}
 use Rattle.napi_word.proofs.Syncing.{answers_survey, surveys, first_pass, second_pass, third_pass, synced_is, synced_is_pass}
 use Rattle.napi_word.proofs.Syncing.{second_left, second_left_pass, first_left, first_left_pass, first_back, second_back, third_back}
-use Rattle.napi_word.proofs.Syncing.{last_back, last_slot, last_tied, rest_tied, last_steps, whole_is, told_is, all_led, all_named}
+use Rattle.napi_word.proofs.Syncing.{last_back, last_slot, last_tied, rest_tied, last_steps, whole_is, state_is, all_led, all_named}
 use Rattle.napi_word.proofs.Syncing.{of_both_four}
 use Rattle.napi_word.proofs.table.StateTable.survey.Goals as goal
 
@@ -293,7 +293,7 @@ returns-clause-word c =
     c.join_seat-3.new.seat.me j.2 k.2 l.2 c.load.result c.load.new.seat.me u.2 c.split_seat-third.new.seat.me x.2
     c.split_seat-second.new.seat.me y.2 c.split_seat-first.new.seat.me z.2 in
     c.decode_known-seen.ensures.inverse _ (sym u.2.word)
-    ∙ told_is c.args.first c.args.second c.args.third c.args.last.now c.join_seat.new.seat.me c.join_seat-2.new.seat.me
+    ∙ state_is c.args.first c.args.second c.args.third c.args.last.now c.join_seat.new.seat.me c.join_seat-2.new.seat.me
     c.join_seat-3.new.seat.me j.2 k.2 l.2 c.load.result c.load.new.seat.me u.2
     ∙ sym (ap (λ (t : ℕ × List Event). seen_of (state_after (opening t.0) t.1)) (λ i. (four.0.controller i, four.0.shown i)))
 

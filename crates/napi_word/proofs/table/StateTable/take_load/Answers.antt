@@ -1,5 +1,5 @@
 use Rattle.std.proofs.{Common.{Bool, ◌∙◌, sym, subst}, lemmas.Bool.or_parts}
-use Rattle.napi_word.{specs.{Events.Steps, Told.busy_op}, proofs.{Knowing.look_disable, Turns.asks}}
+use Rattle.napi_word.{specs.{Events.Steps, Operations.busy_op}, proofs.{Knowing.look_disable, Turns.asks}}
 use Rattle.napi_word.proofs.table.StateTable.take_load.Goals as goal
 
 pub load-seen-requires-clause-may : goal.load-seen-requires-clause-may
