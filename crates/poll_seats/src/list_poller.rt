@@ -12,12 +12,11 @@ use poll_tasks::PollLimits;
 use rx_ring::Batch;
 use std::sync::Wait;
 
-/// A poller's seats, as the bench of the instances' numbers.
+// A poller's seats, as the bench of the instances' numbers.
 #[derive(Drop)]
-pub struct HandleBench<'n, R: Wait + Drop> {
+pub(crate) struct HandleBench<'n, R: Wait + Drop> {
     rt: R,
-    /// The seats.
-    pub seats: Vec<DropBomb<R, PollHandle<'n>>>,
+    seats: Vec<DropBomb<R, PollHandle<'n>>>,
     batch: Batch,
 }
 
@@ -57,8 +56,8 @@ impl<'n, R: Wait + Drop> Bench for HandleBench<'n, R> {
 pub struct ListPoller<'n, R: Wait + Drop> {
     /// The list of instances that the poller polls.
     pub list: SharedList<R>,
-    /// Its seats at its instances.
-    pub bench: HandleBench<'n, R>,
+    // Its seats at its instances.
+    bench: HandleBench<'n, R>,
     /// How it polls.
     pub limits: PollLimits,
     ghost lawful: { IsLawful limits },

@@ -50,7 +50,8 @@ IsToldAs work.SpawnFailed told = told ≡ SpawnFailed
 -- these devices were run and polled by the rows of the bytes read, by as many pollers as the settings say, with their numbers
 abbrev pub IsRunBy : Type 0 → (ℕ → Type 0) → ReplaySettings → Option (List ℕ) → List (Finished Script) → Type 0
 IsRunBy R asked settings input ends =
-    (bytes : List ℕ) → input ≡ Some bytes → (rows : List Row) × (trace_of (records_of bytes) ≡ Ok rows) × AreRunBy R asked settings rows ends
+    (bytes : List ℕ) → input ≡ Some bytes
+    → (rows : List Row) × (trace_of (records_of bytes) ≡ Ok rows) × AreRunBy R asked settings rows ends
 
 -- the same for devices that aren't returned
 abbrev pub RanBy : Type 0 → (ℕ → Type 0) → ReplaySettings → Option (List ℕ) → Type 0
