@@ -11,4 +11,4 @@ pub use driving::{Tasks, drive};
 pub use gate::{Gate, OpenGate};
 pub use limits::{PollLimits, RunContext};
 pub use signals::{IdleWait, Stop, StopFlags, Waker};
-pub use tasks::{Spawned, Task, first_stop};
+pub use tasks::{Gives, Spawned, Task, first_stop};

@@ -37,7 +37,7 @@ pub trait Task {
 
 /// The postcondition of a thread: it returns its task after running it.
 #[derive(Drop)]
-pub(crate) struct Gives<J>(Snapshot<J>);
+pub struct Gives<J>(pub(crate) Snapshot<J>);
 
 impl<J: Task> Promise<J> for Gives<J> {
     ghost kept_by = { λ p out. J.gives p.0.value out };
