@@ -6,7 +6,7 @@ use Rattle.napi_calls.specs.{Knows.received_held, Alone.AllShow}
 use Rattle.rx_ring.specs.declared.{packet.Packet.Packet, ends.RxCtx.RxCtx}
 use Rattle.device_shared.specs.declared.seats.{Turn.Turn, Pollers.Pollers}
 use Rattle.napi_model.specs.{declared.state.State.State, Step.opening}
-use Rattle.napi_model.specs.History.LegalHistory
+use Rattle.napi_model.specs.History.{LegalHistory}
 use Rattle.napi_word.specs.{Passes.view_of, Knowledge.{first_in, received_in}, declared.table.Pass.Pass}
 use Rattle.device_shared.specs.declared.seats.{Pollers.TheVariants.{Rest, ListPolls, ThreadPolls, PollsBusily}, Seats.Seats}
 use Rattle.device_shared.specs.declared.seats.Enabled.{Enabled}

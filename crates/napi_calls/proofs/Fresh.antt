@@ -5,7 +5,7 @@ use Rattle.rx_ring.specs.declared.ends.RxCtx.{RxCtx}
 use Rattle.{rx_ring.specs.Ends.{ring_name, received_list}, napi_model.specs.{declared.state.Place.Place, Step.opening}}
 use Rattle.{napi_model.specs.History.{LegalHistory, own, state_after}, napi_word.specs.declared.table.{Pass.Pass, StateTable.StateTable}}
 use Rattle.napi_word.specs.{Knowledge.Knowledge, Rule.new_history, Passes.{view_of, ctx_of, IsNewPass, IsPassOf, ring_of_table}}
-use Rattle.napi_word.proofs.Closing.get_mid
+use Rattle.napi_word.proofs.Closing.{get_mid}
 use Rattle.napi_calls.specs.{declared.types.Napi.Napi, Knows.{own_place, Free, Stands, ControllerKnows}, Instance.IsNewSeat}
 use Rattle.napi_calls.proofs.Standing.{own_self}
 use Rattle.napi_word.specs.Knowledge as view

@@ -1,7 +1,7 @@
 -- The effect of consecutive steps on the packets.
 use Rattle.std.proofs.Common.{◌≡◌, ℕ, Bool, true, false, List, [], ◌∷◌, ◌++◌, length, drop, Some, refl, sym, ap, ◌∙◌, subst, append_assoc}
 use Rattle.rx_ring.specs.{declared.{packet.Packet.Packet, ends.RxCtx.RxCtx}, Ends.{received_list, is_beside}}
-use Rattle.napi_model.specs.declared.event.Operation.Operation
+use Rattle.napi_model.specs.declared.event.Operation.{Operation}
 use Rattle.napi_word.specs.{declared.{table.Pass.Pass, history.Holds.Holds}, Knowledge.Knowledge}
 use Rattle.napi_word.specs.Knowledge.{own_deliveries, delivery, Continues}
 use Rattle.napi_word.specs.Slot.{SlotDelivers, GivesSlotBack, owns_slot, has_slot, ctx_in}

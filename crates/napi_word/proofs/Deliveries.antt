@@ -5,7 +5,7 @@ use Rattle.{std.proofs.lemmas.{List.Elements.filter-append, Bool.eqb-true}, atom
 use Rattle.rx_ring.specs.{declared.{packet.Packet.Packet, ends.RxCtx.RxCtx}, Ends.{received_list, ring_name}}
 use Rattle.napi_model.specs.declared.{state.{State.State as Napi, Place.{Place, TheVariants.{Polling, Control}}}, event.Event.Event}
 use Rattle.napi_model.{specs.{Step.after, History.{LegalHistory, IsLegalFor, state_after}, Laws.IsSound}, proofs.Owners.ownership_kept}
-use Rattle.napi_model.proofs.Owners.owner_kept
+use Rattle.napi_model.proofs.Owners.{owner_kept}
 use Rattle.napi_word.specs.{declared.history.Delivery.Delivery, Knowledge.{Knowledge, first_in, received_in}}
 use Rattle.napi_word.specs.Knowledge.{view_delivered, delivery, packets_of, own_deliveries, received_by, last_of, deliverers, Continues}
 use Rattle.napi_word.specs.Knowledge.{view_ring}

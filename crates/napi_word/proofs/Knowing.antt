@@ -6,7 +6,7 @@ use Rattle.napi_model.specs.{declared.event.{Operation.TheVariants.{Schedule, Ta
 use Rattle.napi_model.specs.{Step.place_of, History.{LegalHistory, IsLegalFor, state_after}, Laws.{is_owner, IsPollingPlace}}
 use Rattle.napi_model.proofs.{Histories.{legal_front, legal_back, state_after-snoc}, Owners.{busy_after, opens_sound, opens_unbusy}}
 use Rattle.napi_word.specs.{Knowledge.{Knowledge, view_number, view_controller, state_at, state_in, place_in, disable_in}, Events.Steps}
-use Rattle.napi_word.specs.Operations.done_of
+use Rattle.napi_word.specs.Operations.{done_of}
 use Rattle.napi_word.{specs.Passes.{HasController, HasPoll}, proofs.Places.is_false}
 
 -- IN_BUSY_POLL is set only if the place is a Polling

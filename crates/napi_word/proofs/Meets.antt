@@ -2,7 +2,7 @@
 use Rattle.std.proofs.Common.{◌≡◌, List, [], ◌∷◌, length, true, refl, sym, subst, true≢false}
 use Rattle.atomic_table.proofs.Lists.{at_longer}
 use Rattle.{atomic_table.{proofs.Lists.at_last, specs.Table.Me}, napi_model.specs.declared.event.{Event.Event, Operation.Operation}}
-use Rattle.napi_model.specs.Step.event
+use Rattle.napi_model.specs.Step.{event}
 use Rattle.napi_word.specs.{Knowledge.{Knowledge, is_pass, view_number, view_shown}, Rule.{copy, copy_of, joined}}
 use Rattle.napi_word.{specs.{Events.Steps, Slot.{Content, Carried, stays, SlotDelivers}}, proofs.Owns.begins_more}
 use mathlib.Core.List.{IsPrefix}

@@ -12,7 +12,7 @@ use Rattle.napi_word.specs.{declared.{history.Holds.Holds, table.{Pass.Pass, Sta
 use Rattle.napi_word.specs.{Slot.{owns_slot, Tied, Moves, stays, taken, given, GivesSlotBack, SlotDelivers}}
 use Rattle.napi_word.specs.{Passes.{tie_of, IsSlotFilled, PassMayHand}}
 use Rattle.napi_word.specs.{Passes.{HasPoll, PassPolls, IsController, Controls, IsNoOwner, Disable}, Atoms.{MayMake, MayExchange}}
-use Rattle.napi_word.specs.ByWord.Did
+use Rattle.napi_word.specs.Operations.{Did}
 use Rattle.napi_word.specs.{Operations.{when, either_op, no_move, load_op, prep_of, done_of, is_marked, shows_busy, busy_op}}
 use Rattle.napi_word.specs.{Knowledge.{Knowledge, view_number}}
 use Rattle.std.proofs.Common.{◌≡◌, ◌⊎◌, ℕ, eqb, eq-eqb, None, Bool, true, false}

@@ -7,7 +7,7 @@ use Rattle.napi_word.specs.declared.{history.{Holds.{Holds, TheVariants.{Nothing
 use Rattle.napi_word.specs.declared.{gathering.Gathering.Gathering, table.{Pass.Pass, StateTable.StateTable}}
 use Rattle.napi_word.specs.Knowledge.{Knowledge, first_in}
 use Rattle.napi_word.specs.Knowledge.{view_delivered, own_deliveries, received_by, last_of, deliverers, view_ring, place_in}
-use Rattle.napi_word.specs.Knowledge.view_controller
+use Rattle.napi_word.specs.Knowledge.{view_controller}
 use Rattle.napi_word.specs.Knowledge.{view_shown, mine}
 use Rattle.napi_word.specs.{Knowledge.view_number, Slot.givers, Passes.{view_of, controller_of_table, ring_of_table, first_of_table}}
 use mathlib.Core.List.{IsPrefix}

@@ -4,7 +4,7 @@ use Rattle.atomic_table.specs.Table.{Me}
 use Rattle.napi_model.specs.declared.{state.{Kind.Kind, Seen.Seen}, event.{Prep.Prep, Done.{Done, TheVariants.{Released, Again}}}}
 use Rattle.napi_model.specs.{declared.event.Operation.{Operation, TheVariants.{Look, Schedule, TakeDisable}}, Word.word_of}
 use Rattle.napi_word.specs.{declared.history.Holds.Holds, Knowledge.Knowledge, Slot.{Content, Tied, Moves, stays, moved, SlotDelivers}}
-use Rattle.napi_word.specs.Rule.begun_view
+use Rattle.napi_word.specs.Rule.{begun_view}
 use Rattle.napi_word.specs.{Rule.begun_slot, Events.Steps}
 use Rattle.napi_model.specs.declared.state.Kind.TheVariants as kind
 use Rattle.napi_model.specs.declared.event.Prep.TheVariants as prep

@@ -3,9 +3,9 @@ use Rattle.std.specs.Prelude.{◌≡◌, ◌≢◌, ℕ, ◌<◌, Bool, true, fa
 use Rattle.rx_ring.specs.{declared.{packet.Packet.Packet, ends.RxCtx.RxCtx}, Ends.{RingName, ring_name, SameCtx, received_list, known_list}}
 use Rattle.{rx_ring.specs.Ends.{polls_of, is_beside}, napi_model.specs.declared.state.{Kind.Kind, Place.TheVariants.Control}}
 use Rattle.napi_model.specs.{declared.event.Operation.Operation, Laws.is_owner}
-use Rattle.napi_word.specs.declared.history.Holds.TheVariants.Nothing
+use Rattle.napi_word.specs.declared.history.Holds.TheVariants.{Nothing}
 use Rattle.napi_word.specs.declared.{history.Holds.TheVariants.{Within, Out}, table.{Pass.Pass, StateTable.StateTable}}
-use Rattle.napi_word.specs.Knowledge.Knowledge
+use Rattle.napi_word.specs.Knowledge.{Knowledge}
 use Rattle.napi_word.specs.{Knowledge.{view_number, view_controller, state_in, place_in, disable_in, view_ring}}
 use Rattle.napi_word.specs.{Slot.{Tied, Moves, moved, owns_slot}}
 use Rattle.napi_word.specs.{Slot.{ctx_in, carried_received, SlotDelivers}, Rule.new_history, Events.Steps}

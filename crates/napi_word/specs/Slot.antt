@@ -3,7 +3,7 @@ use Rattle.std.specs.Prelude.{◌≡◌, ℕ, zero, Bool, true, false, not, ◌&
 use Rattle.{atomic_table.specs.Table.Me, rx_ring.specs.{declared.{packet.Packet.Packet, ends.RxCtx.RxCtx}, Ends.{RingName, ring_name}}}
 use Rattle.{rx_ring.specs.Ends.{is_beside, received_list}, napi_model.specs.declared.state.Place.{Place, TheVariants.{Nobody, Granted}}}
 use Rattle.napi_model.specs.declared.{state.{Place.TheVariants.{Listed, ToThread, Polling, Control}, State.State}, event.Event.Event}
-use Rattle.napi_model.specs.Step.after
+use Rattle.napi_model.specs.Step.{after}
 use Rattle.napi_word.specs.declared.history.{Holds.{Holds, TheVariants.{Nothing, Within, Out}}, LocalHistory.LocalHistory}
 use Rattle.napi_word.specs.{declared.history.Delivery.Delivery}
 use Rattle.napi_word.specs.{Knowledge.{Knowledge, view_number, place_in, view_ring, delivery, own_deliveries, view_delivered}}

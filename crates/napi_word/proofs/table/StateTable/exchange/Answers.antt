@@ -1,6 +1,6 @@
 use Rattle.std.proofs.Common.{◌≡◌, Option, Some, None, ap, subst, sym, ◌∙◌, OnOk}
 use Rattle.napi_model.specs.declared.state.{Kind.Kind, Seen.Seen}
-use Rattle.napi_word.specs.{Atoms.MayExchange, ByWord.Did}
+use Rattle.napi_word.specs.{Atoms.MayExchange, Operations.Did}
 use Rattle.napi_word.proofs.table.StateTable.exchange.Goals as goal
 
 -- what was seen, put together again from its parts

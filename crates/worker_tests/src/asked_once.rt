@@ -1,0 +1,84 @@
+//! How often a run asks its gate: exactly once before each act, and once as each poller starts.
+
+use crate::threads::{settings_of, text_of};
+use poll_engine::Gate;
+use replay::replay_threads;
+use std::sync::atomic::{AtomicU32, Ordering};
+use std::test::Fail;
+
+/// Always open, and counts how often it is asked for each act of devices 1 and 2, and as each poller starts.
+#[derive(Drop)]
+struct CountsEach {
+    first: [AtomicU32; 6],
+    second: [AtomicU32; 6],
+    // Pollers 100 and 101, and the threads of devices 1 and 2.
+    starts: [AtomicU32; 4],
+    others: AtomicU32,
+}
+
+const fn zero() -> AtomicU32 {
+    AtomicU32::new(0)
+}
+
+impl CountsEach {
+    fn new() -> CountsEach {
+        CountsEach {
+            first: [zero(), zero(), zero(), zero(), zero(), zero()],
+            second: [zero(), zero(), zero(), zero(), zero(), zero()],
+            starts: [zero(), zero(), zero(), zero()],
+            others: zero(),
+        }
+    }
+
+    fn count_of(&self, worker: u32, act: u32) -> Option<&AtomicU32> {
+        match (worker, act) {
+            (1, act) => self.first.get(act as usize),
+            (2, act) => self.second.get(act as usize),
+            (100, 0) => self.starts.get(0),
+            (101, 0) => self.starts.get(1),
+            (201, 0) => self.starts.get(2),
+            (202, 0) => self.starts.get(3),
+            _ => None,
+        }
+    }
+}
+
+impl Gate for CountsEach {
+    fn pass(&self, worker: u32, act: u32) -> bool {
+        let count = self.count_of(worker, act).unwrap_or(&self.others);
+        count.fetch_add(1, Ordering::SeqCst);
+        true
+    }
+}
+
+fn asked<const N: usize>(counts: &[AtomicU32; N]) -> [u32; N] {
+    let mut asked = [0; N];
+    for (place, count) in asked.iter_mut().zip(counts) {
+        *place = count.load(Ordering::SeqCst);
+    }
+    asked
+}
+
+// Each row but an open row is an act. Only device 2 gets a thread.
+#[test]
+fn each_act_and_each_start_is_asked_once(rt: HostRuntime) -> Result<(), Fail> {
+    let rows = [
+        (1, "0,1,open,50\n0,2,open,50\n1,2,threaded,1\n"),
+        (3, "2,1,rx,100\n2,2,rx,100\n"),
+        (1, "3,1,disable,0\n4,1,enable,0\n5,1,threaded,0\n"),
+        (1, "3,2,disable,0\n4,2,enable,0\n"),
+    ];
+    let text = text_of(rt.alloc(), &rows)?;
+    for pollers in [1, 2] {
+        let settings = settings_of(pollers, 300, 64, 1024)?;
+        let gate = CountsEach::new();
+        let mut report = Vec::new(rt.alloc());
+        let text = text.as_bytes();
+        replay_threads(&rt, rt.alloc(), text, &mut report, &settings, &gate)?;
+        assert_eq!(rt; asked(&gate.first), [1; 6]);
+        assert_eq!(rt; asked(&gate.second), [1; 6]);
+        assert_eq!(rt; asked(&gate.starts), [1, u32::from(pollers == 2), 0, 1]);
+        assert_eq!(rt; gate.others.load(Ordering::SeqCst), 0);
+    }
+    Ok(())
+}
