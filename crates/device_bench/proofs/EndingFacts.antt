@@ -24,6 +24,22 @@ at-before [] ys number below = absurd (omega (arith, below))
 at-before (x ∷ xs) ys zero below = refl
 at-before (x ∷ xs) ys (suc number) below = at-before xs ys number (omega (arith, below))
 
+at-beyond : {A : Type 0} → (xs : DeviceTable A) (number : ℕ) → length xs ≤ number → at number xs ≡ None
+at-beyond [] number beyond = refl
+at-beyond (x ∷ xs) zero beyond = absurd (omega (arith, beyond))
+at-beyond (x ∷ xs) (suc number) beyond = at-beyond xs number (omega (arith, beyond))
+
+-- before the first was ended
+pub ended-none : {End : Type 0} (ended : ReceiveView → End → Type 0) (all : BenchDevices) (ends : DeviceTable End) → length all ≡ 17
+    → length ends ≡ 17 → ((number : ℕ) → number < 17 → at number ends ≡ None) → EndedFrom ended all all ends
+ended-none ended all ends many places none = record {
+  places = places;
+  most = omega (arith, many);
+  same = λ number below. refl;
+  none = λ number below. none number (omega (arith, many, below));
+  done = λ number beyond. rw (at-beyond all number beyond, at-beyond ends number (omega (arith, many, places, beyond))) tt;
+}
+
 module _ {End : Type 0} (ended : ReceiveView → End → Type 0) (all : BenchDevices) where
   module _ (left left' : BenchDevices) (place : Option DeviceView) (ends ends' : DeviceTable End) (more : left ≡ left' ++ place ∷ [])
       (was : EndedFrom ended all left ends) where
