@@ -35,7 +35,7 @@ pub(crate) const CONTROLLER: u32 = 3;
 pub(crate) struct BenchDevice<S: ReceiveSide> {
     pub(crate) side: S,
     threaded: bool,
-    // The counts; the other fields are computed when they are read.
+    // The counts; fields that can be computed from the receive side aren't kept up to date.
     counts: DeviceCounts,
 }
 
@@ -75,7 +75,7 @@ impl<S: ReceiveSide> BenchDevice<S> {
         }
     }
 
-    // Requests a poll, as the interrupt; if granted, it queues the instance, and returns in which queue.
+    // Requests a poll, as an interrupt does. If the request is granted, it queues the instance, and returns in which queue.
     #[tactic(auto, unfolding(crate::specs::Device::after_request))]
     fn request(&mut self) -> Option<Kind>
         ensures device { self.new ≡ (after_request self.old).1 }
@@ -90,8 +90,8 @@ impl<S: ReceiveSide> BenchDevice<S> {
         kind
     }
 
-    /// Handles the arrival of a packet of this size: a full ring drops it; otherwise the interrupt requests a poll. Returns the
-    /// queue in which that put the instance.
+    /// Handles the arrival of a packet of this size: a full ring drops it; otherwise its interrupt requests a poll. Returns the
+    /// queue in which that put the instance, if any.
     #[tactic(auto, unfolding(crate::specs::Device::device_after_packet))]
     pub(crate) fn arrive(&mut self, bytes: u32) -> Option<Kind>
         ensures device { self.new ≡ (device_after_packet bytes self.old).1 }
@@ -127,7 +127,7 @@ impl<S: ReceiveSide> BenchDevice<S> {
         self.side.seen().flags.disable
     }
 
-    /// Marks a disable on a device that is enabled; any other is unchanged.
+    /// Marks a disable on a device that is enabled; in another state nothing changes.
     #[tactic(auto, unfolding(crate::specs::Device::after_disable))]
     pub(crate) fn disable(&mut self)
         ensures { self.new ≡ after_disable self.old }
@@ -146,7 +146,7 @@ impl<S: ReceiveSide> BenchDevice<S> {
         self.is_pending() && !self.side.try_take()
     }
 
-    /// Enables a device that is disabled, with its threaded setting; any other is unchanged.
+    /// Enables a device that is disabled, with its threaded setting; in another state nothing changes.
     #[tactic(auto, unfolding(crate::specs::Device::after_enable))]
     pub(crate) fn enable(&mut self)
         ensures { self.new ≡ after_enable self.old }
@@ -194,8 +194,7 @@ impl<S: ReceiveSide> BenchDevice<S> {
         poll_once_of(self, weight, &mut PolledBytes::NONE)
     }
 
-    /// Polls by the device's thread, which takes the instance, if it was queued for the thread, and polls it at most `most`
-    /// times.
+    /// Polls by the device's thread: takes the instance, if it was queued for the thread, and polls it at most `most` times.
     pub(crate) fn poll_thread(&mut self, weight: u32, most: u32) -> ThreadReport
         requires weight { IsWithin 1 64 weight }
         requires most { IsWithin 1 131072 most }
@@ -313,7 +312,7 @@ impl<S: ReceiveSide> BusyInstance for BenchDevice<S> {
     }
 }
 
-// Counts a completion that isn't held.
+// Counts a completion that didn't return Held.
 fn count_completion(counts: &mut DeviceCounts, again: bool)
     ensures { counts.new ≡ counted_after (Complete (if again then Again else Released)) counts.old }
 {

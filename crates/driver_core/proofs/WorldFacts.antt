@@ -1,4 +1,4 @@
--- What holds of a device and its card whatever happens, and whenever.
+-- An invariant of a device and its card: it holds after any events in any order.
 use Rattle.std.proofs.Common.{◌≡◌, ◌⊎◌, inl, inr, ℕ, ◌+◌, zero, suc, Bool, true, false, cond, List, [], ◌∷◌, refl, subst}
 use Rattle.std.specs.Prelude.{◌||◌, not}
 use Rattle.driver_core.specs.Device.{in_stage, completed_at, after_interrupt, after_open, after_poll_at, after_stop}
@@ -11,7 +11,7 @@ use Rattle.driver_core.specs.declared.device.{Stage.{Stage, TheVariants.{Closed,
 abbrev Quiet : Bool → ℕ → Type 0
 Quiet interrupting packets = (packets ≡ 0) ⊎ (interrupting ≡ true)
 
--- what holds at each stage of the device, by what the thread is doing
+-- the invariant, for each stage of the device and each thing that the thread may be doing
 abbrev Good : Hand → Stage → Bool → Bool → ℕ → Type 0
 Good free Closed m i p = m ≡ true
 Good free (Listed s) m i p = m ≡ true

@@ -1,12 +1,13 @@
--- A device with its card, the thread that drives it, and packets that arrive. What `Driver::next` says is done in three steps. Between
--- any two of them packets may arrive, the card may interrupt, the device may be opened and stopped, and the thread may forget what it
--- was about, done or not, and ask again. A report under a number that isn't due changes nothing, so it is no event.
+-- A device with its card, the thread that drives it, and packets that arrive. The thread takes three steps: `Driver::next` says
+-- what to do, the thread does it, and reports it. Between any two of them, packets may arrive, the card may interrupt, and the
+-- device may be opened and stopped; and the thread may forget what it was about to do, done or not, and call `next` again. A
+-- report under a number that isn't due changes nothing, so it is no event.
 use Rattle.std.specs.Prelude.{◌≡◌, ◌⊎◌, ◌||◌, ℕ, ◌+◌, ◌-◌, zero, suc, Bool, true, false, not, List, [], ◌∷◌, if◌then◌else◌}
 use Rattle.driver_core.specs.Device.{in_stage, after_interrupt, after_look, masked, after_open, after_driver_poll, after_stop, unmasked}
 use Rattle.driver_core.specs.declared.device.{DriverDevice.DriverDevice}
 use Rattle.driver_core.specs.declared.device.Stage.{Stage, TheVariants.{Closed, Masking, Closing, Listed, Unmasking, Looking, Armed}}
 
--- what the thread is doing: nothing, or what `next` said, done or not yet, and not yet reported
+-- What the thread is doing: nothing; or what `next` asked for, done or not, and not reported yet.
 pub data Hand : Type 0 where
   free : Hand
   to_mask : Hand
@@ -15,15 +16,16 @@ pub data Hand : Type 0 where
   to_fetch : Hand
   did_mask : Hand
   did_unmask : Hand
-  -- it looked, and the card had packets or none
+  -- it looked at the card, which had packets or had none
   saw : Bool → Hand
-  -- it took packets, as many as the weight or fewer
+  -- it took packets from the card: as many as the weight, or fewer
   took : Bool → Hand
 
 pub record World : Type 0 where
   pub device : DriverDevice
   pub hand : Hand
-  -- the card: whether its interrupt is masked, whether it has an interrupt that isn't reported yet, the packets that it has
+  -- The card: whether its interrupt is masked, whether it has raised an interrupt that isn't reported yet, and how many packets
+  -- it has.
   pub masked : Bool
   pub interrupting : Bool
   pub packets : ℕ
@@ -33,13 +35,13 @@ pub data DriverEvent : Type 0 where
   arrives : DriverEvent
   -- an interrupt is reported to the driver
   interrupts : DriverEvent
-  -- `next` says what is to be done
+  -- the thread calls `next`
   says : DriverEvent
-  -- it is done; a fetch takes so many packets, which are the weight or fewer
+  -- the thread does what `next` asked for; a fetch takes this many packets, as many as the weight or fewer
   acts : ℕ → Bool → DriverEvent
-  -- it is reported
+  -- the thread reports it
   reports : DriverEvent
-  -- the thread asks again, without a report
+  -- the thread calls `next` again, without a report
   forgets : DriverEvent
   opens : DriverEvent
   stops : DriverEvent
@@ -113,14 +115,14 @@ world_after (e ∷ es) w = world_after es (world_step e w)
 abbrev pub new_world : ℕ → World
 new_world packets = record { device = in_stage Closed false; hand = free; masked = true; interrupting = false; packets = packets }
 
--- an open device at rest has its card unmasked, and no packets, or an interrupt that isn't reported yet; a closed one is
--- masked
+-- the card of an open device at rest is unmasked, and has no packets or has an interrupt that isn't reported yet; the card of a
+-- closed device is masked
 abbrev pub IsWatched : Stage → World → Type 0
 IsWatched Armed w = (w.masked ≡ false) × ((w.packets ≡ 0) ⊎ (w.interrupting ≡ true))
 IsWatched Closed w = w.masked ≡ true
 IsWatched stage w = Unit {0}
 
--- law: whatever arrives, interrupts, is opened and stopped, and whenever, no packet waits unseen while the device is at rest
+-- law: after any events in any order, no packet waits without an interrupt while its device is at rest
 abbrev pub NoPacketWaitsUnseen : Type 0
 NoPacketWaitsUnseen =
     (packets : ℕ) (events : List DriverEvent) → (world_after events (new_world packets)).hand ≡ free

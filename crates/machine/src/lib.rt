@@ -1,10 +1,12 @@
-//! A receiving machine in time, by Linux's polling rules: what latency, drops and processor time follow from settings, arrivals
-//! and the costs of interrupts, polls, packets and their use. For programs that predict what another setting would do.
+//! A machine that receives packets over simulated time, by Linux's polling rules. It shows which latency, drops and processor
+//! time follow from settings, arrivals and the costs of interrupts, polls, packets and their use. For programs that predict the
+//! effect of another setting.
 //!
-//! From the bytes of arrivals to the bytes of a report, or the message and the exit status of an error; and the options of a
-//! program that runs it. A facade: it adds nothing to its internal crates. `machine_words` has the options, `machine_model` the
-//! machine, `machine_report` arrivals, report and errors; `machine_laws` and `machine_lives` have what follows for whole runs.
-//! `specs/Lib.antt` re-exports what contracts cite. The program `napi_machine` makes these calls.
+//! It computes the bytes of a report from the bytes of arrivals, or the message and the exit status of an error, and it parses
+//! the options of a program. This is a facade: it adds nothing to its internal crates. `machine_words` has the options,
+//! `machine_model` the machine, `machine_report` the arrivals, the report and the errors; `machine_laws` and `machine_lives`
+//! have what is proved about whole runs. `specs/Lib.antt` re-exports what contracts cite. The program `napi_machine` makes
+//! these calls.
 #![tactic(auto)]
 
 pub use machine_laws::{

@@ -12,7 +12,7 @@ use Rattle.machine_laws.proofs.{OverFacts.{both, over}, TimeFacts.{IsFair, Timed
 use Rattle.machine_laws.proofs.WorkFacts.{Goes, goes-on, work-ended}
 use Rattle.machine_model.specs.declared.processor.Upcoming.TheVariants as upcomings
 
--- the waits of what is delivered at the end of the work
+-- the waits of the packets delivered when the work ends
 given-waits : (s : MachineSettings) (n : ℕ) (p : ProcessorView) (o : Option (ℕ × ℕ)) → delivery_of p.work p ≡ o
     → is_polling p.settings ≡ true
     → ((hand : InHand) → p.work ≡ Packet hand → saturated (hand.came + s.packet) ≤ p.ends) → p.ends < 2 ^ 64 - 1
@@ -35,7 +35,7 @@ used-waits s p (Poll n) is using low = tt
 used-waits s p (Packet hand) is using low = tt
 used-waits s p (Use came) is using low = let below = using came is in (omega (arith, below, low), tt)
 
--- the clock after the next event is the time at which work ends
+-- if the next event is the end of work, the clock after it is the time of that end
 ends-clock : (s : MachineSettings) (p : ProcessorView) → Goes s p → (takes_up (ends_current p)).clock ≡ p.ends
 ends-clock s p goes = clock-takes s (ends_current p) (work-ended s p goes) ∙ (over p).clock
 

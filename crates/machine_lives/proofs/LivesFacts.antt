@@ -1,4 +1,4 @@
--- The machine of a report took packets whose moments don't decrease.
+-- The machine of a report received packets whose times don't decrease.
 use Rattle.std.proofs.{Common.{◌≡◌, ℕ, ◌<◌, ◌≤◌, ◌^◌, List, [], ◌∷◌, refl, arith}, lemmas.Grind.common_steps}
 use Rattle.{machine_model.specs.Machine.{PacketArrives, Machine, opened_machine}, machine_laws.specs.Lives.{EachLives, Took}}
 use Rattle.{device_rows.specs.Trace.records_of, machine_words.specs.declared.settings.MachineSettings.MachineSettings}
@@ -17,7 +17,7 @@ took-one : (s : MachineSettings) (last : ℕ) (a : Arrival) (packets : List (ℕ
 unfolding Took
 took-one s last a packets before next took most arrives = grind (arith, common_steps, took-later)
 
--- the effect of arrivals on a machine that took packets
+-- the packets that a machine received, after these arrivals
 took-more : (s : MachineSettings) (last : ℕ) (packets : List (ℕ × ℕ)) (arrivals : List Arrival) (before after : Machine) → last < 2 ^ 62
     → Took s last packets before → Rises last arrivals
     → TakesArrivals arrivals before after → (until : ℕ) × (until < 2 ^ 64) × Took s until (arrived_packets packets arrivals) after

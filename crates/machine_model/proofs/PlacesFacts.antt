@@ -1,4 +1,4 @@
--- Sums over a processor's devices as one of them changes, and how many are scheduled.
+-- Sums over a processor's queues after one of them changed, and how many are scheduled.
 use Rattle.std.proofs.Common.{◌+◌, ◌≤◌, Bool, true, false, Option, Some, None, [], ◌∷◌, ◌++◌, length, replicate, arith, ◌≡◌, ℕ}
 use Rattle.std.{proofs.lemmas.{List.Sums.sum_by-cons, Grind.common_steps}, specs.Prelude.{◌==◌, sum_by, if◌then◌else◌}}
 use Rattle.{device_places.{proofs.PlaceFacts.below-some, specs.Places.{at, changed}}, machine_model.specs.Devices.{QueueViews, asks_at}}
@@ -62,7 +62,7 @@ pub scheduled-most : (xs : QueueViews) → all_scheduled xs ≤ length xs
 scheduled-most [] = omega arith
 scheduled-most (x ∷ xs) = omega (arith, sum_by-cons scheduled_at x xs, one-most x, scheduled-most xs)
 
--- ---- which changes schedule none
+-- ---- changes that schedule no queue
 
 expired-open : (phase : Phase) → is_scheduled (expired_phase phase) ≡ is_scheduled phase
 expired-open phase = grind (arith, common_steps)

@@ -1,9 +1,11 @@
-//! Internal crate of the facade `machine`: a receiving machine over time, with polling runs of one thread.
+//! Internal crate of the facade `machine`: a machine that receives packets over simulated time, with polling runs of one
+//! thread.
 //!
-//! `specs/` is its definition: `Waits` has how waits are counted, `Device`, `Devices`, `Softirq` and `Application` what happens
-//! to a device, a poll list and an application, `Processor` what a processor takes up and what happens as time passes,
-//! `Machine` the effect of arrivals on all. `Shown` and `Kept` relate the program to it. Crates that state laws of the
-//! definition name its types (`Phase`, `Work` and others), which are exported for that.
+//! `specs/` defines the machine: `Waits` defines how waits are counted; `Device` a receive queue, and `Devices` the queues of a
+//! processor; `Softirq` the poll list and its run; `Application` the application; `Processor` which work a processor begins and
+//! what happens as time passes; `Machine` the effect of arrivals on all processors. `Shown` and `Kept` say how the program's
+//! state represents a state of the definition. Types of the definition (`Phase`, `Work` and others) are exported, because the
+//! crates with its laws name them.
 #![tactic(auto)]
 
 mod application;

@@ -93,7 +93,7 @@ impl Softirq {
         self.began = moment;
     }
 
-    /// Returns the number that the run polls next; `None` if the run is over.
+    /// Returns the number to poll next; `None` if the run is over.
     #[tactic(auto, unfolding(crate::specs::Softirq::run_next))]
     pub(crate) fn next(&mut self) -> Option<u32>
         requires { asked_in self.old.run ≡ None }

@@ -1,4 +1,4 @@
--- One more device, and one more processor.
+-- One more queue or processor in the report.
 use Rattle.std.proofs.{Common.{arith, ◌≡◌, ◌∙◌, ℕ, ◌+◌, [], ◌++◌, Option, List, refl, add-one, append-nil, sym}, lemmas.Grind.common_steps}
 use Rattle.machine_model.specs.declared.{device.QueueReport.QueueReport, processor.ProcessorReport.ProcessorReport}
 use Rattle.machine_report.specs.{declared.report.MachineTotals.MachineTotals}

@@ -1,4 +1,4 @@
--- Plain rows of arrivals.
+-- Plain rows of arrivals: numbers, commas, a line feed.
 use Rattle.std.specs.Prelude.{◌≡◌, ℕ, true, List, Ok}
 use Rattle.{device_rows.specs.Plain.{StartsWithRecord, StartsWithTitle}}
 use Rattle.{machine_words.specs.declared.settings.MachineSettings.MachineSettings}

@@ -16,11 +16,11 @@ machine_option_names = codes "processors" ∷ codes "queues" ∷ codes "ring" �
 abbrev pub number : ℕ → ℕ → ℕ → Option Text → Option ℕ
 number usual low high given = or_usual usual (number_within 10 low high) given
 
--- 0 or 1, with the default 0
+-- a flag is 0 or 1; the default is 0
 abbrev pub flag_value : Option Text → Option Bool
 flag_value given = option_map (λ n. nat_eq n 1) (number 0 0 1 given)
 
--- a time is at most a second
+-- a time in nanoseconds is at most a second
 abbrev pub time : ℕ → Option Text → Option ℕ
 time usual given = number usual 0 1000000000 given
 
@@ -95,7 +95,7 @@ machine_args_of s = record {
   costs = record { interrupt = s.interrupt; poll = s.poll; packet = s.packet; use_time = s.use_time; wake = s.wake };
 }
 
--- what the values of the options ask for
+-- the machine that the values of the options ask for
 abbrev pub machine_args_with : (Text → Option Text) → Option MachineArgs
 machine_args_with value = do
   sizes ← sizes_with value
@@ -105,6 +105,6 @@ machine_args_with value = do
   costs ← costs_with value
   Some (record { sizes = sizes; polling = polling; coalescing = coalescing; tasks = tasks; costs = costs })
 
--- what the arguments ask for, or None if they are an error
+-- the machine that the arguments ask for, or None if they are an error
 abbrev pub machine_asked_for : List Text → Option MachineArgs
 machine_asked_for words = given_by machine_option_names words >>= (λ given. machine_args_with (λ name. value_of name given))

@@ -1,4 +1,5 @@
-//! The receiving machine: its processors and queues, its sizes, how it polls, and what each piece of work takes.
+//! The settings of the receiving machine: its processors and queues, their sizes, how it polls, and what each kind of work
+//! costs.
 
 /// The most processors.
 pub const MOST_PROCESSORS: u32 = 64;
@@ -21,25 +22,26 @@ pub const MOST_WINDOW: u32 = 65535;
 /// The most frames that a card waits for before it interrupts.
 pub const MOST_FRAMES: u32 = 65535;
 
-/// The most times that a device's interrupt is deferred.
+/// The greatest number of times that a queue's interrupt is deferred.
 pub const MOST_DEFERRALS: u32 = 65535;
 
 /// The longest time that can be set, in nanoseconds: a second.
 pub const MOST_TIME: u32 = 1000000000;
 
-/// A receiving machine. Times are in nanoseconds.
+/// The settings of a receiving machine. Times are in nanoseconds.
 #[derive(Clone, Copy, Debug, PartialEq, Eq)]
 pub struct MachineSettings {
     /// Processors, 1 to 64. Queue q belongs to processor (q - 1) mod `processors`.
     pub processors: u32,
-    /// Queues of each device, 1 to 64, each with its own instance (`ethtool -L`, RSS). With one, a device is a queue.
+    /// Queues of each device, 1 to 64, each with its own instance (`ethtool -L`, RSS). If it is 1, a device and its queue have
+    /// the same number.
     pub queues: u32,
     /// Packets that a queue's ring holds, 1 to 65536 (`ethtool -G`; with `backlog`, `net.core.netdev_max_backlog`).
     pub ring: u32,
     /// Packets that a processor's socket holds, 1 to 65536 (SO_RCVBUF, in packets).
     pub socket: u32,
-    /// Whether a poll takes packets as `process_backlog` does: it moves the whole ring to a second queue, and takes them from there.
-    /// So up to twice as many packets wait.
+    /// Whether a poll takes packets as `process_backlog` does: it moves the whole ring to a second queue, and takes packets
+    /// from that. So up to twice as many packets may wait.
     pub backlog: bool,
     /// Packets that a run polls before it is squeezed, 0 to 65535 (`net.core.netdev_budget`, `net_rx_action`). With 0 there is no
     /// polling, and each interrupt delivers a packet.
@@ -50,16 +52,17 @@ pub struct MachineSettings {
     pub window: u32,
     /// The time after which a run is squeezed, 1 to 1000000000 (`net.core.netdev_budget_usecs`, `net_rx_action`).
     pub time_limit: u32,
-    /// How long a card waits with its interrupt, 0 to 1000000000 (`ethtool -C rx-usecs`). With 0 it doesn't wait.
+    /// How long a card delays its interrupt, 0 to 1000000000 (`ethtool -C rx-usecs`). With 0 it doesn't delay it.
     pub rx_nsecs: u32,
-    /// Frames at which a card interrupts before `rx_nsecs` is over, 0 to 65535 (`ethtool -C rx-frames`). With 0 it doesn't count them.
+    /// The number of frames at which a card interrupts before `rx_nsecs` is over, 0 to 65535 (`ethtool -C rx-frames`). With 0
+    /// it doesn't count frames.
     pub rx_frames: u32,
-    /// How often a device that completes a poll stays masked and waits for its timer, 0 to 65535
+    /// How often a queue stays masked after a poll that completes, and waits for its timer, 0 to 65535
     /// (`/sys/class/net/NAME/napi_defer_hard_irqs`, `napi_complete_done`). A poll with packets sets it back to this number.
     pub defer_hard_irqs: u32,
     /// The time of that timer, 0 to 1000000000 (`/sys/class/net/NAME/gro_flush_timeout`, `napi_watchdog`). With 0 there is none.
     pub gro_flush_timeout: u32,
-    /// Whether each device is polled by its own thread (`/sys/class/net/NAME/threaded`, `napi_threaded_poll`).
+    /// Whether each queue is polled by its own thread (`/sys/class/net/NAME/threaded`, `napi_threaded_poll`).
     pub threaded: bool,
     /// Whether the application has its own processor.
     pub apart: bool,
@@ -71,9 +74,9 @@ pub struct MachineSettings {
     pub poll: u32,
     /// The time of each packet of a poll, 0 to 1000000000.
     pub packet: u32,
-    /// The time that the application uses a packet, 0 to 1000000000.
+    /// The time that the application takes for a packet, 0 to 1000000000.
     pub use_time: u32,
-    /// The time to wake an idle processor, 0 to 1000000000. It counts as interrupt time.
+    /// The time that it takes to wake an idle processor, 0 to 1000000000. It counts as interrupt time.
     pub wake: u32,
     ghost processors_in: { (1 ≤ processors) × (processors ≤ 64) },
     ghost queues_in: { (1 ≤ queues) × (queues ≤ 64) },

@@ -40,7 +40,7 @@ const OPTIONS: [&str; 21] = [
     "wake",
 ];
 
-/// How many processors and queues there are, and how many packets they hold.
+/// The sizes: the number of processors and queues, and how many packets they hold.
 #[derive(Clone, Copy)]
 pub(crate) struct Sizes {
     processors: u32,
@@ -50,7 +50,7 @@ pub(crate) struct Sizes {
     backlog: bool,
 }
 
-/// When a poll and a run end.
+/// The settings that limit a poll and a run.
 #[derive(Clone, Copy)]
 pub(crate) struct PollingOptions {
     budget: u32,
@@ -59,7 +59,7 @@ pub(crate) struct PollingOptions {
     time_limit: u32,
 }
 
-/// When a card interrupts, and when a device that completed a poll is unmasked.
+/// The settings that decide when a card interrupts, and when a queue is unmasked after a poll that completed.
 #[derive(Clone, Copy)]
 pub(crate) struct Coalescing {
     rx_nsecs: u32,
@@ -68,7 +68,7 @@ pub(crate) struct Coalescing {
     gro_flush_timeout: u32,
 }
 
-/// Where devices are polled and where the application runs.
+/// The settings that decide where queues are polled and where the application runs.
 #[derive(Clone, Copy)]
 pub(crate) struct TaskOptions {
     threaded: bool,
@@ -76,7 +76,7 @@ pub(crate) struct TaskOptions {
     app_wake: u32,
 }
 
-/// The time of each kind of work.
+/// The cost of each kind of work.
 #[derive(Clone, Copy)]
 pub(crate) struct Costs {
     interrupt: u32,
@@ -104,7 +104,7 @@ fn time_in(matches: &ArgMatches<'_>, name: &str, usual: u32) -> Option<u32>
     number_in(matches, name, usual, 0, MOST_TIME)
 }
 
-// Returns the 0 or 1 given for an option, or the default 0.
+// Returns the 0 or 1 given for an option, or the default, 0.
 fn flag_in(matches: &ArgMatches<'_>, name: &str) -> Option<bool>
     ensures { result ≡ flag_value (value_in matches.now name.now) }
 {

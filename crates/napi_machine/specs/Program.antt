@@ -1,4 +1,4 @@
--- The program: what it writes and its exit status, by its arguments and the bytes of its input.
+-- The program: its output and its exit status, as functions of its arguments and the bytes of its input.
 use Rattle.std.specs.Prelude.{◌≡◌, ℕ, List, Option, Some, None}
 use Rattle.machine_report.specs.Answer.{IsReportOf}
 use Rattle.machine_report.specs.Answer.{IsArrivalsFault as IsFaultOfArrivals}
@@ -17,17 +17,17 @@ use Rattle.replay_words.specs.Given.{Text}
 abbrev pub AskForMachine : List Text → MachineSettings → Type 0
 AskForMachine words settings = machine_asked_for words ≡ Some (machine_args_of settings)
 
--- the text is its report of these bytes
+-- the text is the report of these bytes, for the machine that the arguments ask for
 abbrev pub IsNapiMachineReport : List Text → List ℕ → List ℕ → Type 0
 IsNapiMachineReport words = IsTextBy (AskForMachine words) IsReportOf
 
--- the error is that of the arguments or, with their settings, that of the bytes; otherwise the reader, an allocation or the
--- writer failed
+-- the error is that of the arguments; or that of the bytes, for the machine that the arguments ask for; or the reader, an
+-- allocation or the writer failed
 abbrev pub IsNapiMachineFault : List Text → Option (List ℕ) → ProgramFault MachineFault → Type 0
 IsNapiMachineFault words input = IsFaultOf (machine_asked_for words ≡ None) (AskForMachine words)
     (λ settings. IsMachineFaultBy IsMachineOutside (IsFaultOfArrivals settings) input)
 
--- if the output failed, a part of the report of the bytes read was written, and after each other error nothing
+-- the output has a part of the report of the bytes read if writing it failed, and nothing after any other error
 abbrev pub LeavesMachineOutput : (List ℕ → List ℕ → Type 0) → Option (List ℕ) → Option (List ℕ) → Option (List ℕ)
     → ProgramFault MachineFault → Type 0
 LeavesMachineOutput IsText = LeavesBy (Run OutputFailed) IsText

@@ -1,5 +1,5 @@
-//! `napi_machine` is a receiving machine over time: processors on which an interrupt, a poll, a packet and its use take the
-//! times that the options name. It reads arrivals from standard input and writes its report to standard output.
+//! `napi_machine` is a machine that receives packets over simulated time: its options name how long an interrupt, a poll, a
+//! packet and its use take on its processors. It reads arrivals from standard input and writes its report to standard output.
 #![tactic(auto)]
 
 mod program;

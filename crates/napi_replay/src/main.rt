@@ -1,7 +1,8 @@
-//! `napi_replay` plays a trace of network events through the packet polling core, and reports what it did.
+//! `napi_replay` replays a trace of network events through the packet polling core, and reports what it did.
 //!
-//! It reads the trace from standard input, and writes the report to standard output, or the message of an error, one line, to
-//! standard error. The exit status is 0, or that of the error. The arguments select a mode and the settings of a run.
+//! It reads the trace from standard input, and writes the report to standard output. After an error it writes one line, the
+//! message, to standard error, and its exit status is that of the error; otherwise it is 0. The arguments select a mode and the
+//! settings of a run.
 #![tactic(auto)]
 
 mod program;

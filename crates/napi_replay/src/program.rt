@@ -20,7 +20,7 @@ use std::process::ExitCode;
 use std::sync::Wait;
 use std::thread::Threads;
 
-// Replays the input in a mode.
+// Replays the input in this mode.
 fn replay_in<H, R, W>(
     rt: &H,
     alloc: Global,
@@ -79,7 +79,7 @@ fn replay_asked<H: Threads + Wait + Sync, R: Read + Drop, W: Write>(
 /// Runs the program: replays `input` as its arguments ask for, writes the report to `output` or the message of an error to
 /// `errors`, and returns the exit status.
 ///
-/// The status is 0 exactly if the report was written. In threads mode, the gate is always open.
+/// The status is 0 exactly if the report was written. In threads mode, the gate always returns true.
 pub fn run_program<H: Threads + Wait + Sync, R: Read + Drop, W: Write, E: Write>(
     rt: &H,
     alloc: Global,
@@ -88,8 +88,7 @@ pub fn run_program<H: Threads + Wait + Sync, R: Read + Drop, W: Write, E: Write>
     output: &mut W,
     errors: &mut E,
 ) -> ExitCode
-    // What is written is the report of the bytes read, in the mode and with the settings that the arguments ask for, and
-    // nothing else.
+    // The bytes written are the report of the bytes read, in the mode and with the settings that the arguments ask for.
     ensures written { exit_status result ≡ 0
         → Writes (IsNapiReplayReport (map string_bytes words.now))
         (R.remaining input) (W.contents output.old) (W.contents output.new) }

@@ -1,4 +1,4 @@
--- The serial tool: what it writes and its exit status, by its arguments and the bytes of its input.
+-- The serial tool: its output and its exit status, as functions of its arguments and the bytes of its input.
 use Rattle.std.specs.Prelude.{◌≡◌, ℕ, List, Option, Some, None, Ok, Err}
 use Rattle.replay_text.specs.{Outside.IsOutside, Program.IsFaultOf, Written.IsFaultBy, declared.fault.ReplayFault.ReplayFault}
 use Rattle.{replay_text.specs.{Program.IsTextBy, declared.program.ProgramFault.ProgramFault}}
@@ -15,7 +15,7 @@ AskForSerial words settings = serial_asked_for words ≡ Some (replay_args_of (S
 abbrev pub IsNapiSerialReport : List Text → List ℕ → List ℕ → Type 0
 IsNapiSerialReport words = IsTextBy (AskForSerial words) (λ settings bytes text. replay_of settings bytes ≡ Ok text)
 
--- the error is that of the arguments or of the bytes; otherwise the reader, an allocation or the writer failed
+-- the error is that of the arguments or of the input; or the reader, an allocation or the writer failed
 abbrev pub IsNapiSerialFault : List Text → Option (List ℕ) → ProgramFault ReplayFault → Type 0
 IsNapiSerialFault words input = IsFaultOf (serial_asked_for words ≡ None) (AskForSerial words)
     (λ settings. IsFaultBy IsOutside (λ bytes fault. replay_of settings bytes ≡ Err fault) input)

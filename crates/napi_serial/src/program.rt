@@ -49,7 +49,7 @@ pub(crate) fn run_program<R: Read + Drop, W: Write, E: Write>(
     output: &mut W,
     errors: &mut E,
 ) -> ExitCode
-    // What is written is the report of the bytes read, with the settings that the arguments ask for, and nothing else.
+    // The bytes written are the report of the bytes read, with the settings that the arguments ask for.
     ensures written { exit_status result ≡ 0
         → Writes (IsNapiSerialReport (map string_bytes words.now))
         (R.remaining input) (W.contents output.old) (W.contents output.new) }

@@ -1,4 +1,4 @@
--- The command line: the arguments of napi_replay, preceded, if wanted, by `--every` and its number.
+-- The command line: the arguments of napi_replay. They may be preceded by `--every` and its number.
 use Rattle.std.specs.Prelude.{ℕ, [], ◌∷◌, List, Option, Some, None, if◌then◌else◌, codes, option_map}
 use Rattle.std.specs.Str.{bytes_eq}
 use Rattle.replay_words.specs.Given.{◌>>=◌}
@@ -11,6 +11,6 @@ every_of (first ∷ number ∷ rest) =
 every_of (only ∷ []) = Some (1, only ∷ [])
 every_of [] = Some (1, [])
 
--- what all arguments ask for, in serial mode, because a series processes the rows in order; None if they are an error
+-- what the arguments ask for, or None if they are an error; the mode is serial, because a series processes the rows in order
 abbrev pub series_asked_for : List Text → Option (ℕ × ReplayArgs)
 series_asked_for words = every_of words >>= (λ every. option_map (λ asked. (every.0, asked)) (serial_asked_for every.1))

@@ -92,8 +92,8 @@ fn add_word(text: &mut String, counts: Option<DeviceCounts>) -> Result<(), Alloc
     Ok(())
 }
 
-/// Appends the fields of a row: the row, its device, the device's transmit side if it had a row, what a row that polled did,
-/// and the device's state word.
+/// Appends the fields after the row's own: those of its device, of the device's transmit side if it had a tx or done row, what
+/// the row polled, and the device's state word.
 pub(crate) fn add_told(
     text: &mut String,
     number: u32,
@@ -131,7 +131,7 @@ fn add_gave(
     Ok(())
 }
 
-// Appends how many packets each device processed in the row between.
+// Appends how many packets each device processed in a row, from a replay before the row and one after it.
 fn add_given(
     text: &mut String,
     before: &SerialReplay,

@@ -1,8 +1,8 @@
-//! `napi_series` plays a trace like `napi_replay`, and writes a CSV line after each row: what the report of the rows so far
+//! `napi_series` replays a trace like `napi_replay`, and writes a CSV line after each row: what the report of the rows so far
 //! would show of the row's device, and what the row polled.
 //!
-//! Its arguments are those of `napi_replay`; before them, `--every N` asks for only every Nth row. Errors, their messages and
-//! their exit statuses are those of `napi_replay`.
+//! Its arguments are those of `napi_replay`; `--every N` before them asks for a line after every Nth row only. Errors, their
+//! messages and their exit statuses are those of `napi_replay`.
 #![tactic(auto)]
 
 mod line;

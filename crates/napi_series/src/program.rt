@@ -49,7 +49,7 @@ pub(crate) fn run_program<R: Read + Drop, W: Write, E: Write>(
     output: &mut W,
     errors: &mut E,
 ) -> ExitCode
-    // What is written is the series of the bytes read that the arguments ask for, and nothing else.
+    // The bytes written are the series of the bytes read, as the arguments ask for it.
     ensures written { exit_status result ≡ 0 → Writes (IsSeries (map string_bytes words.now))
         (R.remaining input) (W.contents output.old) (W.contents output.new) }
     ensures quiet { exit_status result ≡ 0 → Keeps (E.contents errors.old) (E.contents errors.new) }

@@ -9,7 +9,7 @@ ghost use Rattle.replay_words.specs.declared.words.WordFault.TheVariants.{OutOfM
 use replay_words::{ReplaySettings, WordFault, number_of, parse_serial_words};
 use std::alloc::Global;
 
-// Returns how many rows make one line, and the remaining arguments.
+// Returns the number of rows per line, and the remaining arguments.
 fn split_every(words: &[String]) -> Option<(u32, &[String])>
     ensures split { option_map (λ s. (s.0, map string_bytes s.1.now)) result
         ≡ every_of (map string_bytes words.now) }
@@ -23,8 +23,8 @@ fn split_every(words: &[String]) -> Option<(u32, &[String])>
     }
 }
 
-/// Returns how many rows make one line, 1 to 99999, and the settings of the replay. `--every` and its number come before the
-/// other arguments, which are those of `napi_replay`; the mode is serial, which processes the rows in order.
+/// Returns the number of rows per line, 1 to 99999, and the settings of the replay. `--every` and its number come before the
+/// other arguments, which are those of `napi_replay`. The mode is serial, because that processes the rows in order.
 ///
 /// # Errors
 ///

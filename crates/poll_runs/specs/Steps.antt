@@ -23,7 +23,7 @@ pub record Begins {L : Type 0} (entries : L → List ℕ) (moves : L → List �
   pub polls : run.polls ≡ 0
   pub work : run.work ≡ 0
 
--- the own list is refilled if the rules allow it, and the result is its first number, if there is one
+-- the run's own list is refilled if the rules allow it, and the result is the first number of that list, if there is one
 pub record Asks {L : Type 0} (entries : L → List ℕ) (moves : L → List ℕ → List ℕ → ℕ → L → Type 0) (is_all : List ℕ → L → Type 0)
     (has_room : L → ℕ → Type 0) (run : PollingRun) (list : L) (answer : Option ℕ) (own : List ℕ) (after : L) : Type 0 where
   pub filled : List ℕ

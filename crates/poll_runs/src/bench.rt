@@ -89,8 +89,8 @@ pub trait Bench {
     ghost polls: { Self → ℕ → ℕ → Once → Self → Type 0 };
 
     /// `thread_polls before id weight most polls after`: polling of this instance by its thread leads from one bench to the
-    /// other by these polls, including a take that finds nothing, and queueing on the list after a last `Repoll`. By default
-    /// nothing is polled and the bench is unchanged.
+    /// other by these polls. A take that finds nothing is one of them, and so is queueing on the list after a last `Repoll`. By
+    /// default nothing is polled and the bench is unchanged.
     ghost thread_polls: { Self → ℕ → ℕ → ℕ → List Once → Self → Type 0 } = { NoThreadPolls };
 
     /// `busy_polls before id weight rounds report after`: busy polling of this instance for this many rounds leads from one
@@ -104,8 +104,8 @@ pub trait Bench {
         ensures leads { polls self.old id weight result self.new }
         ensures bound { result.work ≤ weight };
 
-    /// Takes an instance as its thread does, and polls it until no repoll is asked for and a take doesn't find it in the
-    /// thread's queue, at most `most` times, in 1..=131072 (`napi_threaded_poll`).
+    /// Takes an instance as its thread does, and polls it at most `most` times, in 1..=131072 (`napi_threaded_poll`). It stops
+    /// earlier if a poll asks for no repoll and a take doesn't find the instance in the thread's queue.
     fn poll_thread(&mut self, id: u32, weight: u32, most: u32) -> ThreadReport
         requires weight { (1 ≤ weight) × (weight ≤ 64) }
         requires most { (1 ≤ most) × (most ≤ 131072) }

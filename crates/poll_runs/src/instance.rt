@@ -74,14 +74,14 @@ pub trait Instance {
             self.old (next_of result) self.new }
         ensures rests { rests self.new };
 
-    /// No action changes nothing.
+    /// An empty list of actions leaves the state as it was.
     ghost nothing: { (it : Self) → did it [] it };
 
     /// Actions compose.
     ghost joins: { (a b c : Self) (first second : List (Action Self.Packet)) → did a first b
         → did b second c → did a (first ++ second) c };
 
-    /// Whether it has a thread doesn't change.
+    /// An action doesn't change whether the instance has a thread.
     ghost same: { (before after : Self) (deeds : List (Action Self.Packet)) → did before deeds after
         → thread after ≡ thread before };
 }

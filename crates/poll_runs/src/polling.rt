@@ -12,7 +12,7 @@ use crate::bench::{Next, Once, ThreadReport};
 use crate::instance::Instance;
 use napi_model::Kind;
 
-// Returns how a poll ended that completed its instance.
+// Returns how a poll ended, if it completed its instance: queued again, or released.
 fn next_of(again: Option<Kind>) -> Next
     ensures { result ≡ next_of again }
 {
@@ -22,7 +22,7 @@ fn next_of(again: Option<Kind>) -> Next
     }
 }
 
-// Ends a poll that used its whole weight, or less.
+// Ends a poll; `full` says whether it used its whole weight.
 fn end<I: Instance>(instance: &mut I, full: bool) -> Next
     requires { I.in_hand instance.old }
     ensures does { Does I.tries I.did (ended (I.thread instance.old) full) instance.old result
@@ -90,7 +90,7 @@ pub fn poll_once_of<I: Instance>(instance: &mut I, weight: u32, packets: &mut I:
 }
 
 // Decides what follows a poll by the thread: it keeps the instance, or takes it again if it was queued for the thread, unless
-// this was the last poll that it may make. An instance that it may not poll again goes to the list.
+// this was the last poll that it may make. After the last poll, an instance that gets a repoll goes to the list.
 fn follow<I: Instance>(instance: &mut I, next: Next, is_last: bool) -> bool
     requires { MatchBool (is_repoll next) (I.in_hand instance.old) (I.rests instance.old) }
     ensures does { Does I.tries I.did (followed is_last next) instance.old result instance.new }

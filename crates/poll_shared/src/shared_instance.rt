@@ -25,8 +25,8 @@ use std::sync::Wait;
 /// otherwise it is always queued on the list. After [`Next::Repoll`], and [`Next::Again`] with the list, the caller still has
 /// to push its number.
 ///
-/// The batch then has the packets of the poll, which are all that the caller delivers by it, and none if the instance wasn't on
-/// the list.
+/// Afterwards the batch has the packets of the poll, which are all that the caller delivers by it; it is empty if the instance
+/// wasn't on the list.
 pub fn poll_instance<R: Wait>(
     rt: &R,
     napi: &Napi,
@@ -63,7 +63,7 @@ pub fn poll_instance<R: Wait>(
 /// After a missed request the instance is queued for the thread and taken again if THREADED is set, otherwise queued on the
 /// list. After [`Next::Repoll`], and [`Next::Again`] with the list, the caller still has to push its number.
 ///
-/// The batch is cleared before each poll: afterwards it has the packets of the last one, and none if there was no poll.
+/// The batch is cleared before each poll: afterwards it has the packets of the last poll, and is empty if there was none.
 pub fn poll_instance_by_thread<R: Wait>(
     rt: &R,
     napi: &Napi,
@@ -101,7 +101,7 @@ pub fn poll_instance_by_thread<R: Wait>(
 /// [`Next::Repoll`], and [`Next::Again`] with the list, the caller still has to push its number. Returns [`Next::Absent`] for
 /// an instance that isn't idle.
 ///
-/// The batch is cleared before each poll: afterwards it has the packets of the last one, and none if there was no poll.
+/// The batch is cleared before each poll: afterwards it has the packets of the last poll, and is empty if there was none.
 pub fn busy_instance<R: Wait>(
     rt: &R,
     napi: &Napi,

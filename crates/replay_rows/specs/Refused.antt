@@ -6,7 +6,7 @@ use Rattle.{replay_text.specs.Outside.IsReplayOutOfMemory}
 use Rattle.replay_text.specs.declared.fault.ReplayFault.{ReplayFault, TheVariants.Pending}
 use Rattle.replay_words.specs.declared.settings.ReplaySettings.{ReplaySettings}
 
--- an allocation failed, or an enable row met a pending disable, which is an error of the rows
+-- an allocation failed, or the rows have an error: an enable row met a pending disable
 abbrev pub IsSerialFault : ReplaySettings → List Row → ReplayFault → Type 0
 IsSerialFault s rows fault = IsReplayOutOfMemory fault ⊎ ((version : ℕ) → serial_report s version rows ≡ Err fault)
 

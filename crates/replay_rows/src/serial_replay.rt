@@ -8,7 +8,7 @@ use replay_text::ReplayFault;
 use replay_words::ReplaySettings;
 use std::alloc::{AllocError, Global};
 
-/// A replay on one thread that processes the rows one by one, and shows the state after each.
+/// A replay on one thread that processes the rows one by one, and shows the state after each row.
 #[derive(Drop)]
 pub struct SerialReplay {
     replay: Replay<SerialBench>,
@@ -33,7 +33,8 @@ impl SerialReplay {
         })
     }
 
-    /// Processes the row with this index of a trace, after those before it. After an error the replay can't be used any more.
+    /// Processes the row with this index of a trace, after all rows before it. After an error the replay can't be used any
+    /// more.
     pub fn play_row(
         &mut self,
         alloc: Global,
@@ -66,8 +67,8 @@ impl SerialReplay {
         Some(self.replay.bench.counts(device))
     }
 
-    /// Returns whether the report of the rows so far shows the device's transmit side, which is so after its first tx or done
-    /// row.
+    /// Returns whether the report of the rows so far shows the device's transmit side, which it does after the device's first
+    /// tx or done row.
     pub fn uses_transmit(&self, device: u32) -> bool
         ensures { (s : ReplaySettings) (rows : List Row) (n : ℕ) → IsAfter s rows n self.now
             → result ≡ is_used_after rows n device }
@@ -83,7 +84,7 @@ impl SerialReplay {
         self.replay.list.ids()
     }
 
-    /// Returns what the row with this number did, if it is the last one processed, and polled.
+    /// Returns what the row with this number did, if it is the last row processed and it polled.
     pub fn polled(&self, number: u32) -> Option<PollRecord>
         ensures { (s : ReplaySettings) (rows : List Row) → IsAfter s rows number self.now
             → result ≡ polled_after s rows number }

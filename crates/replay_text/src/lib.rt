@@ -1,5 +1,5 @@
-//! Internal crate of the facade `replay`: what all replays of a trace share: their errors, the common lines of their reports,
-//! and how each program ends.
+//! Internal crate of the facade `replay`: what all replays of a trace have in common: their errors, some lines of their
+//! reports, and how their programs end.
 #![tactic(auto)]
 
 mod fault;

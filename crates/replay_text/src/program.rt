@@ -1,4 +1,4 @@
-//! What all programs have in common: their arguments, why they failed, and how they end.
+//! What all programs have in common: their arguments, their errors, and how they end.
 
 ghost use Rattle.std.specs.Prelude.{◌≡◌, ◌≢◌, ◌⊎◌, ◌++◌, ℕ, IfOk, List, codes, false, string_bytes, true};
 ghost use Rattle.std.specs.Io.KnownBytes.{Appends};
@@ -15,7 +15,7 @@ use std::env;
 use std::io::{ErrorKind, Write};
 use std::process::ExitCode;
 
-/// Why a program that accepted its arguments wrote no report: the message on standard error, and the exit status.
+/// An error of a program whose arguments were accepted: its message on standard error, and its exit status.
 pub trait Fault {
     /// The message on standard error, without its line feed.
     ghost line: { Self → List ℕ };

@@ -1,4 +1,4 @@
--- The result of a run of a text with threads: the threads report of its rows, or its first error.
+-- The result of a replay of a text with threads: the report of its rows in threads mode, or its first error.
 use Rattle.std.specs.{Prelude.{◌≡◌, ℕ, ◌+◌, List, Bool, Option, Some, None, Result, Ok, Err, length, map, nat_lt, option_map}, List.find}
 use Rattle.poll_interrupts.specs.{declared.station.{Closed.Closed, Finished.Finished}, Runs.HasRun}
 use Rattle.replay_words.specs.declared.settings.ReplaySettings.{ReplaySettings}
@@ -35,25 +35,25 @@ threads_result (Err fault) = Err (Trace fault)
 abbrev pub threads_of : List ℕ → Result (List ℕ) ReplayFault
 threads_of bytes = threads_result (trace_of (records_of bytes))
 
--- the reader, an allocation, the writer or a thread failed; or the gate stopped the run, if it may
+-- the reader, an allocation, the writer or a thread failed; or the gate stopped the run, if the gate may do that
 abbrev pub IsThreadsOutside : Type 0 → ReplayFault → Type 0
 IsThreadsOutside may_shut GateShut = may_shut
 IsThreadsOutside may_shut SpawnFailed = IsRefused
 IsThreadsOutside may_shut fault = IsSerialOutside fault
 
--- the error of a run, as the replay reports it
+-- the error of a run, and the error of the replay that reports it
 abbrev pub IsToldAs : WorkFault → ReplayFault → Type 0
 IsToldAs work.OutOfMemory told = IsReplayOutOfMemory told
 IsToldAs work.GateShut told = told ≡ GateShut
 IsToldAs work.SpawnFailed told = told ≡ SpawnFailed
 
--- the device as the rows describe it, before its acts
+-- the device that the rows describe, before its acts
 pub record IsDeviceOf (rows : List Row) (device : ℕ) (script : Script) : Type 0 where
   pub opening : opening_of device rows ≡ Some script.opening
   pub acts : script.rows ≡ script_of device rows
   pub made : script.made ≡ 0
 
--- the packets of a device that were polled, and those left, are the packets that arrived there, with its own acts
+-- the packets of a device that were polled, and those that are left, together are the packets that arrived there
 pub record IsPolledDevice (rows : List Row) (device : ℕ) (polled : Polled) : Type 0 where
   pub same_device : polled.device ≡ device
   pub sum : polled.polled + polled.left ≡ arrived device rows
@@ -64,7 +64,7 @@ pub record IsPolledDevice (rows : List Row) (device : ℕ) (polled : Polled) : T
   pub run : HasRun answer script_after script.opening.value (has_thread script.rows) script (length script.rows) closed totals
   pub counts : (polled.polled ≡ totals.polled) × (polled.left ≡ totals.left)
 
--- what is reported of a run was done by as many pollers as the settings say, with their numbers
+-- the reported run was made by as many pollers as the settings ask for, with the settings' limits
 abbrev pub IsRunBy : Type 0 → (ℕ → Type 0) → ReplaySettings → List Row → List Polled → Type 0
 IsRunBy R asked settings rows told = (ends : List (Finished Script)) × AreRunBy R asked settings rows ends × (told ≡ map polled_of ends)
 

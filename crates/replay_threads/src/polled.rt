@@ -1,6 +1,6 @@
 //! The counts of the polls of a run.
 
-/// What pollers did with the packets of one device.
+/// How many packets of one device were polled.
 #[derive(Clone, Copy, Debug, PartialEq, Eq)]
 pub struct Polled {
     /// The device's number.

@@ -28,7 +28,7 @@ use std::alloc::{AllocError, Global};
 use std::sync::Wait;
 use std::thread::Threads;
 
-// Returns the station of the device of this open row, with its rows after that one.
+// Returns the station of the device that this row opens, with the device's rows after it.
 fn station_of(
     alloc: Global,
     number: u32,
@@ -52,7 +52,7 @@ fn station_of(
     })
 }
 
-// Adds the station of a device with its script, if one of the open rows opens it.
+// Adds the station of a device with its script (its list of rows), if one of the open rows opens it.
 fn add_station(
     alloc: Global,
     openings: &[Row],
@@ -103,7 +103,7 @@ fn is_small(station: &Station<ScriptDevice>) -> bool
     station.capacity < station.device.packets() as usize
 }
 
-// Returns an error for the first station whose ring has less room than packets that arrive there.
+// Returns an error for the first station at which more packets arrive than its ring has room for.
 fn ring_fault(stations: &[Station<ScriptDevice>]) -> Option<ReplayFault>
     ensures { result ≡ small_fault stations.now }
 {
@@ -118,7 +118,7 @@ fn ring_fault(stations: &[Station<ScriptDevice>]) -> Option<ReplayFault>
     None
 }
 
-// Returns the error of the replay for an error of a run.
+// Returns the error of the replay that reports an error of a run.
 fn work_fault(fault: WorkFault) -> ReplayFault
     ensures { IsToldAs fault result }
 {
@@ -136,7 +136,7 @@ fn limits_of(settings: &ReplaySettings) -> (u32, u32, u32)
     (settings.budget, settings.weight, settings.window)
 }
 
-// Runs the stations with the numbers of the settings.
+// Runs the stations with the limits of the settings.
 fn run_stations<P, G>(
     rt: &P,
     alloc: Global,

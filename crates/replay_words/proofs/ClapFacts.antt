@@ -1,4 +1,4 @@
--- What clap reads from the arguments, by its own specification (`matches_of`, `fault_of`), is what the definitions here say.
+-- What clap reads from the arguments, by its own specification (`matches_of`, `fault_of`), agrees with our definitions.
 use Rattle.std.proofs.Common.{◌≡◌, ◌∙◌, subst, ◌+◌, ◌<◌, Bor, get_or, inl, inr, take, ◌&&◌, ◌||◌, Bool, ℕ, cond, true, false, not, refl}
 use Rattle.std.proofs.Common.{sym, ap, codes, List, [], ◌∷◌, ◌++◌, map, length, Option, Some, None, is_some, option_map, true≢false}
 use Rattle.std.proofs.{Math.{Bool.or-false, Dec.eqb-suc-zero}, lemmas.{Bool.or_parts, List.take_more, Slice.Eq.bytes_eq-Decides}}
@@ -317,7 +317,7 @@ module _ (names : List Text) where
       → reads (walk_at (rows_for given) (Some (name, [])) (waits_for name)) words
       ≡ option_map rows_for (read_after (Some (given, Some name)) words)
 
-  -- an argument that clap rejects, at which the reading ends too
+  -- an argument that clap rejects ends our reading too
   ends : (w : Walk) (word : Text) (words : List Text) → is_empty (turn_fault shape [] w word) ≡ false
       → reads w (word ∷ words) ≡ option_map rows_for (read_after None words)
   ends w word words faulty = stops w word words faulty ∙ sym (ap (option_map rows_for) (none-stays words))
@@ -579,7 +579,7 @@ first-as name (g ∷ gs) = go (bytes_eq g.0 name) (first-as name gs)
     go true e = refl
     go false e = e
 
--- what is asked of the options found is what is asked of the options given
+-- a question about the options that clap found has the same reply for the options that the arguments give
 pub asked-as : {A : Type 0} (ask : (Text → Option Text) → Option A) (o : Option GivenOptions) (rows : List Row)
     → option_map rows_for o ≡ Some rows
     → option_and_then (λ given. ask (λ name. value_of name given)) o ≡ ask (λ name. first_of name rows)

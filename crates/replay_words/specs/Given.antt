@@ -36,7 +36,7 @@ option_word given (name, None) = Some (given, Some name)
 abbrev pub is_hyphened : Text → Bool
 is_hyphened word = is_some (strip_byte 45 word)
 
--- it does, and is neither `--name` nor `--name=value` (`long_of` is that name and that value)
+-- the argument begins with a hyphen and is neither `--name` nor `--name=value` (which `long_of` splits)
 abbrev pub is_stray : Text → Bool
 is_stray word = is_hyphened word && not (is_some (long_of word))
 

@@ -1,4 +1,4 @@
--- That an allocation failed, which a function learns from the error of a push or of clap.
+-- The fact that an allocation failed, which a function may conclude from the error of a push or of clap.
 use Rattle.std.specs.{Prelude.◌≡◌, declared.alloc.AllocError.AllocError}
 use Rattle.clap.specs.{Values.kind_of, declared.error.Error.Error}
 use Rattle.clap.specs.declared.error.kind.ErrorKind.TheVariants.{OutOfMemory}

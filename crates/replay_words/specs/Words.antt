@@ -54,7 +54,7 @@ number_up_to high text = number_within 5 1 high text
 abbrev pub replay_option_names : List Text
 replay_option_names = codes "mode" ∷ codes "pollers" ∷ codes "budget" ∷ codes "weight" ∷ codes "window" ∷ []
 
--- what the values of the options ask for
+-- the replay that the values of the options ask for
 abbrev pub replay_args_with : (Text → Option Text) → Option ReplayArgs
 replay_args_with value = do
   mode ← or_usual Serial mode_of (value (codes "mode"))
@@ -64,7 +64,7 @@ replay_args_with value = do
   window ← or_usual usual_window (number_up_to 65535) (value (codes "window"))
   Some (record { mode = mode; pollers = pollers; budget = budget; weight = weight; window = window })
 
--- what the arguments ask for, or None if they are an error
+-- the replay that the arguments ask for, or None if they are an error
 abbrev pub replay_asked_for : List Text → Option ReplayArgs
 replay_asked_for words = given_by replay_option_names words >>= (λ given. replay_args_with (λ name. value_of name given))
 
@@ -75,6 +75,6 @@ serial_only asked Serial = Some asked
 serial_only asked Shared = None
 serial_only asked Threads = None
 
--- what the arguments ask for of a program that has only serial mode, or None if they are an error
+-- the replay that the arguments ask for, in a program that has only serial mode; None if they are an error
 abbrev pub serial_asked_for : List Text → Option ReplayArgs
 serial_asked_for words = replay_asked_for words >>= (λ asked. serial_only asked asked.mode)

@@ -88,7 +88,7 @@ fn is_stray(word: &str) -> bool
     }
 }
 
-// Returns whether there is such an argument.
+// Returns whether one of the arguments is stray.
 fn has_stray(words: &[&str]) -> bool
     ensures { result ≡ list_any is_stray (map (λ s. s.now) words.now) }
 {

@@ -7,7 +7,7 @@ use Rattle.replay_rows.specs.{After.{counts_after, is_used_after, polled_after},
 use Rattle.replay_words.specs.declared.settings.ReplaySettings.{ReplaySettings}
 use Rattle.napi_series.proofs.series.add_part.Goals as goal
 
--- the row for an index out of range
+-- the row that is returned for an index out of range
 abbrev none : Row
 none = record { moment = 0; device = 0; event = Opened; value = 0 }
 

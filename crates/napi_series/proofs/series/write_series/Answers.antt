@@ -5,7 +5,7 @@ use Rattle.device_rows.specs.declared.row.Row.{Row}
 use Rattle.replay_words.specs.declared.settings.ReplaySettings.{ReplaySettings}
 use Rattle.napi_series.proofs.series.write_series.Goals as goal
 
--- no error of a row is that of an output
+-- an error of a row is never OutputFailed
 never : (s : ReplaySettings) (rows : List Row) (fault : ReplayFault) → IsReplayOutOfMemory fault ⊎ (after_all_rows s rows ≡ Err fault)
     → fault ≡ OutputFailed → ⊥
 never s rows fault (inl memory) = unwritten {A = ℕ} s 1 rows (Err fault) (inl memory)
