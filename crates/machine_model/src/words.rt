@@ -1,7 +1,7 @@
 //! The program's arguments.
 
 ghost use Rattle.std.specs.Prelude.{◌≡◌, ◌≤◌, Some, None, Err, IfOk, IfSome, option_map, map, string_bytes};
-ghost use Rattle.machine_words.specs.Words.{machine_asked_for, machine_args_of, machine_args_with, coalescing_with, costs_with, flag_value, polling_with, sizes_with, tasks_with};
+ghost use Rattle.machine_model.specs.Words.{machine_asked_for, machine_args_of, machine_args_with, coalescing_with, costs_with, flag_value, polling_with, sizes_with, tasks_with};
 ghost use Rattle.replay_words.specs.Given.{number_within, or_usual};
 ghost use Rattle.replay_words.specs.Options.{value_in};
 ghost use Rattle.replay_words.specs.Refusals.{IsArgsOutOfMemory};

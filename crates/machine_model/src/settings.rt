@@ -98,7 +98,7 @@ pub struct MachineSettings {
 ghost use Rattle.std.specs.Prelude.{◌≤◌};
 
 impl Default for MachineSettings {
-    ghost use Rattle.machine_words.specs.Usual.{IsUsual};
+    ghost use Rattle.machine_model.specs.Usual.{IsUsual};
 
     ghost is_default = { IsUsual };
 
