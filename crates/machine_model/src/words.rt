@@ -6,6 +6,7 @@ ghost use Rattle.replay_words.specs.Given.{number_within, or_usual};
 ghost use Rattle.replay_words.specs.Options.{value_in};
 ghost use Rattle.replay_words.specs.Refusals.{IsArgsOutOfMemory};
 ghost use Rattle.replay_words.specs.declared.words.WordFault.TheVariants.{OutOfMemory, Usage};
+ghost use Rattle.poll_runs.specs.Ranges.{IsWeight, IsWindow};
 
 use crate::settings::{
     MOST_BUDGET, MOST_DEFERRALS, MOST_FRAMES, MOST_PLACES, MOST_PROCESSORS, MOST_QUEUES, MOST_TIME,
@@ -137,8 +138,8 @@ fn sizes_in(matches: &ArgMatches<'_>) -> Option<Sizes>
 fn polling_in(matches: &ArgMatches<'_>) -> Option<PollingOptions>
     ensures polling { result ≡ polling_with (value_in matches.now) }
     ensures budget { IfSome result (λ p. p.budget ≤ 65535) }
-    ensures weight { IfSome result (λ p. (1 ≤ p.weight) × (p.weight ≤ 64)) }
-    ensures window { IfSome result (λ p. (1 ≤ p.window) × (p.window ≤ 65535)) }
+    ensures weight { IfSome result (λ p. IsWeight p.weight) }
+    ensures window { IfSome result (λ p. IsWindow p.window) }
     ensures time_limit { IfSome result (λ p. (1 ≤ p.time_limit) × (p.time_limit ≤ 1000000000)) }
 {
     let usual = MachineSettings::default();
