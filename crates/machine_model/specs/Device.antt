@@ -20,16 +20,8 @@ pub record QueueView : Type 0 where
   pub waits : WaitsView
 
 abbrev pub new_queue : ℕ → QueueView
-new_queue capacity = record {
-  ring = [];
-  capacity = capacity;
-  taken = [];
-  phase = Quiet;
-  frames = 0;
-  deferrals = 0;
-  counts = NONE;
-  waits = no_waits;
-}
+new_queue capacity =
+    record { ring = []; capacity = capacity; taken = []; phase = Quiet; frames = 0; deferrals = 0; counts = NONE; waits = no_waits }
 
 -- ---- its phase
 

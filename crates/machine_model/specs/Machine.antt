@@ -56,10 +56,5 @@ device_report device m =
 abbrev pub processor_report : ProcessorView → ProcessorReport
 processor_report p =
     let a = p.application in
-    let apart : ApplicationReport = record { end = a.end; wakes = a.wakes } in
-    record {
-      counts = record p.counts { refused = a.refused };
-      end = p.clock;
-      waits = summary_of a.waits;
-      application = if p.settings.apart then Some apart else None;
-    }
+    let apart : Option ApplicationReport = if p.settings.apart then Some (record { end = a.end; wakes = a.wakes }) else None in
+    record { counts = record p.counts { refused = a.refused }; end = p.clock; waits = summary_of a.waits; application = apart }
