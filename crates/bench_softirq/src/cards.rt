@@ -2,6 +2,7 @@
 
 ghost use Rattle.std.specs.Prelude.{◌≡◌, ◌≤◌, false};
 ghost use Rattle.napi_model.specs.Serial.{state_of};
+ghost use Rattle.poll_engine.specs.Ranges.{IsWeight};
 
 use anyhow::Result;
 use napi_model::{Done, Kind, Prep, SerialNapi};
@@ -40,7 +41,7 @@ impl Card {
     }
 
     fn poll(&mut self, weight: usize, batch: &mut Batch) -> Once
-        requires { (1 ≤ weight) × (weight ≤ 64) }
+        requires { IsWeight weight }
         ensures { result.work ≤ weight }
     {
         if !self.napi.take(POLLER, Kind::List) {

@@ -5,6 +5,7 @@ ghost use Rattle.c_handles.specs.Answers.{count_answer};
 ghost use Rattle.c_handles.specs.Status.{OK};
 ghost use Rattle.c_handles.specs.SeatCalls.{SeatAnswers, SeatLooks, ControlAnswers, SeatPolls, hold_counts, power_counts};
 ghost use Rattle.c_handles.specs.Seats.{SitsAt, ControlsAt, sits_prop, controls_prop};
+ghost use Rattle.poll_runs.specs.Ranges.{IsWeight};
 
 use crate::answers::FqAnswers;
 use crate::hold::{CallerState, SeatCall};
@@ -83,7 +84,7 @@ impl CallerObject {
     /// Like `Polling::poll` and `Busy::poll`.
     #[inline]
     pub fn poll(&mut self, weight: usize, batch: &mut Batch) -> u32
-        requires { (1 ≤ weight) × (weight ≤ 64) }
+        requires { IsWeight weight }
         ensures polls { SeatPolls weight batch.new.items self.old.hold result self.new.hold }
         ensures room { result ≡ OK → length batch.new.items ≤ weight }
         ensures answers { self.new.answers ≡ self.old.answers }

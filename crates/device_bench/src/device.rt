@@ -5,8 +5,8 @@ ghost use Rattle.napi_model.specs.declared.event.{Done.TheVariants.{Again, Relea
 ghost use Rattle.device_bench.specs.Device.{after_disable, after_enable, device_after_packet, after_request, after_threaded, is_pending, new_device, device_polled, polled_busily, polled_by_thread, polled_once, settled, device_state, counted_after};
 ghost use Rattle.device_bench.specs.Counts.{device_counts};
 ghost use Rattle.device_bench.specs.Receive.{polled_bytes, given_of, is_polling_place, opened_side};
-ghost use Rattle.device_places.specs.Range.{IsWithin};
 ghost use Rattle.poll_runs.specs.Thread.{IsThreadPolling};
+ghost use Rattle.poll_runs.specs.Ranges.{IsMost, IsRounds, IsWeight};
 
 use crate::counts::{DeviceCounts, DeviceState};
 use crate::receive_side::{ReceiveSide, SpentSide};
@@ -170,7 +170,7 @@ impl<S: ReceiveSide> BenchDevice<S> {
     // Takes the next packets, at most the weight, and returns how many.
     #[tactic(auto, unfolding(crate::specs::Device::device_polled))]
     fn receive(&mut self, weight: u32, load: &mut PolledBytes) -> u32
-        requires weight { IsWithin 1 64 weight }
+        requires weight { IsWeight weight }
         requires polled { is_polling_place self.old.side.napi.place ≡ true }
         ensures device { self.new ≡ device_polled weight self.old }
         ensures work { result ≡ given_of weight self.old.side }
@@ -186,7 +186,7 @@ impl<S: ReceiveSide> BenchDevice<S> {
 
     /// Polls once from the list. An instance that gets a repoll is queued on the list.
     pub(crate) fn poll_once(&mut self, weight: u32) -> Once
-        requires { IsWithin 1 64 weight }
+        requires { IsWeight weight }
         ensures device { self.new ≡ (polled_once weight self.old).1 }
         ensures once { result ≡ (polled_once weight self.old).0 }
         ensures bound { result.work ≤ weight }
@@ -196,8 +196,8 @@ impl<S: ReceiveSide> BenchDevice<S> {
 
     /// Polls by the device's thread: takes the instance, if it was queued for the thread, and polls it at most `most` times.
     pub(crate) fn poll_thread(&mut self, weight: u32, most: u32) -> ThreadReport
-        requires weight { IsWithin 1 64 weight }
-        requires most { IsWithin 1 131072 most }
+        requires weight { IsWeight weight }
+        requires most { IsMost most }
         ensures device { self.new ≡ (polled_by_thread most weight self.old).1 }
         ensures report { IsThreadPolling weight most
             (polled_by_thread most weight self.old).0 result }
@@ -207,8 +207,8 @@ impl<S: ReceiveSide> BenchDevice<S> {
 
     /// Busy polls: takes an idle instance, polls it for this many rounds, stops, and polls once more.
     pub(crate) fn busy_poll(&mut self, weight: u32, rounds: u32) -> BusyReport
-        requires weight { IsWithin 1 64 weight }
-        requires rounds { IsWithin 1 65535 rounds }
+        requires weight { IsWeight weight }
+        requires rounds { IsRounds rounds }
         ensures device { self.new ≡ (polled_busily rounds weight self.old).1 }
         ensures report { result ≡ (polled_busily rounds weight self.old).0 }
     {

@@ -1,12 +1,13 @@
 //! The receive ring of a device, and its instance with all its callers.
 
-ghost use Rattle.std.specs.Prelude.{◌≡◌, ◌≤◌, ◌<◌, ◌^◌, false, true, length, drop, IfOk};
+ghost use Rattle.std.specs.Prelude.{◌≡◌, ◌<◌, ◌^◌, false, true, length, drop, IfOk};
 ghost use Rattle.napi_model.specs.Step.{CallerPolls, after, complete_reply, event, schedule_reply, seen_of, take_disable_reply, take_reply};
 ghost use Rattle.napi_model.specs.declared.event.Operation.TheVariants as operation;
 ghost use Rattle.napi_model.specs.declared.state.Kind.TheVariants as kind;
 ghost use Rattle.device_bench.specs.declared.device.TheConstants.{CONTROLLER, POLLER};
 ghost use Rattle.device_bench.specs.Receive.{ReceiveView, busy_taken, polled_bytes, done_by, given_of, handed_again, queued_kind, ring_has_place, is_control, is_idle, is_polling_place, opened_side, poller_in, put_if, requested, taker_of, tried_by};
 ghost use Rattle.device_places.specs.Range.{IsWithin};
+ghost use Rattle.poll_runs.specs.Ranges.{IsWeight};
 
 use napi_model::{Kind, Prep, Seen};
 use std::alloc::{AllocError, Global};
@@ -58,7 +59,7 @@ pub trait ReceiveSide {
 
     /// Takes the ring's next packets, at most the weight (a driver's `poll`). Returns how many, and their bytes.
     fn receive(&mut self, weight: u32) -> (u32, u64)
-        requires weight { IsWithin 1 64 weight }
+        requires weight { IsWeight weight }
         requires polled { is_polling_place (side self.old).napi.place ≡ true }
         ensures count { result.0 ≡ given_of weight (side self.old) }
         ensures bytes { result.1 ≡ polled_bytes weight (side self.old) }

@@ -6,6 +6,7 @@ ghost use Rattle.napi_model.specs.Serial.{state_of};
 ghost use Rattle.napi_model.specs.declared.state.Place.TheVariants.{Polling};
 ghost use Rattle.example_driver.specs.Polled.{CardPolls, card_ended, card_given, card_polled, received, card_view};
 ghost use Rattle.example_driver.specs.declared.card.TheConstants.{POLLER};
+ghost use Rattle.poll_engine.specs.Ranges.{IsWeight};
 
 use crate::card::{CARD, Card, CardDriver, POLLER};
 use napi_model::{Done, Kind};
@@ -22,7 +23,7 @@ impl Card {
     // Takes the next packets. `beside` lets the ends of the ring meet, so that these are all that the ring holds, up to the
     // weight.
     fn poll_ring(&mut self, weight: u32) -> u32
-        requires { (1 ≤ weight) × (weight ≤ 64) }
+        requires { IsWeight weight }
         ensures card { card_view self.new ≡ received weight (card_view self.old) }
         ensures work { result ≡ length (card_given weight (card_view self.old)) }
     {
@@ -53,7 +54,7 @@ impl Card {
     // Takes the card from the list and polls it once.
     #[tactic(auto, unfolding(crate::specs::Polled::card_polled))]
     fn poll(&mut self, weight: u32) -> Once
-        requires { (1 ≤ weight) × (weight ≤ 64) }
+        requires { IsWeight weight }
         ensures once { result ≡ (card_polled weight (card_view self.old)).0 }
         ensures card { card_view self.new ≡ (card_polled weight (card_view self.old)).1 }
         ensures bound { result.work ≤ weight }

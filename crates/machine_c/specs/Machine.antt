@@ -1,6 +1,6 @@
 -- The arguments and results of a run of the machine for C.
 use Rattle.std.specs.Prelude.{◌≡◌, ◌⊎◌, ℕ, List}
-use Rattle.machine_words.specs.declared.settings.MachineSettings.{MachineSettings}
+use Rattle.machine_model.specs.declared.settings.MachineSettings.{MachineSettings}
 use Rattle.machine_report.specs.{Answer.{IsReportOf, IsArrivalsFault}, Fault.{IsMachineOutside, machine_fault_number}}
 use Rattle.machine_report.specs.declared.fault.MachineFault.{MachineFault}
 use Rattle.machine_c.specs.{Faults.{machine_c_status, machine_fault_row}, Settings.AsksMachine, Status.MACHINE_OUT_OF_MEMORY}

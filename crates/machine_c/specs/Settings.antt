@@ -1,6 +1,6 @@
 -- The settings of the machine for C, with their ranges.
 use Rattle.std.specs.Prelude.{◌≡◌, ℕ, [], ◌∷◌, List, if◌then◌else◌}
-use Rattle.machine_words.specs.declared.settings.MachineSettings.{MachineSettings}
+use Rattle.machine_model.specs.declared.settings.MachineSettings.{MachineSettings}
 use Rattle.machine_c.specs.Ranges.{IsOutAt}
 use Rattle.machine_c.specs.declared.{ranges.Range.Range, settings.FqMachineSettings.FqMachineSettings}
 

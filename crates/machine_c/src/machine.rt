@@ -12,8 +12,8 @@ use crate::fault::{machine_c_status, machine_fault_row};
 use crate::ranges::first_out;
 use crate::settings::{FqMachineSettings, ranges_of, settings_of};
 use crate::status;
+use machine_model::MachineSettings;
 use machine_report::{MachineFault, fault_line, run_machine};
-use machine_words::MachineSettings;
 use std::alloc::Global;
 use std::mem::size_of;
 

@@ -2,22 +2,22 @@
 
 ghost use Rattle.std.specs.Prelude.{◌≡◌, ◌≢◌, ◌↔◌};
 ghost use Rattle.std.specs.List.{All};
-ghost use Rattle.machine_words.specs.declared.settings.MachineSettings.{MachineSettings};
-ghost use Rattle.machine_words.specs.Usual.{IsUsual};
+ghost use Rattle.machine_model.specs.declared.settings.MachineSettings.{MachineSettings};
+ghost use Rattle.machine_model.specs.Usual.{IsUsual};
 ghost use Rattle.machine_c.specs.Ranges.{IsIn};
 ghost use Rattle.machine_c.specs.Settings.{AsksMachine, ranges_of};
 ghost use Rattle.machine_c.specs.Status.{MACHINE_OK, MACHINE_BAD_SIZE};
 
 use crate::ranges::{Range, within};
 use crate::status;
-use machine_words::{
+use machine_model::{
     MOST_BUDGET, MOST_DEFERRALS, MOST_FRAMES, MOST_PLACES, MOST_PROCESSORS, MOST_QUEUES, MOST_TIME,
     MOST_WEIGHT, MOST_WINDOW, MachineSettings,
 };
 use std::mem::size_of;
 
 /// The settings of the machine: `struct fq_machine_settings`. Times are in nanoseconds. Each setting is that of
-/// `machine_words::MachineSettings`, with its range; a flag is 0 or 1.
+/// `machine_model::MachineSettings`, with its range; a flag is 0 or 1.
 #[repr(C)]
 #[derive(Clone, Copy)]
 pub struct FqMachineSettings {

@@ -3,7 +3,7 @@ use Rattle.std.proofs.Common.{◌≡◌, ◌∙◌, ℕ, ◌+◌, ◌-◌, ◌<�
 use Rattle.std.proofs.Common.{sym, ap}
 use Rattle.std.{proofs.{Common.{subst, arith}, lemmas.{List.append-nil}}, specs.{List.AllByRecursion}}
 use Rattle.std.specs.Prelude.{◌==◌, ◌&&◌, if◌then◌else◌, is_some, length, not, position}
-use Rattle.{machine_words.specs.declared.settings.MachineSettings.MachineSettings, device_places.specs.Places.{at, changed}}
+use Rattle.{machine_model.specs.declared.settings.MachineSettings.MachineSettings, device_places.specs.Places.{at, changed}}
 use Rattle.machine_laws.specs.{Lives.{MachineEvent, InTurn, behind, next, packet}, Fates.{next_delivery, delivery_by, delivery_of, used_by}}
 use Rattle.machine_laws.specs.Applications.{ApplicationEnds, ApplicationIsFed, ApplicationServes, deliveries, ended_until, fed_all}
 use Rattle.machine_laws.specs.Applications.{being_read}

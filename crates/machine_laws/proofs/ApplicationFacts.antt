@@ -4,7 +4,7 @@ use Rattle.std.proofs.Common.{length, length-append, map, refl, sym, ap, subst, 
 use Rattle.std.proofs.lemmas.Bool.{and_parts, leb-true}
 use Rattle.std.proofs.lemmas.List.{append-nil, map-append}
 use Rattle.std.{proofs.{lemmas.Grind.common_steps, Math.Nat.mul-le-mul_right}, specs.Prelude.{◌&&◌, if◌then◌else◌, nat_le}}
-use Rattle.{machine_words.specs.declared.settings.MachineSettings.MachineSettings, circular_buffer.specs.Buffer.{Buffer}}
+use Rattle.{machine_model.specs.declared.settings.MachineSettings.MachineSettings, circular_buffer.specs.Buffer.{Buffer}}
 use Rattle.machine_laws.specs.Applications.{UsesFollow, Serves, ended_until, ended_with, fed_all, being_read, placed_all, use_of, used_all}
 use Rattle.machine_laws.specs.Fates.{counting}
 use Rattle.machine_model.specs.declared.application.Activity.{Activity, TheVariants.{Asleep, Waking, Using}}

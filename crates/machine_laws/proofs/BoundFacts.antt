@@ -8,7 +8,7 @@ use Rattle.std.specs.List.{position_or_len}
 use Rattle.std.specs.Option.{option_map_or}
 use Rattle.std.specs.Prelude.{◌==◌, ◌&&◌, ◌||◌, if◌then◌else◌, is_some, nat_le, nat_lt, not}
 use Rattle.std.specs.Prelude.{position, slice_get}
-use Rattle.machine_words.specs.declared.settings.MachineSettings.{MachineSettings}
+use Rattle.machine_model.specs.declared.settings.MachineSettings.{MachineSettings}
 use Rattle.device_places.specs.Places.{at, changed}
 use Rattle.machine_laws.specs.{Deferrals.DeferralIsBounded, Lives.{behind}}
 use Rattle.machine_model.specs.declared.device.Phase.{Phase}

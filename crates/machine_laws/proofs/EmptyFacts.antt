@@ -4,7 +4,7 @@ use Rattle.std.proofs.Common.{ap, subst, arith}
 use Rattle.std.{proofs.lemmas.{Bool.{eqb-true}, Grind.common_steps}, specs.{Prelude.{◌==◌, ◌&&◌, if◌then◌else◌}}}
 use Rattle.std.{specs.Prelude.{is_some, max, nat_lt, not}, proofs.Common.◌++◌}
 use Rattle.machine_model.specs.Softirq.{asked_in}
-use Rattle.{machine_words.specs.declared.settings.MachineSettings.MachineSettings, device_places.specs.Places.{at, changed}}
+use Rattle.{machine_model.specs.declared.settings.MachineSettings.MachineSettings, device_places.specs.Places.{at, changed}}
 use Rattle.machine_laws.specs.Lives.{MachineEvent, behind, next, packet}
 use Rattle.machine_laws.specs.Fates.{finds_room}
 use Rattle.machine_laws.specs.Deferrals.{EmptyPollsAreFew, emptied, emptied_by, empty_polls}

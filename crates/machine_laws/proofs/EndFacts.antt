@@ -1,7 +1,7 @@
 -- The queues of a processor after its work ends, case by case.
 use Rattle.std.proofs.Common.{◌≡◌, ℕ, ◌+◌, ◌-◌, Bool, true, false, Option, Some, None, refl}
 use Rattle.std.specs.{Prelude.{if◌then◌else◌, option_map}}
-use Rattle.{machine_words.specs.declared.settings.MachineSettings.MachineSettings, device_places.specs.Places.{at, changed}}
+use Rattle.{machine_model.specs.declared.settings.MachineSettings.MachineSettings, device_places.specs.Places.{at, changed}}
 use Rattle.{machine_laws.specs.Fates.delivery_of, poll_runs.specs.declared.bench.{Next.TheVariants.{Gone, Repoll}, Once.Once}}
 use Rattle.std.{specs.Prelude.{◌==◌, nat_lt}, proofs.Common.◌∷◌}
 use Rattle.machine_model.specs.declared.{processor.ProcessorCounts.ProcessorCounts, tasks.RunnableTask.TheVariants.Thread}

@@ -2,7 +2,7 @@
 use Rattle.std.proofs.Common.{◌≡◌, ◌∙◌, ℕ, ◌+◌, ◌-◌, ◌<◌, ◌≤◌, ◌^◌, Bool, true, false, Option, Some, None, List, [], ◌∷◌, map, refl, ap}
 use Rattle.std.proofs.Common.{arith}
 use Rattle.std.{specs.{List.AllByRecursion, Prelude.{◌==◌, ◌&&◌, if◌then◌else◌, not}}}
-use Rattle.machine_words.specs.declared.settings.MachineSettings.{MachineSettings}
+use Rattle.machine_model.specs.declared.settings.MachineSettings.{MachineSettings}
 use Rattle.machine_laws.specs.{Lives.{MachineEvent, InTurn, behind, next, packet}, Times.NoWaitIsLess}
 use Rattle.machine_laws.specs.Fates.{next_delivery, delivery_by, delivery_of, packet_for, use_by, use_waits, used_by, packet_waits}
 use Rattle.machine_model.specs.declared.processor.{Work.{Work, TheVariants.{Nothing, Interrupt, Poll, Packet, Use}}, InHand.InHand}

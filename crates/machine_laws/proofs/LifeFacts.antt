@@ -5,7 +5,7 @@ use Rattle.std.proofs.lemmas.Option.{slice_get_within}
 use Rattle.std.proofs.lemmas.Bool.{eq-eqb, eqb-false}
 use Rattle.std.specs.Prelude.{◌==◌, slice_get}
 use Rattle.circular_buffer.proofs.Places.{slice_get-set_other, slice_get-set_same, slice_get-some}
-use Rattle.{std.proofs.lemmas.{Bool.{eqb-true}, Grind.common_steps}, machine_words.specs.declared.settings.MachineSettings.MachineSettings}
+use Rattle.{std.proofs.lemmas.{Bool.{eqb-true}, Grind.common_steps}, machine_model.specs.declared.settings.MachineSettings.MachineSettings}
 use Rattle.machine_laws.specs.Lives.{ArrivesAsOne, EachLives, Ended, MachineEvent, InTurn, Lived, RunsAsOne, Took, behind, next}
 use Rattle.machine_laws.specs.Lives.{own_packets, packet}
 use Rattle.machine_laws.specs.Lives.{packets_in}

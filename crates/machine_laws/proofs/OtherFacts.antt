@@ -1,7 +1,7 @@
 -- Law: the receiving side stays the same if the application on its own processor is replaced by another one.
 use Rattle.std.proofs.Common.{◌≡◌, ◌∙◌, ℕ, ◌+◌, ◌-◌, Bool, true, false, Option, Some, None, List, [], ◌∷◌, ◌++◌, refl, sym, ap, subst}
 use Rattle.std.specs.{Option.option_map_or, Prelude.{◌==◌, ◌&&◌, if◌then◌else◌, is_some, length, nat_lt, not, position, slice_get}}
-use Rattle.{machine_words.specs.declared.settings.MachineSettings.MachineSettings, device_places.specs.Places.{at, changed}}
+use Rattle.{machine_model.specs.declared.settings.MachineSettings.MachineSettings, device_places.specs.Places.{at, changed}}
 use Rattle.machine_laws.specs.Lives.{MachineEvent, InTurn, behind, next, packet}
 use Rattle.machine_laws.specs.Applications.{ReceivingIsApart, changed_application, deliveries, fed_all}
 use Rattle.machine_model.specs.declared.processor.{Work.{Work, TheVariants.{Nothing, Interrupt, Poll, Packet, Use}}, Rest.Rest}

@@ -1,7 +1,7 @@
 -- Law: the events on a processor end.
 use Rattle.std.proofs.Common.{◌≡◌, ◌∙◌, ℕ, zero, suc, ◌<◌, Bool, true, false, None, refl, sym, ap, subst, arith}
 use Rattle.std.specs.Prelude.{if◌then◌else◌}
-use Rattle.{machine_words.specs.declared.settings.MachineSettings.MachineSettings}
+use Rattle.{machine_model.specs.declared.settings.MachineSettings.MachineSettings}
 use Rattle.{machine_laws.specs.{Deferrals.EveryRunEnds, Lives.behind}}
 use Rattle.machine_model.specs.Processor.{Advances, ProcessorView, processor_after, is_due, step, upcoming}
 use Rattle.machine_model.proofs.LeftFacts.{left, load, step-asked}

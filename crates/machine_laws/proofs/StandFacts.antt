@@ -7,7 +7,7 @@ use Rattle.std.proofs.lemmas.Grind.{common_steps}
 use Rattle.std.specs.Option.{option_map_or}
 use Rattle.std.specs.Prelude.{◌==◌, ◌&&◌, ◌||◌, if◌then◌else◌, is_some}
 use Rattle.std.specs.Prelude.{nat_le, not, position, slice_get}
-use Rattle.{machine_words.specs.declared.settings.MachineSettings.MachineSettings, device_places.specs.Places.{at, changed}}
+use Rattle.{machine_model.specs.declared.settings.MachineSettings.MachineSettings, device_places.specs.Places.{at, changed}}
 use Rattle.machine_laws.specs.Lives.{MachineEvent, behind, next, packet}
 use Rattle.poll_runs.specs.{Turn.asked_for, declared.bench.{Next.TheVariants.{Gone, Repoll}, Once.Once}}
 use Rattle.machine_model.specs.declared.{device.Phase.{Phase, TheVariants.{Quiet, Coalescing, Raised, Scheduled, Deferred, Fired}}}

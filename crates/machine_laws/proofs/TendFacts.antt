@@ -4,7 +4,7 @@ use Rattle.std.proofs.Common.{◌≡◌, ◌∙◌, ℕ, suc, ◌+◌, ◌<◌, 
 use Rattle.std.proofs.{Common.{refl, sym, ap, subst, arith}, lemmas.{Bool.{eqb-true, eq-eqb, ltb-false}}}
 use Rattle.std.specs.Option.{option_map, option_map_or}
 use Rattle.std.specs.Prelude.{◌==◌, ◌&&◌, ◌||◌, if◌then◌else◌, is_some, nat_le, nat_lt, not, position, slice_get}
-use Rattle.{machine_words.specs.declared.settings.MachineSettings.MachineSettings, device_places.specs.Places.{at, changed}}
+use Rattle.{machine_model.specs.declared.settings.MachineSettings.MachineSettings, device_places.specs.Places.{at, changed}}
 use Rattle.machine_laws.specs.{Lives.{MachineEvent, behind, next, packet}, Fates.{taken_in}}
 use Rattle.machine_model.specs.declared.device.Phase.{Phase}
 use Rattle.machine_model.specs.declared.device.Phase.TheVariants.{Quiet, Coalescing, Raised, Scheduled, Deferred, Fired}

@@ -1,7 +1,7 @@
 -- An application on its own processor, seen as a second machine to which packets are delivered.
 use Rattle.std.specs.Prelude.{◌≡◌, ◌≤◌, ◌<◌, ℕ, ◌+◌, ◌-◌, ◌*◌, ◌^◌, Bool, true, false, List, [], ◌∷◌, ◌++◌, length, map, Option, Some, None}
 use Rattle.std.specs.Prelude.{if◌then◌else◌}
-use Rattle.machine_words.specs.declared.settings.MachineSettings.{MachineSettings}
+use Rattle.machine_model.specs.declared.settings.MachineSettings.{MachineSettings}
 use Rattle.machine_laws.specs.{Lives.{MachineEvent, InTurn, behind, next, packet}, Fates.{counting, next_delivery}}
 use Rattle.machine_model.specs.declared.application.Activity.{Activity, TheVariants.{Asleep, Using}}
 use Rattle.machine_model.specs.{Waits.{saturated, no_waits}}

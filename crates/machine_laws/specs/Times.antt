@@ -1,6 +1,6 @@
 -- Laws of time and of work.
 use Rattle.std.specs.{List.AllByRecursion, Prelude.{◌≡◌, ◌≤◌, ◌<◌, ℕ, ◌+◌, ◌-◌, ◌^◌, true, false, List, ◌∷◌, IfSome}}
-use Rattle.machine_words.specs.declared.settings.MachineSettings.{MachineSettings}
+use Rattle.machine_model.specs.declared.settings.MachineSettings.{MachineSettings}
 use Rattle.machine_model.specs.Processor.{is_polling}
 use Rattle.machine_laws.specs.{Fates.{use_waits, packet_waits}, Lives.{MachineEvent, InTurn, behind}}
 

@@ -1,14 +1,15 @@
 //! Internal crate of the facade `machine`: laws of the receiving machine, for all settings and all arrivals.
 //!
 //! Each law is the contract of a function that does nothing. `specs/` has their statements: `Lives` defines the life of a
-//! processor, `Fates` the fate of packets, `Times` times and work, `Applications` an application on its own processor, and
-//! `Deferrals` deferred interrupts.
+//! processor, `Fates` the fate of packets, `Times` times and work, `Applications` an application on its own processor,
+//! `Deferrals` deferred interrupts, and `Reports` says that they hold for what a report shows.
 #![tactic(auto)]
 
 ghost use Rattle.machine_laws.specs.Applications.{ApplicationEnds, ApplicationIsFed, ApplicationServes, ReceivingIsApart};
 ghost use Rattle.machine_laws.specs.Deferrals.{DeferralIsBounded, EmptyPollsAreFew, EveryRunEnds, TimersAreNear};
 ghost use Rattle.machine_laws.specs.Fates.{DeliversInOrder, NothingIsLeft, TellsOfDevice, TellsOfUse, UsesInOrder};
 ghost use Rattle.machine_laws.specs.Lives.{ArrivesAsOne, EachLives, RunsAsOne};
+ghost use Rattle.machine_laws.specs.Reports.{ReportsLives};
 ghost use Rattle.machine_laws.specs.Times.{ClocksNeverFall, NoWaitIsLess, WorksWithin};
 
 /// The events on a processor up to a time are determined.
@@ -108,3 +109,10 @@ pub fn timers_are_near()
 pub fn deferral_is_bounded()
     ensures { DeferralIsBounded }
 {}
+
+/// Each processor of a report lived as the laws say, with the packets of the bytes read, until nothing was left.
+pub fn reports_live()
+    ensures { ReportsLives }
+{
+    each_lives();
+}

@@ -2,7 +2,7 @@
 use Rattle.std.proofs.{Common.{◌≡◌, ◌∙◌, ℕ, ◌+◌, ◌≤◌, ◌<◌, Bool, true, false, List, [], ◌∷◌, length, refl, sym, arith}}
 use Rattle.std.proofs.{lemmas.Grind.common_steps}
 use Rattle.std.specs.Prelude.{if◌then◌else◌}
-use Rattle.machine_words.specs.declared.settings.MachineSettings.{MachineSettings}
+use Rattle.machine_model.specs.declared.settings.MachineSettings.{MachineSettings}
 use Rattle.machine_model.specs.declared.application.Activity.{Activity, TheVariants.Asleep}
 use Rattle.machine_model.specs.Application.{ApplicationView, ended_by, fed, goes_on, is_awake, is_use_over, takes_next, went_on}
 use Rattle.machine_model.specs.Application.{went_on_with}

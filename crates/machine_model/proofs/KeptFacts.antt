@@ -1,7 +1,7 @@
 -- The invariant of each processor is preserved.
 use Rattle.std.proofs.Common.{◌≡◌, ◌∙◌, ℕ, ◌+◌, ◌<◌, ◌≤◌, Bool, true, false, Option, Some, None, length, refl, sym, arith}
 use Rattle.std.{proofs.lemmas.Grind.common_steps, specs.Prelude.{◌==◌, if◌then◌else◌}}
-use Rattle.machine_words.specs.declared.settings.MachineSettings.{MachineSettings}
+use Rattle.machine_model.specs.declared.settings.MachineSettings.{MachineSettings}
 use Rattle.{poll_runs.specs.declared.bench.Next.TheVariants.{Gone, Repoll}, device_places.specs.Places.{changed}}
 use Rattle.poll_runs.specs.declared.bench.Once.{Once}
 use Rattle.machine_model.specs.{Device.{queue_polled}, Devices.{QueueViews}, Processor.is_polling, Shown.{held_in, listed}}

@@ -5,7 +5,7 @@ use Rattle.std.proofs.lemmas.{List.Quantifiers.position-Some, Bool.eqb-true, Gri
 use Rattle.std.specs.Prelude.{◌==◌, ◌&&◌, if◌then◌else◌, is_some, nat_le, nat_lt, not, position, slice_get}
 use Rattle.std.specs.Option.{option_map_or}
 use Rattle.{poll_runs.specs.{Turn.asked_for, declared.bench.Once.Once}, device_places.specs.Places.{at, changed}}
-use Rattle.machine_words.specs.declared.settings.MachineSettings.{MachineSettings}
+use Rattle.machine_model.specs.declared.settings.MachineSettings.{MachineSettings}
 use Rattle.machine_model.specs.declared.{device.Phase.{TheVariants.{Raised}}, devices.Timer.Timer}
 use Rattle.machine_model.specs.declared.processor.{InHand.InHand, Rest.Rest, Upcoming.Upcoming}
 use Rattle.machine_model.specs.declared.processor.{Work.{Work, TheVariants.{Nothing, Interrupt, Poll, Packet, Use}}}

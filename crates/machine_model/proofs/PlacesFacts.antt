@@ -2,7 +2,7 @@
 use Rattle.std.proofs.Common.{◌+◌, ◌≤◌, Bool, true, false, Option, Some, None, [], ◌∷◌, ◌++◌, length, replicate, arith, ◌≡◌, ℕ}
 use Rattle.std.{proofs.lemmas.{List.Sums.sum_by-cons, Grind.common_steps}, specs.Prelude.{◌==◌, sum_by, if◌then◌else◌}}
 use Rattle.{device_places.{proofs.PlaceFacts.below-some, specs.Places.{at, changed}}, machine_model.specs.Devices.{QueueViews, asks_at}}
-use Rattle.machine_words.specs.declared.settings.MachineSettings.{MachineSettings}
+use Rattle.machine_model.specs.declared.settings.MachineSettings.{MachineSettings}
 use Rattle.machine_model.specs.{Device.{QueueView, after_packet, expired, interrupted, is_masked, notified, queue_polled}}
 use Rattle.machine_model.specs.{Device.{asks, expired_phase, without_next}, Kept.{all_scheduled, is_scheduled, scheduled_at}}
 use Rattle.machine_model.specs.declared.device.Phase.{Phase}

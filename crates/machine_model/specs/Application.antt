@@ -1,6 +1,6 @@
 -- The application, which uses the packets of a socket: on the processor that receives, or on one of its own.
 use Rattle.std.specs.Prelude.{ℕ, ◌+◌, ◌-◌, ◌&&◌, nat_le, nat_lt, Bool, true, false, List, [], ◌∷◌, ◌++◌, length, if◌then◌else◌}
-use Rattle.{circular_buffer.specs.Buffer.{Buffer, buffer}, machine_words.specs.declared.settings.MachineSettings.MachineSettings}
+use Rattle.{circular_buffer.specs.Buffer.{Buffer, buffer}, machine_model.specs.declared.settings.MachineSettings.MachineSettings}
 use Rattle.machine_model.specs.{declared.application.Activity.Activity, Waits.{WaitsView, counted, saturated, no_waits}}
 use Rattle.machine_model.specs.declared.application.Activity.TheVariants.{Asleep, Waking, Using}
 

@@ -1,7 +1,7 @@
 -- A receive queue of a card, with its NAPI instance (`struct napi_struct`).
 use Rattle.std.specs.Prelude.{ℕ, ◌+◌, ◌-◌, ◌==◌, ◌||◌, ◌&&◌, not, nat_le, nat_lt, Bool, true, false, List, [], ◌∷◌, ◌++◌, length, drop}
 use Rattle.std.specs.Prelude.{slice_get, Option, Some, None, if◌then◌else◌}
-use Rattle.{machine_words.specs.declared.settings.MachineSettings.MachineSettings}
+use Rattle.{machine_model.specs.declared.settings.MachineSettings.MachineSettings}
 use Rattle.{machine_model.specs.Waits.{WaitsView, counted, saturated, no_waits}}
 use Rattle.machine_model.specs.declared.device.{QueueCounts.QueueCounts, TheConstants.QueueCounts.NONE, Phase.Phase}
 use Rattle.machine_model.specs.declared.device.Phase.TheVariants.{Quiet, Coalescing, Raised, Scheduled, Deferred, Fired}
@@ -20,16 +20,8 @@ pub record QueueView : Type 0 where
   pub waits : WaitsView
 
 abbrev pub new_queue : ℕ → QueueView
-new_queue capacity = record {
-  ring = [];
-  capacity = capacity;
-  taken = [];
-  phase = Quiet;
-  frames = 0;
-  deferrals = 0;
-  counts = NONE;
-  waits = no_waits;
-}
+new_queue capacity =
+    record { ring = []; capacity = capacity; taken = []; phase = Quiet; frames = 0; deferrals = 0; counts = NONE; waits = no_waits }
 
 -- ---- its phase
 

@@ -1,6 +1,6 @@
 -- The invariant of each processor in the program. It isn't part of the machine's definition.
 use Rattle.std.specs.Prelude.{◌≡◌, ◌≤◌, ◌<◌, ◌&&◌, not, Bool, true, false, is_some, ℕ, sum_by, Option, Some, None, if◌then◌else◌}
-use Rattle.{std.specs.Option.option_map_or, machine_words.specs.declared.settings.MachineSettings.MachineSettings}
+use Rattle.{std.specs.Option.option_map_or, machine_model.specs.declared.settings.MachineSettings.MachineSettings}
 use Rattle.{machine_model.specs.Device.QueueView}
 use Rattle.machine_model.specs.{Devices.QueueViews, Shown.{listed, weight_in}, Softirq.{SoftirqView, asked_in}}
 use Rattle.machine_model.specs.{Processor.{ProcessorView, is_polling}}

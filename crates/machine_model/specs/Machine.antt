@@ -1,6 +1,6 @@
 -- The machine: its processors, the effect of arrivals on them, and the contents of the report.
 use Rattle.std.specs.Prelude.{◌≡◌, ℕ, ◌-◌, ◌/◌, ◌%◌, if◌then◌else◌}
-use Rattle.{device_places.specs.Places.at, machine_words.specs.declared.settings.MachineSettings.MachineSettings}
+use Rattle.{device_places.specs.Places.at, machine_model.specs.declared.settings.MachineSettings.MachineSettings}
 use Rattle.std.specs.Prelude.{◌^◌, List, length, replicate, slice_get, slice_set, Option, Some, None}
 use Rattle.std.specs.Option.{option_and_then, option_map}
 use Rattle.machine_model.specs.declared.{application.ApplicationReport.ApplicationReport, device.QueueReport.QueueReport}
@@ -56,10 +56,5 @@ device_report device m =
 abbrev pub processor_report : ProcessorView → ProcessorReport
 processor_report p =
     let a = p.application in
-    let apart : ApplicationReport = record { end = a.end; wakes = a.wakes } in
-    record {
-      counts = record p.counts { refused = a.refused };
-      end = p.clock;
-      waits = summary_of a.waits;
-      application = if p.settings.apart then Some apart else None;
-    }
+    let apart : Option ApplicationReport = if p.settings.apart then Some (record { end = a.end; wakes = a.wakes }) else None in
+    record { counts = record p.counts { refused = a.refused }; end = p.clock; waits = summary_of a.waits; application = apart }

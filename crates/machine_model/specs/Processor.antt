@@ -2,7 +2,7 @@
 use Rattle.std.specs.Prelude.{◌≡◌, ℕ, zero, suc, ◌+◌, ◌-◌, ◌<◌, ◌==◌, ◌||◌, ◌&&◌, not, nat_le, nat_lt, Bool, true, false, List, [], ◌∷◌}
 use Rattle.std.specs.{Prelude.{◌++◌, length, position, slice_get, Option, Some, None, is_some, if◌then◌else◌}, Option.option_map_or}
 use Rattle.{circular_buffer.specs.Buffer.{buffer}, device_places.specs.Places.{at, changed}}
-use Rattle.{machine_words.specs.declared.settings.MachineSettings.MachineSettings}
+use Rattle.{machine_model.specs.declared.settings.MachineSettings.MachineSettings}
 use Rattle.{poll_runs.specs.declared.bench.Next.TheVariants.{Gone, Repoll}}
 use Rattle.poll_runs.specs.declared.bench.Once.{Once}
 use Rattle.machine_model.specs.Device.{after_packet, queue_delivered, expired, interrupted, queue_polled, raised_again, without_next}

@@ -1,6 +1,6 @@
 -- A processor's poll list, and the polling run in progress over it (`struct softnet_data`).
-use Rattle.std.specs.Prelude.{ℕ, ◌+◌, nat_le, ◌||◌, Bool, List, [], ◌∷◌, ◌++◌, drop, slice_get, Option, Some, None, if◌then◌else◌}
-use Rattle.{std.specs.Option.{option_and_then, option_map, option_map_or}, poll_runs.specs.{Polls.is_repoll, Turn.asked_for}}
+use Rattle.std.specs.Prelude.{ℕ, ◌+◌, Bool, List, [], ◌∷◌, ◌++◌, drop, slice_get, Option, Some, None, if◌then◌else◌}
+use Rattle.{std.specs.Option.{option_and_then, option_map, option_map_or}, poll_runs.specs.{Polls.is_repoll, Run.is_squeezed, Turn.asked_for}}
 use Rattle.poll_runs.specs.declared.bench.Once.{Once}
 
 pub record RunView : Type 0 where
@@ -35,9 +35,9 @@ begun moment budget weight window q =
     record { own = q.list; repoll = []; asked = None; polls = 0; work = 0; budget = budget; weight = weight; window = window } in
     record { list = []; run = Some r; began = moment }
 
--- the work reaches the budget, or the number of polls the window
+-- the run is squeezed if it ends now
 abbrev pub is_run_spent : RunView → Bool
-is_run_spent r = nat_le r.budget r.work || nat_le r.window r.polls
+is_run_spent r = is_squeezed r.budget r.window r.polls r.work
 
 -- the run's own numbers, and the list: if all of its own numbers are polled and no repoll is pending, the run takes the whole
 -- list

@@ -1,8 +1,8 @@
 //! The application, which uses the packets of a socket: on the processor that receives, or on one of its own.
 
+use crate::settings::MachineSettings;
 use crate::waits::{WaitCounts, Waits};
 use circular_buffer::HeapCircularBuffer;
-use machine_words::MachineSettings;
 use std::alloc::{AllocError, Global};
 use std::marker::Model;
 

@@ -4,9 +4,9 @@ ghost use Rattle.std.specs.Prelude.{◌≡◌, ◌≤◌, Some, IfOk, OnOk};
 ghost use Rattle.machine_model.specs.Machine.{queue_report};
 ghost use Rattle.machine_model.specs.Device.{after_packet, asks, queue_completed, queue_delivered, expired, expired_phase, has_room, interrupted, is_fired, is_masked, next_packet, notified, new_queue, queue_polled, raised_again, timer_of, without_next};
 
+use crate::settings::MachineSettings;
 use crate::waits::{WaitCounts, Waits};
 use circular_buffer::HeapCircularBuffer;
-use machine_words::MachineSettings;
 use std::alloc::{AllocError, Global};
 use std::marker::Model;
 use std::mem;

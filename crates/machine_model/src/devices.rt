@@ -11,7 +11,7 @@ ghost use Rattle.machine_model.specs.Shown.{IsMask, IsPending, earlier, has_time
 ghost use Rattle.machine_model.specs.declared.devices.Pending.{Pending};
 
 use crate::device::{QueueReport, ReceiveQueue};
-use machine_words::MachineSettings;
+use crate::settings::MachineSettings;
 use std::alloc::{AllocError, Global};
 use std::marker::Model;
 

@@ -6,7 +6,7 @@ ghost use Rattle.machine_model.specs.Machine.{PacketArrives, Finishes, device_re
 
 use crate::device::QueueReport;
 use crate::processor::{Processor, ProcessorReport};
-use machine_words::MachineSettings;
+use crate::settings::MachineSettings;
 use std::alloc::{AllocError, Global};
 use std::marker::Model;
 

@@ -15,10 +15,10 @@ ghost use Rattle.machine_model.specs.declared.processor.Work.TheVariants.{Nothin
 use crate::application::{Application, ApplicationReport};
 use crate::device::QueueReport;
 use crate::devices::{QueueTable, Timer};
+use crate::settings::MachineSettings;
 use crate::softirq::Softirq;
 use crate::tasks::{RunQueue, RunnableTask};
 use crate::waits::WaitCounts;
-use machine_words::MachineSettings;
 use poll_runs::{Next, Once};
 use std::alloc::{AllocError, Global};
 use std::marker::Model;

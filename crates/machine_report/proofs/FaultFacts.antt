@@ -7,7 +7,7 @@ use Rattle.machine_report.specs.Arrivals.{last_moment, arrival_of_fields, queue_
 use Rattle.machine_report.specs.Arrivals.{◌>>=◌}
 use Rattle.std.proofs.Common.{◌⊎◌, inl, inr}
 use Rattle.device_rows.specs.Trace.{records_of}
-use Rattle.machine_words.specs.declared.settings.MachineSettings.{MachineSettings}
+use Rattle.machine_model.specs.declared.settings.MachineSettings.{MachineSettings}
 use Rattle.machine_report.specs.{Answer.IsArrivalsFault, Fault.IsArrivalReadFailure}
 use Rattle.machine_report.specs.declared.arrival.{Arrival.Arrival, Numbers.Numbers}
 use Rattle.machine_report.specs.declared.fault.MachineFault.{MachineFault}

@@ -10,7 +10,7 @@ use Rattle.device_rows.{specs.Trace.records_of, proofs.{RecordsFacts.{next-end, 
 use Rattle.device_rows.specs.{Block.{Holds, left_remaining, unread}, declared.{block.Block.Block, fused.Fused.Fused}}
 use Rattle.device_rows.proofs.{BlockFacts.used-up, RowsFacts.records-none}
 use Rattle.machine_report.specs.Arrivals.{arrival_of, arrivals_after, arrivals_of, arrival_fields, is_arrivals_title, arrival_of_fields}
-use Rattle.machine_words.specs.declared.settings.MachineSettings.{MachineSettings}
+use Rattle.machine_model.specs.declared.settings.MachineSettings.{MachineSettings}
 use Rattle.machine_report.specs.{Plain.{StartsWithArrival, StartsWithHeader}, declared.arrival.Arrival.Arrival}
 use Rattle.machine_report.specs.Reading.{HasGiven, IsTitled, LeavesSame, LeftAt, TakesPlain, records_in}
 use Rattle.machine_report.specs.declared.{arrivals.{Arrivals.Arrivals, ArrivalRows.ArrivalRows}, fault.MachineFault.MachineFault}

@@ -2,7 +2,7 @@
 use Rattle.std.specs.Prelude.{◌≡◌, ℕ, List, [], ◌∷◌, Ok, Err}
 use Rattle.{device_rows.specs.Trace.records_of, machine_model.specs.Machine.PacketArrives}
 use Rattle.{machine_model.specs.Machine.{Finishes, Machine, opened_machine}}
-use Rattle.{machine_words.specs.declared.settings.MachineSettings.MachineSettings}
+use Rattle.{machine_model.specs.declared.settings.MachineSettings.MachineSettings}
 use Rattle.machine_report.specs.{Arrivals.arrivals_of, Report.machine_text}
 use Rattle.machine_report.specs.{declared.{arrival.Arrival.Arrival, fault.MachineFault.MachineFault}}
 

@@ -3,7 +3,7 @@ use Rattle.std.specs.Prelude.{ℕ, ◌+◌, ◌-◌, ◌*◌, ◌%◌, ◌^◌, 
 use Rattle.std.specs.{Prelude.{length, fold, Option, Some, None, if◌then◌else◌, Result, Ok, Err, codes}, Str.bytes_eq}
 use Rattle.csv.specs.Records.{field_at}
 use Rattle.{device_rows.specs.{Record.{is_numeral, numeral}, Row.is_within}}
-use Rattle.{machine_words.specs.declared.settings.MachineSettings.MachineSettings}
+use Rattle.{machine_model.specs.declared.settings.MachineSettings.MachineSettings}
 use Rattle.machine_report.specs.declared.arrival.{Arrival.Arrival, Numbers.Numbers}
 use Rattle.machine_report.specs.declared.fault.MachineFault.{MachineFault, TheVariants.{BadHeader, BadFields, BadNumber, OutOfRange, Falls}}
 

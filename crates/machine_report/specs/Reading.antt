@@ -5,7 +5,7 @@ use Rattle.device_rows.specs.{Block.{Holds, left_remaining}, Source.{IsOpen, Sta
 use Rattle.machine_report.specs.Arrivals.{arrivals_after, arrival_fields, last_moment, arrival_of_fields}
 use Rattle.machine_report.specs.declared.arrivals.{Arrivals.Arrivals, ArrivalRows.{ArrivalRows, TheVariants.{Plain, Records, Failed}}}
 use Rattle.machine_report.specs.declared.{arrival.Arrival.Arrival, fault.MachineFault.MachineFault}
-use Rattle.{device_rows.specs.declared.block.Block.Block, machine_words.specs.declared.settings.MachineSettings.MachineSettings}
+use Rattle.{device_rows.specs.declared.block.Block.Block, machine_model.specs.declared.settings.MachineSettings.MachineSettings}
 
 -- all records of these bytes; the state of csv is one between two records
 abbrev pub records_in : State → List ℕ → List (List (List ℕ))

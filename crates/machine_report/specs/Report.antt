@@ -1,7 +1,7 @@
 -- The text of the report. See docs/FORMATS.md, "The machine's report".
 use Rattle.std.specs.Prelude.{ℕ, zero, suc, ◌+◌, ◌-◌, ◌*◌, List, [], ◌∷◌, ◌++◌, Option, Some, None, codes, decimal, option_map, slice_get}
 use Rattle.machine_model.specs.declared.{application.ApplicationReport.ApplicationReport, device.QueueReport.QueueReport}
-use Rattle.{machine_model.specs.declared.waits.WaitCounts.WaitCounts, machine_words.specs.declared.settings.MachineSettings.MachineSettings}
+use Rattle.machine_model.specs.declared.{waits.WaitCounts.WaitCounts, settings.MachineSettings.MachineSettings}
 use Rattle.machine_model.specs.{declared.processor.ProcessorReport.ProcessorReport, Machine.{Machine, device_report, processor_report}}
 use Rattle.{machine_model.specs.Waits.saturated, replay_text.specs.Lines.{with_newline, words}}
 use Rattle.machine_report.specs.declared.report.{ApplicationLine.ApplicationLine, MachineTotals.MachineTotals}

@@ -7,7 +7,7 @@ ghost use Rattle.machine_report.specs.Arrivals.{IsInRange, flow_of, arrival_fiel
 use crate::fault::MachineFault;
 use csv::ByteRecord;
 use device_rows::number_below_21;
-use machine_words::MachineSettings;
+use machine_model::MachineSettings;
 
 /// A packet arrives for a queue.
 #[derive(Clone, Copy, Debug, PartialEq, Eq)]

@@ -17,7 +17,7 @@ use crate::fault::MachineFault;
 use crate::plain::{after_header, plain_arrival};
 use csv::ByteRecord;
 use device_rows::{Block, NextRecord, ReadError, RecordsLeft, next_record};
-use machine_words::MachineSettings;
+use machine_model::MachineSettings;
 use std::alloc::{AllocError, Global};
 use std::io::Read;
 use std::mem;

@@ -5,8 +5,9 @@ ghost use Rattle.machine_model.specs.Machine.{device_report};
 ghost use Rattle.machine_report.specs.Report.{application_line, application_of, machine_device_line, machine_device_lines, lines_of_devices, lines_of_processors, processor_in, processor_line, processor_lines, sums_of_devices, sums_of_processors, machine_text, time_line, machine_total_line, plus_device};
 ghost use Rattle.replay_text.specs.Lines.{with_newline};
 
-use machine_model::{ApplicationReport, Machine, ProcessorReport, QueueReport, WaitCounts};
-use machine_words::MachineSettings;
+use machine_model::{
+    ApplicationReport, Machine, MachineSettings, ProcessorReport, QueueReport, WaitCounts,
+};
 use std::alloc::{AllocError, Global};
 use std::fmt;
 

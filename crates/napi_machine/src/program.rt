@@ -8,8 +8,8 @@ ghost use Rattle.napi_machine.specs.Program.{IsNapiMachineFault, IsNapiMachineRe
 ghost use Rattle.replay_text.specs.Program.{FailedBy};
 ghost use Rattle.replay_text.specs.Written.{Writes};
 
+use machine_model::parse_words;
 use machine_report::{MachineFault, run_machine};
-use machine_words::parse_words;
 use replay_text::{ProgramFault, end_by};
 use std::alloc::Global;
 use std::io::{Read, Write};

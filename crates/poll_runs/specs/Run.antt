@@ -27,9 +27,12 @@ AreBatches takes polls taken [] = Unit
 AreBatches takes polls taken (batch ∷ more) =
     (ids (take (length taken) polls) ≡ taken) × takes (take (length taken) polls) batch × AreBatches takes polls (taken ++ batch) more
 
--- the work reached the budget, or the number of polls the window
+-- the squeeze (`time_squeeze`): the work reached the budget, or the number of polls the window
+abbrev pub is_squeezed : ℕ → ℕ → ℕ → ℕ → Bool
+is_squeezed budget window polls work = nat_le budget work || nat_le window polls
+
 abbrev pub is_spent : ℕ → ℕ → List Poll → Bool
-is_spent budget window polls = nat_le budget (work_of polls) || nat_le window (length polls)
+is_spent budget window polls = is_squeezed budget window (length polls) (work_of polls)
 
 -- A run over a list, with these polls: its first batch and the further ones, their unpolled rest, the arrivals that no batch
 -- took, and all arrivals.

@@ -1,11 +1,11 @@
 -- The effect of each call on a run and on its list, for a caller that makes the polls.
-use Rattle.std.specs.Prelude.{◌≡◌, ℕ, nat_le, ◌||◌, Bool, List, [], ◌∷◌, Option, None, MatchOption}
-use Rattle.poll_runs.specs.Turn.{Refills, TakesBatch}
+use Rattle.std.specs.Prelude.{◌≡◌, ℕ, Bool, List, [], ◌∷◌, Option, None, MatchOption}
+use Rattle.poll_runs.specs.{Run.is_squeezed, Turn.{Refills, TakesBatch}}
 use Rattle.poll_runs.specs.declared.polling_run.PollingRun.{PollingRun}
 
--- the work so far reaches the budget, or the number of polls the window
+-- the run is squeezed if it ends now
 abbrev pub has_spent : PollingRun → Bool
-has_spent run = nat_le run.budget run.work || nat_le run.window run.polls
+has_spent run = is_squeezed run.budget run.window run.polls run.work
 
 -- nothing was taken yet
 pub record HoldsNothing (run : PollingRun) : Type 0 where

@@ -2,6 +2,7 @@
 
 ghost use Rattle.std.specs.Prelude.{ℕ, List, ◌≤◌};
 ghost use Rattle.poll_runs.specs.Polling.{NoBusyPolls};
+ghost use Rattle.poll_runs.specs.Ranges.{IsMost, IsRounds, IsWeight};
 ghost use Rattle.poll_runs.specs.Thread.{IsThreadPolling, NoThreadPolls};
 ghost use Rattle.poll_runs.specs.declared.bench.BusyReport.{BusyReport};
 ghost use Rattle.poll_runs.specs.declared.bench.Once.{Once};
@@ -100,15 +101,15 @@ pub trait Bench {
     /// Takes an instance from the list and polls it once with this weight, in 1..=64 (`napi_poll`). Returns [`Next::Absent`]
     /// for an instance that isn't on the list.
     fn poll_once(&mut self, id: u32, weight: u32) -> Once
-        requires weight { (1 ≤ weight) × (weight ≤ 64) }
+        requires weight { IsWeight weight }
         ensures leads { polls self.old id weight result self.new }
         ensures bound { result.work ≤ weight };
 
     /// Takes an instance as its thread does, and polls it at most `most` times, in 1..=131072 (`napi_threaded_poll`). It stops
     /// earlier if a poll asks for no repoll and a take doesn't find the instance in the thread's queue.
     fn poll_thread(&mut self, id: u32, weight: u32, most: u32) -> ThreadReport
-        requires weight { (1 ≤ weight) × (weight ≤ 64) }
-        requires most { (1 ≤ most) × (most ≤ 131072) }
+        requires weight { IsWeight weight }
+        requires most { IsMost most }
         ensures { (polls : List Once)
             × thread_polls self.old id weight most polls self.new
             × IsThreadPolling weight most polls result };
@@ -116,7 +117,7 @@ pub trait Bench {
     /// Takes an idle instance, polls it for this many rounds, in 1..=65535, stops, and polls it once more (`napi_busy_loop`,
     /// `busy_poll_stop`).
     fn busy_poll(&mut self, id: u32, weight: u32, rounds: u32) -> BusyReport
-        requires weight { (1 ≤ weight) × (weight ≤ 64) }
-        requires rounds { (1 ≤ rounds) × (rounds ≤ 65535) }
+        requires weight { IsWeight weight }
+        requires rounds { IsRounds rounds }
         ensures leads { busy_polls self.old id weight rounds result self.new };
 }

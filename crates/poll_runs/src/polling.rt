@@ -4,6 +4,7 @@ ghost use Rattle.std.specs.Prelude.{◌≡◌, ◌≢◌, ◌==◌, ◌≤◌, f
 ghost use Rattle.poll_runs.specs.Plan.{Does};
 ghost use Rattle.poll_runs.specs.Polling.{HasLast, ended, followed, let_go, next_of, poll_plan, thread_poll_plan, poll_once_plan};
 ghost use Rattle.poll_runs.specs.Polls.{is_repoll};
+ghost use Rattle.poll_runs.specs.Ranges.{IsMost, IsWeight};
 ghost use Rattle.poll_runs.specs.Thread.{IsThreadPolling, is_for_thread};
 ghost use Rattle.poll_runs.specs.declared.bench.Next.TheVariants.{Absent, Repoll};
 ghost use Rattle.poll_runs.specs.declared.bench.Once.{Once};
@@ -39,7 +40,7 @@ fn end<I: Instance>(instance: &mut I, full: bool) -> Next
 // Polls an instance that its poller owns (`__napi_poll`).
 fn poll_held<I: Instance>(instance: &mut I, weight: u32, packets: &mut I::Packets) -> Once
     requires hand { I.in_hand instance.old }
-    requires weight { (1 ≤ weight) × (weight ≤ 64) }
+    requires weight { IsWeight weight }
     ensures does { (given : List I.Packet)
         × Does I.tries I.did (poll_plan (I.thread instance.old) weight) instance.old
         (record { once = result; packets = given }) instance.new
@@ -70,7 +71,7 @@ fn let_go<I: Instance>(instance: &mut I, next: Next)
 /// [`Next::Again`] with the list, the caller still has to push its number.
 pub fn poll_once_of<I: Instance>(instance: &mut I, weight: u32, packets: &mut I::Packets) -> Once
     requires rests { I.rests instance.old }
-    requires weight { (1 ≤ weight) × (weight ≤ 64) }
+    requires weight { IsWeight weight }
     ensures does { (given : List I.Packet)
         × Does I.tries I.did (poll_once_plan (I.thread instance.old) weight) instance.old
         (record { once = result; packets = given }) instance.new
@@ -120,8 +121,8 @@ pub fn poll_thread_of<I: Instance>(
     packets: &mut I::Packets,
 ) -> ThreadReport
     requires rests { I.rests instance.old }
-    requires weight { (1 ≤ weight) × (weight ≤ 64) }
-    requires most { (1 ≤ most) × (most ≤ 131072) }
+    requires weight { IsWeight weight }
+    requires most { IsMost most }
     ensures does { (polls : List Once) × (given : List I.Packet)
         × Does I.tries I.did (thread_poll_plan (I.thread instance.old) weight most)
         instance.old

@@ -3,6 +3,7 @@
 ghost use Rattle.std.specs.Prelude.{◌≡◌, ◌≤◌, true, [], List, length};
 ghost use Rattle.poll_runs.specs.Plan.{Action, Follows, given, operations};
 ghost use Rattle.poll_runs.specs.Polling.{busy_poll_plan, thread_poll_plan, poll_once_plan};
+ghost use Rattle.poll_runs.specs.Ranges.{IsMost, IsRounds, IsWeight};
 ghost use Rattle.poll_runs.specs.Thread.{IsThreadPolling};
 ghost use Rattle.poll_runs.specs.declared.bench.Once.{Once};
 ghost use Rattle.poll_runs.specs.declared.bench.Next.TheVariants.{Absent};
@@ -36,7 +37,7 @@ pub fn poll_instance<R: Wait>(
     batch: &mut Batch,
 ) -> (Caller, Once)
     requires seat { IsSeatOf napi.now caller.pass }
-    requires weight { (1 ≤ weight) × (weight ≤ 64) }
+    requires weight { IsWeight weight }
     ensures seat { SameSeat caller.pass result.0.pass }
     ensures made { (deeds : List (Action Packet))
         × Made caller.pass (operations deeds) result.0.pass
@@ -73,8 +74,8 @@ pub fn poll_instance_by_thread<R: Wait>(
     batch: &mut Batch,
 ) -> (Caller, ThreadReport)
     requires seat { IsSeatOf napi.now caller.pass }
-    requires weight { (1 ≤ weight) × (weight ≤ 64) }
-    requires most { (1 ≤ most) × (most ≤ 131072) }
+    requires weight { IsWeight weight }
+    requires most { IsMost most }
     ensures seat { SameSeat caller.pass result.0.pass }
     ensures polls { (polls : List Once) × (deeds : List (Action Packet))
         × Made caller.pass (operations deeds) result.0.pass
@@ -111,8 +112,8 @@ pub fn busy_instance<R: Wait>(
     batch: &mut Batch,
 ) -> (Caller, BusyReport)
     requires seat { IsSeatOf napi.now caller.pass }
-    requires rounds { (1 ≤ rounds) × (rounds ≤ 65535) }
-    requires weight { (1 ≤ weight) × (weight ≤ 64) }
+    requires rounds { IsRounds rounds }
+    requires weight { IsWeight weight }
     ensures seat { SameSeat caller.pass result.0.pass }
     ensures polls { (deeds : List (Action Packet))
         × Made caller.pass (operations deeds) result.0.pass

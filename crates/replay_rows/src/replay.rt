@@ -1,6 +1,7 @@
 //! Processing the rows of a trace on any bench, for all modes that process rows.
 
 ghost use Rattle.std.specs.Prelude.{◌≡◌, ◌≤◌, [], IfOk, length};
+ghost use Rattle.poll_runs.specs.Ranges.{IsRounds};
 
 use crate::line::PollRecord;
 use device_bench::ReplayBench;
@@ -42,7 +43,6 @@ impl<B: ReplayBench> Replay<B> {
     ghost use Rattle.std.specs.Prelude.{◌≡◌, ℕ, ◌+◌, ◌++◌, [], ◌∷◌, true, false, Ok, OnOk, IfErr};
     ghost use Rattle.device_transmit.specs.Transmits.{Changes, KeepsTransmits};
     ghost use Rattle.device_places.specs.Places.{empty};
-    ghost use Rattle.device_places.specs.Range.{IsWithin};
     ghost use Rattle.device_rows.specs.Row.{device_fits, value_fits};
     ghost use Rattle.device_rows.specs.Trace.{AcceptedAfter};
     ghost use Rattle.device_bench.specs.Waiting.{one_when, is_left_to_list};
@@ -133,7 +133,7 @@ impl<B: ReplayBench> Replay<B> {
         device: u32,
         rounds: u32,
     ) -> PollRecord
-        requires { IsWithin 1 65535 rounds }
+        requires { IsRounds rounds }
         ensures state { with_line result (replay_state B.devices self.new)
             ≡ with_busy settings.now row device rounds (replay_state B.devices self.old) }
         ensures lines { self.new.lines ≡ self.old.lines }

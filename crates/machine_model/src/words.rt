@@ -1,11 +1,12 @@
 //! The program's arguments.
 
 ghost use Rattle.std.specs.Prelude.{◌≡◌, ◌≤◌, Some, None, Err, IfOk, IfSome, option_map, map, string_bytes};
-ghost use Rattle.machine_words.specs.Words.{machine_asked_for, machine_args_of, machine_args_with, coalescing_with, costs_with, flag_value, polling_with, sizes_with, tasks_with};
+ghost use Rattle.machine_model.specs.Words.{machine_asked_for, machine_args_of, machine_args_with, coalescing_with, costs_with, flag_value, polling_with, sizes_with, tasks_with};
 ghost use Rattle.replay_words.specs.Given.{number_within, or_usual};
 ghost use Rattle.replay_words.specs.Options.{value_in};
 ghost use Rattle.replay_words.specs.Refusals.{IsArgsOutOfMemory};
 ghost use Rattle.replay_words.specs.declared.words.WordFault.TheVariants.{OutOfMemory, Usage};
+ghost use Rattle.poll_runs.specs.Ranges.{IsWeight, IsWindow};
 
 use crate::settings::{
     MOST_BUDGET, MOST_DEFERRALS, MOST_FRAMES, MOST_PLACES, MOST_PROCESSORS, MOST_QUEUES, MOST_TIME,
@@ -137,8 +138,8 @@ fn sizes_in(matches: &ArgMatches<'_>) -> Option<Sizes>
 fn polling_in(matches: &ArgMatches<'_>) -> Option<PollingOptions>
     ensures polling { result ≡ polling_with (value_in matches.now) }
     ensures budget { IfSome result (λ p. p.budget ≤ 65535) }
-    ensures weight { IfSome result (λ p. (1 ≤ p.weight) × (p.weight ≤ 64)) }
-    ensures window { IfSome result (λ p. (1 ≤ p.window) × (p.window ≤ 65535)) }
+    ensures weight { IfSome result (λ p. IsWeight p.weight) }
+    ensures window { IfSome result (λ p. IsWindow p.window) }
     ensures time_limit { IfSome result (λ p. (1 ≤ p.time_limit) × (p.time_limit ≤ 1000000000)) }
 {
     let usual = MachineSettings::default();

@@ -1,6 +1,6 @@
 -- The default machine: that of a program that is run without options.
 use Rattle.std.specs.Prelude.{◌≡◌, false}
-use Rattle.machine_words.specs.declared.settings.MachineSettings.{MachineSettings}
+use Rattle.machine_model.specs.declared.settings.MachineSettings.{MachineSettings}
 
 pub record IsUsual (s : MachineSettings) : Type 0 where
   pub processors : s.processors ≡ 1

@@ -1,9 +1,9 @@
 -- Which machine the program's arguments ask for.
 use Rattle.std.specs.Prelude.{ℕ, [], ◌∷◌, Bool, nat_eq, List, Option, Some, codes, option_map}
 use Rattle.replay_words.specs.Given.{◌>>=◌, Text, given_by, number_within, or_usual, value_of}
-use Rattle.machine_words.specs.declared.{settings.MachineSettings.MachineSettings}
-use Rattle.machine_words.specs.declared.{words.{Coalescing.Coalescing, Costs.Costs, PollingOptions.PollingOptions}}
-use Rattle.machine_words.specs.declared.words.{Sizes.Sizes, TaskOptions.TaskOptions}
+use Rattle.machine_model.specs.declared.{settings.MachineSettings.MachineSettings}
+use Rattle.machine_model.specs.declared.{words.{Coalescing.Coalescing, Costs.Costs, PollingOptions.PollingOptions}}
+use Rattle.machine_model.specs.declared.words.{Sizes.Sizes, TaskOptions.TaskOptions}
 
 abbrev pub machine_option_names : List Text
 machine_option_names = codes "processors" ∷ codes "queues" ∷ codes "ring" ∷ codes "socket" ∷ codes "backlog" ∷ codes "budget"

@@ -1,7 +1,7 @@
 -- The laws of machines hold for the machine of a report.
 use Rattle.std.specs.Prelude.{◌≡◌, ℕ, List, [], ◌∷◌, Some, slice_get}
 use Rattle.machine_laws.specs.Lives.{Ended, own_packets}
-use Rattle.{machine_model.specs.Processor.ProcessorView, machine_words.specs.declared.settings.MachineSettings.MachineSettings}
+use Rattle.machine_model.specs.{Processor.ProcessorView, declared.settings.MachineSettings.MachineSettings}
 use Rattle.machine_report.specs.{Answer.IsReportOf, declared.arrival.Arrival.Arrival}
 
 -- the packets of these arrivals after earlier ones, the last one first: the time and the queue of each

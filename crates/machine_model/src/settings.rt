@@ -83,8 +83,8 @@ pub struct MachineSettings {
     ghost ring_in: { (1 ≤ ring) × (ring ≤ 65536) },
     ghost socket_in: { (1 ≤ socket) × (socket ≤ 65536) },
     ghost budget_in: { budget ≤ 65535 },
-    ghost weight_in: { (1 ≤ weight) × (weight ≤ 64) },
-    ghost window_in: { (1 ≤ window) × (window ≤ 65535) },
+    ghost weight_in: { IsWeight weight },
+    ghost window_in: { IsWindow window },
     ghost time_limit_in: { (1 ≤ time_limit) × (time_limit ≤ 1000000000) },
     ghost rx_nsecs_in: { rx_nsecs ≤ 1000000000 },
     ghost rx_frames_in: { rx_frames ≤ 65535 },
@@ -99,9 +99,10 @@ pub struct MachineSettings {
 }
 
 ghost use Rattle.std.specs.Prelude.{◌≤◌};
+ghost use Rattle.poll_runs.specs.Ranges.{IsWeight, IsWindow};
 
 impl Default for MachineSettings {
-    ghost use Rattle.machine_words.specs.Usual.{IsUsual};
+    ghost use Rattle.machine_model.specs.Usual.{IsUsual};
 
     ghost is_default = { IsUsual };
 

@@ -1,8 +1,8 @@
 use Rattle.std.proofs.{Common.{◌≡◌, ◌∙◌, Err, ap, map, string_bytes, sym}, lemmas.Result.err_from_is_err_and}
 use Rattle.{std.specs.Option.{option_and_then}, replay_words.specs.declared.words.WordFault.TheVariants.Usage}
-use Rattle.machine_words.specs.Words.{machine_args_of, machine_args_with}
+use Rattle.machine_model.specs.Words.{machine_args_of, machine_args_with}
 use Rattle.replay_words.{specs.{Given.value_of, Refusals.args_out_of_memory}, proofs.ClapFacts.{asked-as, found_is, refused_is}}
-use Rattle.machine_words.proofs.words.parse_words.Goals as goal
+use Rattle.machine_model.proofs.words.parse_words.Goals as goal
 
 pub returns-in_err-matches-clause-usage : goal.returns-in_err-matches-clause-usage
 returns-in_err-matches-clause-usage c = λ e.
