@@ -6,7 +6,7 @@ use Rattle.{device_places.specs.Places.{DeviceTable, at}, device_bench.specs.Ben
 use Rattle.device_bench.specs.{DeviceView.DeviceView, Ending.IsEndedAt, Receive.ReceiveView}
 
 -- the devices from this number on were ended, and those below it remain
-pub record EndedFrom {Totals : Type 0} (ended : ReceiveView → Totals → Type 0) (all left : BenchDevices) (ends : DeviceTable Totals) : Type
+pub record EndedFrom {End : Type 0} (ended : ReceiveView → End → Type 0) (all left : BenchDevices) (ends : DeviceTable End) : Type
     0 where
   pub places : length ends ≡ 17
   pub most : length left ≤ 17
@@ -24,8 +24,8 @@ at-before [] ys number below = absurd (omega (arith, below))
 at-before (x ∷ xs) ys zero below = refl
 at-before (x ∷ xs) ys (suc number) below = at-before xs ys number (omega (arith, below))
 
-module _ {Totals : Type 0} (ended : ReceiveView → Totals → Type 0) (all : BenchDevices) where
-  module _ (left left' : BenchDevices) (place : Option DeviceView) (ends ends' : DeviceTable Totals) (more : left ≡ left' ++ place ∷ [])
+module _ {End : Type 0} (ended : ReceiveView → End → Type 0) (all : BenchDevices) where
+  module _ (left left' : BenchDevices) (place : Option DeviceView) (ends ends' : DeviceTable End) (more : left ≡ left' ++ place ∷ [])
       (was : EndedFrom ended all left ends) where
     longer : length left ≡ length left' + 1
     longer = ap length more ∙ length-append left' (place ∷ [])
@@ -38,7 +38,7 @@ module _ {Totals : Type 0} (ended : ReceiveView → Totals → Type 0) (all : Be
         was.same number (omega (arith, longer, below)) ∙ ap (λ (l : BenchDevices). at number l) more
         ∙ at-before left' (place ∷ []) number below
 
-    pub ended-next : (answer : Option Totals) → IsEndedAt ended place answer → length ends' ≡ 17 → at (length left') ends' ≡ answer
+    pub ended-next : (answer : Option End) → IsEndedAt ended place answer → length ends' ≡ 17 → at (length left') ends' ≡ answer
         → ((number : ℕ) → number ≢ length left' → at number ends' ≡ at number ends) → EndedFrom ended all left' ends'
     ended-next answer here places now others = record {
       places = places;
@@ -58,19 +58,19 @@ module _ {Totals : Type 0} (ended : ReceiveView → Totals → Type 0) (all : Be
     pub ended-absent : place ≡ None → ends' ≡ ends → EndedFrom ended all left' ends'
     ended-absent absent same =
         ended-next None (rw absent tt) (ap length same ∙ was.places)
-        (ap (λ (l : DeviceTable Totals). at (length left') l) same ∙ was.none (length left') (omega (arith, longer)))
-        (λ number apart. ap (λ (l : DeviceTable Totals). at number l) same)
+        (ap (λ (l : DeviceTable End). at (length left') l) same ∙ was.none (length left') (omega (arith, longer)))
+        (λ number apart. ap (λ (l : DeviceTable End). at number l) same)
 
-    pub ended-present : (d : DeviceView) (totals : Totals) → place ≡ Some d → ended d.side totals
-        → ends' ≡ slice_set ends (length left') (Some totals) → EndedFrom ended all left' ends'
-    ended-present d totals present is set =
+    pub ended-present : (d : DeviceView) (end : End) → place ≡ Some d → ended d.side end
+        → ends' ≡ slice_set ends (length left') (Some end) → EndedFrom ended all left' ends'
+    ended-present d end present is set =
         let below : length left' < length ends = omega (arith, longer, was.most, was.places) in
-        ended-next (Some totals) (rw present is) (ap length set ∙ length-set ends (length left') (Some totals) ∙ was.places)
-        (ap (λ (l : DeviceTable Totals). at (length left') l) set ∙ at-same ends (length left') (Some totals) below)
-        (λ number apart. ap (λ (l : DeviceTable Totals). at number l) set
-        ∙ get_or-set_other ends (length left') number (Some totals) None apart)
+        ended-next (Some end) (rw present is) (ap length set ∙ length-set ends (length left') (Some end) ∙ was.places)
+        (ap (λ (l : DeviceTable End). at (length left') l) set ∙ at-same ends (length left') (Some end) below)
+        (λ number apart. ap (λ (l : DeviceTable End). at number l) set
+        ∙ get_or-set_other ends (length left') number (Some end) None apart)
       where
-        at-same : (xs : DeviceTable Totals) (n : ℕ) (y : Option Totals) → n < length xs → at n (slice_set xs n y) ≡ y
+        at-same : (xs : DeviceTable End) (n : ℕ) (y : Option End) → n < length xs → at n (slice_set xs n y) ≡ y
         at-same [] n y below = absurd (omega (arith, below))
         at-same (x ∷ xs) zero y below = refl
         at-same (x ∷ xs) (suc n) y below = at-same xs n y (omega (arith, below))

@@ -2,13 +2,13 @@
 use Rattle.{std.specs.Prelude.{ℕ, Option, Some, None}, device_places.specs.Places.{DeviceTable, at}, device_bench.specs.Bench.BenchDevices}
 use Rattle.device_bench.specs.{DeviceView.DeviceView, Receive.ReceiveView}
 
--- the device of an entry was ended with these counts; an empty entry has none
-abbrev pub IsEndedAt : {Totals : Type 0} → (ReceiveView → Totals → Type 0) → Option DeviceView → Option Totals → Type 0
-IsEndedAt ended (Some d) (Some totals) = ended d.side totals
+-- the device of an entry was ended, and left this; an empty entry left nothing
+abbrev pub IsEndedAt : {End : Type 0} → (ReceiveView → End → Type 0) → Option DeviceView → Option End → Type 0
+IsEndedAt ended (Some d) (Some end) = ended d.side end
 IsEndedAt ended None None = Unit {0}
 IsEndedAt ended (Some d) None = ⊥
-IsEndedAt ended None (Some totals) = ⊥
+IsEndedAt ended None (Some end) = ⊥
 
--- all devices were ended, and these are the counts of their rings
-abbrev pub AllEnded : {Totals : Type 0} → (ReceiveView → Totals → Type 0) → BenchDevices → DeviceTable Totals → Type 0
+-- all devices were ended, and left these
+abbrev pub AllEnded : {End : Type 0} → (ReceiveView → End → Type 0) → BenchDevices → DeviceTable End → Type 0
 AllEnded ended devices ends = (number : ℕ) → IsEndedAt ended (at number devices) (at number ends)

@@ -150,8 +150,8 @@ impl<S: SpentSide, O: Opener<S> + Drop> DeviceBench<S, O> {
     }
 
     /// Ends the receive side of each device, which may wait. It doesn't allocate. It may be called in any state, even after an
-    /// error. Returns the counts of each ring, by device number.
-    pub fn end(self) -> [Option<S::Totals>; TABLE_LEN as usize]
+    /// error. Returns what each receive side left, by device number.
+    pub fn end(self) -> [Option<S::End>; TABLE_LEN as usize]
         ensures { AllEnded S.ended (devices_of self) result }
     {
         let DeviceBench {
@@ -160,7 +160,7 @@ impl<S: SpentSide, O: Opener<S> + Drop> DeviceBench<S, O> {
             transmits: _,
             unsettled: _,
         } = self;
-        let mut ends = [None; TABLE_LEN as usize];
+        let mut ends: [Option<S::End>; TABLE_LEN as usize] = Default::default();
         while let Some(place) = devices.pop() {
             if let Some(device) = place {
                 ends[devices.len()] = Some(device.end());

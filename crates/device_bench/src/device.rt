@@ -218,7 +218,7 @@ impl<S: ReceiveSide> BenchDevice<S> {
 
 impl<S: SpentSide> BenchDevice<S> {
     /// Ends the device's receive side.
-    pub(crate) fn end(self) -> S::Totals
+    pub(crate) fn end(self) -> S::End
         ensures { S.ended self.side result }
     {
         let BenchDevice {

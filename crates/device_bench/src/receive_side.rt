@@ -140,14 +140,14 @@ pub trait ReceiveSide {
 
 /// A linear receive side: it can't be dropped, and only [`end`](SpentSide::end) consumes it.
 pub trait SpentSide: ReceiveSide {
-    /// The counts of its ring.
-    type Totals: Copy;
+    /// What it leaves at its end.
+    type End: Drop;
 
-    /// `ended side totals`: a receive side in the state `side` was ended, and `totals` are the counts of its ring.
-    ghost ended: { ReceiveView → Self.Totals → Type 0 };
+    /// `ended side end`: a receive side in the state `side` was ended, and left `end`.
+    ghost ended: { ReceiveView → Self.End → Type 0 };
 
-    /// Waits until no caller owns the instance, disables it, and polls all packets in the ring. Returns the counts of the ring.
-    fn end(self) -> Self::Totals
+    /// Waits until no caller owns the instance, disables it, and polls all packets in the ring.
+    fn end(self) -> Self::End
         ensures { ended (Self.side self) result };
 }
 

@@ -13,5 +13,5 @@ pub use device_rows::{
     Row, RowEvent, Trace, TraceFault, first_fault_stands, first_records_decide, read_trace,
 };
 pub use device_script::{ScriptDevice, opening_of};
-pub use device_shared::SharedBench;
+pub use device_shared::{ClosedSide, SharedBench};
 pub use device_transmit::TxCounts;

@@ -3,10 +3,10 @@ use Rattle.std.proofs.{Common.{subst, arith}, lemmas.{List.{append-nil, take-app
 use Rattle.std.proofs.Common.{◌≡◌, ◌∙◌, ℕ, List, [], ◌∷◌, length, take, Some, refl, sym, ap}
 use Rattle.napi_model.specs.declared.state.Seen.{Seen}
 use Rattle.device_shared.specs.declared.seats.{Pollers.{Pollers, TheVariants.Rest}, Seats.Seats}
-use Rattle.rx_ring.specs.declared.packet.Totals.{Totals}
 use Rattle.rx_ring.specs.{declared.{packet.Packet.Packet, ends.{RxCtx.RxCtx, RxIn.RxIn}}, Ends.{IsOneRing, SameCtx, SameIn, put_list}}
 use Rattle.{rx_ring.specs.{Ends.{received_list, ring_name, ring_of}, ReceiveRing.totals_of}, device_bench.specs.Receive.ReceiveView}
 use Rattle.napi_calls.{proofs.{Steps.prefix_trans, Dealing.named_ring}, specs.{Seats.shown, declared.types.{Napi.Napi, Caller.Caller}}}
+use Rattle.device_shared.specs.declared.closed_side.ClosedSide.{ClosedSide}
 use Rattle.{napi_calls.specs.Closed.IsClosed, napi_word.{specs.declared.table.Pass.Pass, proofs.Deliveries.some_is}}
 use Rattle.device_shared.{proofs.{Gathering.{at_three, ring_from}, RingFacts.side_at}, specs.Seats.{control_of, polls_at, seats_received}}
 use Rattle.device_shared.specs.{SharedReceive.{AreAllCallers, left_in}, Ending.{IsSideClosed, IsLater, TakesHold}}
@@ -41,24 +41,24 @@ module _ (n : Napi) (s : Seats) (input : RxIn) (held_many capacity : ℕ) (seen 
       some_is (sym (ring_from (control_of s.turn) w.first w.gathered.first_three) ∙ sym later.ring ∙ has) in
       subst (IsOneRing input) (sym same) (named_ring input w.first own w.one named)
 
-  module _ (a b c : Caller) (ctx : RxCtx) (cl : IsClosed n (a ∷ b ∷ c ∷ []) control ctx) (one : IsOneRing input ctx) (input' : RxIn)
-      (last : RxCtx) (same : SameCtx ctx last)
-      (put : put_list input' ≡ put_list input) (polled : received_list last ≡ put_list input) (totals : Totals)
-      (are : totals ≡ totals_of (ring_of input' last)) where
+  module _ (end : ClosedSide) (control_is : end.control.value.pass ≡ control) (ctx : RxCtx)
+      (cl : IsClosed end.napi.value (end.interrupt.value ∷ end.poller.value ∷ end.thread.value ∷ []) end.control.value.pass ctx)
+      (one : IsOneRing input ctx) (input' : RxIn) (last : RxCtx) (same : SameCtx ctx last)
+      (put : put_list input' ≡ put_list input) (polled : received_list last ≡ put_list input)
+      (are : end.totals ≡ totals_of (ring_of input' last)) where
     ring_is : ring_of input' last ≡ ring_of input last
     ring_is = ap (λ (l : List Packet). record { put = l; received = received_list last }) put
 
-    none_left : totals.left ≡ 0
+    none_left : end.totals.left ≡ 0
     none_left = grind (arith, common_steps, ring_is)
 
-    pub side_ended : (now : ReceiveView) → side_at (Some s) input capacity ≡ now → IsSideClosed now totals
+    pub side_ended : (now : ReceiveView) → side_at (Some s) input capacity ≡ now → IsSideClosed now end
     side_ended now view =
         let from = control_of s.turn in
-        let to = prefix_trans (shown from) (shown control) cl.history later.begins (cl.is.begins 3 control refl) in
-        subst (λ (v : ReceiveView). IsSideClosed v totals) view (record {
-          napi = n;
-          callers = a ∷ b ∷ c ∷ [];
-          control = control;
+        let off = end.control.value.pass in
+        let began : IsLater from off = subst (IsLater from) (sym control_is) later in
+        let to = prefix_trans (shown from) (shown off) cl.history began.begins (cl.is.begins 3 off refl) in
+        subst (λ (v : ReceiveView). IsSideClosed v end) view (record {
           ctx = ctx;
           closed = cl;
           before = shown from;

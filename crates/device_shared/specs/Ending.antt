@@ -1,10 +1,10 @@
 -- How a receive side (a ring and its instance) is closed, if its instance could be shared by threads.
 use Rattle.std.specs.Prelude.{◌≡◌, ℕ, Bool, true, false, List, [], ◌∷◌, ◌++◌, Option, Some, None, if◌then◌else◌}
-use Rattle.rx_ring.specs.{declared.{ends.{RxCtx.RxCtx, RxIn.RxIn}, packet.{Packet.Packet, Totals.Totals}}, Ends.{IsOneRing, SameCtx}}
+use Rattle.rx_ring.specs.{declared.{ends.{RxCtx.RxCtx, RxIn.RxIn}, packet.Packet.Packet}, Ends.{IsOneRing, SameCtx}}
 use Rattle.{rx_ring.specs.{Ends.{put_list, received_list, ring_of}, ReceiveRing.totals_of}, napi_model.specs.declared.event.Event.Event}
 use Rattle.napi_model.specs.{declared.event.Operation.{Operation, TheVariants.{MarkDisable, Take}}, History.state_after, Step.opening}
 use Rattle.{napi_word.specs.declared.table.Pass.Pass, napi_calls.specs.{Closed.IsClosed, Made.Made, Seats.shown}}
-use Rattle.{napi_calls.specs.declared.types.{Caller.Caller, Napi.Napi}, device_bench.specs.Receive.ReceiveView}
+use Rattle.{device_bench.specs.Receive.ReceiveView, device_shared.specs.declared.closed_side.ClosedSide.ClosedSide}
 use Rattle.device_shared.specs.declared.seats.{Enabled.Enabled, Pollers.{Pollers, TheVariants.{Rest, ListPolls, ThreadPolls, PollsBusily}}}
 use Rattle.device_shared.specs.{declared.seats.Turn.Turn, Acting.TriesBy}
 use Rattle.device_shared.specs.{Seats.{control_of, is_enable_marked, poller_pass, polls_at, role_of}}
@@ -48,13 +48,10 @@ pub record IsLater (p q : Pass) : Type 0 where
   pub begins : IsPrefix (shown p) (shown q)
   pub ring : seats.instance_ring q ≡ seats.instance_ring p
 
--- the instance of a receive side in this state was closed, and all packets in its ring were polled
-pub record IsSideClosed (side : ReceiveView) (totals : Totals) : Type 0 where
-  pub napi : Napi
-  pub callers : List Caller
-  pub control : Pass
+-- the instance of a receive side in this state was closed, with these callers, and all packets in its ring were polled
+pub record IsSideClosed (side : ReceiveView) (end : ClosedSide) : Type 0 where
   pub ctx : RxCtx
-  pub closed : IsClosed napi callers control ctx
+  pub closed : IsClosed end.napi.value (end.interrupt.value ∷ end.poller.value ∷ end.thread.value ∷ []) end.control.value.pass ctx
   -- the instance's history continues from the state that the receive side showed
   pub before : List Event
   pub rest : List Event
@@ -71,5 +68,5 @@ pub record IsSideClosed (side : ReceiveView) (totals : Totals) : Type 0 where
   pub last : RxCtx
   pub same : SameCtx ctx last
   pub polled : received_list last ≡ put_list input
-  pub totals_are : totals ≡ totals_of (ring_of input last)
-  pub none_left : totals.left ≡ 0
+  pub totals_are : end.totals ≡ totals_of (ring_of input last)
+  pub none_left : end.totals.left ≡ 0

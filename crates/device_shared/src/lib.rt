@@ -9,6 +9,7 @@
 
 mod acting;
 mod bench;
+mod closed_side;
 mod ending;
 mod meeting;
 mod opening;
@@ -18,5 +19,6 @@ mod seats;
 mod shared_receive;
 
 pub use bench::SharedBench;
+pub use closed_side::ClosedSide;
 pub use opening::SharedOpener;
 pub use shared_receive::SharedReceive;

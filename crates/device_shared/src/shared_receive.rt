@@ -5,14 +5,16 @@ ghost use Rattle.device_shared.specs.Meeting.{SeatsMeet};
 ghost use Rattle.device_shared.specs.Seats.{AreSeats};
 ghost use Rattle.device_shared.specs.declared.seats.Seats.{Seats};
 
+use crate::closed_side::ClosedSide;
 use crate::ending::{close, disable, empty};
 use crate::places::{put_back, take_out};
 use crate::seats::Seats;
 use device_bench::{ReceiveSide, SpentSide};
 use napi_calls::{Caller, Napi};
 use napi_model::{Kind, Prep, Seen};
-use rx_ring::{Batch, Packet, RxIn, Totals, batch_bytes, finish};
+use rx_ring::{Batch, Packet, RxIn, batch_bytes, finish};
 use std::marker::Model;
+use std::snapshot::Snapshot;
 use std::sync::Wait;
 
 /// A receive ring and a NAPI instance that threads could share, with all its callers, owned by one thread. The callers meet
@@ -186,11 +188,11 @@ impl<R: Wait + Drop> ReceiveSide for SharedReceive<R> {
 impl<R: Wait + Drop> SpentSide for SharedReceive<R> {
     ghost use Rattle.device_shared.specs.Ending.{IsSideClosed};
 
-    type Totals = Totals;
+    type End = ClosedSide;
 
     ghost ended = { IsSideClosed };
 
-    fn end(self) -> Totals {
+    fn end(self) -> ClosedSide {
         let SharedReceive {
             rt,
             napi,
@@ -206,8 +208,21 @@ impl<R: Wait + Drop> SpentSide for SharedReceive<R> {
         let Some(seats) = seats else { unreachable!() };
         let Seats { interrupt, turn } = seats;
         let (poller, thread, control) = disable(&rt, &napi, turn);
+        let at = Snapshot::of(&napi);
+        let first = Snapshot::of(&interrupt);
+        let second = Snapshot::of(&poller);
+        let third = Snapshot::of(&thread);
+        let off = Snapshot::of(&control);
         let mut ctx = close(napi, interrupt, poller, thread, control, callers);
         empty(&mut input, &mut ctx);
-        finish(input, ctx)
+        let totals = finish(input, ctx);
+        ClosedSide {
+            totals,
+            napi: at,
+            interrupt: first,
+            poller: second,
+            thread: third,
+            control: off,
+        }
     }
 }

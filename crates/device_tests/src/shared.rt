@@ -66,7 +66,10 @@ fn packets_at_the_end(rt: HostRuntime) -> Result<(), Fail> {
             _ => None,
         };
         let counted = match end {
-            Some(totals) => Some((totals.put, totals.polled, totals.left, totals.bytes)),
+            Some(end) => {
+                let totals = end.totals;
+                Some((totals.put, totals.polled, totals.left, totals.bytes))
+            }
             None => None,
         };
         assert_eq!(rt; counted, wanted, "of device {number}");
@@ -89,6 +92,6 @@ fn another_device_stays(rt: HostRuntime) -> Result<(), Fail> {
     assert_eq!(rt; counts_of(&bench, 1), before);
     assert_eq!(rt; bench.attached(), 2);
     let ends = bench.end();
-    assert_eq!(rt; ends[2], None);
+    assert!(rt; ends[2].is_none());
     Ok(())
 }

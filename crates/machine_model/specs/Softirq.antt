@@ -1,6 +1,7 @@
 -- A processor's poll list, and the polling run in progress over it (`struct softnet_data`).
 use Rattle.std.specs.Prelude.{ℕ, ◌+◌, Bool, List, [], ◌∷◌, ◌++◌, drop, slice_get, Option, Some, None, if◌then◌else◌}
-use Rattle.{std.specs.Option.{option_and_then, option_map, option_map_or}, poll_runs.specs.{Polls.is_repoll, Run.is_squeezed, Turn.asked_for}}
+use Rattle.std.specs.Option.{option_and_then, option_map, option_map_or}
+use Rattle.poll_runs.specs.{Polls.is_repoll, Run.is_squeezed, Turn.asked_for}
 use Rattle.poll_runs.specs.declared.bench.Once.{Once}
 
 pub record RunView : Type 0 where

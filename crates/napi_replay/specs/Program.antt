@@ -3,7 +3,6 @@ use Rattle.std.specs.Prelude.{◌≡◌, ℕ, List, Option, Some, None, Ok, Err}
 use Rattle.replay_threads.specs.Answer.{RanBy, threads_of}
 use Rattle.replay_threads.specs.Answer.{IsThreadsOutside as IsOutsideThreads}
 use Rattle.replay_threads.specs.SharedRun.{RanShared}
-use Rattle.replay_threads.specs.declared.polled.Polled.{Polled}
 use Rattle.replay_text.specs.Outside.{IsOutside}
 use Rattle.replay_text.specs.Program.{IsFaultOf, IsTextBy}
 use Rattle.replay_text.specs.Written.{IsFaultBy}
@@ -52,7 +51,7 @@ IsNapiReplayFault words input = IsFaultOf (replay_asked_for words ≡ None) (Ask
 abbrev pub RanIn : Type 0 → ReplayMode → ReplaySettings → Option (List ℕ) → Type 0
 RanIn R Serial s input = Unit
 RanIn R Shared s input = RanShared s input
-RanIn R Threads s input = (told : List Polled) × RanBy R (λ by. Unit {0}) s input told
+RanIn R Threads s input = RanBy R (λ by. Unit {0}) s input
 
 -- the same, for the mode and the settings that the arguments ask for
 abbrev pub Ran : Type 0 → List Text → Option (List ℕ) → Type 0

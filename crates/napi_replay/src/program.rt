@@ -43,7 +43,10 @@ where
 {
     match mode {
         ReplayMode::Serial => replay_serial(alloc, input, output, settings),
-        ReplayMode::Shared => replay_shared(rt, alloc, input, output, settings),
+        ReplayMode::Shared => match replay_shared(rt, alloc, input, output, settings) {
+            Ok(_) => Ok(()),
+            Err(fault) => Err(fault),
+        },
         ReplayMode::Threads => match replay_threads(rt, alloc, input, output, settings, &OpenGate) {
             Ok(_) => Ok(()),
             Err(fault) => Err(fault),

@@ -14,4 +14,4 @@ pub use acts::{Act, Device};
 pub use dealing::poller_of;
 pub use opening::{Loose, Placed, end_all, open_all, shut_all};
 pub use station::{Closed, Finished, Station};
-pub use worker::{ControllerState, InterruptHandler, InterruptWorker, WorkerHandles};
+pub use worker::{InterruptHandler, InterruptWorker, WorkerHandles};

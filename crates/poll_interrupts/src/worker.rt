@@ -28,22 +28,20 @@ impl Between for Yields {
     }
 }
 
-/// The controller of an instance, which is on or off.
-pub enum ControllerState {
-    /// The instance is enabled.
+// The controller of an instance, which is on or off.
+pub(crate) enum ControllerState {
     On(Control<On>),
-    /// It is disabled.
     Off(Control<Off>),
 }
 
 /// A worker's handles on its instance. It is linear: it can't be dropped.
 pub struct WorkerHandles {
-    /// The caller that requests polls.
-    pub caller: Caller,
-    /// The controller of the instance.
-    pub control: ControllerState,
-    /// The device's threaded setting, which an enable writes (`dev_set_threaded`).
-    pub threaded: bool,
+    // The caller that requests polls.
+    pub(crate) caller: Caller,
+    // The controller of the instance.
+    pub(crate) control: ControllerState,
+    // The device's threaded setting, which an enable writes (`dev_set_threaded`).
+    pub(crate) threaded: bool,
 }
 
 /// Where the interrupts of a worker go: the instance and the wakers.

@@ -8,6 +8,6 @@ mod poller;
 mod thread_poller;
 
 pub use handle::PollHandle;
-pub use list_poller::{HandleBench, ListPoller};
-pub use poller::{Poller, Serves};
+pub use list_poller::ListPoller;
+pub use poller::Poller;
 pub use thread_poller::ThreadPoller;

@@ -12,12 +12,11 @@ use poll_tasks::PollLimits;
 use rx_ring::Batch;
 use std::sync::Wait;
 
-/// The handles of a poller, as a bench in which instances have their numbers.
+// The handles of a poller, as a bench in which instances have their numbers.
 #[derive(Drop)]
-pub struct HandleBench<'n, R: Wait + Drop> {
+pub(crate) struct HandleBench<'n, R: Wait + Drop> {
     rt: R,
-    /// The handles, each on one instance.
-    pub seats: Vec<DropBomb<R, PollHandle<'n>>>,
+    seats: Vec<DropBomb<R, PollHandle<'n>>>,
     batch: Batch,
 }
 
@@ -57,9 +56,9 @@ impl<'n, R: Wait + Drop> Bench for HandleBench<'n, R> {
 pub struct ListPoller<'n, R: Wait + Drop> {
     /// The list of instances that the poller polls.
     pub list: SharedList<R>,
-    /// Its handles on its instances.
-    pub bench: HandleBench<'n, R>,
-    /// Its budget, weight and window.
+    // Its handles on its instances.
+    bench: HandleBench<'n, R>,
+    /// How it polls.
     pub limits: PollLimits,
     ghost lawful: { IsLawful limits },
 }

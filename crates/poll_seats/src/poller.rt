@@ -4,10 +4,9 @@ ghost use Rattle.poll_seats.specs.Serving.{IsServed};
 
 use poll_tasks::{Gate, IdleWait, RunContext, Stop, Task, Waker};
 use std::sync::Wait;
-use std::sync::atomic::Ordering;
 
 /// What a poller polls: the instances on a list, or the one instance whose thread it is.
-pub trait Serves {
+pub(crate) trait Serves {
     ghost use Rattle.std.specs.Prelude.{◌≡◌, Bool};
 
     ghost idle: { Self → Bool };
@@ -80,7 +79,7 @@ impl<'t, 'p, R: Wait + Drop, G: Gate, S: Serves + Drop> Task for Poller<'t, 'p, 
             return poller;
         }
         let context = poller.context;
-        if context.flags.unpolled.load(Ordering::SeqCst) != 0 {
+        if context.flags.is_unpolled() {
             poller.stop = Some(Stop::Refused);
             return poller;
         }

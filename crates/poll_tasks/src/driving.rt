@@ -4,10 +4,11 @@ ghost use Rattle.std.specs.Prelude.{vec_len};
 ghost use Rattle.std.specs.List.{AllZip};
 ghost use Rattle.poll_tasks.specs.Tasks.{HasRoom};
 
-use crate::signals::{SpawnFailure, Waker};
+use crate::gate::Gate;
+use crate::signals::{StopFlags, Waker};
 use crate::tasks::{Spawned, Task, join_all, spawn_all};
 use std::sync::Wait;
-use std::sync::atomic::{AtomicIn, Ordering};
+use std::sync::atomic::Ordering;
 use std::thread;
 use std::thread::Threads;
 
@@ -24,14 +25,13 @@ pub struct Tasks<P, W, S> {
 
 /// Runs the threads of a run. All pollers and thread pollers are started before the workers: if one of them can't be started,
 /// no worker makes an act, so no worker waits for a poll. After all workers have ended, the wakers of the pollers are closed,
-/// and the pollers end. Sets `unpolled` if a poller couldn't be started, and `refused` if any thread couldn't.
-pub fn drive<R, P, W, S>(
+/// and the pollers end. Sets the flags of threads that couldn't be started.
+pub fn drive<R, P, W, S, G: Gate>(
     rt: &R,
     tasks: Tasks<P, W, S>,
     room: Tasks<Spawned<P>, Spawned<W>, Spawned<S>>,
     wakers: &[Waker],
-    unpolled: &AtomicIn<SpawnFailure>,
-    refused: &AtomicIn<SpawnFailure>,
+    flags: &StopFlags<G>,
 ) -> Tasks<P, W, S>
 where
     R: Threads + Wait + Sync,
@@ -66,12 +66,12 @@ where
                 workers: mut working,
                 threads: mut siding,
             } = room;
-            spawn_all(scope, &mut threads, unpolled, &mut siding);
-            spawn_all(scope, &mut pollers, unpolled, &mut polling);
-            if unpolled.load(Ordering::SeqCst) != 0 {
-                refused.store(1, Ordering::SeqCst);
+            spawn_all(scope, &mut threads, &flags.unpolled, &mut siding);
+            spawn_all(scope, &mut pollers, &flags.unpolled, &mut polling);
+            if flags.is_unpolled() {
+                flags.refused.store(1, Ordering::SeqCst);
             }
-            spawn_all(scope, &mut workers, refused, &mut working);
+            spawn_all(scope, &mut workers, &flags.refused, &mut working);
             join_all(rt, &mut working, &mut workers);
             for waker in wakers {
                 waker.close();

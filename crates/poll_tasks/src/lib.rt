@@ -10,5 +10,5 @@ mod tasks;
 pub use driving::{Tasks, drive};
 pub use gate::{Gate, OpenGate};
 pub use limits::{PollLimits, RunContext};
-pub use signals::{IdleWait, SpawnFailure, Stop, StopFlags, Waker};
-pub use tasks::{Gives, Spawned, Task, first_stop, join_all, spawn, spawn_all};
+pub use signals::{IdleWait, Stop, StopFlags, Waker};
+pub use tasks::{Gives, Spawned, Task, first_stop};

@@ -13,8 +13,8 @@ use std::marker::PhantomData;
 use std::sync::Wait;
 use std::sync::atomic::{AtomicBool, AtomicIn, Ordering, Rule};
 
-/// The invariant of a flag: it is 0 unless a thread could not be started.
-pub struct SpawnFailure;
+// The invariant of a flag: it is 0 unless a thread could not be started.
+pub(crate) struct SpawnFailure;
 
 impl Rule for SpawnFailure {
     ghost use Rattle.std.specs.Prelude.{◌≡◌, ◌⊎◌};
@@ -44,15 +44,18 @@ pub enum Stop {
 /// The flags that say why no further acts are made, each 0 or 1.
 #[derive(Drop)]
 pub struct StopFlags<G: Gate> {
-    /// The thread of a poller could not be started. This is set before any worker begins.
-    pub unpolled: AtomicIn<SpawnFailure>,
-    /// A thread could not be started.
-    pub refused: AtomicIn<SpawnFailure>,
+    // The thread of a poller could not be started. This is set before any worker begins.
+    pub(crate) unpolled: AtomicIn<SpawnFailure>,
+    // A thread could not be started.
+    pub(crate) refused: AtomicIn<SpawnFailure>,
     // The gate has returned false.
     shut: AtomicIn<Shut<G>>,
 }
 
 impl<G: Gate> StopFlags<G> {
+    ghost use Rattle.std.specs.Prelude.{◌≡◌, true};
+    ghost use Rattle.poll_tasks.specs.Refusals.{IsRefused};
+
     /// Returns the flags of a run that isn't stopped.
     pub fn new() -> StopFlags<G> {
         StopFlags {
@@ -69,11 +72,25 @@ impl<G: Gate> StopFlags<G> {
         self.shut.store(1, Ordering::SeqCst);
     }
 
+    /// Returns whether the thread of a poller could not be started.
+    pub fn is_unpolled(&self) -> bool
+        ensures { result ≡ true → IsRefused }
+    {
+        self.unpolled.load(Ordering::SeqCst) != 0
+    }
+
+    /// Returns whether a thread could not be started.
+    pub fn is_refused(&self) -> bool
+        ensures { result ≡ true → IsRefused }
+    {
+        self.refused.load(Ordering::SeqCst) != 0
+    }
+
     /// Returns the reason if no further acts are made.
     pub fn stop(&self) -> Option<Stop>
         ensures { IfSome result (IsStop G.may_shut) }
     {
-        if self.refused.load(Ordering::SeqCst) != 0 {
+        if self.is_refused() {
             return Some(Stop::Refused);
         }
         if self.shut.load(Ordering::SeqCst) != 0 {

@@ -37,7 +37,7 @@ pub trait Task {
 
 /// The postcondition of a thread: it returns its task after it has run.
 #[derive(Drop)]
-pub struct Gives<J>(pub Snapshot<J>);
+pub struct Gives<J>(pub(crate) Snapshot<J>);
 
 impl<J: Task> Promise<J> for Gives<J> {
     ghost kept_by = { λ p out. J.gives p.0.value out };
@@ -54,7 +54,7 @@ pub enum Spawned<J: Task> {
 
 /// Starts a task in a new thread. If no thread can be started, the flag is set first, and then the caller runs the task: a task
 /// reads the flag before it waits for any other task.
-pub fn spawn<'s, E, J: Task + Drop + Send + 's>(
+pub(crate) fn spawn<'s, E, J: Task + Drop + Send + 's>(
     scope: &Scope<'s, E>,
     task: J,
     refused: &AtomicIn<SpawnFailure>,
@@ -78,7 +78,7 @@ pub fn spawn<'s, E, J: Task + Drop + Send + 's>(
 }
 
 /// Starts all tasks, in order. Requires room for them in the vector that held them.
-pub fn spawn_all<'s, E, J: Task + Drop + Send + 's>(
+pub(crate) fn spawn_all<'s, E, J: Task + Drop + Send + 's>(
     scope: &Scope<'s, E>,
     tasks: &mut Vec<J>,
     refused: &AtomicIn<SpawnFailure>,
@@ -94,7 +94,11 @@ pub fn spawn_all<'s, E, J: Task + Drop + Send + 's>(
 }
 
 /// Joins all tasks, in order. Requires room for them in the result.
-pub fn join_all<R: Threads, J: Task>(rt: &R, spawned: &mut Vec<Spawned<J>>, tasks: &mut Vec<J>)
+pub(crate) fn join_all<R: Threads, J: Task>(
+    rt: &R,
+    spawned: &mut Vec<Spawned<J>>,
+    tasks: &mut Vec<J>,
+)
     requires { HasRoom (vec_len spawned.old) tasks.old }
     ensures { (before : List J) → AllZip (IsSpawned J.gives) before spawned.old.items
         → AllZip J.gives before tasks.new.items }

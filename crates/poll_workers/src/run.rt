@@ -1,6 +1,6 @@
 //! A run of all stations.
 
-ghost use Rattle.std.specs.Prelude.{◌≡◌, ◌≤◌, IfErr, IfOk, IfSome, IsErrOf, IsTrue, None, length, map, true, vec_items, vec_len};
+ghost use Rattle.std.specs.Prelude.{◌≡◌, ◌≤◌, IfErr, IfOk, IfSome, IsErrOf, IsTrue, None, length, map, vec_items, vec_len};
 ghost use Rattle.std.specs.List.{All, AllZip};
 ghost use Rattle.std.specs.Borrow.{Bor};
 ghost use Rattle.poll_tasks.specs.Asks.{IsAsked};
@@ -25,7 +25,6 @@ use poll_interrupts::{Device, Finished, Loose, Placed, Station, end_all, open_al
 use poll_tasks::{Gate, PollLimits, RunContext, Stop, StopFlags, Tasks, Waker, drive, first_stop};
 use std::alloc::{AllocError, Global};
 use std::sync::Wait;
-use std::sync::atomic::Ordering;
 use std::thread::Threads;
 
 // The parts of the instances after the threads have ended, and the reason, if the run ended early.
@@ -94,15 +93,7 @@ where
         workers: tasks.workers,
         threads: tasks.threads,
     };
-    let flags = context.flags;
-    let tasks = drive(
-        &context.rt,
-        tasks,
-        spawned,
-        wakers,
-        &flags.unpolled,
-        &flags.refused,
-    );
+    let tasks = drive(&context.rt, tasks, spawned, wakers, context.flags);
     let stop = stop_of_run(&tasks);
     let seats = seats_left(tasks.pollers, left_seats);
     let left = gather(context.rt, tasks.workers, seats, tasks.threads, left);
@@ -155,13 +146,6 @@ where
             Err(AllocError)
         }
     }
-}
-
-// Returns whether a thread could not be started.
-fn is_refused<G: Gate>(flags: &StopFlags<G>) -> bool
-    ensures { result ≡ true → IsRefused }
-{
-    flags.refused.load(Ordering::SeqCst) != 0
 }
 
 // Returns the result of a run, or its error.
@@ -242,5 +226,5 @@ where
         },
     };
     let came = run_all(&context, alloc, pollers as usize, stations);
-    run_result(came, is_refused(&flags))
+    run_result(came, flags.is_refused())
 }

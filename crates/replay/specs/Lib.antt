@@ -15,4 +15,5 @@ pub use Rattle.replay_rows.specs.Answer
 pub use Rattle.replay_rows.specs.Report
 pub use Rattle.replay_threads.specs.Answer as ThreadsAnswer
 pub use Rattle.replay_threads.specs.ThreadsReport
-pub use Rattle.replay_threads.specs.declared.polled.Polled
+pub use Rattle.replay_threads.specs.SharedRun
+pub use Rattle.replay_threads.specs.Stations as ThreadsStations

@@ -9,7 +9,7 @@
 
 pub use replay_rows::replay_serial;
 pub use replay_text::{ReplayFault, fault_line, status};
-pub use replay_threads::{Polled, replay_shared, replay_threads};
+pub use replay_threads::{ClosedSide, replay_shared, replay_threads};
 pub use replay_words::{
     ReplayMode, ReplaySettings, WordFault, parse_words, word_line, word_status,
 };

@@ -31,7 +31,11 @@ pub(crate) fn replay_in<P: Threads + Wait + Sync, R: Read + Drop, W: Write>(
 ) -> Result<(), ReplayFault> {
     match mode {
         ReplayMode::Serial => replay_serial(alloc, reader, writer, settings),
-        ReplayMode::Shared => replay_shared(rt, alloc, reader, writer, settings),
+        ReplayMode::Shared => {
+            let ends = replay_shared(rt, alloc, reader, writer, settings)?;
+            drop(ends);
+            Ok(())
+        }
         ReplayMode::Threads => {
             let polled = replay_threads(rt, alloc, reader, writer, settings, &OpenGate)?;
             drop(polled);

@@ -122,7 +122,12 @@ fn shared_as_serial_behind_each_row(rt: HostRuntime) -> Result<(), Fail> {
             let mut shared = Vec::new(rt.alloc());
             let wanted = replay_serial(rt.alloc(), text.as_bytes(), &mut serial, &settings);
             let answer = replay_shared(&rt, rt.alloc(), text.as_bytes(), &mut shared, &settings);
-            assert_eq!(rt; answer, wanted, "{count} rows of {}", trace.name);
+            assert_eq!(rt;
+                answer.err(),
+                wanted.err(),
+                "{count} rows of {}",
+                trace.name
+            );
             assert_eq!(rt;
                 shared.as_slice(),
                 serial.as_slice(),
@@ -141,6 +146,6 @@ fn fault_in_mid_trace(rt: HostRuntime) {
     let settings = ReplaySettings::default();
     let mut report = Vec::new(rt.alloc());
     let answer = replay_shared(&rt, rt.alloc(), text.as_bytes(), &mut report, &settings);
-    assert_eq!(rt; answer, Err(ReplayFault::Pending { row: 4 }));
+    assert_eq!(rt; answer.err(), Some(ReplayFault::Pending { row: 4 }));
     assert!(rt; report.is_empty());
 }

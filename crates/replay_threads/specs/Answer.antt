@@ -1,13 +1,13 @@
 -- The result of a replay of a text with threads: the report of its rows in threads mode, or its first error.
-use Rattle.std.specs.{Prelude.{◌≡◌, ℕ, ◌+◌, List, Bool, Option, Some, None, Result, Ok, Err, length, map, nat_lt, option_map}, List.find}
-use Rattle.poll_interrupts.specs.{declared.station.{Closed.Closed, Finished.Finished}, Runs.HasRun}
+use Rattle.std.specs.{Prelude.{◌≡◌, ℕ, List, Bool, Option, Some, None, Result, Ok, Err, nat_lt, option_map}, List.find}
+use Rattle.poll_interrupts.specs.declared.station.Finished.{Finished}
 use Rattle.replay_words.specs.declared.settings.ReplaySettings.{ReplaySettings}
 use Rattle.device_rows.specs.{Trace.{records_of, trace_of}, declared.{TraceFault.TraceFault, row.Row.Row}}
 use Rattle.{poll_tasks.specs.Refusals.IsRefused}
 use Rattle.{replay_threads.specs.{ThreadsReport.{arrived, opened_devices, threads_report}, Stations.AreRunBy}}
-use Rattle.{replay_threads.specs.{Stations.polled_of, declared.polled.Polled.Polled}, poll_workers.specs.declared.fault.WorkFault.WorkFault}
-use Rattle.device_script.specs.{ScriptShown.{Script, script_after, answer}, Script.{has_thread, opening_of, script_of}}
-use Rattle.{rx_ring.specs.declared.packet.Totals.Totals, replay_text.specs.Outside.{IsReplayOutOfMemory, IsOutside as IsSerialOutside}}
+use Rattle.poll_workers.specs.declared.fault.WorkFault.{WorkFault}
+use Rattle.device_script.specs.{ScriptShown.Script, Script.opening_of}
+use Rattle.replay_text.specs.Outside.{IsReplayOutOfMemory, IsOutside as IsSerialOutside}
 use Rattle.replay_text.specs.declared.fault.ReplayFault.{ReplayFault, TheVariants.{GateShut, RingTooSmall, SpawnFailed, Trace}}
 use Rattle.poll_workers.specs.declared.fault.WorkFault.TheVariants as work
 
@@ -47,28 +47,12 @@ IsToldAs work.OutOfMemory told = IsReplayOutOfMemory told
 IsToldAs work.GateShut told = told ≡ GateShut
 IsToldAs work.SpawnFailed told = told ≡ SpawnFailed
 
--- the device that the rows describe, before its acts
-pub record IsDeviceOf (rows : List Row) (device : ℕ) (script : Script) : Type 0 where
-  pub opening : opening_of device rows ≡ Some script.opening
-  pub acts : script.rows ≡ script_of device rows
-  pub made : script.made ≡ 0
+-- these devices were run and polled by the rows of the bytes read, by as many pollers as the settings say, with their numbers
+abbrev pub IsRunBy : Type 0 → (ℕ → Type 0) → ReplaySettings → Option (List ℕ) → List (Finished Script) → Type 0
+IsRunBy R asked settings input ends =
+    (bytes : List ℕ) → input ≡ Some bytes
+    → (rows : List Row) × (trace_of (records_of bytes) ≡ Ok rows) × AreRunBy R asked settings rows ends
 
--- the packets of a device that were polled, and those that are left, together are the packets that arrived there
-pub record IsPolledDevice (rows : List Row) (device : ℕ) (polled : Polled) : Type 0 where
-  pub same_device : polled.device ≡ device
-  pub sum : polled.polled + polled.left ≡ arrived device rows
-  pub script : Script
-  pub is : IsDeviceOf rows device script
-  pub closed : Closed
-  pub totals : Totals
-  pub run : HasRun answer script_after script.opening.value (has_thread script.rows) script (length script.rows) closed totals
-  pub counts : (polled.polled ≡ totals.polled) × (polled.left ≡ totals.left)
-
--- the reported run was made by as many pollers as the settings ask for, with the settings' limits
-abbrev pub IsRunBy : Type 0 → (ℕ → Type 0) → ReplaySettings → List Row → List Polled → Type 0
-IsRunBy R asked settings rows told = (ends : List (Finished Script)) × AreRunBy R asked settings rows ends × (told ≡ map polled_of ends)
-
--- the same for the rows of the bytes read
-abbrev pub RanBy : Type 0 → (ℕ → Type 0) → ReplaySettings → Option (List ℕ) → List Polled → Type 0
-RanBy R asked settings input told =
-    (bytes : List ℕ) → input ≡ Some bytes → (rows : List Row) × (trace_of (records_of bytes) ≡ Ok rows) × IsRunBy R asked settings rows told
+-- the same for devices that aren't returned
+abbrev pub RanBy : Type 0 → (ℕ → Type 0) → ReplaySettings → Option (List ℕ) → Type 0
+RanBy R asked settings input = (ends : List (Finished Script)) × IsRunBy R asked settings input ends

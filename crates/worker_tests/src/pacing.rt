@@ -4,8 +4,9 @@ ghost use Rattle.std.specs.Prelude.{◌≤◌};
 
 use crate::gates::{HoldsPoller, LOOKS};
 use crate::threads::{HEADER, settings_of, text_of};
-use poll_engine::Gate;
-use replay::{Polled, ReplayFault, ReplaySettings, replay_threads};
+use device_model::ScriptDevice;
+use poll_engine::{Finished, Gate};
+use replay::{ReplayFault, ReplaySettings, replay_threads};
 use std::alloc::{AllocError, Global};
 use std::sync::Wait;
 use std::sync::atomic::{AtomicBool, AtomicU32, Ordering};
@@ -39,14 +40,14 @@ fn bit(device: u32) -> u32 {
     if device < 32 { 1 << device } else { 0 }
 }
 
-// Returns what is polled of each device of this trace.
-fn polled_of<P: Threads + Wait + Sync, G: Gate + Sync>(
+// Returns the devices of this trace after their run.
+fn ends_of<P: Threads + Wait + Sync, G: Gate + Sync>(
     rt: &P,
     alloc: Global,
     text: &str,
     settings: &ReplaySettings,
     gate: &G,
-) -> Result<Vec<Polled>, Fail> {
+) -> Result<Vec<Finished<ScriptDevice>>, Fail> {
     let mut report = Vec::new(alloc);
     Ok(replay_threads(rt, alloc, text.as_bytes(), &mut report, settings, gate)?)
 }
@@ -62,7 +63,7 @@ fn polled_first<P: Threads + Wait + Sync, G: Gate + Sync>(
     let text = text_of(alloc, rows)?;
     let mut report = Vec::new(alloc);
     match replay_threads(rt, alloc, text.as_bytes(), &mut report, settings, gate) {
-        Ok(polled) => Ok(polled.first().ok_or("no device")?.polled),
+        Ok(ends) => Ok(ends.first().ok_or("no device")?.totals.polled),
         Err(ReplayFault::GateShut) => Ok(0),
         Err(fault) => Err(fault.into()),
     }
@@ -133,8 +134,11 @@ fn each_device_has_its_poller(rt: HostRuntime) -> Result<(), Fail> {
         let settings = settings_of(pollers, 300, 64, 1024)?;
         for poller in 0..pollers {
             let gate = HoldsOne::new(poller, pollers);
-            let polled = polled_of(&rt, rt.alloc(), &text, &settings, &gate)?;
-            assert!(rt; polled.iter().all(|one| one.polled == 1 && one.left == 0));
+            let ends = ends_of(&rt, rt.alloc(), &text, &settings, &gate)?;
+            assert!(rt;
+                ends.iter()
+                    .all(|one| one.totals.polled == 1 && one.totals.left == 0)
+            );
             assert_eq!(rt;
                 gate.seen.load(Ordering::SeqCst),
                 gate.others,
@@ -289,8 +293,8 @@ fn a_poller_goes_on_behind_polls_of_nothing(rt: HostRuntime) -> Result<(), Fail>
         disabled: AtomicU32::new(0),
         came: AtomicBool::new(false),
     };
-    let polled = polled_of(&rt, rt.alloc(), &text, &settings, &gate)?;
-    assert!(rt; polled.iter().all(|one| one.left == 0));
+    let ends = ends_of(&rt, rt.alloc(), &text, &settings, &gate)?;
+    assert!(rt; ends.iter().all(|one| one.totals.left == 0));
     assert!(rt; gate.came.load(Ordering::SeqCst));
     Ok(())
 }

@@ -37,10 +37,13 @@ fn reports<P: Threads + Wait + Sync, G: Gate + Sync>(
     let text = text_of(alloc, &ROWS)?;
     let settings = settings_of(pollers, 300, 64, 1024)?;
     let mut report = Vec::new(alloc);
-    let polled = replay_threads(rt, alloc, text.as_bytes(), &mut report, &settings, gate)?;
-    let packets = polled
+    let ends = replay_threads(rt, alloc, text.as_bytes(), &mut report, &settings, gate)?;
+    let packets = ends
         .iter()
-        .map(|one| (one.device, one.polled.saturating_add(one.left)))
+        .map(|end| (
+            end.number,
+            end.totals.polled.saturating_add(end.totals.left),
+        ))
         .eq([(1, 8), (2, 8)]);
     Ok(packets && report.as_slice() == REPORT.as_bytes())
 }

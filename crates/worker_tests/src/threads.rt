@@ -1,7 +1,8 @@
 //! Replays with threads: what is polled, and the result of a closed gate.
 
-use poll_engine::{Gate, OpenGate};
-use replay::{Polled, ReplayFault, ReplaySettings, replay_threads};
+use device_model::ScriptDevice;
+use poll_engine::{Finished, Gate, OpenGate};
+use replay::{ReplayFault, ReplaySettings, replay_threads};
 use std::alloc::{AllocError, Global};
 use std::sync::Wait;
 use std::test::Fail;
@@ -63,17 +64,17 @@ pub(crate) fn text_of(alloc: Global, rows: &[(u32, &str)]) -> Result<String, All
     Ok(text)
 }
 
-// Returns the report of a case, and what was polled.
+// Returns the report of a case, and its devices after their run.
 fn run_case<P: Threads + Wait + Sync>(
     rt: &P,
     alloc: Global,
     case: &Case,
     settings: &ReplaySettings,
-) -> Result<(Vec<u8>, Vec<Polled>), Fail> {
+) -> Result<(Vec<u8>, Vec<Finished<ScriptDevice>>), Fail> {
     let text = text_of(alloc, case.rows)?;
     let mut report = Vec::new(alloc);
-    let polled = replay_threads(rt, alloc, text.as_bytes(), &mut report, settings, &OpenGate)?;
-    Ok((report, polled))
+    let ends = replay_threads(rt, alloc, text.as_bytes(), &mut report, settings, &OpenGate)?;
+    Ok((report, ends))
 }
 
 /// Returns settings of this many pollers, with this budget, weight and window.
@@ -97,7 +98,7 @@ fn reports(rt: HostRuntime) -> Result<(), Fail> {
     ] {
         let settings = settings_of(pollers, budget, weight, window)?;
         for case in &CASES {
-            let (report, polled) = run_case(&rt, rt.alloc(), case, &settings)?;
+            let (report, ends) = run_case(&rt, rt.alloc(), case, &settings)?;
             assert_eq!(rt;
                 report.as_slice(),
                 case.report.as_bytes(),
@@ -105,9 +106,11 @@ fn reports(rt: HostRuntime) -> Result<(), Fail> {
                 case.name
             );
             assert!(rt;
-                polled
-                    .iter()
-                    .map(|one| (one.device, one.polled.saturating_add(one.left)))
+                ends.iter()
+                    .map(|end| (
+                        end.number,
+                        end.totals.polled.saturating_add(end.totals.left)
+                    ))
                     .eq(case.packets.iter().copied())
             );
         }
@@ -127,12 +130,11 @@ const SIXTY_THREE: Case = Case {
 fn packets_are_polled(rt: HostRuntime) -> Result<(), Fail> {
     for pollers in [1, 2, 8] {
         let settings = settings_of(pollers, 300, 64, 1024)?;
-        let (report, polled) = run_case(&rt, rt.alloc(), &SIXTY_THREE, &settings)?;
+        let (report, ends) = run_case(&rt, rt.alloc(), &SIXTY_THREE, &settings)?;
         assert_eq!(rt; report.as_slice(), SIXTY_THREE.report.as_bytes());
         assert!(rt;
-            polled
-                .iter()
-                .map(|one| (one.device, one.polled, one.left))
+            ends.iter()
+                .map(|end| (end.number, end.totals.polled, end.totals.left))
                 .eq([(1, 63, 0)])
         );
     }

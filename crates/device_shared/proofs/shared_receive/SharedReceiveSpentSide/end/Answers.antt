@@ -1,3 +1,4 @@
+use Rattle.std.proofs.{Common.{arith}, lemmas.Grind.common_steps}
 use Rattle.device_shared.proofs.{EndingFacts.{ring_closed, ring_still, side_ended}, RingFacts.{side_in, whole_in}}
 use Rattle.device_shared.proofs.shared_receive.SharedReceiveSpentSide.end.Goals as goal
 
@@ -30,7 +31,10 @@ returns g c =
     let one =
     ring_closed i.napi s i.input i.held i.capacity i.seen w d.2.pass c.disable-poller.ensures.later c.close-ctx.result d.2.state.ctx
     c.close-ctx.ensures.ctx d.2.has.ring in
-    side_ended i.napi s i.input i.held i.capacity i.seen w d.2.pass c.disable-poller.ensures.later s.interrupt d.0 d.1 c.close-ctx.result
-    c.close-ctx.ensures.closed one
-    c.empty.new.input c.empty.new.ctx c.empty.ensures.ctx c.empty.ensures.put c.empty.ensures.polled c.finish.result c.finish.ensures.totals
+    side_ended i.napi s i.input i.held i.capacity i.seen w d.2.pass c.disable-poller.ensures.later _ (grind (arith, common_steps))
+    c.close-ctx.result (grind (arith, common_steps)) one
+    c.empty.new.input c.empty.new.ctx c.empty.ensures.ctx c.empty.ensures.put c.empty.ensures.polled c.finish-totals.ensures.totals
     c.args.self (side_in i.seats s i.input i.capacity c.args.self c.in-Some.is c.self.view_is)
+
+pub invariant_of-result : goal.invariant_of-result
+invariant_of-result c = record { closed = ∣ (c.close-ctx.result, grind (arith, common_steps)) ∣₁ }
