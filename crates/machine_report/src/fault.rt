@@ -124,10 +124,13 @@ pub fn status(fault: &MachineFault) -> u8
 
 impl Fault for MachineFault {
     ghost use Rattle.machine_report.specs.Fault.{machine_fault_line, machine_fault_status};
+    ghost use Rattle.machine_report.specs.declared.fault.MachineFault.TheVariants.{OutputFailed};
 
     ghost line = { machine_fault_line };
 
     ghost status = { machine_fault_status };
+
+    ghost output_failed = { OutputFailed };
 
     fn line(&self, alloc: Global) -> Result<String, AllocError> {
         fault_line(alloc, self)

@@ -5,25 +5,20 @@
 mod program;
 
 use crate::program::run_program;
-use machine_report::MachineFault;
-use replay_text::{ProgramFault, end_by, given_words};
+use replay_text::given_words;
 use std::io;
 use std::process::ExitCode;
 
 // Runs the program with the real standard input and outputs.
 fn main(rt: HostRuntime) -> ExitCode {
-    let mut errors = rt.stderr();
     match given_words(&rt) {
         Ok(words) => run_program(
             rt.alloc(),
             words.as_slice(),
             rt.reader(),
             &mut io::writer(&rt),
-            &mut errors,
+            &mut rt.stderr(),
         ),
-        Err(fault) => {
-            let fault = ProgramFault::<MachineFault>::Words(fault);
-            end_by(rt.alloc(), &fault, &mut errors)
-        }
+        Err(status) => status,
     }
 }

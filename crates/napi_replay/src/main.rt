@@ -8,13 +8,12 @@
 mod program;
 
 use crate::program::run_program;
-use replay_text::{ProgramFault, ReplayFault, end_by, given_words};
+use replay_text::given_words;
 use std::io;
 use std::process::ExitCode;
 
 // Runs the program with the real standard input and outputs.
 fn main(rt: HostRuntime) -> ExitCode {
-    let mut errors = rt.stderr();
     match given_words(&rt) {
         Ok(words) => run_program(
             &rt,
@@ -22,11 +21,8 @@ fn main(rt: HostRuntime) -> ExitCode {
             words.as_slice(),
             rt.reader(),
             &mut io::writer(&rt),
-            &mut errors,
+            &mut rt.stderr(),
         ),
-        Err(fault) => {
-            let fault = ProgramFault::<ReplayFault>::Words(fault);
-            end_by(rt.alloc(), &fault, &mut errors)
-        }
+        Err(status) => status,
     }
 }

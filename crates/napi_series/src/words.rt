@@ -1,12 +1,13 @@
 //! The command line.
 
-ghost use Rattle.std.specs.Prelude.{◌≡◌, ◌≤◌, None, Err, IfOk, IfSome, map, option_map, string_bytes};
+ghost use Rattle.std.specs.Prelude.{◌≡◌, ◌≤◌, None, Some, Err, IfOk, IfSome, map, option_map, string_bytes};
 ghost use Rattle.napi_series.specs.Program.{AskForSeries};
-ghost use Rattle.napi_series.specs.Words.{every_of, series_asked_for};
+ghost use Rattle.napi_series.specs.Words.{every_of};
 ghost use Rattle.replay_words.specs.Refusals.{IsArgsOutOfMemory};
 ghost use Rattle.replay_words.specs.declared.words.WordFault.TheVariants.{OutOfMemory, Usage};
 
-use replay_words::{ReplaySettings, WordFault, number_of, parse_serial_words};
+use crate::settings::SeriesSettings;
+use replay_words::{WordFault, number_of, parse_serial_words};
 use std::alloc::Global;
 
 // Returns the number of rows per line, and the remaining arguments.
@@ -32,14 +33,14 @@ fn split_every(words: &[String]) -> Option<(u32, &[String])>
 pub(crate) fn parse_series_words(
     alloc: Global,
     words: &[String],
-) -> Result<(u32, ReplaySettings), WordFault>
-    ensures asked { IfOk result (AskForSeries (map string_bytes words.now)) }
-    ensures usage { result ≡ Err Usage → series_asked_for (map string_bytes words.now) ≡ None }
+) -> Result<SeriesSettings, WordFault>
+    ensures asked { IfOk result (λ asked. AskForSeries (map string_bytes words.now) (Some asked)) }
+    ensures usage { result ≡ Err Usage → AskForSeries (map string_bytes words.now) None }
     ensures memory { result ≡ Err OutOfMemory → IsArgsOutOfMemory }
-    ensures range { IfOk result (λ asked. 1 ≤ asked.0) }
 {
     let Some((every, rest)) = split_every(words) else {
         return Err(WordFault::Usage);
     };
-    Ok((every, parse_serial_words(alloc, rest)?))
+    let replay = parse_serial_words(alloc, rest)?;
+    Ok(SeriesSettings { every, replay })
 }

@@ -8,7 +8,7 @@ abbrev pub Writes : (List ℕ → List ℕ → Type 0) → Option (List ℕ) →
 Writes IsText input old new = (bytes : List ℕ) → input ≡ Some bytes → (text : List ℕ) × IsText bytes text × Appends old new text
 
 -- an error is one that the bytes read have, or one that isn't in them
-abbrev pub IsFaultBy : (ReplayFault → Type 0) → (List ℕ → ReplayFault → Type 0) → Option (List ℕ) → ReplayFault → Type 0
+abbrev pub IsFaultBy : {F : Type 0} → (F → Type 0) → (List ℕ → F → Type 0) → Option (List ℕ) → F → Type 0
 IsFaultBy IsOutside IsFault input fault = (bytes : List ℕ) → input ≡ Some bytes → IsOutside fault ⊎ IsFault bytes fault
 
 -- a proper prefix of these bytes was appended

@@ -150,10 +150,13 @@ pub fn status(fault: &ReplayFault) -> u8
 
 impl Fault for ReplayFault {
     ghost use Rattle.replay_text.specs.Fault.{replay_fault_line, replay_fault_status};
+    ghost use Rattle.replay_text.specs.declared.fault.ReplayFault.TheVariants.{OutputFailed};
 
     ghost line = { replay_fault_line };
 
     ghost status = { replay_fault_status };
+
+    ghost output_failed = { OutputFailed };
 
     fn line(&self, alloc: Global) -> Result<String, AllocError> {
         fault_line(alloc, self)
