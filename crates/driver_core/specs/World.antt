@@ -79,12 +79,12 @@ abbrev pub packets_after : ℕ → Hand → ℕ → ℕ
 packets_after taken to_fetch packets = packets - taken
 packets_after taken hand packets = packets
 
-abbrev pub is_told : Hand → Hand
-is_told did_mask = free
-is_told did_unmask = free
-is_told (saw more) = free
-is_told (took full) = free
-is_told hand = hand
+abbrev pub reported_hand : Hand → Hand
+reported_hand did_mask = free
+reported_hand did_unmask = free
+reported_hand (saw more) = free
+reported_hand (took full) = free
+reported_hand hand = hand
 
 abbrev pub after_message : Hand → DriverDevice → DriverDevice
 after_message did_mask d = masked d
@@ -102,7 +102,7 @@ world_step (acts taken full) w = record w {
   masked = masked_after w.hand w.masked;
   packets = packets_after taken w.hand w.packets;
 }
-world_step reports w = record w { hand = is_told w.hand; device = after_message w.hand w.device }
+world_step reports w = record w { hand = reported_hand w.hand; device = after_message w.hand w.device }
 world_step forgets w = record w { hand = free }
 world_step opens w = record w { device = after_open w.device }
 world_step stops w = record w { device = after_stop w.device }

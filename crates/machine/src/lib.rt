@@ -19,4 +19,4 @@ pub use machine_model::{
     QueueReport, WaitCounts, parse_words,
 };
 pub use machine_report::{Arrival, Arrivals, MachineFault, fault_line, run_machine, status};
-pub use replay_words::{WordFault, word_line, word_status};
+pub use replay_args::{WordFault, word_line, word_status};

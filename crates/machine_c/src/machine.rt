@@ -118,10 +118,10 @@ fn message_of(alloc: Global, fault: &MachineFault) -> Result<String, MachineFaul
 
 // Reports an error of the arrivals: its numbers, and its message without the line feed.
 fn tell(alloc: Global, fault: &MachineFault, ran: &mut FqMachineRan) -> u32
-    ensures told { result ≡ MACHINE_BAD_ARRIVALS
+    ensures reported { result ≡ MACHINE_BAD_ARRIVALS
         → (machine_c_status fault.now ≡ MACHINE_BAD_ARRIVALS) × Tells fault.now ran.new
         × (ran.new.setting ≡ 0) }
-    ensures untold { result ≢ MACHINE_BAD_ARRIVALS
+    ensures unreported { result ≢ MACHINE_BAD_ARRIVALS
         → (result ≡ MACHINE_OUT_OF_MEMORY) × (ran.new ≡ ran.old)
         × ((machine_c_status fault.now ≡ MACHINE_OUT_OF_MEMORY)
         ⊎ ((why : MachineFault) × IsMachineOutOfMemory why)) }

@@ -1,5 +1,5 @@
 pub mod Usual
-pub mod Words
+pub mod Args
 pub mod Waits
 pub mod Device
 pub mod Devices

@@ -1,7 +1,7 @@
 //! Internal crate of the facade `machine`: a machine that receives packets over simulated time, with polling runs of one
 //! thread, its settings, and the options that ask for them.
 //!
-//! `specs/` defines the machine: `Usual` the default settings; `Words` what options ask for; `Waits` how waits are counted;
+//! `specs/` defines the machine: `Usual` the default settings; `Args` what options ask for; `Waits` how waits are counted;
 //! `Device` a receive queue, and `Devices` the queues of a processor; `Softirq` the poll list and its run; `Application` the
 //! application; `Processor` which work a processor begins and what happens as time passes; `Machine` the effect of arrivals on
 //! all processors. `Shown` and `Kept` say how the program's state represents a state of the definition. Types of the definition
@@ -9,6 +9,7 @@
 #![tactic(auto)]
 
 mod application;
+mod args;
 mod device;
 mod devices;
 mod machine;
@@ -17,9 +18,9 @@ mod settings;
 mod softirq;
 mod tasks;
 mod waits;
-mod words;
 
 pub use application::{Activity, ApplicationReport};
+pub use args::parse_words;
 pub use device::{Phase, QueueCounts, QueueReport};
 pub use devices::Timer;
 pub use machine::Machine;
@@ -30,4 +31,3 @@ pub use settings::{
 };
 pub use tasks::RunnableTask;
 pub use waits::{WaitCounts, Waits};
-pub use words::parse_words;

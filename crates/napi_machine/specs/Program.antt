@@ -5,13 +5,13 @@ use Rattle.machine_report.specs.Answer.{IsArrivalsFault as IsFaultOfArrivals}
 use Rattle.machine_report.specs.Fault.{IsMachineFaultBy, IsMachineOutside}
 use Rattle.machine_report.specs.declared.fault.MachineFault.{MachineFault}
 use Rattle.machine_report.specs.declared.fault.MachineFault.TheVariants.{OutputFailed}
-use Rattle.machine_model.specs.Words.{machine_asked_for, machine_args_of}
+use Rattle.machine_model.specs.Args.{machine_asked_for, machine_args_of}
 use Rattle.machine_model.specs.declared.settings.MachineSettings.{MachineSettings}
 use Rattle.replay_text.specs.Program.{IsFaultOf, IsTextBy}
 use Rattle.replay_text.specs.Written.{LeavesBy}
 use Rattle.replay_text.specs.declared.program.ProgramFault.{ProgramFault}
 use Rattle.replay_text.specs.declared.program.ProgramFault.TheVariants.{Run}
-use Rattle.replay_words.specs.Given.{Text}
+use Rattle.replay_args.specs.Given.{Text}
 
 -- the arguments ask for this machine
 abbrev pub AskForMachine : List Text → MachineSettings → Type 0

@@ -35,7 +35,7 @@ fn run_asked<R: Read + Drop, W: Write>(
             Ok(()) => Ok(()),
             Err(fault) => Err(ProgramFault::Run(fault)),
         },
-        Err(fault) => Err(ProgramFault::Words(fault)),
+        Err(fault) => Err(ProgramFault::Args(fault)),
     }
 }
 

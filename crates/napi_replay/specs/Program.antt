@@ -7,10 +7,10 @@ use Rattle.replay_text.specs.Outside.{IsOutside}
 use Rattle.replay_text.specs.Program.{AnswersBy}
 use Rattle.replay_rows.specs.Answer.{replay_of}
 use Rattle.replay_text.specs.declared.fault.ReplayFault.{ReplayFault}
-use Rattle.replay_words.specs.Words.{Text, replay_asked_for, replay_args_of}
-use Rattle.replay_words.specs.declared.mode.ReplayMode.{ReplayMode}
-use Rattle.replay_words.specs.declared.mode.ReplayMode.TheVariants.{Serial, Shared, Threads}
-use Rattle.replay_words.specs.declared.settings.ReplaySettings.{ReplaySettings}
+use Rattle.replay_args.specs.Args.{Text, replay_asked_for, replay_args_of}
+use Rattle.replay_args.specs.declared.mode.ReplayMode.{ReplayMode}
+use Rattle.replay_args.specs.declared.mode.ReplayMode.TheVariants.{Serial, Shared, Threads}
+use Rattle.replay_args.specs.declared.settings.ReplaySettings.{ReplaySettings}
 
 -- the arguments ask for this mode and these settings; for None if they are an error
 abbrev pub AskForReplay : List Text → Option (ReplayMode × ReplaySettings) → Type 0

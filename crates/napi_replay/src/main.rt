@@ -8,13 +8,13 @@
 mod program;
 
 use crate::program::run_program;
-use replay_text::given_words;
+use replay_text::given_args;
 use std::io;
 use std::process::ExitCode;
 
 // Runs the program with the real standard input and outputs.
 fn main(rt: HostRuntime) -> ExitCode {
-    match given_words(&rt) {
+    match given_args(&rt) {
         Ok(words) => run_program(
             &rt,
             rt.alloc(),

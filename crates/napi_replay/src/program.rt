@@ -11,10 +11,10 @@ ghost use Rattle.replay_text.specs.Written.{Writes};
 ghost use Rattle.replay_text.specs.declared.fault.ReplayFault.TheVariants.{OutputFailed};
 
 use poll_workers::OpenGate;
+use replay_args::{ReplayMode, ReplaySettings, WordFault, parse_words};
 use replay_rows::replay_serial;
 use replay_text::{Program, ReplayFault, run_asked};
 use replay_threads::{replay_shared, replay_threads};
-use replay_words::{ReplayMode, ReplaySettings, WordFault, parse_words};
 use std::alloc::Global;
 use std::io::{Read, Write};
 use std::process::ExitCode;

@@ -9,9 +9,9 @@ ghost use Rattle.replay_text.specs.Program.{FailedBy, IsTextBy};
 ghost use Rattle.replay_text.specs.Written.{Writes};
 ghost use Rattle.replay_text.specs.declared.fault.ReplayFault.TheVariants.{OutputFailed};
 
+use replay_args::{ReplaySettings, WordFault, parse_serial_words};
 use replay_rows::replay_serial;
 use replay_text::{Program, ReplayFault, run_asked};
-use replay_words::{ReplaySettings, WordFault, parse_serial_words};
 use std::alloc::Global;
 use std::io::{Read, Write};
 use std::process::ExitCode;

@@ -1,11 +1,11 @@
 -- The whole program: which settings its arguments ask for, and its result for the bytes of its input.
 use Rattle.std.specs.Prelude.{◌≡◌, ℕ, List, Option, Result, option_map}
 use Rattle.napi_series.specs.Series.{series_by}
-use Rattle.napi_series.specs.Words.{series_asked_for}
+use Rattle.napi_series.specs.Args.{series_asked_for}
 use Rattle.napi_series.specs.declared.settings.SeriesSettings.{SeriesSettings}
 use Rattle.replay_text.specs.{Outside.IsOutside, Program.AnswersBy, declared.fault.ReplayFault.ReplayFault}
-use Rattle.replay_words.specs.Words.{Text, replay_args_of}
-use Rattle.replay_words.specs.declared.mode.ReplayMode.TheVariants.{Serial}
+use Rattle.replay_args.specs.Args.{Text, replay_args_of}
+use Rattle.replay_args.specs.declared.mode.ReplayMode.TheVariants.{Serial}
 
 -- the arguments ask for a line every N rows, and for these settings; for None if they are an error
 abbrev pub AskForSeries : List Text → Option SeriesSettings → Type 0

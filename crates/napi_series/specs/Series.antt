@@ -9,7 +9,7 @@ use Rattle.device_bench.specs.declared.counts.DeviceCounts.{DeviceCounts}
 use Rattle.device_rows.specs.declared.fault.TraceFault.{TraceFault}
 use Rattle.device_rows.specs.declared.row.Row.{Row}
 use Rattle.dql_core.specs.Counter.{distance_of}
-use Rattle.replay_words.specs.declared.settings.ReplaySettings.{ReplaySettings}
+use Rattle.replay_args.specs.declared.settings.ReplaySettings.{ReplaySettings}
 use Rattle.replay_rows.specs.After.{counts_after, is_used_after, list_after, polled_after}
 use Rattle.replay_rows.specs.Replay.{after_all_rows}
 use Rattle.replay_text.specs.Lines.{flag}
@@ -59,8 +59,8 @@ word_field None = codes ","
 word_field (Some counts) = codes "," ++ decimal counts.word
 
 -- the fields after the row's own: the effect of the row on its device, and what it polled
-abbrev pub told_fields : ℕ → Row → Bool → Option DeviceCounts → Option PollRecord → List ℕ
-told_fields n row used counts polled =
+abbrev pub poll_fields : ℕ → Row → Bool → Option DeviceCounts → Option PollRecord → List ℕ
+poll_fields n row used counts polled =
     row_fields n row ++ (device_fields counts ++ (queue_fields used counts ++ (run_fields polled ++ word_field counts)))
 
 -- how many packets a device processed in a row that polled it: its number and the difference of its counts before and after the
@@ -82,7 +82,7 @@ list_fields s rows n = codes "," ++ (spaced (list_after s rows (n + 1)) ++ (code
 abbrev pub line_after : ReplaySettings → List Row → ℕ → Option Row → List ℕ
 line_after s rows n None = []
 line_after s rows n (Some row) =
-    told_fields (n + 1) row (is_used_after rows (n + 1) row.device) (counts_after s rows (n + 1) row.device) (polled_after s rows (n + 1))
+    poll_fields (n + 1) row (is_used_after rows (n + 1) row.device) (counts_after s rows (n + 1) row.device) (polled_after s rows (n + 1))
     ++ (list_fields s rows n ++ codes "\n")
 
 -- the same, if this row has a line

@@ -5,20 +5,20 @@
 //! messages and their exit statuses are those of `napi_replay`.
 #![tactic(auto)]
 
+mod args;
 mod line;
 mod program;
 mod series;
 mod settings;
-mod words;
 
 use crate::program::run_program;
-use replay_text::given_words;
+use replay_text::given_args;
 use std::io;
 use std::process::ExitCode;
 
 // Runs the program with the real standard input and outputs.
 fn main(rt: HostRuntime) -> ExitCode {
-    match given_words(&rt) {
+    match given_args(&rt) {
         Ok(words) => run_program(
             rt.alloc(),
             words.as_slice(),

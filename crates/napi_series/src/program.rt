@@ -9,11 +9,11 @@ ghost use Rattle.replay_text.specs.Program.{FailedBy, IsTextBy};
 ghost use Rattle.replay_text.specs.Written.{Writes};
 ghost use Rattle.replay_text.specs.declared.fault.ReplayFault.TheVariants.{OutputFailed};
 
+use crate::args::parse_series_words;
 use crate::series::write_series;
 use crate::settings::SeriesSettings;
-use crate::words::parse_series_words;
+use replay_args::WordFault;
 use replay_text::{Program, ReplayFault, run_asked};
-use replay_words::WordFault;
 use std::alloc::Global;
 use std::io::{Read, Write};
 use std::process::ExitCode;

@@ -8,11 +8,11 @@ ghost use Rattle.replay_text.specs.Written.{IsFaultBy, LeavesText, Writes};
 ghost use Rattle.replay_rows.specs.After.{IsAfter};
 ghost use Rattle.replay_rows.specs.Replay.{after_all_rows};
 
-use crate::line::{add_list, add_told};
+use crate::line::{add_list, add_poll};
 use device_rows::{Row, read_trace};
+use replay_args::ReplaySettings;
 use replay_rows::SerialReplay;
 use replay_text::{ReplayFault, write_text};
-use replay_words::ReplaySettings;
 use std::alloc::{AllocError, Global};
 use std::io::{Read, Write};
 
@@ -49,7 +49,7 @@ fn add_part(
         return Ok(());
     }
     let row = &rows[index];
-    add_told(
+    add_poll(
         text,
         number,
         row,

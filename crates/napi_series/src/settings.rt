@@ -2,7 +2,7 @@
 
 ghost use Rattle.std.specs.Prelude.{◌≤◌};
 
-use replay_words::ReplaySettings;
+use replay_args::ReplaySettings;
 
 /// The settings of a series.
 #[derive(Clone, Copy)]

@@ -3,7 +3,7 @@ use Rattle.std.specs.Prelude.{◌≡◌, ◌≤◌, ◌⊎◌, ℕ, List, Ok, Er
 use Rattle.replay_c.specs.Status.{REPLAY_OUT_OF_MEMORY, REPLAY_BAD_WEIGHT, REPLAY_BAD_BUDGET}
 use Rattle.replay_text.specs.{Fault.replay_fault_number, Outside.IsOutside}
 use Rattle.replay_text.specs.declared.fault.ReplayFault.{ReplayFault}
-use Rattle.replay_words.specs.declared.settings.ReplaySettings.{ReplaySettings}
+use Rattle.replay_args.specs.declared.settings.ReplaySettings.{ReplaySettings}
 use Rattle.replay_rows.specs.Answer.{replay_of}
 use Rattle.replay_c.specs.Faults.{fault_status, fault_row}
 use Rattle.replay_c.specs.declared.replay.FqReplayed.{FqReplayed}

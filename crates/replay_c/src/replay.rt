@@ -9,9 +9,9 @@ ghost use Rattle.replay_c.specs.Replay.{AreSettingsOf, HasWeight, HasBudget, IsR
 
 use crate::fault::{fault_status, row_of};
 use crate::status;
+use replay_args::ReplaySettings;
 use replay_rows::replay_serial;
 use replay_text::ReplayFault;
-use replay_words::ReplaySettings;
 use std::alloc::Global;
 
 /// The settings of a replay: `struct fq_settings`.
@@ -87,8 +87,8 @@ fn put_report(text: &[u8], report: &mut [u8], replayed: &mut FqReplayed) -> u32
 // Reports an error of the trace by its numbers.
 fn tell(fault: &ReplayFault, replayed: &mut FqReplayed) -> u32
     ensures status { result ≡ fault_status fault.now }
-    ensures told { result ≡ REPLAY_BAD_TRACE → ReportsFault fault.now replayed.new }
-    ensures untold { result ≢ REPLAY_BAD_TRACE → replayed.new ≡ replayed.old }
+    ensures reported { result ≡ REPLAY_BAD_TRACE → ReportsFault fault.now replayed.new }
+    ensures unreported { result ≢ REPLAY_BAD_TRACE → replayed.new ≡ replayed.old }
 {
     let status = fault_status(fault);
     if status == status::BAD_TRACE {

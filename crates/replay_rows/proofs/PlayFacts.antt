@@ -7,7 +7,7 @@ use Rattle.{device_rows.specs.declared.row.Row.Row, replay_rows.specs.Replay.{af
 use Rattle.replay_rows.specs.{Report.{report_of, serial_report}, Transmits.{after_transmit, after_transmits, transmits_of}}
 use Rattle.{replay_rows.specs.ReplayState.ReplayState, replay_text.specs.declared.fault.ReplayFault.{ReplayFault, TheVariants.OutputFailed}}
 use Rattle.replay_text.specs.{declared.fault.ReplayFault.TheVariants.Pending, Outside.IsReplayOutOfMemory}
-use Rattle.replay_words.specs.declared.settings.ReplaySettings.{ReplaySettings}
+use Rattle.replay_args.specs.declared.settings.ReplaySettings.{ReplaySettings}
 
 -- the state after the remaining rows, if those before them were processed
 then_rows : ReplaySettings → ℕ → List Row → Result ReplayState ReplayFault → Result ReplayState ReplayFault

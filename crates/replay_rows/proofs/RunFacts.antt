@@ -8,7 +8,7 @@ use Rattle.poll_runs.specs.{Function.run_report, Laws.IsPlainRun, Polls.{At, Cha
 use Rattle.poll_runs.specs.declared.{bench.{Next.{Next, TheVariants.{Absent, Gone, Again, Repoll}}, Once.Once}, run.RunReport.RunReport}
 use Rattle.poll_runs.proofs.{FunctionFacts.run-is-shown, PlainFacts.list-afterwards, PollFacts.{arrivals-append, arrivals-one, length-ids}}
 use Rattle.{poll_runs.proofs.PollFacts.{repolled-append, repolled-one}, replay_rows.specs.Run.replay_run}
-use Rattle.replay_words.specs.declared.settings.ReplaySettings.{ReplaySettings}
+use Rattle.replay_args.specs.declared.settings.ReplaySettings.{ReplaySettings}
 use Rattle.napi_model.specs.declared.state.Kind.TheVariants as kind
 
 abbrev pub Leads : {B : Type 0} → (B → ℕ → ℕ → Once → B → Type 0) → ReplaySettings → B → List Poll → B → Type 0

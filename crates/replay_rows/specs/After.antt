@@ -5,7 +5,7 @@ use Rattle.{device_places.specs.Places.at, device_bench.specs.DeviceBench.{Shows
 use Rattle.{device_bench.specs.declared.counts.DeviceCounts.DeviceCounts, device_rows.specs.declared.row.Row.Row}
 use Rattle.replay_rows.specs.{Played.replay_state, Replay.after_all_rows, Report.{reported_counts, last_poll_by}, Transmits.transmits_of}
 use Rattle.replay_rows.specs.{ReplayState.ReplayState, declared.{line.PollRecord.PollRecord, serial_replay.SerialReplay.SerialReplay}}
-use Rattle.{replay_text.specs.declared.fault.ReplayFault.ReplayFault, replay_words.specs.declared.settings.ReplaySettings.ReplaySettings}
+use Rattle.{replay_text.specs.declared.fault.ReplayFault.ReplayFault, replay_args.specs.declared.settings.ReplaySettings.ReplaySettings}
 
 pub record IsAfter (s : ReplaySettings) (rows : List Row) (n : ℕ) (r : SerialReplay) : Type 0 where
   pub state : after_all_rows s (take n rows) ≡ Ok (replay_state devices_of r.replay)

@@ -11,7 +11,7 @@ use Rattle.{poll_runs.specs.declared.bench.{Once.Once, ThreadReport.ThreadReport
 use Rattle.{replay_rows.specs.{Run.replay_run, ReplayState.ReplayState}}
 use Rattle.{replay_rows.specs.declared.line.PollRecord.PollRecord}
 use Rattle.{replay_text.specs.declared.fault.ReplayFault.{ReplayFault, TheVariants.Pending}}
-use Rattle.replay_words.specs.declared.settings.ReplaySettings.{ReplaySettings}
+use Rattle.replay_args.specs.declared.settings.ReplaySettings.{ReplaySettings}
 use Rattle.replay_rows.specs.declared.line.PollRecord.TheVariants as line
 
 abbrev pub start : ReplayState

@@ -10,7 +10,7 @@ use Rattle.replay_rows.specs.declared.{report.RunTotals.RunTotals, line.PollReco
 use Rattle.{replay_rows.specs.declared.line.PollRecord.TheVariants.Busy}
 use Rattle.{replay_text.specs.{declared.fault.ReplayFault.ReplayFault, Lines.with_newline}}
 use Rattle.{replay_text.specs.Lines.{flag, tx_lines, words}, poll_runs.specs.declared.run.RunReport.RunReport}
-use Rattle.replay_words.specs.declared.settings.ReplaySettings.{ReplaySettings}
+use Rattle.replay_args.specs.declared.settings.ReplaySettings.{ReplaySettings}
 
 -- the line of a row that polled
 abbrev pub poll_line : PollRecord → List ℕ

@@ -8,8 +8,8 @@ use device_bench::ReplayBench;
 use device_rows::{Row, RowEvent};
 use napi_model::Kind;
 use poll_runs::{Next, PlainList, PollList, run_softirq};
+use replay_args::ReplaySettings;
 use replay_text::ReplayFault;
-use replay_words::ReplaySettings;
 use std::alloc::{AllocError, Global};
 
 /// The most polls that a kthread row makes. A trace has too few packets to reach this number.

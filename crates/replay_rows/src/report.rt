@@ -15,8 +15,8 @@ use device_bench::{DeviceCounts, DeviceState, ReplayBench};
 use device_places::TABLE_LEN;
 use device_rows::Row;
 use poll_runs::PollList;
+use replay_args::ReplaySettings;
 use replay_text::{ReplayFault, add_transmit};
-use replay_words::ReplaySettings;
 use std::alloc::{AllocError, Global};
 use std::fmt;
 

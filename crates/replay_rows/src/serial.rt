@@ -7,8 +7,8 @@ ghost use Rattle.replay_rows.specs.Answer.{replay_of};
 
 use crate::whole::replay_on;
 use device_bench::SerialBench;
+use replay_args::ReplaySettings;
 use replay_text::ReplayFault;
-use replay_words::ReplaySettings;
 use std::alloc::Global;
 use std::io::{Read, Write};
 

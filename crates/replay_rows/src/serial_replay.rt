@@ -4,8 +4,8 @@ use crate::line::PollRecord;
 use crate::replay::{Replay, room_for_lines};
 use device_bench::{DeviceCounts, ReplayBench, SerialBench};
 use device_rows::Row;
+use replay_args::ReplaySettings;
 use replay_text::ReplayFault;
-use replay_words::ReplaySettings;
 use std::alloc::{AllocError, Global};
 
 /// A replay on one thread that processes the rows one by one, and shows the state after each row.
@@ -18,7 +18,7 @@ impl SerialReplay {
     ghost use Rattle.std.specs.Prelude.{◌≡◌, ◌⊎◌, ◌≤◌, ◌<◌, ◌+◌, ℕ, [], List, Err, IfOk, IfErr, OnOk, length};
     ghost use Rattle.device_rows.specs.Trace.{AcceptedAfter};
     ghost use Rattle.device_rows.specs.declared.row.Row.{Row};
-    ghost use Rattle.replay_words.specs.declared.settings.ReplaySettings.{ReplaySettings};
+    ghost use Rattle.replay_args.specs.declared.settings.ReplaySettings.{ReplaySettings};
     ghost use Rattle.replay_rows.specs.After.{IsAfter, counts_after, is_used_after, list_after, polled_after};
     ghost use Rattle.replay_rows.specs.Replay.{after_all_rows};
     ghost use Rattle.replay_text.specs.Outside.{IsReplayOutOfMemory};

@@ -9,8 +9,8 @@ ghost use Rattle.replay_rows.specs.Answer.{Plays, replay_of};
 use crate::report::report_on;
 use device_bench::ReplayBench;
 use device_rows::read_trace;
+use replay_args::ReplaySettings;
 use replay_text::{ReplayFault, write_text};
-use replay_words::ReplaySettings;
 use std::alloc::Global;
 use std::io::{Read, Write};
 

@@ -4,18 +4,18 @@
 -- failed output.
 use Rattle.std.specs.{Prelude.{◌≡◌, ◌⊎◌, ℕ, List, ◌++◌, Option, None, Some, Result, Ok, Err, codes}, Io.KnownBytes.Appends}
 use Rattle.replay_text.specs.{Stops.HasStopped, Written.{AppendsPart, LeavesBy}}
-use Rattle.replay_text.specs.declared.program.ProgramFault.{ProgramFault, TheVariants.{Words, Run}}
+use Rattle.replay_text.specs.declared.program.ProgramFault.{ProgramFault, TheVariants.{Args, Run}}
 use Rattle.{device_rows.specs.Failures.IsTraceOutOfMemory}
-use Rattle.{replay_words.specs.{Refusals.IsArgsOutOfMemory as IsRefusedWords, Words.word_fault_line as word_line}}
-use Rattle.replay_words.specs.{Words.word_fault_status as word_status, declared.words.WordFault.TheVariants.{Usage, OutOfMemory}}
+use Rattle.{replay_args.specs.{Refusals.IsArgsOutOfMemory as IsRefusedArgs, Args.word_fault_line as word_line}}
+use Rattle.replay_args.specs.{Args.word_fault_status as word_status, declared.args.WordFault.TheVariants.{Usage, OutOfMemory}}
 
 -- the message on standard error, and the exit status
 abbrev pub program_fault_line : {F : Type 0} → (F → List ℕ) → ProgramFault F → List ℕ
-program_fault_line line (Words fault) = word_line fault
+program_fault_line line (Args fault) = word_line fault
 program_fault_line line (Run fault) = line fault ++ codes "\n"
 
 abbrev pub program_fault_status : {F : Type 0} → (F → ℕ) → ProgramFault F → ℕ
-program_fault_status status (Words fault) = word_status fault
+program_fault_status status (Args fault) = word_status fault
 program_fault_status status (Run fault) = status fault
 
 -- the text is the report of the bytes under the settings of the arguments
@@ -29,8 +29,8 @@ IsFaultOn answers input fault = (bytes : List ℕ) → input ≡ Some bytes → 
 -- the error is that of the arguments, or one that the run can have with their settings
 abbrev pub IsFaultOf : {S F : Type 0} → (Option S → Type 0) → (S → List ℕ → Result (List ℕ) F → Type 0) → Option (List ℕ) → ProgramFault F
     → Type 0
-IsFaultOf asks answers input (Words Usage) = asks None
-IsFaultOf asks answers input (Words OutOfMemory) = IsRefusedWords
+IsFaultOf asks answers input (Args Usage) = asks None
+IsFaultOf asks answers input (Args OutOfMemory) = IsRefusedArgs
 IsFaultOf {S} asks answers input (Run fault) = (settings : S) × asks (Some settings) × IsFaultOn (answers settings) input fault
 
 -- the answer is this report or this error, or an error from outside

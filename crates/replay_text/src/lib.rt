@@ -8,4 +8,4 @@ mod program;
 
 pub use fault::{ReplayFault, fault_line, status};
 pub use lines::{add_transmit, write_text};
-pub use program::{Fault, Program, ProgramFault, end_by, given_words, run_asked};
+pub use program::{Fault, Program, ProgramFault, end_by, given_args, run_asked};

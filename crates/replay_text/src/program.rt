@@ -7,13 +7,13 @@ ghost use Rattle.device_rows.specs.Failures.{IsTraceOutOfMemory};
 ghost use Rattle.replay_text.specs.Program.{EndsBy, FailedBy, IsFaultOn, IsTextBy, NothingElse, program_fault_line, program_fault_status};
 ghost use Rattle.replay_text.specs.Stops.{HasStopped};
 ghost use Rattle.replay_text.specs.Written.{AppendsPart, LeavesBy, Writes};
-ghost use Rattle.replay_words.specs.Refusals.{IsArgsOutOfMemory};
-ghost use Rattle.replay_words.specs.Words.{Text};
-ghost use Rattle.replay_words.specs.declared.words.WordFault.TheVariants.{OutOfMemory, Usage};
+ghost use Rattle.replay_args.specs.Refusals.{IsArgsOutOfMemory};
+ghost use Rattle.replay_args.specs.Args.{Text};
+ghost use Rattle.replay_args.specs.declared.args.WordFault.TheVariants.{OutOfMemory, Usage};
 
 use crate::fault::ReplayFault;
 use crate::lines::write_out;
-use replay_words::{WordFault, word_line, word_status};
+use replay_args::{WordFault, word_line, word_status};
 use std::alloc::{AllocError, Global};
 use std::env;
 use std::io::{ErrorKind, Read, Write};
@@ -44,7 +44,7 @@ pub trait Fault {
 #[derive(Clone, Copy, Debug)]
 pub enum ProgramFault<F> {
     /// The arguments were rejected, and nothing was read.
-    Words(WordFault),
+    Args(WordFault),
     /// The arguments were accepted, and the run failed.
     Run(F),
 }
@@ -104,15 +104,15 @@ fn words_of(rt: &HostRuntime) -> Result<Vec<String>, WordFault> {
 // Writes the message of an error, and returns whether all of it was written.
 #[tactic(auto, using(crate::proofs::OutFacts::none_out))]
 fn tell<F: Fault, E: Write>(alloc: Global, fault: &ProgramFault<F>, errors: &mut E) -> bool
-    ensures told { result ≡ true
+    ensures reported { result ≡ true
         → Appends (E.contents errors.old) (E.contents errors.new)
         (program_fault_line F.line fault.now) }
-    ensures untold { result ≡ false → AppendsPart (E.contents errors.old) (E.contents errors.new)
+    ensures unreported { result ≡ false → AppendsPart (E.contents errors.old) (E.contents errors.new)
         (program_fault_line F.line fault.now) }
     ensures stopped { result ≡ false → HasStopped ⊎ IsTraceOutOfMemory }
 {
     match fault {
-        ProgramFault::Words(fault) => write_out(errors, word_line(fault).as_bytes()),
+        ProgramFault::Args(fault) => write_out(errors, word_line(fault).as_bytes()),
         ProgramFault::Run(fault) => match fault.line(alloc) {
             Ok(line) => write_out(errors, line.as_bytes()),
             Err(_) => false,
@@ -133,7 +133,7 @@ pub fn end_by<F: Fault, E: Write>(
 {
     let _is_written = tell(alloc, fault, errors);
     let status = match fault {
-        ProgramFault::Words(fault) => word_status(fault),
+        ProgramFault::Args(fault) => word_status(fault),
         ProgramFault::Run(fault) => fault.status(),
     };
     ExitCode::from(status)
@@ -141,11 +141,11 @@ pub fn end_by<F: Fault, E: Write>(
 
 /// Returns the arguments after the program's name. If there are none to be had, or one isn't UTF-8, it writes the message to
 /// standard error, and fails with the exit status.
-pub fn given_words(rt: &HostRuntime) -> Result<Vec<String>, ExitCode> {
+pub fn given_args(rt: &HostRuntime) -> Result<Vec<String>, ExitCode> {
     match words_of(rt) {
         Ok(words) => Ok(words),
         Err(fault) => {
-            let fault = ProgramFault::<ReplayFault>::Words(fault);
+            let fault = ProgramFault::<ReplayFault>::Args(fault);
             Err(end_by(rt.alloc(), &fault, &mut rt.stderr()))
         }
     }
@@ -179,6 +179,6 @@ pub fn run_asked<P: Program, R: Read + Drop, W: Write, E: Write>(
             Ok(()) => ExitCode::SUCCESS,
             Err(fault) => end_by(alloc, &ProgramFault::Run(fault), errors),
         },
-        Err(fault) => end_by(alloc, &ProgramFault::<P::Fault>::Words(fault), errors),
+        Err(fault) => end_by(alloc, &ProgramFault::<P::Fault>::Args(fault), errors),
     }
 }

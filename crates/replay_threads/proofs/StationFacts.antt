@@ -12,12 +12,12 @@ use Rattle.device_script.proofs.{Rows.{filter-long, find-among, find-here, find-
 use Rattle.device_script.specs.Script.{has_thread, is_act_of, is_open, is_rx, opening_of, openings_of, rx_of, script_of}
 use Rattle.{device_script.specs.ScriptShown.{Script, acts, script_after, answer}, poll_workers.specs.declared.fault.WorkFault.WorkFault}
 use Rattle.poll_workers.specs.{Finishes.IsFinished, Courses.{ArePolled, limits_of}}
-use Rattle.replay_words.specs.declared.settings.ReplaySettings.{ReplaySettings}
+use Rattle.replay_args.specs.declared.settings.ReplaySettings.{ReplaySettings}
 use Rattle.replay_text.specs.declared.fault.ReplayFault.{ReplayFault, TheVariants.{OutputFailed, RingTooSmall}}
 use Rattle.replay_threads.specs.{ThreadsReport.{arrived, bytes, threads_device_lines, is_opened, opened_devices}}
 use Rattle.replay_threads.specs.{Stations.{AreRunBy, IsStationEnd, IsStationOf}}
 use Rattle.replay_threads.specs.{Stations.{end_lines, is_small, small_fault}}
-use Rattle.replay_threads.specs.{Answer.{IsThreadsOutside, IsToldAs, overflows}}
+use Rattle.replay_threads.specs.{Answer.{IsThreadsOutside, IsReportedAs, overflows}}
 use Rattle.poll_workers.specs.declared.fault.WorkFault.TheVariants as work
 
 -- ---- the ranges of a row's numbers, if it is accepted
@@ -196,11 +196,11 @@ rings-if-ok answered p = grind (arith, common_steps)
 
 -- an error of the run is reported as one that isn't in the trace
 pub told-outside : (may_shut : Type 0) (fault : WorkFault) (told : ReplayFault) → (fault ≡ work.GateShut → may_shut)
-    → (fault ≡ work.SpawnFailed → IsRefused) → IsToldAs fault told → IsThreadsOutside may_shut told
+    → (fault ≡ work.SpawnFailed → IsRefused) → IsReportedAs fault told → IsThreadsOutside may_shut told
 told-outside may_shut fault told gate spawn is = grind (arith, common_steps)
 
 -- an error of the run is reported neither as one of the output nor as a ring that is too small
-pub told-unwritten : (fault : WorkFault) (told : ReplayFault) → IsToldAs fault told → told ≡ OutputFailed → ⊥
+pub told-unwritten : (fault : WorkFault) (told : ReplayFault) → IsReportedAs fault told → told ≡ OutputFailed → ⊥
 told-unwritten fault told is failed = grind (arith, common_steps)
 
 pub small-unwritten : (stations : List (Station Script)) (fault : ReplayFault) → small_fault stations ≡ Some fault → fault ≡ OutputFailed

@@ -4,7 +4,7 @@ use Rattle.{replay_text.specs.Lines.with_newline}
 use Rattle.{replay_text.specs.declared.fault.ReplayFault.{ReplayFault, TheVariants.RingTooSmall}, device_rows.specs.declared.row.Row.Row}
 use Rattle.replay_threads.specs.{ThreadsReport.{arrived, arrived_line, bytes, opened_devices, side_lines}}
 use Rattle.std.specs.{List.{AllZip, find}, Prelude.{◌≡◌, ℕ, ◌+◌, ◌++◌, Bool, List, Option, Some, length, nat_lt, option_map}}
-use Rattle.{replay_words.specs.declared.settings.ReplaySettings.ReplaySettings, poll_workers.specs.Courses.{ArePolled, limits_of}}
+use Rattle.{replay_args.specs.declared.settings.ReplaySettings.ReplaySettings, poll_workers.specs.Courses.{ArePolled, limits_of}}
 use Rattle.device_script.specs.{ScriptShown.{Script, acts, script_after, answer, side_of}}
 use Rattle.device_script.specs.{Script.{has_thread, opening_of, rx_of, script_of}}
 

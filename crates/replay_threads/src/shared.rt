@@ -8,9 +8,9 @@ ghost use Rattle.replay_threads.specs.SharedRun.{IsSharedRun};
 
 use device_places::TABLE_LEN;
 use device_shared::{ClosedSide, SharedBench};
+use replay_args::ReplaySettings;
 use replay_rows::replay_on;
 use replay_text::ReplayFault;
-use replay_words::ReplaySettings;
 use std::alloc::Global;
 use std::io::{Read, Write};
 use std::sync::Wait;

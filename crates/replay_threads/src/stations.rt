@@ -11,7 +11,7 @@ ghost use Rattle.poll_workers.specs.Courses.{ArePolled, limits_of};
 ghost use Rattle.poll_workers.specs.Finishes.{IsFinished};
 ghost use Rattle.poll_workers.specs.Numbers.{have_distinct_numbers};
 ghost use Rattle.poll_interrupts.specs.Opens.{IsStation};
-ghost use Rattle.replay_threads.specs.Answer.{IsThreadsOutside, IsToldAs, ring_fault};
+ghost use Rattle.replay_threads.specs.Answer.{IsThreadsOutside, IsReportedAs, ring_fault};
 ghost use Rattle.device_script.specs.Script.{opening_of, rx_of, script_of};
 ghost use Rattle.device_script.specs.ScriptShown.{acts, script_after, answer};
 ghost use Rattle.replay_threads.specs.Stations.{AreRunBy, IsStationEnd, IsStationOf, is_small, small_fault};
@@ -22,8 +22,8 @@ use device_places::TABLE_LEN;
 use device_rows::Row;
 use device_script::{ScriptDevice, opening_of, openings_of, scripts_of, take_script};
 use poll_workers::{Finished, Gate, Station, WorkFault, run_workers};
+use replay_args::ReplaySettings;
 use replay_text::ReplayFault;
-use replay_words::ReplaySettings;
 use std::alloc::{AllocError, Global};
 use std::sync::Wait;
 use std::thread::Threads;
@@ -120,7 +120,7 @@ fn ring_fault(stations: &[Station<ScriptDevice>]) -> Option<ReplayFault>
 
 // Returns the error of the replay that reports an error of a run.
 fn work_fault(fault: WorkFault) -> ReplayFault
-    ensures { IsToldAs fault result }
+    ensures { IsReportedAs fault result }
 {
     match fault {
         WorkFault::OutOfMemory => AllocError.into(),

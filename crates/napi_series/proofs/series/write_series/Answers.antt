@@ -2,7 +2,7 @@ use Rattle.std.proofs.{Common.{◌≡◌, ◌⊎◌, ℕ, List, Err, inl, inr, r
 use Rattle.replay_rows.{specs.Replay.after_all_rows, proofs.PlayFacts.{report-early, unwritten}}
 use Rattle.replay_text.specs.{Outside.IsReplayOutOfMemory, declared.fault.ReplayFault.{ReplayFault, TheVariants.OutputFailed}}
 use Rattle.device_rows.specs.declared.row.Row.{Row}
-use Rattle.replay_words.specs.declared.settings.ReplaySettings.{ReplaySettings}
+use Rattle.replay_args.specs.declared.settings.ReplaySettings.{ReplaySettings}
 use Rattle.napi_series.proofs.series.write_series.Goals as goal
 
 -- an error of a row is never OutputFailed

@@ -30,7 +30,7 @@ returns-in-Err-report_of-clause-fault c = λ bad. (
     theirs c.in-Err-report_of.fault _ c.in-Err-report_of.ensures.fault
         (sym c.tell.ensures.status ∙ bad),
   ),
-  c.tell.ensures.told bad,
+  c.tell.ensures.reported bad,
 )
 
 pub returns-in-Ok-report_of-clause-memory : goal.returns-in-Ok-report_of-clause-memory
