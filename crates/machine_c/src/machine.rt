@@ -117,7 +117,7 @@ fn message_of(alloc: Global, fault: &MachineFault) -> Result<String, MachineFaul
 }
 
 // Reports an error of the arrivals: its numbers, and its message without the line feed.
-fn tell(alloc: Global, fault: &MachineFault, ran: &mut FqMachineRan) -> u32
+fn report_fault(alloc: Global, fault: &MachineFault, ran: &mut FqMachineRan) -> u32
     ensures reported { result ≡ MACHINE_BAD_ARRIVALS
         → (machine_c_status fault.now ≡ MACHINE_BAD_ARRIVALS) × Tells fault.now ran.new
         × (ran.new.setting ≡ 0) }
@@ -184,7 +184,7 @@ pub extern "C" fn fq_machine(
     match asked_by(settings) {
         Ok(asked) => match report_of(alloc, &asked, arrivals) {
             Ok(text) => put_report(text.as_slice(), report, ran),
-            Err(fault) => tell(alloc, &fault, ran),
+            Err(fault) => report_fault(alloc, &fault, ran),
         },
         Err(number) => {
             ran.setting = number;

@@ -85,7 +85,7 @@ fn put_report(text: &[u8], report: &mut [u8], replayed: &mut FqReplayed) -> u32
 }
 
 // Reports an error of the trace by its numbers.
-fn tell(fault: &ReplayFault, replayed: &mut FqReplayed) -> u32
+fn report_fault(fault: &ReplayFault, replayed: &mut FqReplayed) -> u32
     ensures status { result ≡ fault_status fault.now }
     ensures reported { result ≡ REPLAY_BAD_TRACE → ReportsFault fault.now replayed.new }
     ensures unreported { result ≢ REPLAY_BAD_TRACE → replayed.new ≡ replayed.old }
@@ -145,7 +145,7 @@ pub extern "C" fn fq_replay(
     match asked_by(settings) {
         Ok(asked) => match report_of(alloc, &asked, trace) {
             Ok(text) => put_report(text.as_slice(), report, replayed),
-            Err(fault) => tell(&fault, replayed),
+            Err(fault) => report_fault(&fault, replayed),
         },
         Err(status) => status,
     }

@@ -103,11 +103,11 @@ fn words_of(rt: &HostRuntime) -> Result<Vec<String>, WordFault> {
 
 // Writes the message of an error, and returns whether all of it was written.
 #[tactic(auto, using(crate::proofs::OutFacts::none_out))]
-fn tell<F: Fault, E: Write>(alloc: Global, fault: &ProgramFault<F>, errors: &mut E) -> bool
-    ensures reported { result ≡ true
+fn write_message<F: Fault, E: Write>(alloc: Global, fault: &ProgramFault<F>, errors: &mut E) -> bool
+    ensures whole { result ≡ true
         → Appends (E.contents errors.old) (E.contents errors.new)
         (program_fault_line F.line fault.now) }
-    ensures unreported { result ≡ false → AppendsPart (E.contents errors.old) (E.contents errors.new)
+    ensures cut { result ≡ false → AppendsPart (E.contents errors.old) (E.contents errors.new)
         (program_fault_line F.line fault.now) }
     ensures stopped { result ≡ false → HasStopped ⊎ IsTraceOutOfMemory }
 {
@@ -131,7 +131,7 @@ pub fn end_by<F: Fault, E: Write>(
         (E.contents errors.old) (E.contents errors.new) (exit_status result) }
     ensures fails { exit_status result ≢ 0 }
 {
-    let _is_written = tell(alloc, fault, errors);
+    let _is_written = write_message(alloc, fault, errors);
     let status = match fault {
         ProgramFault::Args(fault) => word_status(fault),
         ProgramFault::Run(fault) => fault.status(),
