@@ -111,6 +111,27 @@ fn put_after_beside_waits_for_the_next_poll(rt: HostRuntime) -> Result<(), Fail>
     Ok(())
 }
 
+// A poll into an array writes its first places, also if the packets pass the end of the ring, and leaves the others.
+#[test]
+fn polls_into_an_array(rt: HostRuntime) -> Result<(), Fail> {
+    let (mut input, mut ctx) = ring(rt.alloc(), 3)?;
+    let mut packets = [packet(9, 90); 3];
+    assert_eq!(rt; ctx.poll_into(3, &mut packets), 0);
+    assert_eq!(rt; input.put(packet(1, 10)), Ok(()));
+    assert_eq!(rt; ctx.poll_into(2, &mut packets), 1);
+    assert_eq!(rt;
+        packets.as_slice(),
+        [packet(1, 10), packet(9, 90), packet(9, 90)].as_slice()
+    );
+    let burst = [packet(2, 20), packet(3, 30), packet(4, 40)];
+    assert_eq!(rt; input.put_all(&burst), 3);
+    assert_eq!(rt; ctx.poll_into(3, &mut packets), 3);
+    assert_eq!(rt; packets.as_slice(), burst.as_slice());
+    assert_eq!(rt; ctx.counts().packets, 4);
+    assert_eq!(rt; ctx.counts().bytes, 100);
+    Ok(())
+}
+
 // No contract says that a poll reads the ring: each of many polls finds what was put before it, with any number of polls and
 // packets, and with more bytes than 32 bits count.
 #[test]
