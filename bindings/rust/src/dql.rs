@@ -4,7 +4,7 @@ use crate::sys;
 use std::cell::Cell;
 use std::marker::PhantomData;
 
-/// A byte queue limit (`lib/dynamic_queue_limits.c`). Moments are milliseconds of the user's clock.
+/// A byte queue limit (`lib/dynamic_queue_limits.c`). Times are milliseconds of the user's clock.
 ///
 /// ```
 /// use fintaqush::{Dql, Fault};
@@ -31,7 +31,7 @@ use std::marker::PhantomData;
 #[derive(Debug)]
 pub struct Dql {
     raw: sys::fq_dql,
-    // one call at a time
+    // not `Sync`: one call at a time
     by_one: PhantomData<Cell<()>>,
 }
 

@@ -1,4 +1,4 @@
-//! The settings of a run with threads, as far as its packets show them.
+//! Tests of the settings of a run with threads, as far as its packets show them.
 
 ghost use Rattle.std.specs.Prelude.{◌≤◌};
 
@@ -13,13 +13,13 @@ use std::test::Fail;
 use std::thread;
 use std::thread::Threads;
 
-/// How often a gate looks while it waits for some time until others have done something.
+/// How often a gate checks while it gives other threads some time.
 pub(crate) const LONG: u32 = 100_000;
 
-// How often a run is tried in which one thread has to be faster than another that waits like this.
+// How often a run is tried in which one thread has to be faster than another one that waits in this way.
 const TRIES: u32 = 10;
 
-/// Waits until all these bits are set, and this many looks more, but not forever. Returns whether they were set.
+/// Waits until all these bits are set, but not forever, and then checks this many times more. Returns whether they were set.
 pub(crate) fn comes(flags: &AtomicU32, bits: u32, more: u32) -> bool {
     let mut more = more;
     for _ in 0..LOOKS {
@@ -39,7 +39,7 @@ fn bit(device: u32) -> u32 {
     if device < 32 { 1 << device } else { 0 }
 }
 
-// Returns what is polled of each device of this trace.
+// Returns how many packets of each device of this trace were polled.
 fn polled_of<P: Threads + Wait + Sync, G: Gate + Sync>(
     rt: &P,
     alloc: Global,
@@ -51,7 +51,7 @@ fn polled_of<P: Threads + Wait + Sync, G: Gate + Sync>(
     Ok(replay_threads(rt, alloc, text.as_bytes(), &mut report, settings, gate)?)
 }
 
-// Returns what is polled of the first device of these rows; 0 if a thread was too slow for the gate.
+// Returns how many packets of the first device of these rows were polled; 0 if a thread was too slow for the gate.
 fn polled_first<P: Threads + Wait + Sync, G: Gate + Sync>(
     rt: &P,
     alloc: Global,
@@ -68,7 +68,8 @@ fn polled_first<P: Threads + Wait + Sync, G: Gate + Sync>(
     }
 }
 
-/// Delays one poller at its start until the devices of the others are disabled, and records which devices are disabled by then.
+/// A gate that delays one poller at its start until the devices of the other pollers are disabled, and records which devices
+/// are disabled by then.
 #[derive(Drop)]
 struct HoldsOne {
     poller: u32,
@@ -78,7 +79,7 @@ struct HoldsOne {
 }
 
 impl HoldsOne {
-    // Returns the gate that delays this poller, of this many, where device n is that of poller (n - 1) mod their number.
+    // Returns the gate that delays this poller, of this many; device n belongs to poller (n - 1) mod their number.
     fn new(poller: u32, pollers: u32) -> HoldsOne
         requires { 1 ≤ pollers }
     {
@@ -112,7 +113,7 @@ impl Gate for HoldsOne {
     }
 }
 
-// This many devices, each with this many packets, a disable and an enable.
+// Returns the rows of this many devices, each with this many packets, a disable and an enable.
 fn devices(alloc: Global, count: u32, packets: u32) -> Result<String, AllocError> {
     let mut text = String::from_str(alloc, HEADER)?;
     for device in 1..count.saturating_add(1) {
@@ -125,7 +126,8 @@ fn devices(alloc: Global, count: u32, packets: u32) -> Result<String, AllocError
     Ok(text)
 }
 
-// While a poller is delayed, the disables of its devices wait for their packet to be polled, and those of all others end.
+// while a poller is delayed, the disables of its devices wait for their packets to be polled, and the disables of all other
+// devices end
 #[test]
 fn each_device_has_its_poller(rt: HostRuntime) -> Result<(), Fail> {
     let text = devices(rt.alloc(), 16, 1)?;
@@ -145,8 +147,8 @@ fn each_device_has_its_poller(rt: HostRuntime) -> Result<(), Fail> {
     Ok(())
 }
 
-// 20 packets wait when the device is being disabled. Then a poll of the whole weight ends the device's polls, except for the
-// one that a packet requested while the device was queued: on the list, or for its thread.
+// 20 packets wait when the device is being disabled; then a poll of the whole weight ends the polling of the device, except for
+// the poll that a packet requested while the device was queued on the list or for its thread
 #[test]
 fn a_poll_takes_the_weight(rt: HostRuntime) -> Result<(), Fail> {
     for (poller, threaded) in [(100, 0), (201, 1)] {
@@ -173,8 +175,8 @@ fn a_poll_takes_the_weight(rt: HostRuntime) -> Result<(), Fail> {
     Ok(())
 }
 
-/// Lets the thread of device 1 start when all packets are put, the disable come after the thread's first poll, and the poller
-/// start when the device is being disabled.
+/// A gate that lets the thread of device 1 start when all packets are put, the disable come after the thread's first poll, and
+/// the poller start when the device is being disabled.
 #[derive(Drop)]
 struct InTurn {
     disable: u32,
@@ -188,7 +190,7 @@ const THREAD_BEGINS: u32 = 2;
 const DISABLE_BEGINS: u32 = 4;
 
 impl InTurn {
-    // Waits for these bits, and this many looks more; then sets the bits of the result.
+    // Waits for these bits, and checks this many times more; then sets the bits of `tells`.
     fn wait(&self, what: u32, more: u32, tells: u32) -> bool {
         let open = comes(&self.told, what, more);
         self.told.fetch_or(tells, Ordering::SeqCst);
@@ -210,8 +212,9 @@ impl Gate for InTurn {
     }
 }
 
-// 40 packets wait for the thread, which polls one at a time, as often as the window allows. Then it leaves the device to the
-// list, whose poller polls it once while it is being disabled, and queues it for the thread for the last poll.
+// 40 packets wait for the thread, which polls one at a time, as often as the window allows; then it leaves the device on the
+// list; the poller of the list polls it once while it is being disabled, and queues it for the thread, which makes the last
+// poll
 #[test]
 fn a_thread_polls_as_often_as_the_window_says(rt: HostRuntime) -> Result<(), Fail> {
     let rows = [
@@ -238,8 +241,8 @@ fn a_thread_polls_as_often_as_the_window_says(rt: HostRuntime) -> Result<(), Fai
     Ok(())
 }
 
-/// Lets the poller start when devices 1 to 15 have put their packets, and these be disabled some time later. The packet of
-/// device 16, which wakes the poller, comes after that, or if that takes too long.
+/// A gate that lets the poller start when devices 1 to 15 have put their packets, and lets these devices be disabled some time
+/// later. The packet of device 16, which wakes the poller, comes after that, or earlier if that takes too long.
 #[derive(Drop)]
 struct Sleepless {
     put: AtomicU32,
@@ -276,8 +279,8 @@ impl Gate for Sleepless {
     }
 }
 
-// A run of one poll each: for each device two polls return a packet, and the two after them return nothing. A poller that took
-// that for the end would sleep after many of them in a row, with devices on its list.
+// runs of one poll each: for each device two polls return a packet, and the two after them return nothing; a poller that took
+// an empty poll for the end would sleep after many of them in a row, with devices on its list
 #[test]
 fn a_poller_goes_on_behind_polls_of_nothing(rt: HostRuntime) -> Result<(), Fail> {
     let mut text = devices(rt.alloc(), 15, 2)?;
