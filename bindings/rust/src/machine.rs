@@ -98,7 +98,7 @@ pub fn machine(arrivals: &[u8], settings: &MachineSettings) -> Result<Vec<u8>, M
         message: [0; 64],
     };
     loop {
-        // SAFETY: each pointer leads to as many bytes as are given, and no two to the same.
+        // SAFETY: each pointer leads to as many bytes as its length says, and they don't overlap.
         let said = unsafe {
             sys::fq_machine(
                 settings,

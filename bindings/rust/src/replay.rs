@@ -64,7 +64,7 @@ pub fn replay(trace: &[u8], settings: &Settings) -> Result<Vec<u8>, NoReport> {
     let mut report = vec![0; 4096];
     loop {
         let mut replayed = sys::fq_replayed::default();
-        // SAFETY: each pointer leads to as many bytes as are given, and no two to the same.
+        // SAFETY: each pointer leads to as many bytes as its length says, and they don't overlap.
         let said = unsafe {
             sys::fq_replay(
                 settings,

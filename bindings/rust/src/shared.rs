@@ -31,9 +31,9 @@ use crate::sys;
 pub struct Shared<const CALLERS: usize> {
     /// The input end of its ring.
     pub input: Input,
-    /// Its controller. The instance is disabled.
+    /// The controller of the instance, which is disabled.
     pub control: Control<Off>,
-    /// Its callers, which own nothing yet.
+    /// The callers of the instance, which own nothing yet.
     pub callers: [Caller; CALLERS],
 }
 
@@ -62,9 +62,9 @@ impl<const CALLERS: usize> Shared<CALLERS> {
 /// [`poll`](crate::Polling::poll) returns no packets there.
 #[derive(Debug)]
 pub struct Bare<const CALLERS: usize> {
-    /// Its controller. The instance is disabled.
+    /// The controller of the instance, which is disabled.
     pub control: Control<Off>,
-    /// Its callers, which own nothing yet.
+    /// The callers of the instance, which own nothing yet.
     pub callers: [Caller; CALLERS],
 }
 

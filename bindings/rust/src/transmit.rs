@@ -77,7 +77,7 @@ impl TxRing {
         }
     }
 
-    /// Its state.
+    /// Returns the state of the ring.
     pub fn state(&mut self) -> TxState {
         let mut state = TxState::default();
         // SAFETY: only this ring has the handle, and the state is elsewhere.

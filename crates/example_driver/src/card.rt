@@ -37,7 +37,7 @@ pub(crate) struct Card {
 
 /// A bench that drives one card.
 pub(crate) trait CardDriver: Bench {
-    /// The card.
+    /// Returns the card.
     fn card(&mut self) -> &mut Card;
 }
 

@@ -68,7 +68,7 @@ pub record IsPolledDevice (rows : List Row) (device : ℕ) (polled : Polled) : T
 abbrev pub IsRunBy : Type 0 → (ℕ → Type 0) → ReplaySettings → List Row → List Polled → Type 0
 IsRunBy R asked settings rows told = (ends : List (Finished Script)) × AreRunBy R asked settings rows ends × (told ≡ map polled_of ends)
 
--- the same for the rows of the bytes read
+-- the run was made for the rows of the bytes read
 abbrev pub RanBy : Type 0 → (ℕ → Type 0) → ReplaySettings → Option (List ℕ) → List Polled → Type 0
 RanBy R asked settings input told =
     (bytes : List ℕ) → input ≡ Some bytes → (rows : List Row) × (trace_of (records_of bytes) ≡ Ok rows) × IsRunBy R asked settings rows told
