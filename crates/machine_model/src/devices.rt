@@ -99,10 +99,7 @@ fn sooner(first: Option<Timer>, second: Option<Timer>) -> Option<Timer>
 fn timer_of(places: &[Option<ReceiveQueue>], number: u32) -> Option<Timer>
     ensures { result ≡ timer_at number (at number places.now) }
 {
-    if number as usize >= places.len() {
-        return None;
-    }
-    timer_in(&places[number as usize], number)
+    timer_in(places.get(number as usize)?, number)
 }
 
 // Returns the timer that expires first, of the queues in these entries; `timed` has a bit for each queue whose timer is set.
@@ -330,12 +327,7 @@ impl QueueTable {
     pub(crate) fn is_fired(&self, number: usize) -> bool
         ensures { result ≡ is_fired_at (at number self.now) }
     {
-        if number < self.places.len() {
-            if let Some(device) = &self.places[number] {
-                return device.is_fired();
-            }
-        }
-        false
+        matches!(self.places.get(number), Some(Some(device)) if device.is_fired())
     }
 
     /// Handles the interrupt of a queue.
@@ -412,11 +404,9 @@ impl QueueTable {
     pub(crate) fn report(&self, number: usize) -> Option<QueueReport>
         ensures { result ≡ option_map queue_report (at number self.now) }
     {
-        if number < self.places.len() {
-            if let Some(device) = &self.places[number] {
-                return Some(device.report());
-            }
+        match self.places.get(number) {
+            Some(Some(device)) => Some(device.report()),
+            _ => None,
         }
-        None
     }
 }
