@@ -37,8 +37,8 @@ PLACES = {
     "replay_text/src/fault.rt": (1, "`From<AllocError>`"),
     "replay_text/src/program.rt": (2, "a word of the command line"),
     "replay_threads/src/stations.rt": (1, "`WorkFault::OutOfMemory` of the workers"),
-    "replay_words/src/options.rt": (1, "what `clap` allocates"),
-    "replay_words/src/words.rt": (1, "`From<AllocError>`"),
+    "replay_args/src/options.rt": (1, "what `clap` allocates"),
+    "replay_args/src/args.rt": (1, "`From<AllocError>`"),
     "rx_ring/src/pair.rt": (2, "the ring's box, its places"),
     "tx_ring/src/ring.rt": (1, "the ring's places"),
 }

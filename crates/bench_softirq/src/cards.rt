@@ -1,7 +1,8 @@
-//! The devices, and the bench that polls them. It states nothing about its polls.
+//! The devices, and the bench that polls them. The bench declares no relation for its polls.
 
 ghost use Rattle.std.specs.Prelude.{◌≡◌, ◌≤◌, false};
 ghost use Rattle.napi_model.specs.Serial.{state_of};
+ghost use Rattle.poll_engine.specs.Ranges.{IsWeight};
 
 use anyhow::Result;
 use napi_model::{Done, Kind, Prep, SerialNapi};
@@ -15,7 +16,7 @@ pub const DEVICES: u32 = 16;
 // The capacity of a device's ring.
 const PLACES: usize = 256;
 
-// The callers of an instance.
+// The numbers of an instance's callers.
 const INTERRUPT: u32 = 0;
 
 const POLLER: u32 = 1;
@@ -40,7 +41,7 @@ impl Card {
     }
 
     fn poll(&mut self, weight: usize, batch: &mut Batch) -> Once
-        requires { (1 ≤ weight) × (weight ≤ 64) }
+        requires { IsWeight weight }
         ensures { result.work ≤ weight }
     {
         if !self.napi.take(POLLER, Kind::List) {
@@ -70,7 +71,7 @@ impl Card {
     }
 }
 
-/// The devices, with the batch into which their packets are polled.
+/// The devices, and the batch to which their packets are polled.
 #[derive(Drop)]
 pub struct Cards {
     cards: Vec<Card>,

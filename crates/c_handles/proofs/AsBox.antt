@@ -1,4 +1,4 @@
--- An owning pointer and its parts own what a box at the same types owns.
+-- An owning pointer (`OwnedPtr`) and a `RawBox` with the same pointer own the same memory as a `Box` does.
 use mir.Syntax.{impl, tnil, dnil}
 use mathlib.Core.List.{[]}
 use denote.Signature.{Slot, plain}

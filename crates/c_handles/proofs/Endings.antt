@@ -1,4 +1,4 @@
--- The end of a poll releases the instance exactly if no request was missed until then.
+-- The end of a poll releases the instance exactly if no request was missed before it.
 use Rattle.std.proofs.Common.{◌≡◌, ℕ, [], ◌∷◌, ◌++◌, true, false, Option, Some, None, Bool, ◌||◌, nat_eq, ap, sym, subst}
 use Rattle.{c_handles.specs.Status.{RELEASED, AGAIN}, napi_calls.specs.{Calls.TriesToComplete, Seats.{pass_number, controller_of, shown}}}
 use Rattle.{napi_calls.specs.{Made.Made, Packets.TriesToGiveBack, declared.types.Polling.Polling}, napi_word.specs.declared.table.Pass.Pass}
@@ -16,7 +16,7 @@ use Rattle.c_handles.specs.declared.body.Object.TheVariants as body
 abbrev is_held : ℕ → Bool
 is_held n = nat_eq n HELD || nat_eq n NOT_ALLOWED || nat_eq n BAD_HANDLE
 
--- ---- released
+-- ---- the completion released the instance
 
 pub ends_released : (p : Pass) (x : Seen) (q : Pass) → Made p (operation.Look x ∷ operation.Complete done.Released ∷ []) q
     → EndsByReply done.Released false q
@@ -47,7 +47,7 @@ made_released (Some (body.Seat s)) (Some (body.Seat t)) m = completes_released s
 made_released (Some (body.Seat s)) (Some _) m = absurd m
 made_released (Some _) (Some _) m = let bad : false ≡ true = ap is_held m.0 in absurd (cc bad)
 
--- ---- again
+-- ---- the completion found a missed request
 
 pub ends_again : (p : Pass) (x : Seen) (q : Pass) → Made p (operation.Look x ∷ operation.Complete done.Again ∷ []) q
     → EndsByReply done.Again true q

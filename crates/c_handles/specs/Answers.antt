@@ -1,4 +1,5 @@
--- The counts of the results of a seat's calls: each result is counted once, and a count saturates.
+-- The counts of the results of a caller's calls (a caller of a shared instance is a "seat" in C): each result is counted once,
+-- and each count saturates.
 use Rattle.std.specs.Prelude.{ℕ, ◌+◌, ◌==◌, if◌then◌else◌}
 use Rattle.{rx_ring.specs.ReceiveRing.capped, c_handles.specs.Status.{GRANTED, MISSED}}
 use Rattle.c_handles.specs.{Status.{DISABLED, RELEASED, AGAIN, HELD, CHANGED}, declared.answers.FqAnswers.FqAnswers}
@@ -6,7 +7,7 @@ use Rattle.c_handles.specs.{Status.{DISABLED, RELEASED, AGAIN, HELD, CHANGED}, d
 abbrev pub no_answers : FqAnswers
 no_answers = record { granted = 0; missed = 0; disabled = 0; released = 0; again = 0; held = 0; changed = 0 }
 
--- the count of one result, after one more call with this result
+-- the count of one result, after a call that returned this status
 abbrev pub one_more : ℕ → ℕ → ℕ → ℕ
 one_more of said count = if said == of then capped (count + 1) else count
 

@@ -1,4 +1,4 @@
--- A driver for C: what it says, as numbers, and the status and the effect of each call.
+-- A driver for C: what it asks for, as numbers, and the status and the effect of each call.
 use Rattle.std.specs.Prelude.{◌≡◌, ◌≢◌, ◌⊎◌, ◌↔◌, ℕ, ◌<◌, ◌≤◌, ◌==◌, ◌||◌, false, nat_le, if◌then◌else◌}
 use Rattle.std.specs.Prelude.{length, IsSome}
 use Rattle.napi_model.specs.declared.event.Prep.{Prep, TheVariants.{Granted, Missed, Disabled}}
@@ -25,12 +25,12 @@ pub record IsNewDriver (devices budget weight window : ℕ) (d : Driver) : Type 
   pub idle : IsIdle d
   pub limits : ((driver_limits d).budget ≡ budget) × ((driver_limits d).weight ≡ weight) × ((driver_limits d).window ≡ window)
 
--- ---- what it says (`struct fq_todo`, `enum fq_what`)
+-- ---- what the driver asks for (`struct fq_todo`, `enum fq_what`)
 
 abbrev pub no_run : FqRunReport
 no_run = record { polls = 0; work = 0; squeezed = false }
 
--- its number in C
+-- the number of an action in C
 abbrev pub what_in : What → ℕ
 what_in Sleep = 0
 what_in (Mask id) = 1
@@ -65,7 +65,8 @@ todo_in size number what = record {
   run = todo_run_in what;
 }
 
--- the driver says this, which is due; the same again until it is reported or isn't due any more, and otherwise under a new number
+-- The driver asks for this action, which is due. It asks for the same action again until the action is reported or isn't due
+-- any more, and for any other one under a new number.
 pub record Says (size : ℕ) (d : Driver) (todo : FqTodo) (e : Driver) : Type 0 where
   pub what : What
   pub said : todo ≡ todo_in size todo.number what
@@ -75,14 +76,14 @@ pub record Says (size : ℕ) (d : Driver) (todo : FqTodo) (e : Driver) : Type 0 
   pub devices : driver_devices e ≡ driver_devices d
   pub counts : e.counts ≡ d.counts
 
--- of these structs the first is the caller's before, and the second after
+-- of these structs, the first is the caller's variable before the call, and the second after it
 pub record IsDriverNext (before after : FqTodo) (d : Driver) (n : ℕ) (e : Driver) : Type 0 where
   pub size : (n ≡ BAD_SIZE) ↔ (before.size < 48)
   pub status : (n ≡ OK) ⊎ (n ≡ BAD_SIZE)
   pub says : n ≡ OK → Says before.size d after e
   pub kept : n ≡ BAD_SIZE → (after ≡ before) × (e ≡ d)
 
--- a report, and the driver after it
+-- a report, and the driver after the report
 pub record IsTodoReport (number packets : ℕ) (d : Driver) (n : ℕ) (e : Driver) : Type 0 where
   pub none : number ≡ 0 → (n ≡ OK) × (e ≡ d)
   pub due : number ≢ 0 → (n ≡ OK) ↔ IsReport number packets d
@@ -91,7 +92,7 @@ pub record IsTodoReport (number packets : ℕ) (d : Driver) (n : ℕ) (e : Drive
   pub status : (n ≡ OK) ⊎ (n ≡ NOT_DUE) ⊎ (n ≡ BAD_WORK)
   pub kept : n ≢ OK → e ≡ d
 
--- what the struct says is reported
+-- the action in the struct is reported as done
 pub record IsDriverDone (todo : FqTodo) (d : Driver) (n : ℕ) (e : Driver) : Type 0 where
   pub size : (n ≡ BAD_SIZE) ↔ (todo.size < 48)
   pub reported : n ≢ BAD_SIZE → IsTodoReport todo.number todo.packets d n e
@@ -99,7 +100,7 @@ pub record IsDriverDone (todo : FqTodo) (d : Driver) (n : ℕ) (e : Driver) : Ty
 
 -- ---- what happened at a device
 
--- for a number that isn't a device's
+-- the call names a number that isn't a device's
 pub record IsNoDevice (device : ℕ) (d : Driver) (n : ℕ) (e : Driver) : Type 0 where
   pub bad : (n ≡ BAD_DEVICE) ↔ (length (driver_devices d) ≤ device)
   pub kept : n ≡ BAD_DEVICE → e ≡ d

@@ -1,5 +1,5 @@
--- How a poll ends: the instance is released exactly if no request was missed until then, and has to be handed over again
--- exactly if one was.
+-- How a poll ends: the instance is released exactly if no request was missed before the end, and has to be queued again exactly
+-- if one was.
 use Rattle.{napi_word.specs.declared.table.Pass.Pass}
 use Rattle.{c_handles.specs.{Handles.IsCallerWith, declared.{seat.CallerObject.CallerObject, body.Object.Object}}}
 use Rattle.std.specs.Prelude.{◌≡◌}
@@ -8,7 +8,8 @@ use Rattle.std.specs.Prelude.{Bool, List, [], ◌∷◌, ◌++◌, Option, Some,
 use Rattle.napi_calls.specs.Seats.{pass_number, controller_of, shown}
 use Rattle.napi_model.specs.declared.event.Operation.TheVariants as operation
 
--- the last event shown is the seat's own completion with this reply, and just before it the missed flag had this value
+-- the last event that the pass shows is its own completion with this reply, and just before that event the flag MISSED had this
+-- value
 abbrev pub EndsByReply : Done → Bool → Pass → Type 0
 EndsByReply reply missed p = (before : List Event) × (shown p ≡ before ++ event (pass_number p) (operation.Complete reply) ∷ [])
     × ((state_after (opening (controller_of p)) before).flags.missed ≡ missed)

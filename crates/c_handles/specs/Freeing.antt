@@ -1,4 +1,4 @@
--- What may be freed, and the status of freeing it.
+-- Which objects may be freed, and the status of freeing one.
 use Rattle.std.specs.Prelude.{ℕ, Bool, true, false, not, is_some, if◌then◌else◌, Option, Some, None}
 use Rattle.c_handles.specs.Status.{IN_USE}
 use Rattle.c_handles.specs.{Runs.list_run, declared.{body.Object.Object, hold.CallerState.CallerState, power.ControlState.ControlState}}
@@ -15,8 +15,8 @@ abbrev pub is_control_off : ControlState → Bool
 is_control_off (power.Off c) = true
 is_control_off _ = false
 
--- no other object depends on it: a seat that owns nothing, the controller of a disabled instance, a list without a run, a driver,
--- a ring
+-- no other object depends on it: a caller (a "seat" in C) that owns nothing, the controller of a disabled instance, a list
+-- without a run, a driver, a ring
 abbrev pub is_freeable : Object → Bool
 is_freeable (body.Seat s) = is_resting s.hold
 is_freeable (body.Controller c) = is_control_off c.power
@@ -31,7 +31,7 @@ abbrev pub abandon_status : Option Object → ℕ
 abandon_status None = BAD_HANDLE
 abandon_status (Some x) = OK
 
--- by the object of this handle, and that of the other
+-- the status of moving an object to another handle, by the objects of both handles
 abbrev pub move_status : Option Object → Option Object → ℕ
 move_status from (Some y) = IN_USE
 move_status None None = BAD_HANDLE

@@ -1,5 +1,5 @@
--- The status and the effect of calls on handles, by the object of the handle. A handle to nothing, or to another kind of object
--- than the call is for, gets BAD_HANDLE and is unchanged.
+-- The status and the effect of calls on handles, by the object of the handle. A handle without an object, or with an object of
+-- the wrong kind, gets BAD_HANDLE and is unchanged.
 use Rattle.std.specs.Prelude.{◌≡◌, ◌⊎◌, ℕ, List, Option, Some, None}
 use Rattle.napi_model.specs.{declared.state.Seen.Seen, Word.word_of}
 use Rattle.{rx_ring.specs.declared.packet.Packet.Packet, c_handles.specs.declared.seat.{CallerObject.CallerObject, Controller.Controller}}
@@ -10,24 +10,24 @@ use Rattle.c_handles.specs.{declared.power.ControlCall.ControlCall, Answers.coun
 use Rattle.c_handles.specs.SeatCalls.{SeatAnswers, SeatLooks, SeatPolls, ControlAnswers}
 use Rattle.c_handles.specs.declared.body.Object.TheVariants as body
 
--- another kind of object
+-- for an object of the wrong kind: BAD_HANDLE, and it is unchanged
 abbrev pub OtherKind : Object → ℕ → Object → Type 0
 OtherKind before n after = (n ≡ BAD_HANDLE) × (after ≡ before)
 
--- the call on the handle's object returned this status and had this effect, and the handle has the new object then
+-- The call on the handle's object returned this status and had this effect, and the handle then has the new object.
 abbrev pub OnHandle : (Object → ℕ → Object → Type 0) → Option Object → ℕ → Option Object → Type 0
 OnHandle P None n after = (n ≡ BAD_HANDLE) × (after ≡ None)
 OnHandle P (Some x) n None = ⊥
 OnHandle P (Some x) n (Some y) = P x n y
 
--- ---- callers
+-- ---- callers of a shared instance ("seats" in C)
 
--- it is a caller with this property
+-- the object is a caller with this property
 abbrev pub IsCallerWith : (CallerObject → Type 0) → Object → Type 0
 IsCallerWith P (body.Seat s) = P s
 IsCallerWith P _ = ⊥
 
--- for a caller, this
+-- the effect if the object is a caller; any other object is of the wrong kind
 abbrev pub OnSeat : (CallerObject → ℕ → Object → Type 0) → Object → ℕ → Object → Type 0
 OnSeat P (body.Seat s) n after = P s n after
 OnSeat P other n after = OtherKind other n after
@@ -38,7 +38,7 @@ SeatMakesIn call = OnSeat (λ s n after. IsCallerWith (λ t. SeatAnswers call s.
 abbrev pub SeatGivesIn : ℕ → List Packet → Object → ℕ → Object → Type 0
 SeatGivesIn weight given = OnSeat (λ s n after. IsCallerWith (λ t. SeatPolls weight given s.hold n t.hold × (t.answers ≡ s.answers)) after)
 
--- A look shows this word. Of the two words the first is the caller's variable before the call, and the second after it.
+-- A look shows this word. Of the two words, the first is the caller's variable before the call, and the second after it.
 abbrev pub ShowsWord : ℕ → ℕ → CallerState → ℕ → CallerState → Type 0
 ShowsWord before after h n k = ((n ≡ OK) × ((x : Seen) × SeatLooks h (Some x) k × (after ≡ word_of x))) ⊎ (Refused h n k × (after ≡ before))
 
@@ -56,7 +56,7 @@ SeatGives weight given old n new = OnHandle (SeatGivesIn weight given) old.held.
 
 -- ---- controllers
 
--- it is a controller with this property
+-- the object is a controller with this property
 abbrev pub IsControllerWith : (Controller → Type 0) → Object → Type 0
 IsControllerWith P (body.Controller c) = P c
 IsControllerWith P _ = ⊥
@@ -65,7 +65,7 @@ abbrev pub LeadsToController : (Controller → Type 0) → Option Object → Typ
 LeadsToController P None = ⊥
 LeadsToController P (Some x) = IsControllerWith P x
 
--- for a controller, this
+-- the effect if the object is a controller; any other object is of the wrong kind
 abbrev pub OnController : (Controller → ℕ → Object → Type 0) → Object → ℕ → Object → Type 0
 OnController P (body.Controller c) n after = P c n after
 OnController P other n after = OtherKind other n after
@@ -78,7 +78,7 @@ ControlMakes call old n new = OnHandle (ControlMakesIn call) old.held.body n new
 
 -- ---- lists
 
--- it is a list with this property
+-- the object is a list with this property
 abbrev pub IsListWith : (ListObject → Type 0) → Object → Type 0
 IsListWith P (body.List l) = P l.value
 IsListWith P _ = ⊥
@@ -87,7 +87,7 @@ abbrev pub LeadsToList : (ListObject → Type 0) → Option Object → Type 0
 LeadsToList P None = ⊥
 LeadsToList P (Some x) = IsListWith P x
 
--- for a list, this
+-- the effect if the object is a list; any other object is of the wrong kind
 abbrev pub OnList : (ListObject → ℕ → Object → Type 0) → Object → ℕ → Object → Type 0
 OnList P (body.List l) n after = P l.value n after
 OnList P other n after = OtherKind other n after
@@ -95,13 +95,13 @@ OnList P other n after = OtherKind other n after
 abbrev pub ListMakesIn : (ListObject → ℕ → ListObject → Type 0) → Object → ℕ → Object → Type 0
 ListMakesIn P = OnList (λ l n after. IsListWith (λ m. P l n m) after)
 
--- for a handle to a list: the call returned this status, and the handle has that list then
+-- for a handle with a list: the call returned this status, and the handle then has that list
 abbrev pub ListMakes : (ListObject → ℕ → ListObject → Type 0) → FqHandle → ℕ → FqHandle → Type 0
 ListMakes P old n new = OnHandle (ListMakesIn P) old.held.body n new.held.body
 
 -- ---- drivers
 
--- it is a driver with this property
+-- the object is a driver with this property
 abbrev pub IsDriverWith : (Driver → Type 0) → Object → Type 0
 IsDriverWith P (body.Driver d) = P d.value
 IsDriverWith P _ = ⊥
@@ -110,7 +110,7 @@ abbrev pub LeadsToDriver : (Driver → Type 0) → Option Object → Type 0
 LeadsToDriver P None = ⊥
 LeadsToDriver P (Some x) = IsDriverWith P x
 
--- for a driver, this
+-- the effect if the object is a driver; any other object is of the wrong kind
 abbrev pub OnDriver : (Driver → ℕ → Object → Type 0) → Object → ℕ → Object → Type 0
 OnDriver P (body.Driver d) n after = P d.value n after
 OnDriver P other n after = OtherKind other n after
@@ -118,6 +118,6 @@ OnDriver P other n after = OtherKind other n after
 abbrev pub DriverMakesIn : (Driver → ℕ → Driver → Type 0) → Object → ℕ → Object → Type 0
 DriverMakesIn P = OnDriver (λ d n after. IsDriverWith (λ e. P d n e) after)
 
--- for a handle to a driver: the call returned this status, and the handle has that driver then
+-- for a handle with a driver: the call returned this status, and the handle then has that driver
 abbrev pub DriverMakes : (Driver → ℕ → Driver → Type 0) → FqHandle → ℕ → FqHandle → Type 0
 DriverMakes P old n new = OnHandle (DriverMakesIn P) old.held.body n new.held.body

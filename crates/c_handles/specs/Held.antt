@@ -1,4 +1,4 @@
--- What a handle's pointer owns: the value and its heap block, or nothing.
+-- What the pointer in a handle owns: a value on the heap, or nothing.
 use Rattle.std.specs.{Prelude.{Option, Some, None}, Coded.coded_option, Box.Ownership.box_owns, Global.Global}
 use Rattle.{std_heap.specs.contracts.GlobalAllocator.TheImpl.ghosts, c_handles.specs.contracts.body.Object.the_row}
 use base.{Fml.{Fml, ftrue}, Stored.Coded}

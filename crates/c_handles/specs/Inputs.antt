@@ -1,4 +1,4 @@
--- The state of the producer's end of a ring.
+-- The state of the input end of a ring.
 use Rattle.{std.specs.Prelude.length, rx_ring.specs.{ReceiveRing.capped, Ends.{put_list, capacity_of}, declared.ends.RxIn.RxIn}}
 use Rattle.c_handles.specs.declared.input.FqRingShown.{FqRingShown}
 

@@ -1,4 +1,4 @@
--- The queue for an instance, by its number in C.
+-- The queue for an instance, by its number in C (`enum fq_kind`).
 use Rattle.std.specs.Prelude.{ℕ, ◌==◌, if◌then◌else◌, Option, Some, None}
 use Rattle.napi_model.specs.declared.state.Kind.{Kind}
 use Rattle.napi_model.specs.declared.state.Kind.TheVariants as kind

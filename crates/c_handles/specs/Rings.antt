@@ -1,4 +1,4 @@
--- The objects of handles.
+-- Rings as objects of handles.
 use Rattle.rx_ring.specs.{declared.{ends.RxCtx.RxCtx, packet.{Packet.Packet, RxCounts.RxCounts}}, Ends.{GivesNext, SameIn, put_list}}
 use Rattle.{rx_ring.specs.Ends.{capacity_of, received_list}}
 use Rattle.{c_handles.specs.declared.{body.{Ring.Ring, Object.Object}, input.RingInput.RingInput}}
@@ -7,21 +7,21 @@ use Rattle.c_handles.specs.Status.{BAD_HANDLE}
 use Rattle.c_handles.specs.{declared.handle.FqHandle.FqHandle, SeatCalls.{ctx_counts, hold_counts, power_counts}, Status.{OK, FULL}}
 use Rattle.c_handles.specs.declared.body.Object.TheVariants as body
 
--- the handle has this ring
+-- the handle has this ring as its object
 abbrev pub LeadsTo : FqHandle → Ring → Type 0
 LeadsTo handle ring = handle.held.body ≡ Some (body.Ring ring)
 
--- it is a ring with this property
+-- the object is a ring with this property
 abbrev pub IsRingWith : (Ring → Type 0) → Object → Type 0
 IsRingWith P (body.Ring ring) = P ring
 IsRingWith P _ = ⊥
 
--- the handle has a ring with this property
+-- the handle has a ring with this property as its object
 abbrev pub LeadsToRing : (Ring → Type 0) → Option Object → Type 0
 LeadsToRing P None = ⊥
 LeadsToRing P (Some x) = IsRingWith P x
 
--- only the input of a ring, and only the other end
+-- the object is only the input end of a ring with this property, or only the poll end
 abbrev pub IsInputWith : (RingInput → Type 0) → Object → Type 0
 IsInputWith P (body.In input) = P input
 IsInputWith P _ = ⊥
@@ -30,7 +30,7 @@ abbrev pub LeadsToInput : (RingInput → Type 0) → Option Object → Type 0
 LeadsToInput P None = ⊥
 LeadsToInput P (Some x) = IsInputWith P x
 
--- it has this input, as part of a whole ring or on its own
+-- the object has this input end, alone or as part of a whole ring
 abbrev pub HasInput : RingInput → Object → Type 0
 HasInput i (body.Ring ring) = ring.input ≡ i
 HasInput i (body.In input) = input ≡ i
@@ -59,12 +59,12 @@ pub record IsAfterPut (before : Ring) (packets : List Packet) (after : Ring) : T
   pub put : put_list after.input.end ≡ put_list before.input.end ++ packets
   pub ctx : after.ctx ≡ before.ctx
 
--- the same, if the other end is elsewhere
+-- the packets were put, for a ring whose poll end isn't in this object
 pub record IsAfterInput (before : RingInput) (packets : List Packet) (after : RingInput) : Type 0 where
   pub ring : SameIn before.end after.end
   pub put : put_list after.end ≡ put_list before.end ++ packets
 
--- the status of a burst of which this many packets were put
+-- the status of a burst, of which this many packets were put
 abbrev pub burst_in : Object → ℕ → List Packet → ℕ
 burst_in (body.Ring ring) count packets = if count == length packets then OK else FULL
 burst_in (body.In input) count packets = if count == length packets then OK else FULL
@@ -81,7 +81,7 @@ pub record IsAfterPoll (weight : ℕ) (before : Ring) (given : List Packet) (aft
 
 -- ---- what is counted
 
--- of the polls, if an object has the ring's poll end
+-- the counts of the ring's polls, if the object has its poll end
 abbrev pub ring_counts_in : Object → Option RxCounts
 ring_counts_in (body.Ring ring) = Some (ctx_counts ring.ctx)
 ring_counts_in (body.Ctx ctx) = Some (ctx_counts ctx)

@@ -1,5 +1,5 @@
--- The effect of a call on a caller or the controller of a shared instance, in every state, by the contracts of the calls of
--- `napi_calls`. A call that isn't allowed in the state fails, and changes nothing.
+-- The effect of a call on a caller (a "seat" in C) or the controller of a shared instance, in every state, by the contracts of
+-- the calls of `napi_calls`. A call that isn't allowed in the state fails, and changes nothing.
 use Rattle.napi_calls.specs.Packets.{Quiet, HoldsOn, GivesBack, IsSame, PreparesQuietly, TakesFresh, TriesToGiveBack, TriesToBusyPollFresh}
 use Rattle.napi_calls.specs.{Packets.{TriesToStopHolding, TriesToTakeFresh}, Calls.{Prepares, Takes, TriesToComplete, TriesToBusyPoll}}
 use Rattle.napi_calls.specs.{Calls.{TriesToStop, TriesToTake, EnablesAt}, declared.types.{Polling.Polling, Busy.Busy}, Made.{Made, WasLost}}
@@ -39,7 +39,7 @@ abbrev pub PollsWith : (Polling → Type 0) → CallerState → Type 0
 PollsWith P (hold.Polls w) = P w
 PollsWith P _ = ⊥
 
--- ---- the calls of each state, and all others
+-- ---- the calls that each state allows
 
 abbrev pub Refused : {A : Type 0} → A → ℕ → A → Type 0
 Refused before n after = (n ≡ NOT_ALLOWED) × (after ≡ before)
@@ -60,23 +60,23 @@ abbrev pub IfBusy : (Busy → ℕ → CallerState → Type 0) → CallerState �
 IfBusy P (hold.Busy b) n after = P b n after
 IfBusy P other n after = Refused other n after
 
--- the operations of a call in the history, and its effect on the packets: its caller delivers none
+-- a call made these operations; its effect on the packets is that its caller delivers none
 abbrev pub CallerDoes : List Operation → Pass → Pass → Type 0
 CallerDoes os p q = Made p os q × Quiet p q
 
--- an attempt with this result, and its effect on the packets
+-- an attempt had this result, with its effect on the packets
 abbrev pub CallerTries : {A : Type 0} → (Pass → A → Type 0) → (Pass → A → Type 0) → Pass → Option A → Type 0
 CallerTries events packets p = Is (λ r. events p r × packets p r)
 
--- `napi_complete_done`, which returns held while the instance is busy polled. If it is released or has to be handed over again,
--- what was polled is delivered.
+-- `napi_complete_done`. It returns HELD while the instance is busy polled. If the instance is released or has to be queued
+-- again, what was polled is delivered.
 abbrev pub CallerCompletes : CallerState → ℕ → CallerState → Type 0
 CallerCompletes (hold.Polls w) n after = Is (λ r. TriesToComplete w.pass r × TriesToGiveBack w.pass w.ctx r) (try_completed after n)
 CallerCompletes (hold.Busy b) n after =
     (n ≡ HELD) × BusyWith (λ x. Made b.pass (operation.Complete done.Held ∷ []) x.pass × HoldsOn b.pass x.pass × (x.ctx ≡ b.ctx)) after
 CallerCompletes other n after = Refused other n after
 
--- `SeatAnswers call before n after`: the call returns this status, and leaves this state
+-- `SeatAnswers call before n after`: in the state `before`, the call returns the status n and leaves the state `after`
 abbrev pub SeatAnswers : SeatCall → CallerState → ℕ → CallerState → Type 0
 SeatAnswers seat_call.Schedule = IfRests (λ p n after. CallerTries Prepares PreparesQuietly p (try_scheduled after n))
 SeatAnswers (seat_call.Hand k) = IfGranted (λ p n after. (n ≡ OK) × RestsWith (CallerDoes (operation.Hand k ∷ []) p) after)
@@ -89,7 +89,7 @@ SeatAnswers seat_call.BusyStop =
     IfBusy (λ b n after. Is (λ r. TriesToStop b.pass r × TriesToStopHolding b.pass b.ctx r) (busy_stopped after n))
 SeatAnswers (seat_call.SetThreaded b) = IfRests (λ p n after. (n ≡ OK) × RestsWith (CallerDoes (operation.SetThreaded b ∷ []) p) after)
 
--- a look shows this, and the caller's state doesn't change
+-- a look shows this, and doesn't change the caller's state
 abbrev pub SeatLooks : CallerState → Option Seen → CallerState → Type 0
 SeatLooks (hold.Rests c) (Some x) after = RestsWith (CallerDoes (operation.Look x ∷ []) c.pass) after
 SeatLooks (hold.Granted g) (Some x) after = GrantedWith (CallerDoes (operation.Look x ∷ []) g.pass) after
@@ -100,7 +100,7 @@ SeatLooks (hold.Busy b) (Some x) after =
 SeatLooks hold.Gone (Some x) after = ⊥
 SeatLooks before None after = (before ≡ hold.Gone) × (after ≡ before)
 
--- ---- the counts of a ring's polls, by the owner of its context
+-- ---- the counts of a ring's polls, which the owner of its poll context has
 
 abbrev pub ctx_counts : RxCtx → RxCounts
 ctx_counts ctx = counts_of (polls_of ctx) (received_list ctx)
@@ -120,7 +120,7 @@ abbrev pub MarkedWith : (Pass → Type 0) → ControlState → Type 0
 MarkedWith P (power.Marked c) = P c.pass
 MarkedWith P _ = ⊥
 
--- one attempt at `napi_enable`: what was polled is delivered, or the controller still has it
+-- one attempt at `napi_enable`: if it succeeds, what was polled is delivered; otherwise the controller keeps it
 abbrev pub EnablesIn : Pass → RxCtx → Bool → ℕ → ControlState → Type 0
 EnablesIn p ctx threaded n (power.On c) = (n ≡ OK) × EnablesAt threaded p c.pass × GivesBack p ctx c.pass
 EnablesIn p ctx threaded n (power.Off c) =

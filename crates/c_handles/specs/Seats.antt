@@ -1,11 +1,11 @@
--- The callers and the controller of a shared instance, as objects of C's handles.
+-- The callers ("seats" in C) and the controller of a shared instance, as objects of C's handles.
 use Rattle.{std.proofs.Props.props, napi_calls.specs.{declared.types.Napi.Napi, Instance.IsSeatOf}}
 use Rattle.{c_handles.specs.declared.hold.CallerState.CallerState}
 use Rattle.c_handles.specs.declared.power.ControlState.{ControlState}
 use Rattle.c_handles.specs.declared.hold.CallerState.TheVariants as hold
 use Rattle.c_handles.specs.declared.power.ControlState.TheVariants as power
 
--- the caller belongs to the instance, or is within a call
+-- the caller belongs to the instance, or is taken out for a call
 abbrev pub SitsAt : Napi → CallerState → Type 0
 SitsAt n (hold.Rests c) = IsSeatOf n c.pass
 SitsAt n (hold.Granted g) = IsSeatOf n g.pass
@@ -20,7 +20,7 @@ sits_prop n (hold.Polls w) = Prim.hlevel props
 sits_prop n (hold.Busy b) = Prim.hlevel props
 sits_prop n hold.Gone = Prim.hlevel props
 
--- its state
+-- the caller owns nothing
 abbrev pub IsResting : CallerState → Type 0
 IsResting (hold.Rests c) = Unit
 IsResting _ = ⊥
@@ -37,7 +37,7 @@ abbrev pub IsBusy : CallerState → Type 0
 IsBusy (hold.Busy b) = Unit
 IsBusy _ = ⊥
 
--- the controller belongs to the instance, or is within a call
+-- the controller belongs to the instance, or is taken out for a call
 abbrev pub ControlsAt : Napi → ControlState → Type 0
 ControlsAt n (power.Off c) = IsSeatOf n c.pass
 ControlsAt n (power.On c) = IsSeatOf n c.pass

@@ -1,5 +1,6 @@
--- The statuses of calls, no number twice: 0 for a call that succeeded without another result; 1 to 15 for the errors of a queue
--- limit, as in `DqlFault::number`; 16 to 99 for the result of a call that succeeded; from 100 on for why a call failed.
+-- The statuses of calls. Each number is used once: 0 for a call that succeeded without another result; 1 to 15 for the errors
+-- of a queue limit, as in `DqlFault::number`; 16 to 99 for the result of a call that succeeded; from 100 on for the reason why
+-- a call failed.
 use Rattle.{std.specs.Prelude.{ℕ, Option, Some, None}, dql_core.specs.{declared.event.DqlFault.DqlFault, Fault.dql_fault_number}}
 
 abbrev pub OK : ℕ
@@ -92,7 +93,7 @@ BAD_DEVICE = 121
 abbrev pub BAD_SIZE : ℕ
 BAD_SIZE = 122
 
--- the number of a queue limit's error, or that there is none
+-- the number of a queue limit's error, or OK if there is none
 abbrev pub dql_status : Option DqlFault → ℕ
 dql_status None = OK
 dql_status (Some fault) = dql_fault_number fault

@@ -7,7 +7,7 @@ use Rattle.dql_core.specs.declared.event.DqlFault.TheVariants as limit_fault
 use Rattle.tx_ring.specs.declared.event.TxFault.TheVariants as tx_fault
 use Rattle.c_handles.specs.declared.body.Object.TheVariants as body
 
--- it is a transmit ring with this property
+-- the object is a transmit ring with this property
 abbrev pub IsTxWith : (TxRing → Type 0) → Object → Type 0
 IsTxWith P (body.Tx r) = P r
 IsTxWith P _ = ⊥
@@ -20,7 +20,7 @@ LeadsToTx P (Some x) = IsTxWith P x
 abbrev pub TxShows : FqHandle → TransmitQueue → Type 0
 TxShows handle queue = LeadsToTx (λ r. ShowsQueue r queue) handle.held.body
 
--- the number of a transmit ring's error, or that there is none
+-- the number of a transmit ring's error, or OK if there is none
 abbrev pub tx_status : Option TxFault → ℕ
 tx_status None = OK
 tx_status (Some tx_fault.Stopped) = STOPPED

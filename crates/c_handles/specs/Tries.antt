@@ -1,4 +1,5 @@
--- The status of a seat's call and the state afterwards, as the result of the call of `napi_calls`.
+-- The status of a call on a caller of a shared instance, and the caller's state after it, computed from the result of the call
+-- of `napi_calls`.
 use Rattle.std.specs.Prelude.{ℕ, ◌==◌, if◌then◌else◌, Option, Some, None, Result, Ok, Err}
 use Rattle.napi_calls.specs.declared.types.Caller.{Caller}
 use Rattle.napi_calls.specs.declared.{types.Polling.Polling, answers.{TryPrep.TryPrep, TryDone.TryDone, TryBusy.TryBusy, TryStop.TryStop}}
@@ -13,7 +14,7 @@ use Rattle.napi_calls.specs.declared.answers.TryTake.TheVariants as try_take
 use Rattle.c_handles.specs.declared.hold.CallerState.TheVariants as hold
 use Rattle.c_handles.specs.declared.power.ControlState.TheVariants as power
 
--- there is such a result, and this holds for it
+-- there is a result, and it has this property
 abbrev pub Is : {A : Type 0} → (A → Type 0) → Option A → Type 0
 Is P None = ⊥
 Is P (Some r) = P r

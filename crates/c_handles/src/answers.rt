@@ -1,10 +1,10 @@
-//! The counts of the results of a seat's calls.
+//! The counts of the results of calls on a shared instance.
 ghost use Rattle.std.specs.Prelude.{◌≡◌};
 ghost use Rattle.c_handles.specs.Answers.{no_answers, count_answer};
 
 use crate::status;
 
-/// The counts of the results of a seat's calls: `struct fq_answers`. Each saturates.
+/// The counts of the results of one caller's calls: `struct fq_answers`. Each count saturates.
 #[repr(C)]
 #[derive(Clone, Copy)]
 pub struct FqAnswers {
@@ -12,15 +12,15 @@ pub struct FqAnswers {
     pub granted: u64,
     /// Requests that were missed.
     pub missed: u64,
-    /// Requests while a disable is pending.
+    /// Requests that came while a disable was pending.
     pub disabled: u64,
     /// Completions that released the instance.
     pub released: u64,
     /// Completions that found a missed request.
     pub again: u64,
-    /// Completions of a busy poller.
+    /// Completions by a busy poller, which keeps the instance.
     pub held: u64,
-    /// Attempts of any call that failed because another thread interfered.
+    /// Attempts, of any call, that failed because another thread interfered.
     pub changed: u64,
 }
 

@@ -9,14 +9,14 @@ use rx_ring::RxCtx;
 use std::alloc::Global;
 use tx_ring::TxRing;
 
-/// Both ends of one ring.
+/// A receive ring with both of its ends.
 #[derive(Drop)]
 pub struct Ring {
     /// The producer's end.
     pub input: RingInput,
     /// The consumer's end, which polls.
     pub ctx: RxCtx,
-    /// They belong to the same ring.
+    /// Proof that both ends belong to the same ring.
     pub ghost one: { IsOneRing input.end ctx },
 }
 
@@ -27,18 +27,18 @@ pub enum Object {
     Ring(Ring),
     /// The input of a ring whose other end an instance has, or another handle.
     In(RingInput),
-    /// The other end of a ring, without an instance.
+    /// The poll end of a ring, without an instance.
     Ctx(RxCtx),
     /// A poll list.
     List(Box<ListObject, Global>),
     /// A driver.
     Driver(Box<Driver, Global>),
-    /// A caller of a shared instance.
+    /// A caller of a shared instance (`fq_seat_..` in C).
     Seat(CallerObject),
     /// The controller of a shared instance.
     Controller(Controller),
     /// A transmit ring.
     Tx(TxRing),
-    /// It is taken out for a call.
+    /// The object is taken out for a call.
     Gone,
 }

@@ -1,4 +1,4 @@
-//! The calls of a driver, by their statuses.
+//! The calls of a driver, and their statuses.
 
 ghost use Rattle.std.specs.Prelude.{◌≡◌, length, nat_lt};
 ghost use Rattle.driver_core.specs.Driver.{driver_devices};
@@ -16,9 +16,9 @@ use std::mem::size_of;
 pub struct FqTodo {
     /// Its size in bytes, as the caller knows it.
     pub size: usize,
-    /// The number by which it is reported; 0 if there is nothing to report.
+    /// The number under which to report it; 0 if there is nothing to report.
     pub number: u64,
-    /// What is to be done (`enum fq_what`).
+    /// What has to be done (`enum fq_what`).
     pub what: u32,
     /// The device.
     pub device: u32,
@@ -30,7 +30,7 @@ pub struct FqTodo {
     pub run: FqRunReport,
 }
 
-/// What is shown of a device: `struct fq_device_shown`.
+/// The state of a device, for display: `struct fq_device_shown`.
 #[repr(C)]
 #[derive(Clone, Copy)]
 pub struct FqDeviceShown {
@@ -38,9 +38,9 @@ pub struct FqDeviceShown {
     pub size: usize,
     /// Closed, open or being stopped (`enum fq_device_state`).
     pub state: u32,
-    /// A poll was requested, and isn't completed.
+    /// Whether a poll was requested and isn't completed.
     pub scheduled: bool,
-    /// Another interrupt came meanwhile.
+    /// Whether another interrupt came meanwhile.
     pub missed: bool,
     /// The polls that were reported.
     pub polls: u64,
@@ -54,7 +54,7 @@ const NO_RUN: FqRunReport = FqRunReport {
     squeezed: false,
 };
 
-// The number of what is to be done (`enum fq_what`).
+// Returns the number of an action (`enum fq_what`).
 fn what_in(what: What) -> u32
     ensures { result ≡ what_in what }
 {
@@ -68,7 +68,7 @@ fn what_in(what: What) -> u32
     }
 }
 
-// The device at which it is to be done, and the packets that a fetch may take.
+// Returns the device of an action, and the packets that a fetch may take.
 fn where_in(what: What) -> (u32, u32)
     ensures device { result.0 ≡ device_in what }
     ensures most { result.1 ≡ most_in what }
@@ -80,7 +80,7 @@ fn where_in(what: What) -> (u32, u32)
     }
 }
 
-// The report of the run that ended.
+// Returns the report of the run that ended.
 fn todo_run_in(what: What) -> FqRunReport
     ensures { result ≡ todo_run_in what }
 {
@@ -94,7 +94,7 @@ fn todo_run_in(what: What) -> FqRunReport
     }
 }
 
-// What the driver says, as C has it.
+// Returns what the driver asks for, as the struct for C.
 fn todo_in(size: usize, todo: Todo) -> FqTodo
     ensures { result ≡ todo_in size todo.number todo.what }
 {
@@ -110,7 +110,7 @@ fn todo_in(size: usize, todo: Todo) -> FqTodo
     }
 }
 
-// What is to be done next, as C has it.
+// Returns the next action of a driver, as the struct for C.
 fn say(driver: &mut Driver, size: usize) -> FqTodo
     ensures { Says size driver.old result driver.new }
 {
@@ -118,7 +118,7 @@ fn say(driver: &mut Driver, size: usize) -> FqTodo
     todo_in(size, todo)
 }
 
-/// Sets `todo` to what is to be done next (`Driver::next`).
+/// Sets `todo` to the next action (`Driver::next`).
 pub fn next(driver: &mut Driver, todo: &mut FqTodo) -> u32
     ensures { IsDriverNext todo.old todo.new driver.old result driver.new }
 {
@@ -129,7 +129,7 @@ pub fn next(driver: &mut Driver, todo: &mut FqTodo) -> u32
     status::OK
 }
 
-// Reports what was done under this number; 0 reports nothing.
+// Reports that the action with this number was done; 0 reports nothing.
 fn report(driver: &mut Driver, number: u64, packets: u32) -> u32
     ensures { IsTodoReport number packets driver.old result driver.new }
 {
@@ -143,7 +143,7 @@ fn report(driver: &mut Driver, number: u64, packets: u32) -> u32
     }
 }
 
-/// Reports that what `todo` says was done (`Driver::done`).
+/// Reports that the action in `todo` was done (`Driver::done`).
 pub fn done(driver: &mut Driver, todo: &FqTodo) -> u32
     ensures { IsDriverDone todo.now driver.old result driver.new }
 {
@@ -199,7 +199,7 @@ pub fn stop(driver: &mut Driver, device: u32) -> u32
     }
 }
 
-// The number of a device's state (`enum fq_device_state`).
+// Returns the number of a device's state (`enum fq_device_state`).
 fn state_of(device: DriverDevice) -> u32
     ensures { result ≡ device_state_in device.stage }
 {

@@ -1,4 +1,4 @@
-//! C's handles.
+//! The handles of C programs.
 ghost use Rattle.std.specs.Prelude.{◌≡◌, Option, None, Some, is_some, IfSome, IsNone};
 ghost use Rattle.c_handles.specs.declared.body.Object.{Object};
 
@@ -8,18 +8,18 @@ use crate::parts::RawBox;
 use std::alloc::Global;
 use std::mem;
 
-/// A handle in C's memory: `struct fq_handle`. Bytes that are all 0 are a handle to nothing.
+/// A handle in the C program's memory: `struct fq_handle`. If its bytes are all 0, it has no object.
 #[repr(C)]
 #[derive(Drop)]
 pub struct FqHandle {
     set: bool,
-    /// Its object.
+    /// The object that it owns, if there is one.
     pub held: OwnedPtr,
     ghost is_set: { is_some held.body ≡ set },
 }
 
 impl FqHandle {
-    /// Returns a handle to nothing.
+    /// Returns a handle without an object.
     #[inline]
     fn none(alloc: Global) -> FqHandle
         ensures { result.held.body ≡ None }
@@ -30,7 +30,7 @@ impl FqHandle {
         }
     }
 
-    /// Returns a handle to this object.
+    /// Returns a handle with this object.
     #[inline]
     fn of(body: Box<Object, Global>) -> FqHandle
         ensures { result.held.body ≡ Some body.value }
@@ -41,7 +41,7 @@ impl FqHandle {
         }
     }
 
-    /// Returns whether it has an object.
+    /// Returns whether the handle has an object.
     #[inline]
     pub fn is_set(&self) -> bool
         ensures { result ≡ is_some self.now.held.body }
@@ -62,7 +62,7 @@ impl FqHandle {
         }
     }
 
-    /// Takes out its object.
+    /// Takes the object out of the handle.
     #[inline]
     pub fn take(&mut self, alloc: Global) -> Option<Box<Object, Global>>
         ensures some { IfSome result (λ b. self.old.held.body ≡ Some b.value) }
@@ -72,7 +72,7 @@ impl FqHandle {
         mem::replace(self, FqHandle::none(alloc)).open()
     }
 
-    /// Sets the object of a handle to nothing.
+    /// Puts an object into a handle that has none.
     #[inline]
     pub fn put(&mut self, body: Box<Object, Global>)
         ensures { self.new.held.body ≡ Some body.value }

@@ -9,7 +9,7 @@ use std::alloc::Global;
 use std::marker::Model;
 use std::ptr;
 
-/// Owns the value at the pointer, or nothing. Its drop would leak the value: open it first.
+/// A pointer that owns the value to which it points, or nothing. Dropping it would leak the value, so take the value out first.
 #[repr(C)]
 #[derive(Drop)]
 pub struct OwnedPtr {
@@ -26,7 +26,7 @@ impl Model for OwnedPtr {
 unsafe impl Send for OwnedPtr {}
 
 impl OwnedPtr {
-    /// Returns an owning pointer from a box's parts.
+    /// Returns an owning pointer with the fields of a box.
     #[inline]
     pub fn of_parts(parts: RawBox<Object, Global>) -> OwnedPtr
         ensures { result.body ≡ Some parts.value }
@@ -38,7 +38,7 @@ impl OwnedPtr {
         }
     }
 
-    /// Returns the parts of the box, if there is one.
+    /// Returns the fields of a box, if the pointer owns a value.
     #[inline]
     pub fn into_parts(self) -> RawBox<Object, Global>
         requires { (x : Object) × (self.body ≡ Some x) }

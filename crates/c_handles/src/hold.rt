@@ -1,4 +1,4 @@
-//! The state of a caller of a shared instance: its type, at run time.
+//! The state of a caller of a shared instance: what its type says in Rattle is a value here.
 ghost use Rattle.std.specs.Prelude.{◌≡◌};
 ghost use Rattle.c_handles.specs.SeatCalls.{SeatAnswers, SeatLooks, hold_counts};
 ghost use Rattle.c_handles.specs.Seats.{SitsAt, IsResting, IsGrantedCaller, IsPolling, IsBusy};
@@ -34,15 +34,15 @@ pub enum SeatCall {
 
 /// The state of a caller.
 pub enum CallerState {
-    /// It owns nothing.
+    /// The caller owns nothing.
     Rests(Caller),
-    /// It has to hand the instance over.
+    /// The caller was granted the instance, and has to queue it.
     Granted(Granted),
-    /// It polls.
+    /// The caller polls the instance.
     Polls(Polling),
-    /// It busy polls.
+    /// The caller busy polls the instance.
     Busy(Busy),
-    /// It is taken out for a call.
+    /// The caller is taken out for a call.
     Gone,
 }
 
@@ -107,8 +107,9 @@ impl CallerState {
         }
     }
 
-    // The four functions that follow write the state from which the caller was taken out, and return the status. They are
-    // functions of their own so that each write occurs once. What they take out shows the compiler that nothing is dropped.
+    // The four functions below write the state from which the caller was taken out, and return the status. Each is a function
+    // of its own, so that the write occurs once in the machine code. The match on the old state shows the compiler that nothing
+    // is dropped.
     #[inline(always)]
     fn rest(&mut self, caller: Caller, answer: u32) -> u32
         requires { self.old ≡ hold.Gone }

@@ -1,4 +1,4 @@
-//! The producer's end of a ring, with its counts.
+//! The input end of a ring, with its counts.
 ghost use Rattle.std.specs.Prelude.{◌≡◌, ◌⊎◌, ◌<◌, ◌≤◌, ◌-◌, ◌++◌, [], ◌∷◌, length, take, min};
 ghost use Rattle.rx_ring.specs.ReceiveRing.{capped};
 ghost use Rattle.rx_ring.specs.Ends.{put_list, capacity_of, SameIn};
@@ -8,17 +8,17 @@ ghost use Rattle.c_handles.specs.Status.{FULL, OK};
 use crate::status;
 use rx_ring::{Packet, RxIn};
 
-/// The state of the input of a ring: `struct fq_ring_shown`.
+/// The state of a ring's input: `struct fq_ring_shown`.
 #[repr(C)]
 #[derive(Clone, Copy)]
 pub struct FqRingShown {
-    /// The packets that were put so far; it saturates.
+    /// The packets that were put so far; the count saturates.
     pub put: u64,
     /// How many packets the ring can hold.
     pub places: usize,
 }
 
-/// The producer's end of a ring.
+/// The input end of a ring.
 #[derive(Drop)]
 pub struct RingInput {
     end: RxIn,
@@ -38,7 +38,7 @@ impl RingInput {
         RingInput { end, shown }
     }
 
-    /// Returns only the end.
+    /// Returns the end, without its counts.
     pub fn into_end(self) -> RxIn
         ensures { result ≡ self.end }
     {
@@ -46,14 +46,14 @@ impl RingInput {
         end
     }
 
-    /// Its state.
+    /// Returns the state of the input.
     pub fn shown(&self) -> FqRingShown
         ensures { result ≡ shown_of self.now.end }
     {
         self.shown
     }
 
-    /// Like `RxIn::put`: returns ok, or full.
+    /// Like `RxIn::put`: returns OK or FULL.
     pub fn put(&mut self, packet: Packet) -> u32
         ensures ring { SameIn self.old.end self.new.end }
         ensures answers { (result ≡ OK) ⊎ (result ≡ FULL) }

@@ -1,5 +1,6 @@
 //! The objects of C's handles: what a handle refers to, how its object is taken out for a call and put back, and the effect of
-//! calls on a seat, a controller and a poll list in every state. The exports are in `napi_c`.
+//! calls on the callers and the controller of a shared instance and on a poll list, in every state. In C a caller of a shared
+//! instance is called a seat (`fq_seat_..`), and names here follow that. The exports are in `napi_c`.
 #![tactic(auto)]
 
 mod answers;

@@ -18,7 +18,7 @@ pub struct FqRunReport {
     pub squeezed: bool,
 }
 
-/// A poll list of one thread, and the run over it, if there is one, which is stored here.
+/// A poll list of one thread, and the run over it, which is stored here while it is in progress.
 #[derive(Drop)]
 pub struct ListObject {
     pub(crate) list: PlainList,

@@ -1,4 +1,4 @@
-//! The state of the controller of a shared instance: its type, at run time.
+//! The state of the controller of a shared instance: what its type says in Rattle is a value here.
 ghost use Rattle.std.specs.Prelude.{◌≡◌};
 ghost use Rattle.c_handles.specs.SeatCalls.{ControlAnswers, power_counts};
 ghost use Rattle.c_handles.specs.Seats.{ControlsAt};
@@ -19,7 +19,7 @@ pub enum ControlCall {
     TryTake,
 }
 
-/// What the controller did last.
+/// The state of a controller.
 pub enum ControlState {
     /// Disabled.
     Off(Control<Off>),
@@ -27,7 +27,7 @@ pub enum ControlState {
     On(Control<On>),
     /// A disable is pending.
     Marked(Control<Marked>),
-    /// It is taken out for a call.
+    /// The controller is taken out for a call.
     Gone,
 }
 

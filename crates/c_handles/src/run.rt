@@ -1,4 +1,4 @@
-//! A polling run whose polls the C caller makes, one by one.
+//! A polling run whose polls the C program makes, one by one.
 ghost use Rattle.std.specs.Prelude.{◌≡◌, ◌≢◌, ◌+◌, ◌<◌, ◌≤◌, ◌↔◌, ◌++◌, [], ◌∷◌, List, Some, None, is_some, true, length};
 ghost use Rattle.poll_runs.specs.Polls.{Poll, work_of};
 ghost use Rattle.poll_runs.specs.Driven.{and_poll};
@@ -12,7 +12,7 @@ use crate::status;
 use napi_model::Kind;
 use poll_runs::{Next, Once, PlainList, PollList, PollingRun};
 
-// Returns how a poll ended, by its number in C (`enum fq_next`).
+// Returns how a poll ended, from its number in C (`enum fq_next`).
 fn next_of(number: u32) -> Option<Next>
     ensures { result ≡ next_in number }
 {
@@ -105,7 +105,7 @@ impl ListObject {
         self.runs && self.place.asked().is_none()
     }
 
-    /// Sets the number to poll next, or returns that the run is over (`PollingRun::next`).
+    /// Sets `id` to the number to poll next, or returns DONE if the run is over (`PollingRun::next`).
     pub fn next(&mut self, id: &mut u32) -> u32
         ensures going { (start : _) (polls : List Poll) → Runs start polls self.old
             → Runs start polls self.new }
@@ -129,7 +129,7 @@ impl ListObject {
         }
     }
 
-    // Returns whether the number that was polled would return to a list that has it already.
+    // Returns whether the number that was polled would go back to a list that has it already.
     fn is_doubled(&self, id: u32, next: Next) -> bool
         ensures { result ≡ is_doubled self.now (Some id) next }
     {
@@ -139,7 +139,7 @@ impl ListObject {
         }
     }
 
-    /// Reports what the poll did, and how it ended (`PollingRun::polled`).
+    /// Reports the outcome of a poll (`PollingRun::polled`).
     pub fn polled(&mut self, work: u32, next: u32) -> u32
         ensures status { result ≡ polled_status self.old work next }
         ensures going { (start : _) (polls : List Poll) (id : _) (n : Next) → result ≡ OK
@@ -189,7 +189,7 @@ impl ListObject {
         }
         let done = self.place.finish(&mut self.list);
         self.runs = false;
-        // this shows that it holds at most 64 numbers
+        // this proves that the list holds at most 64 numbers
         let _few = self.list.ids();
         *report = FqRunReport {
             polls: done.polls,

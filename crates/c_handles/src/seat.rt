@@ -5,6 +5,7 @@ ghost use Rattle.c_handles.specs.Answers.{count_answer};
 ghost use Rattle.c_handles.specs.Status.{OK};
 ghost use Rattle.c_handles.specs.SeatCalls.{SeatAnswers, SeatLooks, ControlAnswers, SeatPolls, hold_counts, power_counts};
 ghost use Rattle.c_handles.specs.Seats.{SitsAt, ControlsAt, sits_prop, controls_prop};
+ghost use Rattle.poll_runs.specs.Ranges.{IsWeight};
 
 use crate::answers::FqAnswers;
 use crate::hold::{CallerState, SeatCall};
@@ -17,7 +18,7 @@ use std::alloc::Global;
 use std::mem;
 use std::sync::Arc;
 
-/// An instance that is shared.
+/// The instance, shared by the handles of its callers and its controller.
 pub struct Shared {
     /// The instance.
     pub napi: Napi,
@@ -31,7 +32,7 @@ impl Drop for Shared {
 }
 
 impl Shared {
-    /// Returns the instance, when it isn't shared any more.
+    /// Returns the instance, after the other handles were freed.
     pub fn into_napi(self) -> Napi
         ensures { result ≡ self.napi }
     {
@@ -40,7 +41,7 @@ impl Shared {
     }
 }
 
-/// A caller with its instance.
+/// A caller, with its instance.
 #[derive(Drop)]
 pub struct CallerObject {
     /// Its instance.
@@ -49,12 +50,12 @@ pub struct CallerObject {
     pub hold: CallerState,
     /// The counts of the results of its calls.
     pub answers: FqAnswers,
-    /// It belongs to that instance.
+    /// Proof that the caller belongs to that instance.
     pub ghost seat: { SitsAt (arc_value napi).napi hold } by { sits_prop (arc_value napi).napi hold },
 }
 
 impl CallerObject {
-    /// Makes a call, and returns its status.
+    /// Makes a call, counts its result, and returns its status.
     #[inline(always)]
     pub fn step(&mut self, call: SeatCall) -> u32
         ensures made { SeatAnswers call self.old.hold result self.new.hold }
@@ -83,7 +84,7 @@ impl CallerObject {
     /// Like `Polling::poll` and `Busy::poll`.
     #[inline]
     pub fn poll(&mut self, weight: usize, batch: &mut Batch) -> u32
-        requires { (1 ≤ weight) × (weight ≤ 64) }
+        requires { IsWeight weight }
         ensures polls { SeatPolls weight batch.new.items self.old.hold result self.new.hold }
         ensures room { result ≡ OK → length batch.new.items ≤ weight }
         ensures answers { self.new.answers ≡ self.old.answers }
@@ -102,14 +103,14 @@ impl CallerObject {
     }
 }
 
-/// The controller with its instance.
+/// The controller, with its instance.
 #[derive(Drop)]
 pub struct Controller {
     /// Its instance.
     pub napi: Arc<Shared, Global>,
-    /// What it did last.
+    /// Its state.
     pub power: ControlState,
-    /// It belongs to that instance.
+    /// Proof that the controller belongs to that instance.
     pub ghost seat: { ControlsAt (arc_value napi).napi power } by { controls_prop (arc_value napi).napi power },
 }
 

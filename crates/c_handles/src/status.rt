@@ -1,9 +1,9 @@
-//! The statuses that calls return, no number twice (`enum fq_status`).
+//! The statuses that calls return (`enum fq_status`). Each number is used once.
 
 /// The call succeeded, without another result.
 pub const OK: u32 = 0;
 
-/// Schedule: the caller owns the instance, and has to hand it over.
+/// Schedule: the caller owns the instance, and has to queue it.
 pub const GRANTED: u32 = 16;
 
 /// Schedule: a poll is requested already, and another one follows.
@@ -12,25 +12,25 @@ pub const MISSED: u32 = 17;
 /// Schedule: a disable is pending, and no poll was requested.
 pub const DISABLED: u32 = 18;
 
-/// Take: the caller owns it.
+/// Take: the caller owns the instance.
 pub const TAKEN: u32 = 19;
 
-/// Take: it isn't in that queue.
+/// Take: the instance isn't in that queue.
 pub const NOT_THERE: u32 = 20;
 
-/// Complete: no caller owns it any more.
+/// Complete: no caller owns the instance any more.
 pub const RELEASED: u32 = 21;
 
-/// Complete: a request was missed, and the caller has to hand it over again.
+/// Complete: a request was missed, and the caller has to queue the instance again.
 pub const AGAIN: u32 = 22;
 
-/// Complete: it is busy polled, and the caller keeps polling.
+/// Complete: the instance is busy polled, and the caller keeps polling.
 pub const HELD: u32 = 23;
 
-/// Take of an idle instance: a caller owns it.
+/// Take of an idle instance: it isn't idle, because a caller owns it.
 pub const BUSY: u32 = 24;
 
-/// Shared instances: another thread interfered, and nothing is decided.
+/// Calls on a shared instance: another thread interfered, and nothing is decided.
 pub const CHANGED: u32 = 25;
 
 /// Put and push: there is no room.
@@ -39,13 +39,13 @@ pub const FULL: u32 = 26;
 /// Runs: no poll is left.
 pub const DONE: u32 = 27;
 
-/// Send: the limit has stopped the queue.
+/// Send: the queue limit has stopped the queue.
 pub const STOPPED: u32 = 28;
 
-/// Done: the ring holds fewer packets.
+/// Done: the ring holds fewer packets than were reported as complete.
 pub const MORE_THAN_SENT: u32 = 29;
 
-/// Driver: this isn't due, and nothing has changed.
+/// Driver: this action isn't due, and nothing has changed.
 pub const NOT_DUE: u32 = 30;
 
 /// The call isn't allowed in the object's state.
@@ -63,28 +63,28 @@ pub const IN_USE: u32 = 111;
 /// Out of memory.
 pub const OUT_OF_MEMORY: u32 = 112;
 
-/// A ring's capacity is 1 to 65536.
+/// A ring's capacity isn't 1 to 65536.
 pub const BAD_CAPACITY: u32 = 113;
 
-/// A weight is 1 to 64.
+/// A weight isn't 1 to 64.
 pub const BAD_WEIGHT: u32 = 114;
 
 /// The array is shorter than the weight.
 pub const NO_ROOM: u32 = 115;
 
-/// Budget and window are 1 to 65535.
+/// A budget or a window isn't 1 to 65535.
 pub const BAD_BUDGET: u32 = 116;
 
-/// A shared instance has 2 to 8 callers, and a driver 1 to 64 devices.
+/// A count of callers isn't 2 to 8, or a count of devices isn't 1 to 64.
 pub const BAD_COUNT: u32 = 117;
 
-/// No end of a poll has this number.
+/// No outcome of a poll (`enum fq_next`) has this number.
 pub const BAD_NEXT: u32 = 118;
 
-/// A poll processes at most its weight.
+/// A poll is reported with more packets than its weight.
 pub const BAD_WORK: u32 = 119;
 
-/// The driver has no device of this number.
+/// The driver has no device with this number.
 pub const BAD_DEVICE: u32 = 121;
 
 /// A struct's size isn't one that the library knows.

@@ -1,4 +1,4 @@
--- How many calls of a kind are made in a sequence of calls.
+-- How many calls of one kind a sequence of calls contains.
 use Rattle.std.proofs.Common.{◌≡◌, ℕ, ◌+◌, Bool, false, cond, List, [], ◌∷◌, ◌++◌, flat_map, refl, sym, ap, ◌∙◌, arith}
 use Rattle.napi_model.specs.declared.event.{Call.Call, Event.Event, Operation.{Operation, TheVariants.{Look, Schedule, Take, Complete}}}
 use Rattle.napi_model.specs.declared.{event.{Prep.Prep, Done.Done}, state.{Seen.Seen, Kind.Kind}}
@@ -12,7 +12,7 @@ count_joined f (x ∷ xs) ys =
     let e = count_joined f xs ys in
     omega (arith, e)
 
--- failed attempts are looks
+-- the operations of a failed attempt are looks, which aren't counted
 pub lost_none : {c : Call} (f : Operation → Bool) → ((x : Seen) → f (Look x) ≡ false) → (n : ℕ) (ts : List (Lost c)) (os : List Operation)
     → count f (events n (flat_map looks ts ++ os)) ≡ count f (events n os)
 lost_none f dull n [] os = refl
@@ -30,7 +30,7 @@ then a b =
     let x = a.own in
     let y = b.own in record { seat = seat_same a.seat b.seat; own = omega (arith, x, y) }
 
--- a call's operations
+-- the number of counted operations that a call made
 pub made : (f : Operation → Bool) (n : ℕ) {p q : Pass} {os : List Operation} → Made p os q → count f (events (pass_number p) os) ≡ n
     → Calls f n p q
 made f n {p} {q} {os} m is = record {
@@ -38,7 +38,7 @@ made f n {p} {q} {os} m is = record {
   own = ap (count f) m.grown ∙ count_joined f (own_list p) (events (pass_number p) os) ∙ ap (λ (k : ℕ). count f (own_list p) + k) is;
 }
 
--- what a seat has made since it was new is what its number has in the history
+-- the calls that a pass has made since it was new are those of its number in the history
 pub held : {n : Napi} {c k : ℕ} {f : Operation → Bool} {q : Pass} (h : List Event) → HasCalled n c f k q
     → own (pass_number q) h ≡ own_list q
     → count f (own c h) ≡ k
@@ -67,7 +67,7 @@ completed {p} {q} d ts x m = made is_take 0 m (lost_none is_take (λ y. refl) (p
 pub takes : {p q : Pass} {k : Kind} {b : Bool} → Made p (Take k b ∷ []) q → Calls is_take 1 p q
 takes m = made is_take 1 m refl
 
--- another operation
+-- an operation of another kind isn't counted
 pub apart : {p q : Pass} (f : Operation → Bool) (o : Operation) → f o ≡ false → Made p (o ∷ []) q → Calls f 0 p q
 apart f o dull m =
     let a = ap {B = ℕ} (λ (b : Bool). cond b 1 0) dull in

@@ -1,4 +1,4 @@
--- What a sequence of calls says about a caller's own list.
+-- What a sequence of calls adds to a caller's own list.
 use Rattle.std.proofs.Common.{◌≡◌, List, [], ◌∷◌, ◌++◌, ℕ, true, refl}
 use Rattle.napi_model.specs.declared.{event.{Call.Call, Operation.{Operation, TheVariants.{Look, TakeDisable, Unmark}}}, state.Seen.Seen}
 use Rattle.{napi_model.specs.Word.word_of, napi_word.specs.declared.table.Pass.Pass}
@@ -21,7 +21,7 @@ none_expected looks us t = t
 none_expected changed us t = t
 none_expected (does o) us t = t
 
--- one call after another
+-- two sequences of calls, one after the other
 pub then : {p q r : Pass} {ts : List ExpectedStep} {u : ExpectedStep} {us : List ExpectedStep} → OwnGrewBy p ts q → OwnGrewBy q (u ∷ us) r
     → OwnGrewBy p (ts ++ u ∷ us) r
 then {p} {q} {r} {ts} {u} {us} d e = by e.operations e.expected e.made
@@ -34,7 +34,7 @@ then {p} {q} {r} {ts} {u} {us} d e = by e.operations e.expected e.made
       made = more o ps d.made m;
     }
 
--- one operation, a look, one after its look, and two looks of a failed attempt
+-- the kinds of steps: one operation; a look; an operation after its look; and two looks of a failed attempt
 pub one : {p q : Pass} (o : Operation) → Made p (o ∷ []) q → OwnGrewBy p (does o ∷ []) q
 one o m = record { operations = o ∷ []; expected = (refl, tt); made = m }
 

@@ -23,17 +23,17 @@ abbrev pub is_take : Operation → Bool
 is_take (Take kind reply) = true
 is_take _ = false
 
--- from p on this many of them were made, on the same seat
+-- between p and q, which are passes of the same caller, this many such calls were made
 pub record Calls (f : Operation → Bool) (n : ℕ) (p q : Pass) : Type 0 where
   pub seat : SameSeat p q
   pub own : count f (own_list q) ≡ count f (own_list p) + n
 
--- the seat with this number of the instance has made this many since it was new
+-- the caller with this number has made this many such calls since the instance was made
 abbrev pub HasCalled : Napi → ℕ → (Operation → Bool) → ℕ → Pass → Type 0
 HasCalled napi c f n q = (p : Pass) × IsNewSeat napi c p × Calls f n p q
 
--- one legal history of three callers and the controller: 1000 schedules by each of the first two, and this many takes by the
--- third
+-- one legal history of three callers and the controller has 1000 schedules by each of the first two callers, and this many
+-- takes by the third
 pub record HoldCalls (takes : ℕ) : Type 0 where
   pub history : List Event
   pub legal : LegalHistory 3 (opening 3) history

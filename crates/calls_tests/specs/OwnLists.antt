@@ -1,4 +1,4 @@
--- What a run says about a caller's own list.
+-- What a test's run shows of a caller's own list.
 use Rattle.std.specs.Prelude.{◌≡◌, ◌≢◌, ℕ, List, [], ◌∷◌, Option, Some, None}
 use Rattle.napi_model.specs.declared.event.Operation.{Operation}
 use Rattle.napi_model.specs.declared.event.Operation.TheVariants.{Look}
@@ -9,7 +9,7 @@ use Rattle.napi_calls.specs.declared.answers.TryPrep.{TryPrep}
 use Rattle.napi_calls.specs.Made.{Made}
 use Rattle.napi_calls.specs.Calls.{Prepares}
 
--- a look that showed this word, a look within a call, two looks of a failed attempt, or another operation
+-- an expected step: a look that showed this word; a look within a call; the two looks of a failed attempt; or another operation
 pub data ExpectedStep : Type 0 where
   says : ℕ → ExpectedStep
   looks : ExpectedStep
@@ -24,13 +24,13 @@ AreExpected (changed ∷ ts) (Look x ∷ Look y ∷ os) = (y ≢ x) × AreExpect
 AreExpected (does o ∷ ts) (p ∷ os) = (p ≡ o) × AreExpected ts os
 AreExpected _ _ = ⊥
 
--- from p to q the own list grew by these
+-- between p and q, the own list grew by these steps
 pub record OwnGrewBy (p : Pass) (ts : List ExpectedStep) (q : Pass) : Type 0 where
   pub operations : List Operation
   pub expected : AreExpected ts operations
   pub made : Made p operations q
 
--- a caller that schedules while another is within a call, and the result
+-- a caller that schedules while another caller is within a call, and the result of its call
 abbrev pub SchedulesMeanwhile : Option Caller → Option TryPrep → Type 0
 SchedulesMeanwhile (Some c) (Some a) = Prepares c.pass a
 SchedulesMeanwhile (Some c) None = ⊥

@@ -1,4 +1,4 @@
-//! An instance of two callers, and calls with the result that a test expects; any other result fails the test.
+//! An instance with two callers, and calls that return what a test expects; any other result fails the test.
 
 ghost use Rattle.std.specs.Prelude.{◌≡◌, ◌≤◌, ℕ, [], ◌∷◌, length, slice_get, Some, true, false};
 ghost use Rattle.rx_ring.specs.Ends.{IsOneRing, received_list};
@@ -21,9 +21,9 @@ use rx_ring::{Batch, Packet, RxCtx, RxIn, ring};
 use std::alloc::Global;
 use std::process::Abort;
 
-/// A disabled instance over a ring of four, with its two callers.
+/// A disabled instance with a ring for four packets, and its two callers.
 pub struct Bed {
-    /// The other end of its ring.
+    /// The input end of its ring.
     pub input: RxIn,
     /// The instance.
     pub napi: Napi,
@@ -74,7 +74,7 @@ pub fn seat_two(
     }
 }
 
-/// Returns a new bed.
+/// Returns a new instance with its ring and its callers.
 pub fn make_bed(rt: &impl Abort, alloc: Global) -> Bed
     ensures first { IsNewSeat result.napi 0 result.first.pass }
     ensures second { IsNewSeat result.napi 1 result.second.pass }
@@ -93,7 +93,7 @@ pub fn make_bed(rt: &impl Abort, alloc: Global) -> Bed
     seat_two(rt, input, napi, callers, control)
 }
 
-/// Makes a look, which has to show this word.
+/// Reads the state word, which has to be this one.
 pub fn looked(rt: &impl Abort, napi: &Napi, caller: &mut Caller, word: u64)
     requires { IsSeatOf napi.now caller.old.pass }
     ensures seat { IsSeatOf napi.now caller.new.pass }
@@ -106,7 +106,7 @@ pub fn looked(rt: &impl Abort, napi: &Napi, caller: &mut Caller, word: u64)
     }
 }
 
-/// Enables the instance, which has to be decided at the first attempt.
+/// Enables the instance; the first attempt has to succeed.
 pub fn enabled(rt: &impl Abort, napi: &Napi, control: Control<Off>, threaded: bool) -> Control<On>
     requires { IsSeatOf napi.now control.pass }
     ensures seat { IsSeatOf napi.now result.pass }
@@ -145,7 +145,7 @@ pub fn missed(rt: &impl Abort, napi: &Napi, caller: Caller) -> Caller
     caller
 }
 
-/// Hands the instance over.
+/// Queues the granted instance.
 pub fn handed(napi: &Napi, granted: Granted, kind: Kind) -> Caller
     requires { IsSeatOf napi.now granted.pass }
     ensures seat { IsSeatOf napi.now result.pass }
@@ -180,7 +180,7 @@ pub fn not_there(rt: &impl Abort, napi: &Napi, caller: Caller, kind: Kind) -> Ca
     caller
 }
 
-/// Completes a poll, which has to be granted again.
+/// Completes a poll; a request has to have been missed.
 pub fn again(rt: &impl Abort, napi: &Napi, polling: Polling) -> Granted
     requires { IsSeatOf napi.now polling.pass }
     ensures seat { IsSeatOf napi.now result.pass }

@@ -57,7 +57,7 @@ pub(crate) fn stopped(rt: &impl Abort, napi: &Napi, busy: Busy) -> Polling
     polling
 }
 
-// Number 0 busy polls. Number 1's request is missed, its take from the list fails, and so does its busy poll.
+// Caller 0 busy polls. Caller 1's request is missed, and it can neither take the instance from the list nor busy poll it.
 fn miss_while_busy(rt: &impl Abort, napi: &Napi, first: Caller, second: Caller) -> (Caller, Caller)
     requires first { IsSeatOf napi.now first.pass }
     requires second { IsSeatOf napi.now second.pass }
@@ -90,7 +90,7 @@ fn miss_while_busy(rt: &impl Abort, napi: &Napi, first: Caller, second: Caller) 
     (first, second)
 }
 
-// Number 0 busy polls while the controller disables the instance. Number 1 sets it threaded between the two steps of the stop.
+// Caller 0 busy polls while the controller disables the instance. Caller 1 sets it threaded between the two steps of the stop.
 fn set_within_a_stop(
     rt: &impl Abort,
     napi: &Napi,
@@ -164,7 +164,7 @@ fn busy_polling_holds_what_is_missed(rt: HostRuntime) -> Result<(), Fail> {
     Ok(())
 }
 
-// Number 1 schedules between the two steps of number 0's stop.
+// Caller 1 schedules between the two steps of caller 0's stop.
 fn schedule_within_a_stop(
     rt: &impl Abort,
     napi: &Napi,
@@ -264,7 +264,7 @@ fn busy_polled(rt: &impl Abort, napi: &Napi, busy: &mut Busy, packets: &[Packet]
     assert_eq!(rt; batch.as_slice(), packets);
 }
 
-// With the waiting form, number 0 takes the instance to busy poll what was put; a poll that it completes is held.
+// Caller 0 takes the instance to busy poll it, by the form of the call that waits; a completion returns Held.
 fn busy_twice(rt: &(impl Wait + Abort), napi: &Napi, first: Caller) -> Busy
     requires { IsSeatOf napi.now first.pass }
     ensures { IsSeatOf napi.now result.pass }
@@ -279,7 +279,7 @@ fn busy_twice(rt: &(impl Wait + Abort), napi: &Napi, first: Caller) -> Busy
     busy
 }
 
-// With the waiting form, number 1 can't take it.
+// Caller 1 can't take the instance, by the form of the call that waits.
 fn not_taken(rt: &(impl Wait + Abort), napi: &Napi, second: Caller) -> Caller
     requires { IsSeatOf napi.now second.pass }
     ensures { IsSeatOf napi.now result.pass }
@@ -291,8 +291,8 @@ fn not_taken(rt: &(impl Wait + Abort), napi: &Napi, second: Caller) -> Caller
     second
 }
 
-// With the waiting forms, and packets: what is polled in between is what was put, and what is put after the ends of the ring
-// met isn't polled by the next poll.
+// with the forms that wait, and with packets: polls return what was put before them; a poll right after the ends of the ring
+// met doesn't return what was put since
 #[test]
 fn busy_polls_give_what_was_put(rt: HostRuntime) -> Result<(), Fail> {
     let Bed {

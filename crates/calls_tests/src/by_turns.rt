@@ -1,4 +1,4 @@
-//! Two callers in two threads, which alternate by a lock: each reply depends on the turns before it.
+//! Two callers in two threads, which alternate by a lock. Each reply depends on the calls made before it.
 
 ghost use Rattle.std.specs.Prelude.{[], ◌∷◌, true, false};
 ghost use Rattle.napi_model.specs.declared.state.Kind.TheVariants as kind;
@@ -41,7 +41,8 @@ fn end_turn<R: Wait>(rt: &R, turns: &Turns, made: u32) {
     turns.changed.notify_all();
 }
 
-// Number 0 has the turns 0, 2 and 4: it is granted the instance, misses it, and takes and releases what number 1 queues.
+// Caller 0 has the turns 0, 2 and 4: it is granted the instance, its next request is missed, and it takes and releases the
+// instance that caller 1 queues.
 fn first_turns<R: Wait + Abort>(rt: &R, napi: &Napi, first: Caller, turns: &Turns) -> Caller
     requires { IsSeatOf napi.now first.pass }
     ensures { OwnGrewBy first.pass
@@ -64,7 +65,7 @@ fn first_turns<R: Wait + Abort>(rt: &R, napi: &Napi, first: Caller, turns: &Turn
     released(rt, napi, poller)
 }
 
-// Number 1 has the turns 1 and 3: it takes the instance, and is granted it again and queues it.
+// Caller 1 has the turns 1 and 3: it takes the instance, is granted it again, and queues it.
 fn second_turns<R: Wait + Abort>(rt: &R, napi: &Napi, second: Caller, turns: &Turns) -> Caller
     requires { IsSeatOf napi.now second.pass }
     ensures { OwnGrewBy second.pass

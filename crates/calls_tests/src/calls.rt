@@ -1,4 +1,4 @@
-//! Reads by the owners of an instance, and the meetings of its ring's ends that no other test makes.
+//! Reads by the owners of an instance, and meetings of its ring's ends, that no other test makes.
 
 ghost use Rattle.napi_calls.specs.Instance.{IsSeatOf};
 ghost use Rattle.napi_calls.specs.Seats.{PutsIntoRingOf};
@@ -11,7 +11,7 @@ use rx_ring::{RxIn, ring};
 use std::process::Abort;
 use std::test::Fail;
 
-// The contract of `beside` requires an end of the instance's ring.
+// The contract of `beside` requires an end of the ring of this instance.
 fn beside_of(control: &mut Control<Off>, input: &mut RxIn)
     requires { PutsIntoRingOf input.old control.old.pass }
 {
@@ -24,7 +24,7 @@ fn beside_busy(busy: &mut Busy, input: &mut RxIn)
     busy.beside(input);
 }
 
-// Number 0 is granted the instance, which number 1 polls and releases.
+// Caller 0 is granted the instance, and caller 1 polls and releases it.
 fn owners_tell(rt: &impl Abort, napi: &Napi, first: Caller, second: Caller) -> (Caller, Caller)
     requires { IsSeatOf napi.now first.pass × IsSeatOf napi.now second.pass }
     ensures { IsSeatOf napi.now result.0.pass × IsSeatOf napi.now result.1.pass }
@@ -38,7 +38,7 @@ fn owners_tell(rt: &impl Abort, napi: &Napi, first: Caller, second: Caller) -> (
     (first, released(rt, napi, polling))
 }
 
-// It is busy polled.
+// A caller busy polls the instance.
 fn busy_tells(rt: &impl Abort, napi: &Napi, caller: Caller) -> Caller
     requires { IsSeatOf napi.now caller.pass }
     ensures { IsSeatOf napi.now result.pass }

@@ -1,4 +1,4 @@
-//! What another caller does between the look and the exchange of one call.
+//! Steps of another caller between the read and the compare-exchange of a call.
 
 ghost use Rattle.std.specs.Prelude.{◌≡◌, [], ◌∷◌, is_none, true, false, Some};
 ghost use Rattle.std.specs.Option.{ForSome};
@@ -83,7 +83,7 @@ impl Between for SetsThreadedBetween<'_> {
     }
 }
 
-// Number 1 schedules between the two steps of number 0's schedule.
+// Caller 1 schedules between the two steps of caller 0's schedule.
 fn schedule_at_once(
     rt: &impl Abort,
     napi: &Napi,
@@ -142,7 +142,7 @@ fn schedule_loses_to_a_schedule(rt: HostRuntime) -> Result<(), Fail> {
     Ok(())
 }
 
-// Number 0 schedules between the two steps of number 1's completion.
+// Caller 0 schedules between the two steps of caller 1's completion.
 fn schedule_within_a_completion(
     rt: &impl Abort,
     napi: &Napi,
@@ -201,7 +201,7 @@ fn complete_loses_to_a_schedule(rt: HostRuntime) -> Result<(), Fail> {
     Ok(())
 }
 
-// Number 0 sets the instance threaded between the two steps by which the controller takes it.
+// Caller 0 sets the instance threaded between the two steps by which the controller takes it.
 fn set_within_a_disable(
     rt: &impl Abort,
     napi: &Napi,
@@ -258,7 +258,7 @@ fn disable_loses_to_a_setting(rt: HostRuntime) -> Result<(), Fail> {
     Ok(())
 }
 
-// Number 0 schedules between the two steps of the enable.
+// Caller 0 schedules between the two steps of the enable.
 fn schedule_within_an_enable(
     rt: &impl Abort,
     napi: &Napi,

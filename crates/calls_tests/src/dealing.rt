@@ -1,4 +1,5 @@
-//! Two pollers, each in its own thread: both batches concatenated are what was put and isn't left, each packet once.
+//! Two pollers, each in its own thread: their batches and the packets that are left are together exactly those that were put,
+//! each once.
 
 ghost use Rattle.std.specs.Prelude.{◌≡◌, List, [], length};
 ghost use Rattle.rx_ring.specs.declared.packet.Packet.{Packet};
@@ -107,7 +108,7 @@ fn both<R: Threads + Wait + Copy + Drop + Send>(
     )
 }
 
-// Two pollers, and the end: what each of them polled, and the totals of the ring.
+// Runs both pollers, and checks the end: what each of them polled, and the totals of the ring.
 fn deal<R: Threads + Wait + Abort + Copy + Drop + Send>(
     rt: R,
     alloc: Global,
@@ -147,7 +148,7 @@ fn fill(rt: &impl Abort, input: &mut RxIn)
     }
 }
 
-// Returns a new bed, with four packets in its ring.
+// Returns a new instance with four packets in its ring.
 fn filled(rt: &impl Abort, alloc: Global) -> Bed
     ensures first { IsNewSeat result.napi 0 result.first.pass }
     ensures second { IsNewSeat result.napi 1 result.second.pass }

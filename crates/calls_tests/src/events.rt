@@ -1,4 +1,4 @@
-//! Two callers that alternate, with all their events: the one history is obtained at the end.
+//! Two callers that alternate, with all their events: closing the instance returns its complete history.
 
 ghost use Rattle.std.specs.Prelude.{◌≡◌, List, [], ◌∷◌};
 ghost use Rattle.napi_model.specs.declared.event.Event.{Event};

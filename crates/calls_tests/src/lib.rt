@@ -1,4 +1,5 @@
-//! Tests of the calls on an instance that threads share, from another crate as their users are: worked runs, refusals, and threads.
+//! Tests of the calls on a shared instance, made like the code of a user of the crate: examples worked by hand, calls that
+//! fail, and threads.
 #![tactic(auto)]
 
 #[cfg(test)]

@@ -1,4 +1,4 @@
-//! Calls that fail, and the values that they return.
+//! Tests of calls that fail, and of the values that they return.
 
 use crate::bed::{
     Bed, closed, disabled, enabled, granted, handed, make_bed, released, seat_two, taken,
@@ -32,7 +32,7 @@ fn callers_out_of_range(rt: HostRuntime) -> Result<(), Fail> {
     Ok(())
 }
 
-// The first of the two callers polls the packet, and both close the instance.
+// Caller 0 polls the packet, and then the instance is closed with both callers.
 fn poll_packet(rt: &impl Abort, alloc: Global, bed: Bed) {
     let Bed {
         input: _,
@@ -63,7 +63,7 @@ fn poll_packet(rt: &impl Abort, alloc: Global, bed: Bed) {
     assert_eq!(rt; ctx.counts().packets, 1);
 }
 
-// The program `memory_tests` tests failing allocations.
+// the program `memory_tests` tests failing allocations
 #[test]
 fn an_instance_polls_what_was_put_before_it_was_made(rt: HostRuntime) -> Result<(), Fail> {
     let (mut input, ctx) = ring(rt.alloc(), 4)?;

@@ -1,4 +1,4 @@
-//! Calls that retry until an attempt decides return, even if another thread changes the word all the time and attempts fail.
+//! Calls that retry until they succeed do return, even if another thread changes the word all the time so that attempts fail.
 
 ghost use Rattle.napi_calls.specs.Instance.{IsSeatOf};
 
@@ -28,7 +28,7 @@ fn keep_setting(napi: &Napi, caller: Caller, over: &AtomicBool) -> Caller
     caller
 }
 
-// Disables and enables this often.
+// Disables and enables the instance this many times.
 fn keep_switching(rt: &impl Wait, napi: &Napi, control: Control<On>) -> Control<On>
     requires { IsSeatOf napi.now control.pass }
 {
@@ -88,7 +88,7 @@ fn poll_list(rt: &impl Wait, napi: &Napi, caller: Caller) -> Caller
     unreachable!()
 }
 
-// Busy polls and requests polls this often.
+// Busy polls and requests polls this many times.
 fn keep_polling(rt: &impl Wait, napi: &Napi, caller: Caller) -> Caller
     requires { IsSeatOf napi.now caller.pass }
 {

@@ -1,4 +1,4 @@
-//! Two interrupts, a poller and the controller, each in its own thread.
+//! Two interrupt handlers, a poller and the controller, each in its own thread.
 
 ghost use Rattle.std.specs.Prelude.{◌≡◌};
 ghost use Rattle.napi_word.specs.Passes.{SameTable};
@@ -21,7 +21,7 @@ const SCHEDULES: u64 = 1000;
 
 const TURNS: u64 = 1_000_000;
 
-// An instance with three callers over this ring.
+// An instance over this ring, with three callers.
 struct Seated {
     napi: Napi,
     first: Caller,
@@ -69,7 +69,7 @@ fn ask(rt: &impl Wait, napi: &Napi, caller: Caller) -> Caller
     }
 }
 
-// Puts a packet before each schedule, if it has a ring.
+// Schedules this many times; if it has a ring, it puts a packet before each.
 fn interrupt(
     rt: &impl Wait,
     napi: &Napi,
@@ -111,7 +111,7 @@ fn counted(batch: &Batch, in_turn: u64) -> u64 {
     next
 }
 
-// Takes the instance, if it is on the list, and polls it once; returns whether it was.
+// Takes the instance and polls it once, if it is on the list; returns whether it was.
 fn turn(
     rt: &impl Wait,
     napi: &Napi,
@@ -132,7 +132,7 @@ fn turn(
     }
 }
 
-// Polls until all others are done and the instance isn't on the list.
+// Polls until all other threads are done and the instance isn't on the list.
 #[tactic(auto, using(crate::proofs::Counting::then))]
 fn poll_all(rt: &impl Wait, napi: &Napi, caller: Caller, done: &AtomicU64) -> PolledPackets
     requires { IsSeatOf napi.now caller.pass }
@@ -176,7 +176,7 @@ fn end_poll(rt: &impl Wait, napi: &Napi, polling: Polling, work: usize) -> Calle
     }
 }
 
-// Disables and enables the instance once both interrupts have made half of their schedules.
+// Disables and enables the instance, after both interrupt handlers have made half of their schedules.
 fn switch(
     rt: &impl Wait,
     napi: &Napi,
@@ -199,7 +199,7 @@ fn switch(
     control
 }
 
-// Runs both interrupts, the poller and the controller, each in its own thread.
+// Runs both interrupt handlers, the poller and the controller, each in its own thread.
 fn play<R: Threads + Wait + Copy + Drop + Send>(
     rt: R,
     napi: &Napi,
@@ -264,7 +264,7 @@ fn play<R: Threads + Wait + Copy + Drop + Send>(
     (first, second, poller, control)
 }
 
-// Closes the instance: its one history contains each caller's calls.
+// Closes the instance: its history contains each caller's calls.
 fn closed(
     rt: &impl Abort,
     alloc: Global,

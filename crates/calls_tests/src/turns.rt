@@ -1,4 +1,4 @@
-//! Two callers that alternate, with every state word checked: the words are those of docs/FORMATS.md.
+//! Two callers that alternate. Each state word is checked: the words are those of docs/FORMATS.md.
 
 ghost use Rattle.std.specs.Prelude.{[], ◌∷◌, true, false};
 ghost use Rattle.napi_model.specs.declared.state.Kind.TheVariants as kind;
@@ -18,7 +18,8 @@ use rx_ring::{Batch, Packet};
 use std::process::Abort;
 use std::test::Fail;
 
-// Number 1 polls what number 0 was granted, and number 0 what number 1 was granted again. All looks are recorded.
+// Caller 1 polls the instance that caller 0 was granted, and caller 0 the one that caller 1 was granted again. All looks are
+// recorded.
 fn take_turns(
     rt: &impl Abort,
     napi: &Napi,
@@ -85,7 +86,7 @@ fn two_callers(rt: HostRuntime) -> Result<(), Fail> {
     Ok(())
 }
 
-// The calls that give back or take the context lose no packet: the batches concatenated are what was put.
+// calls that return or take the context lose no packets: all batches together are the packets put
 #[test]
 fn no_packet_is_thrown_away(rt: HostRuntime) -> Result<(), Fail> {
     let Bed {
@@ -126,7 +127,7 @@ fn no_packet_is_thrown_away(rt: HostRuntime) -> Result<(), Fail> {
     Ok(())
 }
 
-// The mark of `beside` ends when the context is given back: the next poller finds what was put meanwhile.
+// the mark of `beside` is cleared when the context is returned: the next poller finds what was put meanwhile
 #[test]
 fn what_is_put_behind_a_meeting_is_polled(rt: HostRuntime) -> Result<(), Fail> {
     let Bed {
@@ -158,7 +159,7 @@ fn what_is_put_behind_a_meeting_is_polled(rt: HostRuntime) -> Result<(), Fail> {
     Ok(())
 }
 
-// Number 0 sets the instance threaded and requests a poll again while number 1 polls it; number 1 queues it for the thread and
+// Caller 0 sets the instance threaded and requests another poll while caller 1 polls it. Caller 1 queues it for the thread and
 // takes it from there.
 fn hand_to_the_thread(
     rt: &impl Abort,
@@ -197,7 +198,7 @@ fn hand_to_the_thread(
     (first, released(rt, napi, poller))
 }
 
-// An instance that is set threaded while it is polled is queued for its thread, and can only be taken from there.
+// an instance that is set threaded while it is polled is queued for its thread, and can only be taken from there
 #[test]
 fn what_the_thread_has_isnt_on_the_list(rt: HostRuntime) -> Result<(), Fail> {
     let Bed {

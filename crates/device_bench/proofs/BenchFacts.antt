@@ -1,4 +1,4 @@
--- How a change of one device preserves the invariant of all devices.
+-- How a change of one device preserves the invariant of all devices of a bench.
 use Rattle.std.proofs.Common.{◌≡◌, ◌≢◌, ◌∙◌, ℕ, zero, suc, ◌+◌, ◌<◌, ◌≤◌, Bool, true, false, Option, Some, None, [], ◌∷◌, length, ◌++◌}
 use Rattle.std.{proofs.Common.{get_or, length-set, replicate, slice_set, take, drop, ap, refl, sym, arith}, specs.Prelude.{◌==◌, nat_lt}}
 use Rattle.std.proofs.lemmas.{Bool.{eqb-true, eqb-false, ltb-true, ltb-false}, List.{append-nil, drop_all, get_or-set_other, take_all}}
@@ -7,7 +7,7 @@ use Rattle.device_bench.specs.{DeviceView.DeviceView, Kept.{IsKept, is_pending_a
 use Rattle.device_bench.proofs.{DeviceFacts.settled-same, Waiting.{waiting-empty, waiting-most}}
 use Rattle.device_places.{specs.Places.{DeviceTable, at, changed, changed_from, empty}, proofs.PlaceFacts.{at-index, at-set, below-some}}
 
--- the entry of a number at which a call finds a device
+-- a call that finds a device at a number finds it in the table's entry of that number
 pub here-at : {u : Bool} {xs : DeviceTable DeviceView} {o : Option DeviceView} {d : DeviceView} (n : ℕ) → IsKept u xs → n < 17
     → o ≡ get_or xs n o → o ≡ Some d → at n xs ≡ Some d
 here-at {xs = xs} {o = o} n k below read is = at-index xs n o (omega (arith, below, k.places)) (sym read) ∙ is
@@ -19,7 +19,7 @@ pub pending-off : {u : Bool} {xs : DeviceTable DeviceView} {d : DeviceView} (n :
     → is_pending d ≡ false
 pending-off n k here off = ap is_pending_at (sym here) ∙ k.settled off n
 
--- one entry is set to a sound device, which is pending only if a disable may be
+-- one entry is replaced by a sound device, whose disable is pending only if the bench allows pending disables
 pub kept-set : (u v : Bool) (xs : DeviceTable DeviceView) (n : ℕ) (e : DeviceView) → IsKept u xs → n < length xs → is_sound e ≡ true
     → (v ≡ false → u ≡ false) → (v ≡ false → is_pending e ≡ false)
     → IsKept v (slice_set xs n (Some e))
@@ -48,16 +48,16 @@ pub kept-opened : (u : Bool) (xs : DeviceTable DeviceView) (n capacity : ℕ) �
     → IsKept u (slice_set xs n (Some (new_device capacity)))
 kept-opened u xs n capacity k below = kept-set u u xs n (new_device capacity) k below refl (λ off. off) (λ off. refl)
 
--- a change of one device that preserves both
+-- a change of one device that preserves soundness, and whether a disable is pending
 pub kept-changed : {u : Bool} {xs : DeviceTable DeviceView} {d e f : DeviceView} (n : ℕ) → IsKept u xs → at n xs ≡ Some d → e ≡ f
     → is_sound f ≡ true → is_pending f ≡ is_pending d → IsKept u (slice_set xs n (Some e))
 kept-changed {u} {xs} {d} {e} n k here is sound pending =
     kept-set u u xs n e k (below-some xs n d here) (ap is_sound is ∙ sound) (λ off. off)
     (λ off. ap is_pending is ∙ pending ∙ ap is_pending_at (sym here) ∙ k.settled off n)
 
--- ---- settling
+-- ---- trying the pending disables ("settling")
 
--- if no disable is pending, trying them changes nothing
+-- if no disable is pending, settling changes nothing
 all-settled-same : (xs : DeviceTable DeviceView) → ((n : ℕ) → is_pending_at (at n xs) ≡ false) → all_settled xs ≡ xs
 all-settled-same [] off = refl
 all-settled-same (None ∷ xs) off = ap (λ (l : DeviceTable DeviceView). None ∷ l) (all-settled-same xs (λ n. off (suc n)))
@@ -66,7 +66,7 @@ all-settled-same (Some d ∷ xs) off = rw (settled-same d (off 0), all-settled-s
 pub settled-off : (u : Bool) (xs : DeviceTable DeviceView) → IsKept u xs → u ≡ false → all_settled xs ≡ xs
 settled-off u xs k off = all-settled-same xs (k.settled off)
 
--- the first ones were tried, the others not yet
+-- the devices of the first entries were settled, the others not yet
 pub settled_to : ℕ → DeviceTable DeviceView → DeviceTable DeviceView
 settled_to n xs = all_settled (take n xs) ++ drop n xs
 
@@ -109,13 +109,13 @@ at-other f n m xs apart = by (at n xs)
     by None = refl
     by (Some d) = get_or-set_other xs n m (Some (f d)) None apart
 
--- beyond the table there is no device
+-- a number beyond the end of the table has no device
 pub at-beyond : (n : ℕ) (xs : DeviceTable DeviceView) → length xs ≤ n → at n xs ≡ None
 at-beyond n [] h = refl
 at-beyond zero (x ∷ xs) h = absurd (omega (arith, h))
 at-beyond (suc n) (x ∷ xs) h = at-beyond n xs (omega (arith, h))
 
--- none of the first ones is pending, and one more isn't
+-- if no disable of the first entries is pending, and the next one isn't either, the same holds for one more entry
 pub up-to : (n m : ℕ) (xs ys : DeviceTable DeviceView) → ys ≡ changed settled n xs → is_pending_at (at n ys) ≡ false
     → ((i : ℕ) → i < n → is_pending_at (at i xs) ≡ false) → m < n + 1 → is_pending_at (at m ys) ≡ false
 up-to n m xs ys e here before below = by (m == n) refl
@@ -127,7 +127,7 @@ up-to n m xs ys e here before below = by (m == n) refl
         ap (λ (l : DeviceTable DeviceView). is_pending_at (at m l)) e ∙ ap is_pending_at (at-other settled n m xs apart)
         ∙ before m (omega (arith, below, apart))
 
--- if no entry of the table is pending, no number is
+-- if no entry of the table has a pending disable, no number has one
 pub beyond : (n : ℕ) (xs : DeviceTable DeviceView) → length xs ≤ n → ((i : ℕ) → i < n → is_pending_at (at i xs) ≡ false) → (m : ℕ)
     → is_pending_at (at m xs) ≡ false
 beyond n xs most off m = by (nat_lt m n) refl

@@ -1,4 +1,5 @@
--- What rows and polls preserve of a device: that it is sound, whether a disable is pending, and whether it waits on the list.
+-- What rows and polls preserve of a device: that its state is sound, whether a disable is pending, and whether it waits on the
+-- list.
 use Rattle.std.proofs.Common.{◌≡◌, ◌∙◌, ℕ, zero, suc, ◌+◌, ◌≤◌, Bool, true, false, Option, Some, None, [], ◌∷◌, ◌++◌, MatchBool}
 use Rattle.std.proofs.Common.{ap, arith, length, refl, sum, sym, take}
 use Rattle.std.specs.Prelude.{◌==◌, ◌||◌, nat_lt, not, if◌then◌else◌}
@@ -20,7 +21,7 @@ use Rattle.device_transmit.specs.Counter.{raised}
 use Rattle.napi_model.specs.declared.event.Operation.TheVariants as operation
 use Rattle.poll_runs.specs.Polling as rule
 
--- an instance that isn't scheduled is on no list
+-- an instance that isn't scheduled is in no queue
 pub unheld : (p : Place) (sched : Bool) → (not (is_held p) || sched) ≡ true → sched ≡ false → is_handed Kind.List p ≡ false
 unheld Place.Listed sched h e = cc (rw e at h)
 unheld p sched h e = refl
@@ -35,13 +36,13 @@ not-listed : (p : Place) → is_handed Kind.Thread p ≡ true → is_handed Kind
 not-listed Place.Listed e = cc e
 not-listed p e = refl
 
--- the invariant from one device to the next, and how it waits on the list then
+-- the invariant holds before and after, and this says whether the device waits on the list afterwards
 pub record Stays (d e : DeviceView) (Listed : Type 0) : Type 0 where
   pub sound : is_sound e ≡ true
   pub pending : is_pending e ≡ is_pending d
   pub listed : Listed
 
--- this many entries are added to the list
+-- a step that preserves the invariant and adds this many entries to the list
 abbrev pub Keeps : DeviceView → DeviceView → ℕ → Type 0
 Keeps d e added = Stays d e (waits_on_list (Some d) + added ≡ waits_on_list (Some e))
 
@@ -50,7 +51,7 @@ Keeps d e added = Stays d e (waits_on_list (Some d) + added ≡ waits_on_list (S
 abbrev pub entries : Option Kind → ℕ
 entries handed = one_when (is_listed handed)
 
--- a scheduled instance that its owner queues
+-- a scheduled instance, which its owner queues
 hands : (threaded : Bool) (caller : ℕ) (d g : DeviceView) → g.side.napi.flags.sched ≡ true → is_pending g ≡ is_pending d
     → is_handed Kind.List d.side.napi.place ≡ false
     → Keeps d (operated caller (operation.Hand (if threaded then Kind.Thread else Kind.List)) g)
@@ -90,12 +91,12 @@ packet-keeps bytes d sound = by (ring_has_place d.side)
 
 -- ---- a poll
 
--- an instance that its poller owns, which isn't on the list
+-- the instance is owned by its poller, and isn't on the list
 pub record IsInHand (d : DeviceView) : Type 0 where
   pub sched : d.side.napi.flags.sched ≡ true
   pub off : is_handed Kind.List d.side.napi.place ≡ false
 
--- the device after a poll: an entry is added if the poll queued the instance on the list
+-- the device after a poll: it is on the list if the poll queued it there
 pub record Leaves (d e : DeviceView) (next : Next) : Type 0 where
   pub sound : is_sound e ≡ true
   pub pending : is_pending e ≡ is_pending d
@@ -115,7 +116,7 @@ kept-in-hand d hand =
       sched = λ e. hand.sched;
     }
 
--- after a missed request it is queued
+-- after a missed request the instance is queued
 handed-on : (threaded : Bool) (d : DeviceView) → d.side.napi.flags.sched ≡ true
     → let k = if threaded then Kind.Thread else Kind.List in
     Leaves d (acted (operation.Hand k) (acted (operation.Complete Done.Again) d)) (Again k)
@@ -173,7 +174,7 @@ poll-leaves weight d hand =
     (λ next. ends (record { once = record { work = length packets; next = next }; packets = packets })) (device_polled weight d))
     (record { sound = left.sound; pending = left.pending; listed = left.listed; sched = left.sched })
 
--- the device after its poller stops, when its last poll ended like this
+-- the device after its poller stops, if its last poll ended like this
 abbrev pub LeavesPolled : DeviceView → DeviceView → Next → Type 0
 LeavesPolled d e next = Stays d e (waits_on_list (Some e) ≡ one_when (is_left_to_list next))
 
@@ -225,7 +226,7 @@ zero-off : (b : Bool) → if◌then◌else◌ {A = ℕ} b 1 0 ≡ 0 → b ≡ fa
 zero-off true e = absurd (omega (arith, e))
 zero-off false e = refl
 
--- the thread owns the instance, or has stopped after a last poll that ended like this
+-- either the thread still owns the instance, or it has stopped after a last poll that ended like this
 pub record StandsAt (d e : DeviceView) (held : Bool) (next : Next) : Type 0 where
   pub pending : is_pending e ≡ is_pending d
   pub here : MatchBool held (IsInHand e) ((is_sound e ≡ true) × (waits_on_list (Some e) ≡ one_when (is_left_to_list next)))
@@ -312,7 +313,7 @@ module _ (weight : ℕ) where
       or-false true b e = refl
       or-false false b e = sym e
 
-  -- polls and held completions don't change the instance
+  -- polls and completions that return Held don't change the instance
   round-napi : (r : BusyReport) (d : DeviceView) → (carried_out (rule.round sum true weight r) d).1.side.napi ≡ d.side.napi
   unfolding carried_out device_polled
   round-napi r d = by (nat_lt (length (take weight d.side.packets)) weight) (rule.and_poll sum r (take weight d.side.packets))
@@ -367,7 +368,7 @@ module _ (weight : ℕ) where
 
 -- ---- disabling and enabling
 
--- where the instance waits, and whether it is sound
+-- a step changes neither where the instance waits nor whether its state is sound
 pub record KeepsPlace (d e : DeviceView) : Type 0 where
   pub sound : is_sound e ≡ true
   pub listed : waits_on_list (Some e) ≡ waits_on_list (Some d)
@@ -410,7 +411,7 @@ settle-keeps d sound = by d.side.napi.flags.disable d.side.napi.flags.sched d.si
     by true false true e = record { sound = sound; listed = refl }
     by true false false e = record { sound = refl; listed = rw (unheld d.side.napi.place d.side.napi.flags.sched sound e) refl }
 
--- a device that isn't being disabled is settled
+-- settling doesn't change a device without a pending disable
 pub settled-same : (d : DeviceView) → is_pending d ≡ false → settled d ≡ d
 unfolding settled
 settled-same d e = rw e refl

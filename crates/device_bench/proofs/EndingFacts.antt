@@ -5,7 +5,7 @@ use Rattle.std.{proofs.lemmas.Bool.eqb-false, specs.Prelude.◌==◌}
 use Rattle.{device_places.specs.Places.{DeviceTable, at}, device_bench.specs.Bench.BenchDevices}
 use Rattle.device_bench.specs.{DeviceView.DeviceView, Ending.IsEndedAt, Receive.ReceiveView}
 
--- those from here on were ended, and those before them remain
+-- the devices from this number on were ended, and those below it remain
 pub record EndedFrom {End : Type 0} (ended : ReceiveView → End → Type 0) (all left : BenchDevices) (ends : DeviceTable End) : Type
     0 where
   pub places : length ends ≡ 17
@@ -14,7 +14,7 @@ pub record EndedFrom {End : Type 0} (ended : ReceiveView → End → Type 0) (al
   pub none : (number : ℕ) → number < length left → at number ends ≡ None
   pub done : (number : ℕ) → length left ≤ number → IsEndedAt ended (at number all) (at number ends)
 
--- the element at the end of a list
+-- the last element of a list
 at-last : {A : Type 0} → (xs : DeviceTable A) (x : Option A) → at (length xs) (xs ++ x ∷ []) ≡ x
 at-last [] x = refl
 at-last (y ∷ xs) x = at-last xs x

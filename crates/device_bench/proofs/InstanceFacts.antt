@@ -1,4 +1,4 @@
--- Polling a device by the rule has the result of executing the rule's plan on its own.
+-- Polling a device by the polling rule has the result of executing the rule's plan on the device alone.
 use Rattle.std.proofs.Common.{◌≡◌, ◌∙◌, ℕ, Bool, true, false, List, [], ◌∷◌, ◌++◌, Option, Some, None, MatchBool, ap, arith, length, map}
 use Rattle.std.{proofs.Common.{refl, subst, sum, sym, take}, specs.Prelude.{◌||◌, if◌then◌else◌, is_some, min, nat_le, not}}
 use Rattle.std.proofs.lemmas.{Bool.{leb-false, leb-true}, List.{length-take, take_all}}
@@ -14,7 +14,7 @@ use Rattle.device_bench.specs.Receive.{answered, busy_taken, polled_bytes, done_
 use Rattle.device_bench.specs.Receive.{handed_again, is_idle, state_kind, poller_in, taker_of}
 use Rattle.napi_model.specs.declared.event.Call.TheVariants as call
 
--- ---- the reply to a call is determined by the state
+-- ---- the state determines the reply to a call
 
 refused : (d s b : Bool) → ¬ ((d ≡ false) × (s ≡ false) × (b ≡ false)) → not (d || (s || b)) ≡ false
 refused true s b may = refl
@@ -35,7 +35,7 @@ is_answered c o s a i = i ∙ ap (λ (x : Call). answered x s) a
 
 -- ---- plans
 
--- what was done by a plan is the result of executing it
+-- if these actions execute a plan, their result is the result of executing it on the device alone
 pub carried : {A : Type 0} (plan : Plan ℕ A) (deeds : List (Action ℕ)) (a : A) (d e : DeviceView) → Follows AtOnce plan deeds a
     → DeviceDid d deeds e → (a ≡ (carried_out plan d).0) × (e ≡ (carried_out plan d).1)
 unfolding carried_out
@@ -59,7 +59,7 @@ pub does-carried : {A : Type 0} (plan : Plan ℕ A) (d : DeviceView) (a : A) (e 
     → (a ≡ (carried_out plan d).0) × (e ≡ (carried_out plan d).1)
 does-carried plan d a e done = carried plan done.0 a d e done.2 done.1
 
--- one after the other
+-- two plans, one after the other, have the result of executing both on the device alone
 pub carried-then : {A B : Type 0} (plan : Plan ℕ A) (next : A → Plan ℕ B) (d : DeviceView)
     → carried_out (plan >>= next) d ≡ (let done = carried_out plan d in carried_out (next done.0) done.1)
 unfolding carried_out
@@ -115,7 +115,7 @@ does-poll weight d e work load is works loads =
       works ∙ sym many,
     )
 
--- a completion that isn't held, by the owner of the instance
+-- a completion that doesn't return Held, by the owner of the instance
 pub does-complete : (d e : DeviceView) (again : Option Kind) → IsDevicePolled d
     → again ≡ handed_again (complete_reply d.side.napi) d.side.napi
     → e ≡ record (with_napi (done_by (poller_in d.side.napi.place) (complete_reply d.side.napi) d.side.napi) d) {

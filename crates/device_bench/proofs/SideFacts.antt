@@ -1,11 +1,11 @@
--- Each device has a transmit side: what preserves that.
+-- Each device has a transmit side: what preserves this.
 use Rattle.std.proofs.Common.{◌≡◌, ◌∙◌, ℕ, zero, suc, ◌<◌, Option, Some, None, [], ◌∷◌, length, slice_set, ap, refl, sym, arith}
 use Rattle.{std.specs.Prelude.is_some, device_transmit.specs.{Transmits.Transmits, Transmit.TransmitView}}
 use Rattle.device_places.specs.Places.{DeviceTable, at, changed, changed_from}
 use Rattle.device_bench.specs.Bench.{BenchDevices, HaveSides, all_settled, attached}
 
 module _ {A : Type 0} where
-  -- an entry is set, and stays occupied or empty
+  -- if an entry is replaced by a value, a number has one as before
   pub some-set : (xs : DeviceTable A) (n m : ℕ) (o : Option A) → is_some o ≡ is_some (at n xs)
       → is_some (at m (slice_set xs n o)) ≡ is_some (at m xs)
   some-set (x ∷ xs) zero zero o e = e
@@ -19,18 +19,18 @@ module _ {A : Type 0} where
       by None e = refl
       by (Some a) e = some-set xs n m (Some (f a)) (sym (ap is_some e))
 
-  -- an entry is written back
+  -- an entry is replaced by what it contains
   pub set-back : (xs : DeviceTable A) (n : ℕ) (o : Option A) → n < length xs → at n xs ≡ o → slice_set xs n o ≡ xs
   set-back [] n o below e = absurd (omega (arith, below))
   set-back (x ∷ xs) zero o below e = ap (λ (y : Option A). y ∷ xs) (sym e)
   set-back (x ∷ xs) (suc n) o below e = ap (λ (l : DeviceTable A). x ∷ l) (set-back xs n o (omega (arith, below)) e)
 
-  -- a device is changed in its entry, or the entry is written back
+  -- a device is changed in its entry, or its entry is written back unchanged
   pub sides-set : (xs : DeviceTable A) (all : Transmits) (n : ℕ) (o : Option A) → is_some o ≡ is_some (at n xs) → HaveSides xs all
       → HaveSides (slice_set xs n o) all
   sides-set xs all n o e same m = same m ∙ sym (some-set xs n m o e)
 
-  -- so their number is the same
+  -- so there are as many devices as transmit sides
   pub sides-attached : (xs : DeviceTable A) (all : Transmits) → length all ≡ length xs → HaveSides xs all → attached xs ≡ attached all
   sides-attached [] [] long same = refl
   sides-attached (None ∷ xs) (None ∷ all) long same = sides-attached xs all (omega (arith, long)) (λ n. same (suc n))
@@ -39,7 +39,7 @@ module _ {A : Type 0} where
   sides-attached (Some d ∷ xs) (None ∷ all) long same = cc (same 0)
   sides-attached xs all long same = absurd (omega (arith, long))
 
--- a side is changed
+-- a transmit side is changed
 pub sides-sent : {A : Type 0} → (f : TransmitView → TransmitView) (xs : DeviceTable A) (all : Transmits) (n : ℕ) → HaveSides xs all
     → HaveSides xs (changed f n all)
 sides-sent f xs all n same m = some-changed f all n m ∙ same m

@@ -1,4 +1,4 @@
--- How many devices wait on the poll list: each call changes it as it changes the list.
+-- How many devices wait on the poll list: each call changes this number as it changes the list.
 use Rattle.std.proofs.Common.{◌≡◌, ℕ, suc, ◌+◌, ◌<◌, ◌≤◌, Bool, true, false, Option, Some, None, [], ◌∷◌, length, get_or, slice_set, map}
 use Rattle.std.{proofs.{Common.{ap, refl, arith}, lemmas.List.Sums.{sum_by-cons, sum_by-set}}, specs.Prelude.{sum_by, if◌then◌else◌}}
 use Rattle.{napi_model.specs.{Step.is_handed, declared.state.Kind.Kind}, device_bench.specs.Bench.{BenchDevices, all_settled, settled_at}}
@@ -9,7 +9,7 @@ pub waiting-empty : waiting empty ≡ 0
 unfolding waiting
 waiting-empty = refl
 
--- at most as many as the table has entries
+-- an entry of the table counts at most once
 waits-one : (o : Option DeviceView) → waits_on_list o ≤ 1
 waits-one None = omega arith
 waits-one (Some d) = by (is_handed Kind.List d.side.napi.place)
@@ -34,7 +34,7 @@ set-one xs n d e here =
     let was : waits_on_list (get_or xs n None) ≡ waits_on_list (Some d) = ap waits_on_list here in
     omega (arith, sums, was)
 
--- one entry is set to a device that waits one time more, as often, or one time less
+-- if one entry is replaced, the number of waiting devices changes by as much as that entry
 pub waiting-more : (xs : BenchDevices) (n more : ℕ) (d e : DeviceView) → at n xs ≡ Some d
     → waits_on_list (Some d) + more ≡ waits_on_list (Some e)
     → waiting xs + more ≤ waiting (slice_set xs n (Some e))

@@ -17,30 +17,30 @@ BenchDevices = DeviceTable DeviceView
 abbrev pub after_arrival : ℕ → ℕ → BenchDevices → BenchDevices
 after_arrival number bytes devices = changed (λ d. (device_after_packet bytes d).1) number devices
 
--- the queue in which a packet puts its device
+-- the queue in which a packet's interrupt puts the instance of its device, if any
 abbrev pub handed_by : ℕ → Option DeviceView → Option Kind
 handed_by bytes None = None
 handed_by bytes (Some d) = (device_after_packet bytes d).0
 
 -- ---- polls
 
--- a number that has no device is absent
+-- the outcome of a poll of a number; Absent if it has no device
 abbrev pub once_of : ℕ → Option DeviceView → Once
 once_of weight None = record { work = 0; next = Absent }
 once_of weight (Some d) = (polled_once weight d).0
 
--- a poll from the list as a function on the devices: its outcome, and the devices afterwards
+-- a poll from the list as a function of the devices: its outcome, and the devices afterwards
 abbrev pub polled_at : BenchDevices → ℕ → ℕ → Once × BenchDevices
 polled_at devices number weight = (once_of weight (at number devices), changed (λ d. (polled_once weight d).1) number devices)
 
--- a poll from the list, by what a bench shows: its outcome and the devices afterwards are those of the function
+-- a poll from the list, in terms of what a bench shows: its outcome and the devices afterwards are those of the function
 pub record IsListPoll {B : Type 0} (devices : B → BenchDevices) (shows : B → Transmits → Type 0) (waiting : B → ℕ)
     (before : B) (number weight : ℕ) (once : Once) (after : B) : Type 0 where
   pub exact : (once ≡ (polled_at (devices before) number weight).0) × (devices after ≡ (polled_at (devices before) number weight).1)
   pub transmits : KeepsTransmits shows before after
   pub waits : waiting before ≤ waiting after + leaves once.next
 
--- the relation of a bench for polls from the list is this one
+-- the bench's relation for polls from the list is this one
 abbrev pub ArePolls : {B : Type 0} → (B → BenchDevices) → (B → Transmits → Type 0) → (B → ℕ) → (B → ℕ → ℕ → Once → B → Type 0) → Type 0
 ArePolls {B} devices shows waiting polls =
     (before after : B) (number weight : ℕ) (once : Once) → polls before number weight once after
@@ -50,7 +50,7 @@ abbrev pub thread_polls_of : ℕ → ℕ → Option DeviceView → List Once
 thread_polls_of weight most None = []
 thread_polls_of weight most (Some d) = (polled_by_thread most weight d).0
 
--- the same for the polling of a device by its thread
+-- the polling of a device by its thread, as a function of the devices: its polls, and the devices afterwards
 abbrev pub thread_polled_at : BenchDevices → ℕ → ℕ → ℕ → BenchDevices
 thread_polled_at devices number weight most = changed (λ d. (polled_by_thread most weight d).1) number devices
 
@@ -68,7 +68,7 @@ AreThreadPolls {B} devices shows waiting polls =
     (before after : B) (number weight most : ℕ) (all : List Once) → polls before number weight most all after
     → IsThreadPolls devices shows waiting before number weight most all after
 
--- the same for busy polling
+-- busy polling of a device, as a function of the devices: its report, and the devices afterwards
 abbrev pub busy_report_of : ℕ → ℕ → Option DeviceView → BusyReport
 busy_report_of weight rounds None = no_report
 busy_report_of weight rounds (Some d) = (polled_busily rounds weight d).0
@@ -95,21 +95,21 @@ abbrev pub settled_at : Option DeviceView → Option DeviceView
 settled_at None = None
 settled_at (Some d) = Some (settled d)
 
--- each pending disable is tried once, by increasing device number
+-- each pending disable is tried once, in the order of device numbers
 abbrev pub all_settled : BenchDevices → BenchDevices
 all_settled devices = map settled_at devices
 
 -- ---- the report
 
--- how many entries are occupied
+-- how many entries of a table are occupied
 abbrev pub attached : {A : Type 0} → DeviceTable A → ℕ
 attached places = length (filter is_some places)
 
--- each device has a transmit side, and no other number has one
+-- each number has a transmit side exactly if it has a device
 abbrev pub HaveSides : {A : Type 0} → DeviceTable A → Transmits → Type 0
 HaveSides devices all = (number : ℕ) → is_some (at number all) ≡ is_some (at number devices)
 
--- the counts of a device, if there is one
+-- the counts of a device, if the number has one
 abbrev pub counts_at : Option DeviceView → TxCounts → Option DeviceCounts
 counts_at None tx = None
 counts_at (Some d) tx = Some (device_counts d tx)

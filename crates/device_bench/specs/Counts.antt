@@ -3,7 +3,7 @@ use Rattle.{std.specs.Prelude.length, napi_model.specs.{Step.seen_of, Word.word_
 use Rattle.device_bench.specs.{DeviceView.DeviceView, declared.counts.DeviceCounts.DeviceCounts}
 use Rattle.device_transmit.specs.declared.transmit.TxCounts.{TxCounts}
 
--- what the device counted, the content of its ring, its state word, and its transmit side
+-- the counts of the device, the content of its ring, its state word, and the counts of its transmit side
 abbrev pub device_counts : DeviceView → TxCounts → DeviceCounts
 device_counts d tx = record d.counts {
   state = device_state d;

@@ -13,7 +13,7 @@ use Rattle.napi_model.specs.declared.event.Operation.TheVariants as operation
 use Rattle.device_bench.specs.declared.counts.DeviceState.TheVariants as state
 use Rattle.poll_runs.specs.Polling as rule
 
--- the device with its instance in this state
+-- the device, with its instance in this state
 abbrev pub with_napi : State → DeviceView → DeviceView
 with_napi napi d = record d { side = record d.side { napi = napi } }
 
@@ -32,7 +32,7 @@ counted_reply Granted t = record t { granted = raised t.granted 1 }
 counted_reply Missed t = record t { missed = raised t.missed 1 }
 counted_reply Disabled t = record t { disabled = raised t.disabled 1 }
 
--- the interrupt requests a poll, and has this reply
+-- the interrupt requests a poll, with this reply
 abbrev pub after_reply : Prep → DeviceView → Option Kind × DeviceView
 after_reply reply d =
     (queued_kind reply d.side.napi, record (with_napi (requested reply d.side.napi) d) { counts = counted_reply reply d.counts })
@@ -40,15 +40,15 @@ after_reply reply d =
 unfoldable pub after_request : DeviceView → Option Kind × DeviceView
 after_request d = after_reply (schedule_reply d.side.napi) d
 
--- A packet is put into the ring, and the interrupt requests a poll; if there is no room, the packet is dropped. The result is
--- the queue in which this put the instance, and the device afterwards.
+-- A packet arrives: it is put into the ring, and its interrupt requests a poll; a full ring drops it. The result is the queue
+-- in which this put the instance, if any, and the device afterwards.
 unfoldable pub device_after_packet : ℕ → DeviceView → Option Kind × DeviceView
 device_after_packet bytes d =
     let counted = record d { counts = record d.counts { arrived = raised d.counts.arrived 1 } } in
     if ring_has_place d.side then after_request (record counted { side = put_if true bytes d.side })
     else (None, record counted { counts = record counted.counts { dropped = raised d.counts.dropped 1 } })
 
--- a poll takes the ring's next packets, and is counted
+-- a poll takes the next packets of the ring, and is counted
 unfoldable pub device_polled : ℕ → DeviceView → DeviceView
 device_polled weight d = record d {
   side = record d.side { packets = drop (given_of weight d.side) d.side.packets };
@@ -59,7 +59,7 @@ device_polled weight d = record d {
   };
 }
 
--- ---- polling, by the rule that `poll_runs` states
+-- ---- polling, by the rule in `poll_runs`
 
 -- a completion is counted
 abbrev pub counted_after : Operation → DeviceCounts → DeviceCounts
@@ -68,36 +68,36 @@ counted_after (operation.Complete Released) t = record t { released = raised t.r
 counted_after (operation.Complete Held) t = record t { held = raised t.held 1 }
 counted_after o t = t
 
--- an operation of polling is made and counted
+-- an operation of a poll is made and counted
 abbrev pub acted : Operation → DeviceView → DeviceView
 acted o d = record (operated (caller_of o d.side.napi.place) o d) { counts = counted_after o d.counts }
 
--- a plan executed on its own, in which each call gets its reply at once: its result, and the device afterwards
+-- the result of a plan that is executed on this device alone, where each call succeeds at once, and the device afterwards
 unfoldable pub carried_out : {A : Type 0} → Plan ℕ A → DeviceView → A × DeviceView
 carried_out (ends a) d = (a, d)
 carried_out (asks c go) d = carried_out (go (answered c d.side.napi)) (acted (answered c d.side.napi) d)
 carried_out (acts o plan) d = carried_out plan (acted o d)
 carried_out (polls weight go) d = carried_out (go (take weight d.side.packets)) (device_polled weight d)
 
--- a poll from the list (`napi_poll`)
+-- a poll of the device from the list (`napi_poll`)
 unfoldable pub polled_once : ℕ → DeviceView → Once × DeviceView
 polled_once weight d = let done = carried_out (rule.poll_once_plan true weight) d in (done.0.once, done.1)
 
--- polling by its thread (`napi_threaded_poll`)
+-- polling of the device by its thread (`napi_threaded_poll`)
 unfoldable pub polled_by_thread : ℕ → ℕ → DeviceView → List Once × DeviceView
 polled_by_thread most weight d = let done = carried_out (rule.thread_poll_plan true weight most) d in (done.0.polls, done.1)
 
--- busy polling (`napi_busy_loop`)
+-- busy polling of the device (`napi_busy_loop`)
 unfoldable pub polled_busily : ℕ → ℕ → DeviceView → BusyReport × DeviceView
 polled_busily rounds weight d = let done = carried_out (rule.busy_poll_plan sum true weight rounds) d in (done.0.report, done.1)
 
 -- ---- disabling and enabling (`napi_disable`, `napi_enable`, `dev_set_threaded`)
 
--- enabled, being disabled, or disabled
+-- whether the device is enabled, being disabled, or disabled
 abbrev pub device_state : DeviceView → DeviceState
 device_state d = if d.side.napi.flags.disable then state.Pending else (if is_control d.side.napi.place then state.Off else state.On)
 
--- a disable is marked on a device that is enabled
+-- a device that is enabled is marked for a disable; in another state it is unchanged
 abbrev pub disabled_from : DeviceState → DeviceView → DeviceView
 disabled_from state.On d = operated CONTROLLER operation.MarkDisable d
 disabled_from state.Off d = d
@@ -106,11 +106,11 @@ disabled_from state.Pending d = d
 unfoldable pub after_disable : DeviceView → DeviceView
 after_disable d = disabled_from (device_state d) d
 
--- a pending disable is tried once
+-- a pending disable of the device is tried once
 unfoldable pub settled : DeviceView → DeviceView
 settled d = if d.side.napi.flags.disable then with_napi (tried_by (take_disable_reply d.side.napi) d.side.napi) d else d
 
--- a device that is disabled is enabled, with its threaded setting
+-- a device that is disabled is enabled, with its threaded setting; in another state it is unchanged
 abbrev pub enabled_from : DeviceState → DeviceView → DeviceView
 enabled_from state.Off d = operated CONTROLLER (operation.Enable d.threaded) d
 enabled_from state.On d = d
@@ -122,6 +122,6 @@ after_enable d = enabled_from (device_state d) d
 abbrev pub is_pending : DeviceView → Bool
 is_pending d = d.side.napi.flags.disable
 
--- the threaded setting and the flag THREADED are set
+-- the threaded setting of the device and its flag THREADED are set
 unfoldable pub after_threaded : Bool → DeviceView → DeviceView
 after_threaded threaded d = record (operated CONTROLLER (operation.SetThreaded threaded) d) { threaded = threaded }

@@ -1,14 +1,14 @@
--- What a bench of devices shows.
+-- What a bench shows: its devices, and their transmit sides.
 use Rattle.{std.specs.Prelude.ℕ}
 use Rattle.{device_bench.specs.{Bench.{BenchDevices, HaveSides}, Waiting.waiting, declared.bench.DeviceBench.DeviceBench}}
 use Rattle.{device_bench.specs.declared.receive_side.ReceiveSide.Ghosts, device_transmit.specs.{Transmits.Transmits, Sides.ShowsSides}}
 
 module _ {S O : Type 0} {g : Ghosts S} where
-  -- the devices that were attached
+  -- the devices of the bench, by number
   abbrev pub devices_of : DeviceBench S O g → BenchDevices
   devices_of bench = bench.devices.items
 
-  -- its transmit sides represent these, one for each of its devices
+  -- the bench's transmit sides represent these, one for each of its devices
   pub record ShowsTransmits (bench : DeviceBench S O g) (all : Transmits) : Type 0 where
     pub sides : ShowsSides bench.transmits all
     pub each : HaveSides (devices_of bench) all

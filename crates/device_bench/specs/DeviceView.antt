@@ -1,10 +1,10 @@
--- A device as plain data.
+-- A device as a record of plain values.
 use Rattle.{std.specs.Prelude.Bool, device_bench.specs.{Receive.ReceiveView, declared.counts.DeviceCounts.DeviceCounts}}
 
 pub record DeviceView : Type 0 where
-  -- its instance and its ring
+  -- its receive side: its instance and its ring
   pub side : ReceiveView
-  -- its threaded setting, which an enable gives to the instance
+  -- its threaded setting, which an enable copies to the instance
   pub threaded : Bool
-  -- its counts; the other fields of these are computed when they are read
+  -- its counts; fields that can be computed from the rest of the record aren't kept up to date
   pub counts : DeviceCounts

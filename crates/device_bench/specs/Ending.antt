@@ -2,13 +2,13 @@
 use Rattle.{std.specs.Prelude.{ℕ, Option, Some, None}, device_places.specs.Places.{DeviceTable, at}, device_bench.specs.Bench.BenchDevices}
 use Rattle.device_bench.specs.{DeviceView.DeviceView, Receive.ReceiveView}
 
--- a device was ended, if there is one, and left this
+-- the device of an entry was ended, and left this; an empty entry left nothing
 abbrev pub IsEndedAt : {End : Type 0} → (ReceiveView → End → Type 0) → Option DeviceView → Option End → Type 0
 IsEndedAt ended (Some d) (Some end) = ended d.side end
 IsEndedAt ended None None = Unit {0}
 IsEndedAt ended (Some d) None = ⊥
 IsEndedAt ended None (Some end) = ⊥
 
--- each device was ended, and left this
+-- all devices were ended, and left these
 abbrev pub AllEnded : {End : Type 0} → (ReceiveView → End → Type 0) → BenchDevices → DeviceTable End → Type 0
 AllEnded ended devices ends = (number : ℕ) → IsEndedAt ended (at number devices) (at number ends)

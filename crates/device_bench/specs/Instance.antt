@@ -1,4 +1,4 @@
--- A device, as its poller sees it.
+-- A device as its poller sees it, as an instance of the polling rule.
 use Rattle.std.specs.Prelude.{◌≡◌, ℕ, true, false, List, [], ◌∷◌, take}
 use Rattle.napi_model.specs.{Step.{CallerPolls, reply_of, call_of}, declared.{event.{Call.Call, Operation.Operation}, state.State.State}}
 use Rattle.{napi_model.specs.declared.event.Operation.TheVariants.BusyTake, poll_runs.specs.Plan.{Action, gave, made}}
@@ -12,16 +12,16 @@ IsDevicePolled d = CallerPolls (poller_in d.side.napi.place) false d.side.napi
 abbrev pub IsPolledBusily : DeviceView → Type 0
 IsPolledBusily d = CallerPolls POLLER true d.side.napi
 
--- a call gets its reply at once
+-- a call succeeds at once, by one operation
 abbrev pub AtOnce : Call → Operation → List Operation → Type 0
 AtOnce c o os = os ≡ o ∷ []
 
--- in this state a call results in this operation
+-- in this state the call results in this operation
 abbrev pub IsAnswer : Operation → State → Type 0
 IsAnswer BusyTake s = is_idle s ≡ true
 IsAnswer o s = o ≡ reply_of (call_of o) s
 
--- these operations and polls, in sequence, lead from one device to the other
+-- these operations and polls, one after the other, lead from one device to the other
 abbrev pub DeviceDid : DeviceView → List (Action ℕ) → DeviceView → Type 0
 DeviceDid d [] e = e ≡ d
 DeviceDid d (made o ∷ deeds) e = IsAnswer o d.side.napi × DeviceDid (acted o d) deeds e

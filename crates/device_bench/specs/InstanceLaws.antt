@@ -1,4 +1,4 @@
--- Laws on the actions on a device.
+-- Laws about the actions on a device.
 use Rattle.std.specs.Prelude.{ℕ, List, [], ◌∷◌, ◌++◌}
 use Rattle.std.proofs.Common.{subst}
 use Rattle.{poll_runs.specs.Plan.{Action, gave, made}}

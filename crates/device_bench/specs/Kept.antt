@@ -3,7 +3,7 @@ use Rattle.std.specs.Prelude.{◌≡◌, ◌≤◌, ℕ, Bool, true, false, not,
 use Rattle.{napi_model.specs.declared.state.Place.{Place, TheVariants.Nobody}, device_bench.specs.Device.is_pending}
 use Rattle.{device_bench.specs.{DeviceView.DeviceView, Waiting.waiting}, device_places.specs.Places.{DeviceTable, at}}
 
--- an instance that a caller owns, or that is queued, is scheduled
+-- a caller owns the instance, or it is queued; then it must be scheduled
 abbrev pub is_held : Place → Bool
 is_held Nobody = false
 is_held _ = true
@@ -22,7 +22,7 @@ is_pending_at (Some d) = is_pending d
 pub record IsKept (unsettled : Bool) (devices : DeviceTable DeviceView) : Type 0 where
   pub places : length devices ≡ 17
   pub sound : (number : ℕ) → is_sound_at (at number devices) ≡ true
-  -- if nothing is to be settled, no disable is pending
+  -- if the flag `unsettled` isn't set, no disable is pending
   pub settled : unsettled ≡ false → (number : ℕ) → is_pending_at (at number devices) ≡ false
   -- each device waits at most once
   pub few : waiting devices ≤ 17

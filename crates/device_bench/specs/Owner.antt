@@ -1,10 +1,10 @@
--- The owner of a device's instance.
+-- Who owns a device's instance.
 use Rattle.std.specs.Prelude.{◌≡◌, ◌||◌, ◌&&◌, Bool, true, false, not}
 use Rattle.napi_model.specs.declared.state.Place.{Place, TheVariants.Control}
 use Rattle.napi_model.specs.declared.state.{Place.TheVariants.Polling, State.State}
 use Rattle.device_bench.specs.declared.device.TheConstants.{CONTROLLER}
 
--- the place Control has the controller's number
+-- if the place is Control, it has this controller's number
 abbrev pub IsOursAt : Place → Type 0
 IsOursAt (Control c) = c ≡ CONTROLLER
 IsOursAt _ = Unit {0}
@@ -13,6 +13,6 @@ abbrev pub is_polled : Place → Bool
 is_polled (Polling c) = true
 is_polled _ = false
 
--- an instance that is busy polled belongs to its poller, and is scheduled
+-- if the instance is busy polled, its poller owns it, and it is scheduled
 abbrev pub IsOurs : State → Type 0
 IsOurs s = IsOursAt s.place × ((not s.flags.in_busy_poll || (is_polled s.place && s.flags.sched)) ≡ true)

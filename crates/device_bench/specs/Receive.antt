@@ -1,5 +1,5 @@
--- A device's receive side, for one thread: the state of its instance and the content of its ring, and the effect of its calls
--- on them.
+-- A device's receive side for one thread: the state of its instance and the content of its ring, and the effect of calls on
+-- them.
 use Rattle.std.specs.Prelude.{ℕ, Bool, true, false, not, ◌||◌, List, [], ◌∷◌, ◌++◌, length, take, sum, min, nat_lt, Option, Some, None}
 use Rattle.std.specs.Prelude.{if◌then◌else◌}
 use Rattle.napi_model.specs.{Step.{after, reply_of, event, opening, seen_of}, declared.event.{Call.Call, Done.Done, Operation.Operation}}
@@ -14,11 +14,11 @@ use Rattle.poll_runs.specs.Polling as rule
 pub record ReceiveView : Type 0 where
   -- the state of its instance
   pub napi : State
-  -- the size in bytes of each packet in the ring, the oldest first, and the ring's capacity
+  -- the size in bytes of each packet in the ring, the oldest first; the next field is the ring's capacity
   pub packets : List ℕ
   pub capacity : ℕ
 
--- an empty ring of this capacity, and an instance that was made and enabled, not threaded
+-- a new receive side: an empty ring of this capacity, and an instance that is enabled and not threaded
 abbrev pub opened_side : ℕ → ReceiveView
 opened_side capacity = record {
   napi = after (opening CONTROLLER) (event CONTROLLER (operation.Enable false));
@@ -31,12 +31,12 @@ opened_side capacity = record {
 abbrev pub ring_has_place : ReceiveView → Bool
 ring_has_place r = nat_lt (length r.packets) r.capacity
 
--- a packet of this size is put into the ring if there is room
+-- a packet of this size is put into the ring, if there is room
 abbrev pub put_if : Bool → ℕ → ReceiveView → ReceiveView
 put_if true bytes r = record r { packets = r.packets ++ bytes ∷ [] }
 put_if false bytes r = r
 
--- how many packets a poll of this weight takes, and their bytes
+-- how many packets a poll of this weight takes; the next function is the sum of their bytes
 abbrev pub given_of : ℕ → ReceiveView → ℕ
 given_of weight r = min weight (length r.packets)
 
@@ -45,14 +45,15 @@ polled_bytes weight r = sum (take (given_of weight r) r.packets)
 
 -- ---- the instance
 
--- the owner of an instance queues it for its thread if THREADED is set, otherwise on the poll list (`____napi_schedule`)
+-- the queue in which its owner puts an instance: its thread's if THREADED is set, otherwise the poll list (`____napi_schedule`)
 abbrev pub state_kind : State → Kind
 state_kind s = rule.kind_for s.flags
 
 abbrev pub after_hand : ℕ → State → State
 after_hand caller s = after s (event caller (operation.Hand (state_kind s)))
 
--- the interrupt requests a poll (`napi_schedule_prep`), and queues the instance if it is granted; and in which queue
+-- The interrupt requests a poll (`napi_schedule_prep`), and queues the instance if the request is granted; the next function
+-- says in which queue.
 abbrev pub requested : Prep → State → State
 requested Granted s = after_hand INTERRUPT (after s (event INTERRUPT (operation.Schedule Granted)))
 requested Missed s = after s (event INTERRUPT (operation.Schedule Missed))
@@ -63,24 +64,24 @@ queued_kind Granted s = Some (state_kind s)
 queued_kind Missed s = None
 queued_kind Disabled s = None
 
--- the caller that takes an instance from this queue
+-- the number of the caller that takes instances from this queue
 abbrev pub taker_of : Kind → ℕ
 taker_of kind.List = POLLER
 taker_of kind.Thread = THREAD
 
--- the owner of an instance
+-- the number of the caller that owns the instance
 abbrev pub owner_in : Place → ℕ
 owner_in (Owned c) = c
 owner_in (Polling c) = c
 owner_in _ = 0
 
--- the caller that makes an operation of polling
+-- the number of the caller that makes an operation of a poll
 abbrev pub caller_of : Operation → Place → ℕ
 caller_of (operation.Take kind taken) place = taker_of kind
 caller_of operation.BusyTake place = POLLER
 caller_of o place = owner_in place
 
--- the poller of an instance that is being polled
+-- the number of the caller that polls the instance
 abbrev pub poller_in : Place → ℕ
 poller_in (Polling c) = c
 poller_in _ = 0
@@ -104,7 +105,8 @@ abbrev pub is_control : Place → Bool
 is_control (Control c) = true
 is_control _ = false
 
--- one attempt at a pending disable: if no caller owns the instance, the controller takes it, and the mark is cleared
+-- One attempt at a pending disable: if no caller owns the instance, the controller takes it, and the mark of the disable is
+-- cleared.
 abbrev pub tried_by : Bool → State → State
 tried_by true s = after (after s (event CONTROLLER (operation.TakeDisable true))) (event CONTROLLER operation.Unmark)
 tried_by false s = after s (event CONTROLLER (operation.TakeDisable false))
@@ -113,7 +115,7 @@ tried_by false s = after s (event CONTROLLER (operation.TakeDisable false))
 abbrev pub is_idle : State → Bool
 is_idle s = not (s.flags.disable || (s.flags.sched || s.flags.in_busy_poll))
 
--- the operation in which a call of polling results; a take for busy polling results in a look if the instance isn't idle
+-- the operation that a call of a poller results in; a take for busy polling results in a look if the instance isn't idle
 abbrev pub answered : Call → State → Operation
 answered call.BusyTake s = if is_idle s then operation.BusyTake else operation.Look (seen_of s)
 answered c s = reply_of c s

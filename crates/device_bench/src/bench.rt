@@ -1,4 +1,4 @@
-//! The devices of a replay, by number.
+//! The devices of a replay, by their numbers.
 
 ghost use Rattle.std.specs.Prelude.{◌≡◌, None, Some, IfOk, false, is_some};
 ghost use Rattle.device_places.specs.Places.{empty};
@@ -16,13 +16,13 @@ use poll_runs::{Bench, BusyReport, Next, Once, ThreadReport};
 use std::alloc::{AllocError, Global};
 use std::mem;
 
-/// The devices, in a table by number, with receive sides that the opener opens.
+/// The devices of a replay, in a table by number. The opener creates their receive sides.
 #[derive(Drop)]
 pub struct DeviceBench<S: ReceiveSide, O> {
     opener: O,
     devices: Vec<Option<BenchDevice<S>>>,
     transmits: TransmitSides,
-    // Whether a disable may be pending.
+    // Whether a disable may be pending on some device.
     unsettled: bool,
     ghost kept: { IsKept unsettled devices.items },
 }
@@ -57,7 +57,7 @@ impl DeviceBench<SerialReceive, SerialOpener> {
     ghost use Rattle.device_places.specs.Places.{empty};
     ghost use Rattle.device_bench.specs.DeviceBench.{ShowsTransmits, devices_of};
 
-    /// Returns a bench without devices. Its table is allocated here, so that only `attach` allocates later.
+    /// Returns a bench without devices. The table is allocated here, so only `attach` allocates later.
     pub fn new(alloc: Global) -> Result<SerialBench, AllocError>
         ensures devices { IfOk result (λ bench. devices_of bench ≡ empty) }
         ensures transmits { IfOk result (λ bench. ShowsTransmits bench empty) }
@@ -75,8 +75,8 @@ impl<S: ReceiveSide, O: Opener<S>> DeviceBench<S, O> {
     ghost use Rattle.device_places.specs.Range.{IsWithin};
     ghost use Rattle.device_bench.specs.DeviceBench.{ShowsTransmits, devices_of, waiting_of};
 
-    /// Returns a bench without devices, whose receive sides this opener opens. Its table is allocated here, so that only
-    /// `attach` allocates later.
+    /// Returns a bench without devices; this opener creates their receive sides. The table is allocated here, so only `attach`
+    /// allocates later.
     pub fn over(alloc: Global, opener: O) -> Result<DeviceBench<S, O>, AllocError>
     where
         O: Drop,
@@ -138,8 +138,8 @@ impl<S: SpentSide, O: Opener<S> + Drop> DeviceBench<S, O> {
     ghost use Rattle.device_bench.specs.DeviceBench.{ShowsTransmits, devices_of};
     ghost use Rattle.device_bench.specs.Ending.{AllEnded};
 
-    /// Returns a bench without devices, which has to be ended. Its table is allocated here, so that only `attach` allocates
-    /// later. `kit` is what its opener is made from.
+    /// Returns a bench without devices, which has to be ended. The table is allocated here, so only `attach` allocates later.
+    /// `kit` is the value from which the opener is made.
     pub fn new<K>(kit: K, alloc: Global) -> Result<DeviceBench<S, O>, AllocError>
     where
         O: From<K>,
@@ -149,8 +149,8 @@ impl<S: SpentSide, O: Opener<S> + Drop> DeviceBench<S, O> {
         DeviceBench::over(alloc, O::from(kit))
     }
 
-    /// Ends the receive side of each device, which may wait. It doesn't allocate, and may be called in any state, even after an
-    /// error. Returns what each left, by device number.
+    /// Ends the receive side of each device, which may wait. It doesn't allocate. It may be called in any state, even after an
+    /// error. Returns what each receive side left, by device number.
     pub fn end(self) -> [Option<S::End>; TABLE_LEN as usize]
         ensures { AllEnded S.ended (devices_of self) result }
     {

@@ -5,7 +5,7 @@ use device_transmit::TxCounts;
 /// Whether a device is enabled.
 #[derive(Clone, Copy, Debug, PartialEq, Eq)]
 pub enum DeviceState {
-    /// Enabled, as a device is when it is opened.
+    /// Enabled; a device is enabled when it is opened.
     On,
     /// Disabled.
     Off,
@@ -13,7 +13,7 @@ pub enum DeviceState {
     Pending,
 }
 
-/// The values of a device's lines in the report, in order. Each count saturates.
+/// The values in a device's lines of the report, in order. Each count saturates.
 #[derive(Clone, Copy, Debug, PartialEq, Eq)]
 pub struct DeviceCounts {
     /// Whether the device is enabled after the last row.
@@ -24,7 +24,7 @@ pub struct DeviceCounts {
     pub dropped: u64,
     /// Packets that polls processed.
     pub polled: u64,
-    /// The bytes of these.
+    /// The bytes of these packets.
     pub bytes: u64,
     /// Packets that the ring holds.
     pub left: u64,

@@ -5,8 +5,8 @@ ghost use Rattle.napi_model.specs.declared.event.{Done.TheVariants.{Again, Relea
 ghost use Rattle.device_bench.specs.Device.{after_disable, after_enable, device_after_packet, after_request, after_threaded, is_pending, new_device, device_polled, polled_busily, polled_by_thread, polled_once, settled, device_state, counted_after};
 ghost use Rattle.device_bench.specs.Counts.{device_counts};
 ghost use Rattle.device_bench.specs.Receive.{polled_bytes, given_of, is_polling_place, opened_side};
-ghost use Rattle.device_places.specs.Range.{IsWithin};
 ghost use Rattle.poll_runs.specs.Thread.{IsThreadPolling};
+ghost use Rattle.poll_runs.specs.Ranges.{IsMost, IsRounds, IsWeight};
 
 use crate::counts::{DeviceCounts, DeviceState};
 use crate::receive_side::{ReceiveSide, SpentSide};
@@ -35,7 +35,7 @@ pub(crate) const CONTROLLER: u32 = 3;
 pub(crate) struct BenchDevice<S: ReceiveSide> {
     pub(crate) side: S,
     threaded: bool,
-    // The counts; the other fields are computed when they are read.
+    // The counts; fields that can be computed from the receive side aren't kept up to date.
     counts: DeviceCounts,
 }
 
@@ -75,7 +75,7 @@ impl<S: ReceiveSide> BenchDevice<S> {
         }
     }
 
-    // Requests a poll, as the interrupt; if granted, it queues the instance, and returns in which queue.
+    // Requests a poll, as an interrupt does. If the request is granted, it queues the instance, and returns in which queue.
     #[tactic(auto, unfolding(crate::specs::Device::after_request))]
     fn request(&mut self) -> Option<Kind>
         ensures device { self.new ≡ (after_request self.old).1 }
@@ -90,8 +90,8 @@ impl<S: ReceiveSide> BenchDevice<S> {
         kind
     }
 
-    /// Handles the arrival of a packet of this size: a full ring drops it; otherwise the interrupt requests a poll. Returns the
-    /// queue in which that put the instance.
+    /// Handles the arrival of a packet of this size: a full ring drops it; otherwise its interrupt requests a poll. Returns the
+    /// queue in which that put the instance, if any.
     #[tactic(auto, unfolding(crate::specs::Device::device_after_packet))]
     pub(crate) fn arrive(&mut self, bytes: u32) -> Option<Kind>
         ensures device { self.new ≡ (device_after_packet bytes self.old).1 }
@@ -127,7 +127,7 @@ impl<S: ReceiveSide> BenchDevice<S> {
         self.side.seen().flags.disable
     }
 
-    /// Marks a disable on a device that is enabled; any other is unchanged.
+    /// Marks a disable on a device that is enabled; in another state nothing changes.
     #[tactic(auto, unfolding(crate::specs::Device::after_disable))]
     pub(crate) fn disable(&mut self)
         ensures { self.new ≡ after_disable self.old }
@@ -146,7 +146,7 @@ impl<S: ReceiveSide> BenchDevice<S> {
         self.is_pending() && !self.side.try_take()
     }
 
-    /// Enables a device that is disabled, with its threaded setting; any other is unchanged.
+    /// Enables a device that is disabled, with its threaded setting; in another state nothing changes.
     #[tactic(auto, unfolding(crate::specs::Device::after_enable))]
     pub(crate) fn enable(&mut self)
         ensures { self.new ≡ after_enable self.old }
@@ -170,7 +170,7 @@ impl<S: ReceiveSide> BenchDevice<S> {
     // Takes the next packets, at most the weight, and returns how many.
     #[tactic(auto, unfolding(crate::specs::Device::device_polled))]
     fn receive(&mut self, weight: u32, load: &mut PolledBytes) -> u32
-        requires weight { IsWithin 1 64 weight }
+        requires weight { IsWeight weight }
         requires polled { is_polling_place self.old.side.napi.place ≡ true }
         ensures device { self.new ≡ device_polled weight self.old }
         ensures work { result ≡ given_of weight self.old.side }
@@ -186,7 +186,7 @@ impl<S: ReceiveSide> BenchDevice<S> {
 
     /// Polls once from the list. An instance that gets a repoll is queued on the list.
     pub(crate) fn poll_once(&mut self, weight: u32) -> Once
-        requires { IsWithin 1 64 weight }
+        requires { IsWeight weight }
         ensures device { self.new ≡ (polled_once weight self.old).1 }
         ensures once { result ≡ (polled_once weight self.old).0 }
         ensures bound { result.work ≤ weight }
@@ -194,11 +194,10 @@ impl<S: ReceiveSide> BenchDevice<S> {
         poll_once_of(self, weight, &mut PolledBytes::NONE)
     }
 
-    /// Polls by the device's thread, which takes the instance, if it was queued for the thread, and polls it at most `most`
-    /// times.
+    /// Polls by the device's thread: takes the instance, if it was queued for the thread, and polls it at most `most` times.
     pub(crate) fn poll_thread(&mut self, weight: u32, most: u32) -> ThreadReport
-        requires weight { IsWithin 1 64 weight }
-        requires most { IsWithin 1 131072 most }
+        requires weight { IsWeight weight }
+        requires most { IsMost most }
         ensures device { self.new ≡ (polled_by_thread most weight self.old).1 }
         ensures report { IsThreadPolling weight most
             (polled_by_thread most weight self.old).0 result }
@@ -208,8 +207,8 @@ impl<S: ReceiveSide> BenchDevice<S> {
 
     /// Busy polls: takes an idle instance, polls it for this many rounds, stops, and polls once more.
     pub(crate) fn busy_poll(&mut self, weight: u32, rounds: u32) -> BusyReport
-        requires weight { IsWithin 1 64 weight }
-        requires rounds { IsWithin 1 65535 rounds }
+        requires weight { IsWeight weight }
+        requires rounds { IsRounds rounds }
         ensures device { self.new ≡ (polled_busily rounds weight self.old).1 }
         ensures report { result ≡ (polled_busily rounds weight self.old).0 }
     {
@@ -313,7 +312,7 @@ impl<S: ReceiveSide> BusyInstance for BenchDevice<S> {
     }
 }
 
-// Counts a completion that isn't held.
+// Counts a completion that didn't return Held.
 fn count_completion(counts: &mut DeviceCounts, again: bool)
     ensures { counts.new ≡ counted_after (Complete (if again then Again else Released)) counts.old }
 {

@@ -1,21 +1,22 @@
 //! The receive ring of a device, and its instance with all its callers.
 
-ghost use Rattle.std.specs.Prelude.{◌≡◌, ◌≤◌, ◌<◌, ◌^◌, false, true, length, drop, IfOk};
+ghost use Rattle.std.specs.Prelude.{◌≡◌, ◌<◌, ◌^◌, false, true, length, drop, IfOk};
 ghost use Rattle.napi_model.specs.Step.{CallerPolls, after, complete_reply, event, schedule_reply, seen_of, take_disable_reply, take_reply};
 ghost use Rattle.napi_model.specs.declared.event.Operation.TheVariants as operation;
 ghost use Rattle.napi_model.specs.declared.state.Kind.TheVariants as kind;
 ghost use Rattle.device_bench.specs.declared.device.TheConstants.{CONTROLLER, POLLER};
 ghost use Rattle.device_bench.specs.Receive.{ReceiveView, busy_taken, polled_bytes, done_by, given_of, handed_again, queued_kind, ring_has_place, is_control, is_idle, is_polling_place, opened_side, poller_in, put_if, requested, taker_of, tried_by};
 ghost use Rattle.device_places.specs.Range.{IsWithin};
+ghost use Rattle.poll_runs.specs.Ranges.{IsWeight};
 
 use napi_model::{Kind, Prep, Seen};
 use std::alloc::{AllocError, Global};
 
 /// A device's receive side: its receive ring, and its NAPI instance with the four callers, owned by one thread.
 ///
-/// The interrupt is caller 0, the poller of the list 1, the device's thread 2, and the controller 3. Each call has exactly the
-/// effect on ring and instance that the rules for one thread define, whether or not other threads could share the instance.
-/// What a call requires of its caller is its precondition.
+/// The interrupt handler is caller 0, the poller of the list is 1, the device's thread 2, and the controller 3. Each call has
+/// exactly the effect on ring and instance that the rules for one thread define, whether or not other threads could share the
+/// instance. What a call requires of its caller is its precondition.
 pub trait ReceiveSide {
     /// The state of the instance, and the content of the ring.
     ghost side: { Self → ReceiveView };
@@ -37,8 +38,8 @@ pub trait ReceiveSide {
     fn is_off(&self) -> bool
         ensures { result ≡ is_control (side self.now).napi.place };
 
-    /// Requests a poll, as the interrupt (`napi_schedule_prep`); if granted, it queues the instance, and returns in which
-    /// queue.
+    /// Requests a poll, as an interrupt does (`napi_schedule_prep`). If the request is granted, it queues the instance, and
+    /// returns in which queue.
     fn request(&mut self) -> (Prep, Option<Kind>)
         ensures reply { result.0 ≡ schedule_reply (side self.old).napi }
         ensures kind { result.1 ≡ queued_kind result.0 (side self.old).napi }
@@ -46,8 +47,8 @@ pub trait ReceiveSide {
           napi = requested result.0 (side self.old).napi;
         } };
 
-    /// Takes the instance from the list, as its poller, or from the thread's queue, as the thread (`net_rx_action`,
-    /// `napi_thread_wait`). Returns false, and changes nothing, if it isn't there.
+    /// Takes the instance from the list, for the poller of the list, or from its thread's queue, for the thread
+    /// (`net_rx_action`, `napi_thread_wait`). Returns false, and changes nothing, if it isn't in that queue.
     fn take(&mut self, kind: Kind) -> bool
         ensures reply { result ≡ take_reply kind (side self.old).napi }
         ensures side { side self.new ≡ record (side self.old) {
@@ -58,7 +59,7 @@ pub trait ReceiveSide {
 
     /// Takes the ring's next packets, at most the weight (a driver's `poll`). Returns how many, and their bytes.
     fn receive(&mut self, weight: u32) -> (u32, u64)
-        requires weight { IsWithin 1 64 weight }
+        requires weight { IsWeight weight }
         requires polled { is_polling_place (side self.old).napi.place ≡ true }
         ensures count { result.0 ≡ given_of weight (side self.old) }
         ensures bytes { result.1 ≡ polled_bytes weight (side self.old) }
@@ -93,12 +94,12 @@ pub trait ReceiveSide {
           napi = busy_taken result (side self.old).napi;
         } };
 
-    /// Completes a poll under busy polling: the poller still owns the instance.
+    /// Completes a poll while busy polling: the poller still owns the instance (`napi_complete_done` returns false).
     fn hold(&mut self)
         requires { CallerPolls POLLER true (side self.old).napi }
         ensures { side self.new ≡ side self.old };
 
-    /// Stops busy polling, so that the poller polls once more (`busy_poll_stop`).
+    /// Stops busy polling (`busy_poll_stop`): the poller polls once more.
     fn stop(&mut self)
         requires { CallerPolls POLLER true (side self.old).napi }
         ensures side { side self.new ≡ record (side self.old) {
@@ -113,7 +114,7 @@ pub trait ReceiveSide {
           napi = after (side self.old).napi (event CONTROLLER operation.MarkDisable);
         } };
 
-    /// Tries a pending disable once. Returns true if the controller took the instance, and then clears the mark.
+    /// Tries a pending disable once. Returns true if the controller took the instance; the mark of the disable is cleared then.
     fn try_take(&mut self) -> bool
         requires { (side self.old).napi.flags.disable ≡ true }
         ensures reply { result ≡ take_disable_reply (side self.old).napi }
@@ -137,12 +138,12 @@ pub trait ReceiveSide {
         } };
 }
 
-/// A linear receive side: only [`end`](SpentSide::end) consumes it.
+/// A linear receive side: it can't be dropped, and only [`end`](SpentSide::end) consumes it.
 pub trait SpentSide: ReceiveSide {
     /// What it leaves at its end.
     type End: Drop;
 
-    /// `ended side end`: a receive side in this state was ended, and left this.
+    /// `ended side end`: a receive side in the state `side` was ended, and left `end`.
     ghost ended: { ReceiveView → Self.End → Type 0 };
 
     /// Waits until no caller owns the instance, disables it, and polls all packets in the ring.

@@ -18,29 +18,29 @@ use std::alloc::{AllocError, Global};
 /// At most sixteen devices, by number, on which the rows of a trace act. A call with a number that has no device changes
 /// nothing.
 ///
-/// A bench states by ghost members what it shows: each call has exactly the effect on its devices and transmit sides that the
+/// Its `ghost` members say what a bench shows: each call has exactly the effect on its devices and transmit sides that the
 /// rules define.
 pub trait ReplayBench: Bench {
     /// The devices, by number.
     ghost devices: { Self → BenchDevices };
 
-    /// `shows bench all`: the bench's transmit sides are these.
+    /// `shows bench all`: `all` are the bench's transmit sides.
     ghost shows: { Self → Transmits → Type 0 };
 
     /// How many devices wait on the poll list, which has at most as many entries.
     ghost waiting: { Self → ℕ };
 
-    /// Handles the arrival of a packet of this size at a device. Returns the queue in which that put the instance; if it is the
-    /// list, the caller still has to push the number (`napi_schedule`).
+    /// Handles the arrival of a packet of this size at a device (`napi_schedule`). Returns the queue in which that put the
+    /// instance, if any; if it is the list, the caller still has to push the number.
     fn arrive(&mut self, device: u32, bytes: u32) -> Option<Kind>
         ensures devices { devices self.new ≡ after_arrival device bytes (devices self.old) }
         ensures transmits { KeepsTransmits shows self.old self.new }
         ensures kind { result ≡ handed_by bytes (at device (devices self.old)) }
         ensures waiting { waiting self.old + one_when (is_listed result) ≤ waiting self.new };
 
-    /// Makes a device with a receive and a transmit ring of this capacity, both empty, a queue limit that starts at this time,
-    /// and an instance that is enabled, not threaded. A device that exists is unchanged. If an allocation fails, the bench is
-    /// unchanged.
+    /// Creates a device with a receive and a transmit ring of this capacity, both empty, a queue limit that starts at this
+    /// time, and an instance that is enabled and not threaded. If the number has a device already, nothing changes. If an
+    /// allocation fails, nothing changes either.
     fn attach(
         &mut self,
         alloc: Global,
@@ -70,7 +70,7 @@ pub trait ReplayBench: Bench {
             (changed (after_finish count moment) device) self.old self.new }
         ensures waiting { waiting self.new ≡ waiting self.old };
 
-    /// Marks a disable on a device that is enabled; `settle` tries it (`napi_disable`).
+    /// Marks a disable on a device that is enabled (`napi_disable`). The disable takes effect later, in `settle`.
     fn disable(&mut self, device: u32)
         ensures devices { devices self.new
             ≡ changed after_disable device (devices self.old) }
@@ -93,7 +93,7 @@ pub trait ReplayBench: Bench {
         ensures transmits { KeepsTransmits shows self.old self.new }
         ensures waiting { waiting self.new ≡ waiting self.old };
 
-    /// Tries each pending disable once, by increasing device number (the loop of `napi_disable`).
+    /// Tries each pending disable once, in the order of device numbers (the loop of `napi_disable`).
     fn settle(&mut self)
         ensures devices { devices self.new ≡ all_settled (devices self.old) }
         ensures transmits { KeepsTransmits shows self.old self.new }
@@ -110,7 +110,7 @@ pub trait ReplayBench: Bench {
         ensures transmits { (all : Transmits) → shows self.now all
             → result ≡ is_some (at device all) };
 
-    /// Returns what the report shows of an attached device. Each has its transmit side from `attach` on.
+    /// Returns what the report shows of an attached device. A device has its transmit side since `attach`.
     fn counts(&self, device: u32) -> DeviceCounts
         requires attached { is_some (at device (devices self.now)) ≡ true }
         ensures devices { (all : Transmits) → shows self.now all → Some result
@@ -122,15 +122,15 @@ pub trait ReplayBench: Bench {
     fn uses_transmit(&self, device: u32) -> bool
         ensures { (all : Transmits) → shows self.now all → result ≡ is_used (at device all) };
 
-    /// The relation of polls from the list.
+    /// Polls from the list follow the relation defined for devices.
     ghost polled: { ArePolls devices shows waiting Self.polls };
 
-    /// The relation of the polling of a device by its thread.
+    /// The polling of a device by its thread follows the relation defined for devices.
     ghost thread_polled: { AreThreadPolls devices shows waiting Self.thread_polls };
 
-    /// The relation of busy polling of a device.
+    /// Busy polling of a device follows the relation defined for devices.
     ghost busily_polled: { AreBusyPolls devices shows waiting Self.busy_polls };
 
-    /// Each number waits at most once.
+    /// At most 17 devices wait on the list, because each number waits at most once.
     ghost few: { (bench : Self) → waiting bench ≤ 17 };
 }

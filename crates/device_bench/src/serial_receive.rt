@@ -40,7 +40,7 @@ impl Model for SerialReceive {
 }
 
 impl SerialReceive {
-    // Queues the instance for its thread if THREADED is set, otherwise on the list, and returns which.
+    // Queues the instance for its thread if THREADED is set, otherwise on the list, and returns in which queue.
     fn hand_over(&mut self, caller: u32) -> Kind
         requires { self.old.napi.place ≡ Granted caller }
         ensures kind { result ≡ state_kind self.old.napi }
@@ -55,7 +55,7 @@ impl SerialReceive {
         kind
     }
 
-    // Returns the caller that polls it.
+    // Returns the number of the caller that polls the instance.
     fn poller(&self) -> u32
         requires { is_polling_place self.now.napi.place ≡ true }
         ensures { self.now.napi.place ≡ Polling result }

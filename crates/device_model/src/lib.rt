@@ -1,9 +1,11 @@
-//! The devices of a trace: its rows, read from the bytes of a text, and the devices on which they act, by one thread with its
-//! own instances or with instances that threads could share, or as the acts of a device in its own thread.
+//! The rows of a trace, read from the bytes of a text, and the devices on which they act. One thread may process them, with
+//! instances of its own or with instances that threads could share; or each device's rows are the acts of a device that runs in
+//! its own thread.
 //!
 //! This is a facade: it re-exports its internal crates, and adds nothing. `device_places` has the numbers of devices,
-//! `device_rows` the rows, `device_transmit` the transmit sides, `device_bench` the bench of one thread, `device_shared` that
-//! on shared instances, and `device_script` the device for a run with threads. `specs/Lib.antt` re-exports what contracts cite.
+//! `device_rows` the rows, `device_transmit` the transmit sides, `device_bench` the devices for one thread, `device_shared`
+//! those with shared instances, and `device_script` a device for a run with threads. `specs/Lib.antt` re-exports what contracts
+//! cite.
 #![tactic(auto)]
 
 pub use device_bench::{DeviceCounts, DeviceState, ReplayBench, SerialBench};

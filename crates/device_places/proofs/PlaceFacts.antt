@@ -8,7 +8,7 @@ below-some [] i a e = cc e
 below-some (x ∷ xs) zero a e = omega arith
 below-some (x ∷ xs) (suc i) a e = omega (arith, below-some xs i a e)
 
--- the entry of a number, after this entry or another one was set
+-- the entry of a number, after the entry of this or another number was replaced
 pub at-set : {A : Type 0} → (P : Option A → Type 0) → (xs : DeviceTable A) (i j : ℕ) (y : Option A) → i < length xs → P y → P (at j xs)
     → P (at j (slice_set xs i y))
 at-set P xs i j y below new old = by (j == i) refl
@@ -17,7 +17,7 @@ at-set P xs i j y below new old = by (j == i) refl
     by true e = rw (get_or-set_at xs i j y None (eqb-true j i e) below) new
     by false e = rw (get_or-set_other xs i j y None (eqb-false j i e)) old
 
--- the entry of a number within the table
+-- the entry of a number that is within the table
 pub at-index : {A : Type 0} → (xs : DeviceTable A) (i : ℕ) (x : Option A) → i < length xs → get_or xs i x ≡ x → at i xs ≡ x
 at-index [] i x below e = absurd (omega (arith, below))
 at-index (y ∷ xs) zero x below e = e

@@ -1,4 +1,4 @@
--- A table of sixteen devices by number: entries 0 to 16, of which 0 stays empty.
+-- A table of at most sixteen devices by number: it has the entries 0 to 16, and entry 0 stays empty.
 use Rattle.std.specs.Prelude.{ℕ, List, Option, Some, None, replicate, slice_index_or, slice_set}
 
 abbrev pub DeviceTable : Type 0 → Type 0
@@ -11,7 +11,7 @@ empty = replicate 17 None
 abbrev pub at : {A : Type 0} → ℕ → DeviceTable A → Option A
 at number places = slice_index_or places number None
 
--- changes the entry of a number, if there is one
+-- changes the entry of a number, if it has one
 abbrev pub changed_from : {A : Type 0} → (A → A) → ℕ → Option A → DeviceTable A → DeviceTable A
 changed_from change number None places = places
 changed_from change number (Some a) places = slice_set places number (Some (change a))

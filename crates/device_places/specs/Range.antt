@@ -1,4 +1,4 @@
--- A number within its range.
+-- A number and its range.
 use Rattle.std.specs.Prelude.{ℕ, ◌≤◌}
 
 abbrev pub IsWithin : ℕ → ℕ → ℕ → Type 0

@@ -1,4 +1,4 @@
--- What remains after the bytes that were read ahead.
+-- What remains of a source after the bytes that were read ahead from it.
 use Rattle.std.proofs.Common.{◌≡◌, ◌∙◌, ℕ, ◌+◌, ◌-◌, ◌≤◌, List, [], ◌∷◌, ◌++◌, Some, None, Option, length, take, drop, refl, sym, ap, arith}
 use Rattle.std.proofs.{Common.{append_assoc, length-append, take_all, take_at, take-take, drop_at}, lemmas.List.take-append-le}
 use Rattle.{std.specs.Io.KnownBytes.Consumes, csv.specs.declared.parser.State.State}
@@ -14,7 +14,7 @@ no-mark [] = refl
 no-mark (a ∷ []) = refl
 no-mark (a ∷ b ∷ bytes) = refl
 
--- the bytes that a read returned follow those that were unread
+-- after a read, the unread bytes are those from before, and then the bytes that the read returned
 pub read-on : (held taken items behind bytes : List ℕ) (before after : Option (List ℕ)) → before ≡ Some behind → Consumes before after taken
     → bytes ≡ held ++ behind → items ≡ held ++ taken → (left : List ℕ) × (after ≡ Some left) × (bytes ≡ items ++ left)
 read-on held taken items behind bytes None after known took all made = cc known
@@ -23,7 +23,7 @@ read-on held taken items behind bytes (Some xs) (Some ys) known took all made =
     let same : behind ≡ taken ++ ys = cc (known, took) in
     (ys, refl, all ∙ ap (λ b. held ++ b) same ∙ sym (append_assoc held taken ys) ∙ ap (λ i. i ++ ys) (sym made))
 
--- a read put bytes after the unread ones, and the first `count` of them are valid
+-- a read put bytes after the unread ones; of these, the first `count` are valid
 pub put-behind : (held ahead zeros taken spare rest items : List ℕ) (before asked count size : ℕ) → before ≡ length held
     → ahead ≡ take (before + asked) held ++ zeros → count ≤ length taken → before + count ≤ size
     → items ≡ take (before + count) (take size ((take before ahead ++ (taken ++ spare)) ++ rest)) → items ≡ held ++ take count taken

@@ -50,7 +50,7 @@ first-decide (header ∷ records) (suc count) many = by (version_of header)
     by None = refl
     by (Some version) = rows-enough version count [] records (omega arith) (omega arith)
 
--- as many records as the reader asks for determine the result for a text, if they determine it for records
+-- if the first `count` records of a list determine a result, the first `count` records of a text determine it too
 asked-same : {A : Type 0} (told : List (List (List ℕ)) → A) (count : ℕ) (s : State) (bytes : List ℕ)
     → ((records : List (List (List ℕ))) → told (take count records) ≡ told records)
     → s ≡ State.StartRecord → told (records_of bytes) ≡ told (records_from default_config count s (strip_bom bytes))

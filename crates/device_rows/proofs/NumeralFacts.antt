@@ -1,4 +1,4 @@
--- The number that digits denote, by all but the last of them.
+-- The number that digits denote, computed from the number of all but the last digit.
 use Rattle.std.proofs.Common.{◌≡◌, ℕ, zero, suc, ◌+◌, ◌-◌, ◌*◌, ◌^◌, ◌<◌, ◌≤◌, Bool, true, false, List, [], ◌∷◌, ◌++◌, length}
 use Rattle.std.proofs.{Common.{length-append, refl, arith}, Math.{Nat.{add-suc, add-zero, pow-suc}, Dec.leb-suc-suc}, lemmas.Bool.le-leb}
 use Rattle.std.specs.{Prelude.{◌&&◌, nat_le}, Char.{digit_value, is_ascii_digit}, List.IsLastAndRest, Str.all_ascii_digits}

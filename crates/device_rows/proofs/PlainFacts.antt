@@ -49,7 +49,7 @@ line-ends fields x rest plain =
     let run' = rw plain at run in
     run'
 
--- at a numeral, a record starts as a field does
+-- if a text starts with a numeral, reading a record starts like reading a field
 numeral-starts : (x rest : List ℕ) → is_numeral x ≡ true
     → next_record default_config state.StartRecord [] [] (x ++ rest) ≡ next_record default_config state.StartField [] [] (x ++ rest)
 numeral-starts [] rest h = cc h
@@ -124,7 +124,7 @@ splits-at text place stop below ends =
     sym (take-append-drop place text) ∙ ap (λ l. take place text ++ l) (drop_more text place 0 below)
     ∙ ap (λ s. take place text ++ s ∷ drop (place + 1) text) ends
 
--- what the name of an event and a comma split off
+-- if a text starts with the name of an event and a comma, they can be split off
 pub event-starts : (version : ℕ) (name : List ℕ) (event : RowEvent) (text prefix rest : List ℕ) → IsPlain name
     → event_of version name ≡ Some event → prefix ≡ name ++ 44 ∷ [] → text ≡ prefix ++ rest → StartsWithEvent version text event rest
 event-starts version name event text prefix rest plain names is splits = record {
@@ -134,7 +134,7 @@ event-starts version name event text prefix rest plain names is splits = record 
   is_its_name = names;
 }
 
--- what a byte that isn't a digit splits off
+-- if a byte that isn't a digit follows a number, the number can be split off
 pub number-ends : (text : List ℕ) (place stop number : ℕ) → place < length text → 1 ≤ place → place ≤ 20
     → all_ascii_digits (take place text) ≡ true → number ≡ numeral (take place text) → slice_index_or text place 0 ≡ stop
     → StartsWithNumber text stop number (drop (place + 1) text)

@@ -68,12 +68,12 @@ next-short s fields field (c ∷ rest) p e =
         let (tidy, short) = again _ _ _ h in
         (tidy, omega arith)
 
--- no record is left at the end, between two records
+-- at the end of a text, after a whole record, no record is left
 pub next-end : (s : State) → ends_at_end s ≡ false → next_record default_config s [] [] [] ≡ None
 unfolding next_record
 next-end s between = rw between refl
 
--- as many records as bytes, and one more, are all of them
+-- any request for more records than the text has bytes returns all of them
 pub records-all : (n m : ℕ) (s : State) (xs : List ℕ) → ends_at_end s ≡ false → length xs < n → length xs < m
     → records_from default_config n s xs ≡ records_from default_config m s xs
 unfolding records_from
@@ -92,7 +92,7 @@ records-all (suc n) (suc m) s (x ∷ xs) between a b =
         let (tidy, short) = next-short s [] [] (x ∷ xs) p e in
         ap (λ (t : List (List (List ℕ))). p.0 ∷ t) (same p.1 p.2 tidy (omega arith) (omega arith))
 
--- fewer records are the first of them
+-- a request for fewer records returns the first of them
 pub records-take : (n m : ℕ) (s : State) (xs : List ℕ) → n ≤ m
     → records_from default_config n s xs ≡ take n (records_from default_config m s xs)
 unfolding records_from

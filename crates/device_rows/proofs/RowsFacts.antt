@@ -59,7 +59,7 @@ module _ (version : ℕ) where
       records-more remaining reader after fields (100001 - length rows) (100001 - (length rows + 1)) left (omega (arith, small)) next in
       (rest, stands, so_far ∙ ap (rows_after version rows) one)
 
-  -- the rows of all records are those so far, if no record is left or none was asked for
+  -- if no record is left, or none was requested, the rows are those read so far
   pub ends : {R : Type 0} (remaining : R → Option (List ℕ)) (reader after : Reader R) (fields : List (List ℕ)) (rows : List Row)
       (all : Result (List Row) TraceFault) (left : List ℕ) → length rows ≤ 100000
       → ReadsNext remaining (next_record default_config (reader_state reader) [] [] left) false fields after
@@ -91,14 +91,14 @@ module _ (version : ℕ) where
   unfolding with_row
   with_row-bad rows fields why e = rw (sym e) refl
 
-  -- a row that the earlier ones don't allow
+  -- a record whose row isn't allowed after the earlier rows
   pub with_row-refused : (rows : List Row) (fields : List (List ℕ)) (row : Row) (why : TraceFault)
       → Ok row ≡ row_of version (length rows + 1) fields
       → refusal (length rows + 1) row.event (switch_of row.device rows) ≡ Some why → with_row version rows fields ≡ Err why
   unfolding with_row
   with_row-refused rows fields row why e h = rw (sym e, h) refl
 
-  -- a row that they allow
+  -- a record whose row is allowed after the earlier rows
   pub with_row-good : (rows : List Row) (fields : List (List ℕ)) (row : Row) → Ok row ≡ row_of version (length rows + 1) fields
       → refusal (length rows + 1) row.event (switch_of row.device rows) ≡ None → with_row version rows fields ≡ Ok (rows ++ row ∷ [])
   unfolding with_row

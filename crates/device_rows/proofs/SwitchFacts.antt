@@ -50,7 +50,7 @@ tracks-set table rows row s e low high size t place below = by (row.device == pl
         let at : row.device ≢ place + 1 = eqb-false _ _ h in
         rw (switch_of-other (place + 1) rows row h) (get_or-set_other table (row.device - 1) place s Unopened (omega arith) ∙ t place below)
 
--- the device of a row that isn't a softirq
+-- the range of the device of a row that isn't a softirq
 pub device_range : (e : RowEvent) (n : ℕ) → e ≢ Softirq → device_fits e n ≡ true → (1 ≤ n) × (n ≤ 16)
 device_range Softirq n other h = absurd (other refl)
 device_range e n other h = grind (arith, nat_tests)

@@ -12,7 +12,7 @@ pub record IsSoFar {A : Type 0} (table : List Switch) (rows : Vec Row A) : Type 
   pub tracks : Tracks table (vec_items rows)
   pub accepted : AcceptedAfter [] (vec_items rows)
 
--- the row of these fields was appended, and the rows before it accept it
+-- the row with these fields was appended; it is allowed after the rows before it
 pub record AddsNext {A : Type 0} (version : ℕ) (fields : List (List ℕ)) (table : List Switch) (before after : Vec Row A) : Type 0 where
   pub rows : with_row version (vec_items before) fields ≡ Ok (vec_items after)
   pub count : length (vec_items after) ≡ length (vec_items before) + 1

@@ -7,7 +7,7 @@ use Rattle.device_rows.specs.declared.{block.Block.Block, fused.Fused.Fused}
 abbrev pub unread : {R : Type 0} → Block R → List ℕ
 unread block = drop block.at block.held.items
 
--- the bytes that remain of a reader that isn't read after its end
+-- the bytes that remain of a reader that isn't read again after its end
 abbrev pub fused_remaining : {R : Type 0} → (R → Option (List ℕ)) → Fused R → Option (List ℕ)
 fused_remaining remaining fused = if fused.has_ended then Some [] else remaining fused.source
 

@@ -1,4 +1,4 @@
--- That a reader failed or an allocation failed, which a function learns from the error that it gets.
+-- Facts that a function may conclude from an error: the reader failed, or an allocation failed.
 use Rattle.std.specs.{Prelude.◌≡◌, declared.{alloc.AllocError.AllocError, io.Error.Error}}
 use Rattle.csv.specs.declared.error.ErrorKind.{ErrorKind}
 use Rattle.csv.specs.declared.error.ErrorKind.TheVariants.{Io, OutOfMemory}

@@ -55,19 +55,19 @@ ranged n moment device event value =
     then Ok (record { moment = moment; device = device; event = event; value = value })
     else Err (OutOfRange n)
 
--- if the name is that of an event
+-- the same, if the event's name was found
 abbrev pub of_event : ℕ → ℕ → ℕ → Option RowEvent → ℕ → Result Row TraceFault
 of_event n moment device None value = Err (BadEvent n)
 of_event n moment device (Some event) value = ranged n moment device event value
 
--- if three of its four fields are numbers
+-- the same from the bytes of the four fields, of which three have to be numbers
 unfoldable pub of_fields : ℕ → ℕ → List ℕ → List ℕ → List ℕ → List ℕ → Result Row TraceFault
 of_fields version n moment device event value =
     if is_numeral moment && (is_numeral device && is_numeral value)
     then of_event n (numeral moment) (numeral device) (event_of version event) (numeral value)
     else Err (BadNumber n)
 
--- if it has four fields
+-- the same for a record, which has to have four fields
 abbrev pub of_four : ℕ → ℕ → Option Four → Result Row TraceFault
 of_four version n None = Err (BadFields n)
 of_four version n (Some four) = of_fields version n four.0 four.1 four.2 four.3

@@ -23,8 +23,8 @@ device_fits Enable n = is_device n
 device_fits Threaded n = is_device n
 device_fits Busy n = is_device n
 
--- the value that it may have: ring capacity, bytes, bytes, packets, whether threaded, the rounds of busy polling, and otherwise
--- 0
+-- the value that a row of this event may have: the ring capacity of an open, the bytes of an rx or a tx, the packets of a done,
+-- 0 or 1 for a threaded, the rounds of a busy, and otherwise 0
 abbrev pub value_fits : RowEvent → ℕ → Bool
 value_fits Opened n = is_within 1 65536 n
 value_fits Rx n = is_within 1 65535 n

@@ -14,7 +14,7 @@ pub record IsOpen {R : Type 0} (reader : Reader R) : Type 0 where
   pub ready : Ready reader
   pub flexible : is_flexible reader ≡ true
 
--- these bytes remain
+-- these bytes remain to be read
 abbrev pub StandsAt : {R : Type 0} → (R → Option (List ℕ)) → Reader R → List ℕ → Type 0
 StandsAt remaining reader bytes = source_of remaining reader ≡ Some bytes
 

@@ -30,7 +30,7 @@ switch_after switch (event ∷ events) = switch_after (unwrap_or (set_by event) 
 unfoldable pub switch_of : ℕ → List Row → Switch
 switch_of device rows = switch_after Unopened (events_of device rows)
 
--- the error of row n, if its device has to be open and isn't
+-- the error of row n if its device isn't open, for an event that needs an open device
 abbrev pub wants_open : ℕ → Switch → Option TraceFault
 wants_open n Unopened = Some (UnknownDevice n)
 wants_open n On = None
@@ -64,7 +64,7 @@ unless_refused (Some fault) x = Err fault
 abbrev pub Tracks : List Switch → List Row → Type 0
 Tracks table rows = (place : ℕ) → place < 16 → slice_index_or table place Unopened ≡ switch_of (place + 1) rows
 
--- a row with its numbers in their ranges that is accepted after rows with these states, and that changes none of them
+-- a row whose numbers are in their ranges, which is accepted after rows with these states and changes none of the states
 pub record Passes (table : List Switch) (row : Row) : Type 0 where
   pub device : device_fits row.event row.device ≡ true
   pub value : value_fits row.event row.value ≡ true

@@ -16,8 +16,8 @@ with_row version earlier fields = do
   row ← row_of version (length earlier + 1) fields
   unless_refused (refusal (length earlier + 1) row.event (switch_of row.device earlier)) (earlier ++ row ∷ [])
 
--- the earlier rows and those of the records, or the first error among these; that there is a row 100001 comes before any other
--- error
+-- the earlier rows and those of the records, or the first error among these; for a row 100001, the error that it exists comes
+-- before any error of its own
 unfoldable pub rows_after : ℕ → List Row → List (List (List ℕ)) → Result (List Row) TraceFault
 rows_after version earlier [] = Ok earlier
 rows_after version earlier (fields ∷ records) =

@@ -36,7 +36,7 @@ impl<R: Read> Block<R> {
     ghost use Rattle.device_rows.specs.Block.{Holds, left_remaining, unread};
     ghost use Rattle.device_rows.specs.Source.{HasCause, IsOpen, StandsAt};
 
-    /// Returns a block of which nothing is read yet.
+    /// Returns a block of a source from which nothing was read yet.
     pub fn new(alloc: Global, source: R) -> Block<R>
         ensures { (bytes : List ℕ) → R.remaining source ≡ Some bytes
             → Holds R.remaining result bytes }
@@ -86,7 +86,7 @@ impl<R: Read> Block<R> {
         held.truncate(before + count);
         self.held = held;
         self.at = 0;
-        // A source of few bytes per read, such as a terminal, is asked for few.
+        // A source that returns few bytes per read, such as a terminal, is asked for few bytes next time.
         self.wanted = count.saturating_mul(2).max(FEWEST);
         Ok(count > 0)
     }

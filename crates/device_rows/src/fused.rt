@@ -4,8 +4,8 @@ ghost use Rattle.device_rows.specs.Block.{fused_remaining};
 
 use std::io::{self, Read};
 
-/// A reader that isn't read again after its end, as an iterator of `Iterator::fuse` isn't. A text is read ahead and then by `csv`, and
-/// both read to its end: so a terminal needs one Ctrl-D.
+/// A reader that isn't read again after its end, like an iterator after `Iterator::fuse`. Both the code that reads ahead and
+/// `csv` read to the end of a text: without this, a terminal would need a second Ctrl-D.
 #[derive(Drop)]
 pub struct Fused<R> {
     source: R,

@@ -27,7 +27,7 @@ pub fn reader_of<R: Read>(alloc: Global, source: R) -> Reader<R>
         .from_reader(alloc, source)
 }
 
-/// Why a text couldn't be read on.
+/// Why the rest of a text couldn't be read.
 #[derive(Clone, Copy, Debug, PartialEq, Eq, Error)]
 pub enum ReadError {
     /// The reader failed.

@@ -68,7 +68,7 @@ impl Switches {
         }
     }
 
-    // Returns whether this is a device that was opened.
+    // Returns whether the device with this number was opened.
     #[inline(always)]
     fn has(&self, device: u32) -> bool
         ensures device { result ≡ true → is_device device ≡ true }

@@ -1,4 +1,4 @@
--- What follows for the open row of a device if a trace is accepted.
+-- What a trace that is accepted implies for the open row of a device.
 use Rattle.std.{proofs.{Common.{arith, ◌≡◌, ℕ, ◌≤◌, Bool, true, Some, List, [], ◌∷◌, ◌++◌}, lemmas.Grind.common_steps}, specs.Prelude.◌&&◌}
 use Rattle.{std.specs.List.find, device_rows.specs.{Row.value_fits, Trace.AcceptedAfter, declared.{event.RowEvent.RowEvent, row.Row.Row}}}
 use Rattle.device_script.specs.Script.{is_open, opens}

@@ -1,4 +1,4 @@
--- Filters and searches over a prefix of a list, and one more item.
+-- Filtering and searching a prefix of a list, and one more element.
 use Rattle.std.proofs.{lemmas.{Grind.common_steps, List.{take_more, Elements.filter-append, Folds.find-append}}, Common.{◌≡◌, ◌∙◌, ℕ, zero}}
 use Rattle.std.proofs.Common.{suc, ◌+◌, ◌<◌, ◌≤◌, Bool, true, false, Some, None, List, [], ◌∷◌, ◌++◌, length, take, get_or, ap, refl, arith}
 use Rattle.std.specs.{Prelude.{◌&&◌, filter, if◌then◌else◌}, List.{find, range_with_len}}
@@ -25,7 +25,7 @@ pub filter-long : {X : Type 0} (p : X → Bool) (xs : List X) → length (filter
 filter-long p [] = omega arith
 filter-long p (x ∷ xs) = grind (arith, common_steps, filter-long p xs)
 
--- a search with a stronger test can be made in the filtered list
+-- a search for a stronger property finds the same element in the filtered list
 pub find-among : {X : Type 0} (p q : X → Bool) (xs : List X) → find (λ x. p x && q x) (filter p xs) ≡ find (λ x. p x && q x) xs
 find-among p q [] = refl
 find-among {X = X} p q (x ∷ xs) = grind (arith, common_steps, find-among p q xs)

@@ -9,7 +9,7 @@ use Rattle.device_transmit.specs.Transmit.{ShowsTransmit, TransmitView}
 use Rattle.device_script.specs.{ScriptShown.{IsScriptKept, Script, script_after, answer}}
 use Rattle.device_script.specs.{Script.{act_at, act_of, rx_of, transmit_after, transmit_by}}
 
--- the row for an index out of range
+-- the row that is returned for an index out of range
 abbrev pub none : Row
 none = record { moment = 0; device = 0; event = Opened; value = 0 }
 
@@ -22,7 +22,7 @@ rx_of-more : (rows : List Row) (k : ℕ) (d : Row) → k < length rows
     → rx_of (take (k + 1) rows) ≡ rx_of (take k rows) ++ rx_of (get_or rows k d ∷ [])
 rx_of-more rows k d below = ap (λ (l : List Row). rx_of l) (take_more rows k d below) ∙ filter-append _ (take k rows) (get_or rows k d ∷ [])
 
--- one more row was processed
+-- one more row of the script was processed
 pub kept-more : (opening : Row) (rows : List Row) (k packets counted : ℕ) (row : Row) (old new : Transmit)
     → IsScriptKept opening rows k packets old → k < length rows → get_or rows k row ≡ row
     → ((view : TransmitView) → ShowsTransmit old view → ShowsTransmit new (transmit_by row.event row view))
@@ -33,7 +33,7 @@ pub few-packets : (opening : Row) (rows : List Row) (k packets : ℕ) (side : Tr
     → packets ≤ 100000
 few-packets opening rows k packets side kept = grind (arith, common_steps, filter-long)
 
--- the act of a row
+-- the act of the row at this index
 pub act-at : (rows : List Row) (k : ℕ) (d : Row) → k < length rows
     → act_at rows k ≡ act_of (length (rx_of (take k rows)) + 1) (get_or rows k d).event (get_or rows k d).value
 act-at rows k d below = rw (get-at rows k d below) refl
@@ -43,13 +43,13 @@ pub answer-in-turn : (s : Script) (k packets : ℕ) (row : Row) (act : Act) → 
     → act ≡ act_of (packets + 1) row.event row.value → act ≡ answer s k
 answer-in-turn s k packets row act turn below here counted is = grind (arith, common_steps, act-at)
 
--- ---- all acts
+-- ---- all acts of a script
 
 pub acts-made : (s : Script) (n : ℕ) → s.made ≡ 0 → after_acts script_after s n ≡ record s { made = n }
 acts-made s zero e = ap (λ (m : ℕ). record s { made = m }) e
 acts-made s (suc n) e = grind (arith, common_steps, acts-made s n e)
 
--- what a row's act delivers
+-- the packet that a row's act delivers, if it is an rx row
 brought-count : (e : RowEvent) (n : ℕ) (row : Row) → row.event ≡ e
     → length (brings (act_of n row.event row.value)) ≡ length (rx_of (row ∷ []))
 brought-count e n row h = grind (arith, common_steps)
@@ -61,7 +61,7 @@ brought-bytes e n row h = grind (arith, common_steps)
 bytes_of-append : (xs ys : List Packet) → bytes_of (xs ++ ys) ≡ bytes_of xs + bytes_of ys
 bytes_of-append xs ys = grind (arith, common_steps)
 
--- the packets of the first n acts of a script are those of its rx rows
+-- the first n acts of a script deliver the packets of the rx rows among its first n rows
 abbrev pub AreArrivals : Script → ℕ → Type 0
 AreArrivals s n = (length (arrivals answer script_after s n) ≡ length (rx_of (take n s.rows)))
     × (bytes_of (arrivals answer script_after s n) ≡ sum_by (λ (row : Row). row.value) (rx_of (take n s.rows)))

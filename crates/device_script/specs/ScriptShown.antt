@@ -1,4 +1,4 @@
--- A device of a script, as contracts see it.
+-- A device whose acts are a script (the list of its rows), as contracts see it.
 use Rattle.std.specs.Prelude.{◌≡◌, ◌≤◌, ℕ, ◌+◌, ◌==◌, List, if◌then◌else◌, length, take}
 use Rattle.device_transmit.specs.Transmit.{ShowsTransmit}
 use Rattle.{device_transmit.specs.{Transmit.TransmitView, declared.transmit.Transmit.Transmit}, device_rows.specs.declared.row.Row.Row}
@@ -10,24 +10,24 @@ pub record Script : Type 0 where
   pub opening : Row
   -- its rows after that one
   pub rows : List Row
-  -- how many of them were turned into acts
+  -- how many of these rows were turned into acts
   pub made : ℕ
 
 abbrev pub acts : Script → ℕ
 acts script = length script.rows
 
--- the acts are asked for in order; one that is asked for out of order is `Nothing`
+-- act k; `Nothing` if the acts are asked for out of order
 abbrev pub answer : Script → ℕ → Act
 answer script k = if k == script.made then act_at script.rows k else act.Nothing
 
 abbrev pub script_after : Script → ℕ → Script
 script_after script k = if k == script.made then record script { made = script.made + 1 } else script
 
--- its transmit side after the acts so far
+-- its transmit side after the acts made so far
 abbrev pub side_of : Script → TransmitView
 side_of script = side_after script.opening (take script.made script.rows)
 
--- the transmit side is that of the rows so far, whose packets were counted
+-- the stored transmit side is the one after the rows so far, and their packets were counted
 pub record IsScriptKept (opening : Row) (rows : List Row) (made counted : ℕ) (side : Transmit) : Type 0 where
   pub few : length rows ≤ 100000
   pub within : made ≤ length rows

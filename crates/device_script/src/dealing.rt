@@ -1,4 +1,4 @@
-//! Splitting the rows of a trace by device, in one pass.
+//! Splits the rows of a trace by device, in one pass.
 
 ghost use Rattle.std.specs.Prelude.{◌≡◌, ◌<◌, ◌≤◌, ◌++◌, ◌∷◌, [], List, IfOk, OnOk, slice_index_or, slice_set, vec_len};
 ghost use Rattle.device_rows.specs.declared.row.Row.{Row};
@@ -23,7 +23,7 @@ pub(crate) fn opens(row: &Row, device: u32) -> bool
     is_open(row) && row.device == device
 }
 
-/// Returns whether the row is another row of the device.
+/// Returns whether the row is of this device and doesn't open it.
 pub(crate) fn is_act_of(row: &Row, device: u32) -> bool
     ensures { result ≡ is_act_of device row.now }
 {
@@ -43,7 +43,7 @@ pub fn openings_of(alloc: Global, rows: &[Row]) -> Result<Vec<Row>, AllocError>
     Ok(openings)
 }
 
-// Returns sixteen empty scripts.
+// Returns an empty script (list of rows) for each of the sixteen devices.
 fn no_scripts(alloc: Global) -> Result<Vec<Vec<Row>>, AllocError>
     ensures scripts { IfOk result (λ scripts. AreScripts (lists scripts) []) }
     ensures count { IfOk result (λ scripts. vec_len scripts ≡ 16) }
@@ -55,7 +55,8 @@ fn no_scripts(alloc: Global) -> Result<Vec<Vec<Row>>, AllocError>
     Ok(scripts)
 }
 
-// Appends a row to the script of its device. If the row opens the device, it makes room there for this many rows instead.
+// Appends a row to the script of its device. If the row opens the device, it isn't appended, but room for this many rows is
+// reserved there.
 fn deal(row: &Row, room: usize, scripts: &mut Vec<Vec<Row>>) -> Result<(), AllocError>
     requires { vec_len scripts.old ≡ 16 }
     ensures scripts { OnOk result
@@ -74,14 +75,14 @@ fn deal(row: &Row, room: usize, scripts: &mut Vec<Vec<Row>>) -> Result<(), Alloc
     Ok(())
 }
 
-/// Returns the rows of all sixteen devices after their open rows: those of device 1 are at index 0.
+/// Returns, for each of the sixteen devices, its rows after its open row: those of device 1 are at index 0.
 pub fn scripts_of(alloc: Global, rows: &[Row]) -> Result<Vec<Vec<Row>>, AllocError>
     ensures scripts { IfOk result (λ scripts. AreScripts (lists scripts) rows.now) }
     ensures count { IfOk result (λ scripts. vec_len scripts ≡ 16) }
 {
     let mut scripts = no_scripts(alloc)?;
     for row in rows {
-        // Room for all rows at once: memory that is never written costs nothing, and no row is moved.
+        // reserve room for all rows at once: memory that is never written costs nothing, and no row is moved later
         deal(row, rows.len(), &mut scripts)?;
     }
     Ok(scripts)

@@ -14,8 +14,8 @@ use rx_ring::Packet;
 use std::alloc::{AllocError, Global};
 use std::marker::Model;
 
-/// A device of a trace. Its acts are its rows after its open row, in order; tx and done rows are applied to its transmit side
-/// when their act is asked for.
+/// A device of a trace. Its acts are its rows after its open row, in order. A tx or done row is applied to its transmit side
+/// when its act is asked for.
 #[derive(Drop)]
 pub struct ScriptDevice {
     opening: Row,
@@ -99,8 +99,8 @@ fn has_thread(rows: &[Row]) -> bool
     false
 }
 
-// Applies a row to the transmit side, if it concerns that, and returns what the interrupt does. `packets` counts the packets
-// before it.
+// Applies a row to the transmit side if it is a tx or done row, and returns what the interrupt handler does. `packets` counts
+// the packets so far.
 fn play(row: Row, packets: &mut u64, transmit: &mut Transmit) -> Act
     requires { packets.old < 2 ^ 63 }
     ensures act { result ≡ act_of (packets.old + 1) row.event row.value }
@@ -127,7 +127,7 @@ fn play(row: Row, packets: &mut u64, transmit: &mut Transmit) -> Act
 }
 
 impl ScriptDevice {
-    /// Returns the device with this number of a trace that opens it, before its first act. Fails only if an allocation fails.
+    /// Returns the device with this number in a trace that opens it, before its first act. Fails only if an allocation fails.
     pub fn new(alloc: Global, trace: &Trace, device: u32) -> Result<ScriptDevice, AllocError>
         requires opened { IsSome (opening_of device trace.now.rows) }
         ensures opening { IfOk result
@@ -166,7 +166,7 @@ impl ScriptDevice {
         self.opening.value
     }
 
-    /// How many packets its acts deliver, including those so far.
+    /// Returns how many packets its acts deliver, those already made included.
     pub fn packets(&self) -> u32
         ensures { result ≡ length (rx_of self.now.rows) }
     {
@@ -208,7 +208,7 @@ impl Device for ScriptDevice {
         self.rows.len() as u32
     }
 
-    /// An act that is asked for out of order is `Nothing`, and applies no row.
+    /// an act that is asked for out of order is `Nothing`, and applies no row
     fn act(&mut self, k: u32) -> Act {
         if k != self.made {
             return Act::Nothing;

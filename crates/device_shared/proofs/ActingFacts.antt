@@ -1,4 +1,5 @@
--- How a call with one of the seats is a call of its number only.
+-- A call by one of an instance's callers, all of which one thread owns: only that caller's events and packets change. A seat is
+-- such a caller with its `Pass`.
 use Rattle.std.proofs.{Common.{ℕ, Bool, true, false, List, [], Option, Some, None, refl, sym, ap, subst, arith}, lemmas.Grind.common_steps}
 use Rattle.napi_calls.{proofs.{Dealing.delivers_none, Making.nothing}, specs.{Made.Made, Packets.{Quiet, IsFresh, HoldsOn, polled}}}
 use Rattle.std.proofs.Common.{◌≡◌, ◌∙◌}
@@ -16,11 +17,11 @@ use Rattle.device_shared.specs.declared.seats.Turn.TheVariants as turn
 pub seat_made : {n : Napi} {p q : Pass} {os : List Operation} → IsSharedSeat n p → Made p os q → IsSharedSeat n q
 seat_made s m = record { instance = m.seat.table ∙ s.instance; controller = m.seat.controller ∙ s.controller }
 
--- the context doesn't move
+-- the poll context stays where it is
 pub stays : (p q : Pass) (o : Option RxCtx) → CtxMoves [] p q o o
 stays p q o = grind (arith, common_steps)
 
--- ---- one seat made these operations, and the context moved accordingly
+-- ---- one caller made these operations, and the context moved accordingly
 
 pub record Moved (os : List Operation) (packets : List Packet) (p q : Pass) (before after : Option RxCtx) : Type 0 where
   pub made : Made p os q
@@ -59,7 +60,7 @@ thread_rests (PollsBusily b t) = idle (Some b.ctx) t.stands
 pub not_rest : (pollers : Pollers) → ((p t : Caller) → pollers ≡ Rest p t → ⊥) → nobody (polls_at pollers) ≡ false
 not_rest pollers none = grind (arith, common_steps)
 
--- ---- one of the four
+-- ---- the call is made by one of the four callers
 
 abbrev pub with_turn : Caller → Turn → Seats
 with_turn i t = record { interrupt = i; turn = t }
@@ -107,7 +108,7 @@ none_turn kind.List i (turn.On pollers e) s =
 none_turn kind.Thread i (turn.On pollers e) s =
     second_turn i (turn.On pollers e) (turn.On pollers e) (turn.On pollers e) refl s (thread_rests pollers) refl refl
 
--- an attempt of the controller, while no caller has the context
+-- an attempt by the controller, while no caller has the context
 pub tried : {os : List Operation} (p : Pass) (t : Turn) (taken : Bool) → Made p os (control_of t) → TurnTakes p t taken
     → Moved os [] p (control_of t) None (turn_ctx t)
 tried p t true m k = record { made = m; gave = delivers_none p (control_of t) k.1; moves = k.0 }

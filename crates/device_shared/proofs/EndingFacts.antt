@@ -1,4 +1,4 @@
--- How a receive side ends.
+-- How a receive side (a ring and its instance) is closed at the end.
 use Rattle.std.proofs.{Common.{subst, arith}, lemmas.{List.{append-nil, take-append-drop}, Grind.common_steps}}
 use Rattle.std.proofs.Common.{◌≡◌, ◌∙◌, ℕ, List, [], ◌∷◌, length, take, Some, refl, sym, ap}
 use Rattle.napi_model.specs.declared.state.Seen.{Seen}
@@ -14,7 +14,7 @@ use Rattle.device_shared.specs.{declared.seats.Enabled.Enabled}
 use Rattle.napi_calls.specs.Seats as seats
 use Rattle.device_shared.specs.declared.seats.Turn.TheVariants as turn
 
--- ---- one seat, and one ring, at several times
+-- ---- one pass, and one ring, at several times
 
 pub later_same : (p : Pass) → IsLater p p
 later_same p = record { begins = ([], append-nil (shown p)); ring = refl }
@@ -25,12 +25,12 @@ later_then p q r a b = record { begins = prefix_trans (shown p) (shown q) (shown
 pub ring_still : (input input' : RxIn) (x x' : RxCtx) → SameIn input input' → SameCtx x x' → IsOneRing input x → IsOneRing input' x'
 ring_still input input' x x' a b one = grind (arith, common_steps)
 
--- its poller still owns it
+-- the caller that polls the instance still owns it
 pub held_still : (pollers : Pollers) (e : Enabled) → ((p t : Caller) → pollers ≡ Rest p t → ⊥)
     → TakesHold (polls_at pollers) e (turn.On pollers e)
 held_still pollers e none = grind (arith, common_steps)
 
--- ---- a receive side was ended
+-- ---- a receive side was closed
 
 module _ (n : Napi) (s : Seats) (input : RxIn) (held_many capacity : ℕ) (seen : Seen) (w : AreAllCallers n s input held_many capacity seen)
     (control : Pass) (later : IsLater (control_of s.turn) control) where

@@ -1,4 +1,4 @@
--- One seat made calls, and then all met: what all of them know now.
+-- One caller made calls, and then all callers met: what all of them know after that.
 use Rattle.std.proofs.Common.{rules}
 use Rattle.std.proofs.lemmas.Grind.{common_steps}
 use Rattle.std.proofs.Common.{◌≡◌, ◌∙◌, ◌≤◌, ℕ, zero, suc, List, [], ◌∷◌, ◌++◌, Option, Some, None, refl, sym, ap, subst, arith, ne_eqb}
@@ -15,7 +15,7 @@ use Rattle.device_shared.specs.{declared.seats.Seats.Seats, Acting.{CallerActs, 
 use Rattle.device_shared.specs.{Seats.IsSharedSeat}
 use Rattle.device_shared.specs.Seats.{AreGathered, control_of, turn_ctx, poller_of, seats_received, seats_state, thread_of}
 
--- what the context has received by the deliveries shown
+-- the packets that the context has received by the deliveries that the pass shows
 pub received_from : (v : Knowledge) (first : RxCtx) → first_in v ≡ Some first
     → received_in v ≡ received_list first ++ packets_of (Rattle.napi_word.specs.Knowledge.view_delivered v)
 received_from v first e = grind (arith, common_steps, some_is)
@@ -108,7 +108,7 @@ module _ (c : ℕ) (os : List Operation) (n : Napi) (h : List Event) (ds : List 
   received_now = received_from (view_of r3) s.first (first_is 3 (omega arith))
       ∙ ap (λ (l : List Delivery). received_list s.first ++ packets_of l) delivered_now
 
-  -- a caller that took the context found all that was delivered
+  -- a caller that took the context found that it had received everything delivered
   owner_received : OwnsSlot (seat_at c s1) → received_before (seat_at c s1) ≡ received_in (view_of r3)
   owner_received owns =
       received_from (view_of (seat_at c s1)) s.first (named c a.low)
@@ -123,7 +123,7 @@ module _ (c : ℕ) (os : List Operation) (n : Napi) (first : RxCtx) (s0 s1 s2 : 
   abbrev t : Surveys 3 m.meet.looker x (passes_of s1) (passes_of s2)
   t = m.meet.surveys
 
-  -- it is still the same context, because the seats that made no call name it
+  -- the context is still the same, because the passes of callers that made no call know it
   same_first : t.first ≡ first
   same_first = by c a.zeroth a.one
     where
@@ -163,7 +163,7 @@ module _ (c : ℕ) (os : List Operation) (n : Napi) (first : RxCtx) (s0 s1 s2 : 
       ∙ sym (append_assoc (received_list first) (packets_of (delivered p3)) a.packets)
       ∙ ap (λ (l : List Packet). l ++ a.packets) (sym (received_from (view_of p3) first g.first_three))
 
-  -- all had seen the same deliveries of it
+  -- before the calls, all passes had seen the same deliveries
   before_is : (k : ℕ) → k ≤ 3 → received_before (seat_at k s0) ≡ received_in (view_of p3)
   before_is k low = received_from (view_of (seat_at k s0)) first (named_then k low)
       ∙ ap (λ (l : List Delivery). received_list first ++ packets_of l) (seen_all k low)

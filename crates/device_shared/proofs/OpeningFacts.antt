@@ -1,4 +1,5 @@
--- How a receive side is opened: its seats are new, they meet, and then the controller enables the instance.
+-- How a receive side (a ring and its instance) is opened: its callers are new, they meet, and then the controller enables the
+-- instance.
 use Rattle.std.proofs.{lemmas.Grind.common_steps, Common.{◌≡◌, ◌∙◌, ◌≤◌, ℕ, List, [], ◌∷◌, ◌++◌, length, append-nil, slice_get, Option}}
 use Rattle.{std.proofs.Common.{Some, None, false, refl, sym, ap, arith}, rx_ring.specs.declared.ends.{RxCtx.RxCtx, RxIn.RxIn}}
 use Rattle.rx_ring.specs.{declared.packet.Packet.Packet, Ends.{IsOneRing, capacity_of, free_of, put_list, received_list, ring_name}}
@@ -46,7 +47,7 @@ delivers_none_yet : (n : ℕ) → own_deliveries n [] ≡ []
 unfolding own_deliveries
 delivers_none_yet n = refl
 
--- a new seat shows nothing yet
+-- the pass of a new caller shows no events yet
 new_shows : (n : Napi) (c : ℕ) (p : Pass) → callers_of n ≡ 3 → IsNewSeat n c p → ShowsAlone [] [] c p
 new_shows n c p three new = grind (arith, common_steps, own_none)
 
@@ -125,7 +126,7 @@ module _ (n : Napi) (t0 : Seats) (given : RxCtx) (k : AreNew n t0 given) where
           → seen_side (seats_state t2) (bytes_each (left_in input t2)) capacity ≡ opened_side capacity
       opened_view empty none = grind (arith, common_steps, done, leads, state_met, viewed)
 
--- from an empty ring nothing was received
+-- nothing was received from an empty ring
 pub none_received : (received put : List Packet) → IsPrefix received put → put ≡ [] → received ≡ []
 none_received [] put p e = refl
 none_received (q ∷ qs) put p e = absurd (cc (p.1, e))

@@ -1,4 +1,4 @@
--- Passes that met, in another order.
+-- The passes of a survey, listed in another order.
 use Rattle.std.proofs.Common.{arith}
 use Rattle.std.proofs.lemmas.Grind.{common_steps}
 use Rattle.std.{proofs.Common.{◌≡◌, ◌∙◌, ℕ, zero, suc, List, [], ◌∷◌, Some, refl, ap, subst, sym}, specs.Prelude.slice_get}
@@ -6,7 +6,7 @@ use Rattle.napi_model.specs.{declared.state.Seen.Seen, Step.{opening, seen_of}, 
 use Rattle.napi_word.{specs.{declared.table.Pass.Pass, Surveys.Surveys}, proofs.Syncing.state_looked}
 use Rattle.{napi_calls.specs.Seats.{controller_of, state_shown}, device_shared.specs.Meeting.Meet}
 
--- what was seen is the state after the whole history
+-- the state that the look saw is the state after the complete history
 pub state_by : {k looker : ℕ} {ps qs : List Pass} {x : Seen} (s : Surveys k looker x ps qs) (i : ℕ) (p q : Pass) → k ≡ 3
     → slice_get ps i ≡ Some p → slice_get qs i ≡ Some q → x ≡ seen_of (state_shown q)
     → x ≡ seen_of (state_after (opening 3) s.found)
@@ -28,7 +28,7 @@ reordered from was is s = record {
   each = λ i p q e f. s.each (from i) p q (sym (was i) ∙ e) (sym (is i) ∙ f);
 }
 
--- the second of four came last
+-- the position before, if the second of four was moved to the end
 abbrev second_from : ℕ → ℕ
 second_from (suc zero) = 3
 second_from (suc (suc zero)) = 1
@@ -38,7 +38,7 @@ second_from i = i
 second_last : (a b c d : Pass) (i : ℕ) → slice_get (a ∷ b ∷ c ∷ d ∷ []) i ≡ slice_get (a ∷ c ∷ d ∷ b ∷ []) (second_from i)
 second_last a b c d i = grind (arith, common_steps)
 
--- the third came last
+-- the position before, if the third of four was moved to the end
 abbrev third_from : ℕ → ℕ
 third_from (suc (suc zero)) = 3
 third_from (suc (suc (suc zero))) = 2

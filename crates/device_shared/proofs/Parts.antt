@@ -1,4 +1,4 @@
--- The result of a part of the rule when only its caller makes calls.
+-- The result of a part of the polling rule, if only one caller makes calls.
 use Rattle.std.proofs.Common.{arith, ◌≡◌, ◌≢◌, ◌∙◌, ℕ, Bool, true, false, List, [], ◌∷◌, ◌++◌, flat_map, map, ap, refl, subst, sym}
 use Rattle.std.{proofs.lemmas.{List.map-append, Grind.common_steps}, specs.Prelude.{◌||◌, not}}
 use Rattle.{rx_ring.specs.declared.packet.Packet.Packet, napi_calls.{specs.Made.{Lost, events, looks}, proofs.Alone.none_lost}}
@@ -12,9 +12,9 @@ use Rattle.{poll_shared.{specs.Tries.{PlanMakes, Tries}, proofs.TriesFacts.opera
 use Rattle.napi_model.specs.declared.event.Done.TheVariants as done
 use Rattle.napi_model.specs.declared.event.Call.TheVariants as call
 
--- ---- without the attempts, none of which failed, these are the operations
+-- ---- the operations of a call, of which no attempt failed
 
--- equal lists lead to the same state, and are equally legal
+-- equal lists of operations lead to the same state, and are equally legal
 pub leads : (c : ℕ) (s : State) (os rest : List Operation) → os ≡ rest → state_after s (events c os) ≡ state_after s (events c rest)
 leads c s os rest is = ap (λ (o : List Operation). state_after s (events c o)) is
 
@@ -22,7 +22,7 @@ pub legal_as : (c : ℕ) (s : State) (os rest : List Operation) → os ≡ rest 
     → LegalHistory 3 s (events c rest)
 legal_as c s os rest is l = subst (λ (o : List Operation). LegalHistory 3 s (events c o)) is l
 
--- a caller that alone makes calls never fails an attempt
+-- if only one caller makes calls, none of its attempts fails
 pub decided : {call : Call} (c : ℕ) (s : State) (ts : List (Lost call)) (os rest : List Operation)
     → os ≡ flat_map looks ts ++ rest → LegalHistory 3 s (events c os) → (os ≡ rest) × LegalHistory 3 s (events c rest)
 decided {call} c s ts os rest is l =
@@ -30,7 +30,7 @@ decided {call} c s ts os rest is l =
     let same : os ≡ rest = is ∙ ap (λ (t : List (Lost call)). flat_map looks t ++ rest) none in
     (same, legal_as c s os rest same l)
 
--- it is legal, and leads where the last operation leads, which decides
+-- the operations of the call are legal, and lead to the state after the last one, which is its result
 pub decides : (c : ℕ) (s : State) (call : Call) (o : Operation) (os : List Operation) → Tries call o os → LegalHistory 3 s (events c os)
     → IsLegalBy c o s × (state_after s (events c os) ≡ after s (event c o))
 unfolding LegalHistory state_after
@@ -46,9 +46,9 @@ decides c s call.BusyTake (Look x) os t l =
     let d = decided c s t.0 os (Look x ∷ []) t.1 l in (d.1.0.0, leads c s os _ d.0)
 decides c s call o os t l = ((legal_as c s os (o ∷ []) t l).0.0, leads c s os (o ∷ []) t)
 
--- ---- the reply is determined by the state
+-- ---- the state determines the reply
 
--- an instance is in the queue from which a take takes it, or isn't
+-- an instance is in the queue from which it is taken, or it isn't
 pub handed_there : (k : Kind) → is_handed k (place_of k) ≡ true
 handed_there k = grind (arith, common_steps)
 
@@ -73,14 +73,15 @@ answer_is c s call o a l = legal_answer c o s l ∙ ap (λ (x : Call). answered 
 
 -- ---- plans
 
--- a plan of calls, executed from this state by the caller with this number: its result, and the state afterwards
+-- the result of a plan and the state after it, if the caller with this number executes it from this state while no other caller
+-- makes calls
 abbrev pub alone : {A : Type 0} → ℕ → Plan Packet A → State → A × State
 alone c (ends a) s = (a, s)
 alone c (asks call go) s = alone c (go (answered call s)) (after s (event c (answered call s)))
 alone c (acts o plan) s = alone c plan (after s (event c o))
 alone c (polls weight go) s = alone c (go []) s
 
--- after the first operations there are only operations
+-- actions that begin with these operations and contain only operations: the rest are operations too
 left_behind : (os first : List Operation) (rest : List (Action Packet)) → map made os ≡ map made first ++ rest
     → (behind : List Operation) × (map made behind ≡ rest) × (os ≡ first ++ behind)
 left_behind os [] rest e = (os, e, refl)
@@ -91,7 +92,7 @@ left_behind (p ∷ os) (o ∷ first) rest e =
     let l = left_behind os first rest more in
     (l.0, l.1, (λ i. same i ∷ l.2 i))
 
--- the call, which is decided, and what follows it
+-- a call whose result is known, followed by the rest of a plan
 call_decided : (c : ℕ) (s : State) (call : Call) (o : Operation) (os first : List Operation) (rest : List (Action Packet))
     → Tries call o first → map made os ≡ map made first ++ rest → LegalHistory 3 s (events c os)
     → IsLegalBy c o s × (behind : List Operation) × (map made behind ≡ rest) × LegalHistory 3 (after s (event c o)) (events c behind)
@@ -114,7 +115,7 @@ no_poll : (os : List Operation) (weight : ℕ) (packets : List Packet) (rest : L
 no_poll [] weight packets rest e = cc
 no_poll (o ∷ os) weight packets rest e = cc
 
--- executed while no other caller makes calls, a part has this result
+-- executed while no other caller makes calls, a plan has this result
 pub comes_to : {A : Type 0} (c : ℕ) (plan : Plan Packet A) (s : State) (os : List Operation) (a : A) → PlanMakes plan os a
     → LegalHistory 3 s (events c os) → (a ≡ (alone c plan s).0) × (state_after s (events c os) ≡ (alone c plan s).1)
 unfolding state_after

@@ -1,4 +1,4 @@
--- The effect of the operations of a caller that alone makes calls, on the state; what a role says of the state.
+-- How the operations of a caller change the state while no other caller makes calls, and what a role implies about the state.
 use Rattle.std.proofs.Common.{arith, ◌≡◌, ◌≢◌, ◌∙◌, ℕ, Bool, true, false, List, [], ◌∷◌, Option, Some, None, refl, sym, ap}
 use Rattle.std.{proofs.{Common.{flat_map, append_assoc, true≢false}, lemmas.Grind.common_steps}, specs.Prelude.{if◌then◌else◌}}
 use Rattle.napi_model.specs.declared.{state.{Kind.Kind, State.State, Place.Place}, event.{Done.Done, Prep.Prep}}
@@ -22,7 +22,7 @@ use Rattle.napi_model.specs.declared.event.Call.TheVariants as call
 at_rest_uncontrolled : (p : Place) → rests p ≡ true → is_control p ≡ false
 at_rest_uncontrolled p e = grind (arith, common_steps)
 
--- while a caller owns it, it isn't on the list, nor in the thread's queue
+-- while a caller owns the instance, it is neither on the list nor in its thread's queue
 away : (k : Kind) (p : Place) → rests p ≡ false → is_handed k p ≡ false
 away k p e = grind (arith, common_steps)
 
@@ -31,12 +31,12 @@ pub leads_one : (c : ℕ) (s : State) (o : Operation) → state_after s (events 
 unfolding state_after
 leads_one c s o = refl
 
--- ---- from a role to what a call requires
+-- ---- what a role implies for the precondition of a call
 
 pub control_is : (r : Role) (s : State) → IsRole r s → is_control s.place ≡ nobody r
 control_is r s role = grind (arith, common_steps, at_rest_uncontrolled)
 
--- a caller that polls it by the state polls it by the role
+-- if a caller polls the instance by the state, it polls it by the role too
 polls_as : (r : Role) (s : State) (c : ℕ) (busy : Bool) → IsRole r s → CallerPolls c busy s → PolledBy c busy r
 polls_as None s c busy role p = let was = role.0 in let now = p.0 in absurd (cc)
 polls_as (Some (m, None)) s c busy role p = absurd (true≢false (sym (ap is_polling_place p.0) ∙ at_rest_unpolled s.place role.1.0))
@@ -67,7 +67,7 @@ polling_of None s role is = absurd (true≢false (sym is ∙ ap is_polling_place
 polling_of (Some (m, None)) s role is = absurd (true≢false (sym is ∙ at_rest_unpolled s.place role.1.0))
 polling_of (Some (m, Some (c, busy))) s role is = (c, busy, (m, refl))
 
--- ---- the interrupt requests a poll
+-- ---- the interrupt handler requests a poll
 
 pub asked : (s : State) (prep : Prep) (k : Option Kind) (os : List Operation) → AsksBy prep k os → LegalHistory 3 s (events 0 os)
     → (prep ≡ schedule_reply s) × (k ≡ queued_kind prep s) × (state_after s (events 0 os) ≡ requested prep s)
@@ -90,7 +90,7 @@ asked s Prep.Disabled k os a l =
     let off : s.flags.disable ≡ true = d.1.0.0 in
     (rw off refl, a.0, leads 0 s os _ d.0)
 
--- ---- takes
+-- ---- the instance is taken
 
 pub took : (r : Role) (s : State) (k : Kind) (taken : Bool) (os : List Operation) → IsRole r s → TakesBy (at_rest r) k taken os
     → LegalHistory 3 s (events (taker_of k) os)
@@ -99,9 +99,9 @@ pub took : (r : Role) (s : State) (k : Kind) (taken : Bool) (os : List Operation
 unfolding LegalHistory state_after
 took r s k taken os role t l = grind (arith, common_steps, away, handed_there, leads, legal_as, unhanded)
 
--- ---- polls end
+-- ---- a poll ends
 
--- a completion that isn't under busy polling
+-- a completion outside of busy polling
 next_same : (a b : Option Kind) → next_of a ≡ next_of b → a ≡ b
 next_same None None e = refl
 next_same (Some j) (Some k) e = cc
@@ -126,9 +126,9 @@ completed s c again os free m l =
     completes (complete_reply s) c s (state_after s (events c os)) again (not_held s free)
     (comes_to c (rule.completed true) s os (next_of again) m l)
 
--- ---- busy polls
+-- ---- busy polling
 
--- an instance that no caller owns, idle or not
+-- a take for busy polling, of an instance that no caller owns, idle or not
 tries_busily : (idle taken : Bool) (s t : State)
     → (let o = if idle then BusyTake else Look (seen_of s) in (taken ≡ is_taken o) × (t ≡ after s (event 1 o)))
     → (taken ≡ idle) × (t ≡ busy_taken taken s)

@@ -1,4 +1,5 @@
--- The effect of puts and polls on the packets left in a ring, and on what is known of a whole receive side.
+-- The effect of puts and polls on the packets that are left in a ring, and what is known about a whole receive side (a ring and
+-- its instance).
 use Rattle.std.proofs.lemmas.{List.{drop-append-le, drop-map, length-map, length-take, take-map, take_min}, Grind.common_steps}
 use Rattle.std.proofs.Common.{rules, ◌≡◌, ◌∙◌, ◌+◌, ◌-◌, ◌≤◌, ℕ, true, List, [], ◌∷◌, ◌++◌, length, drop, take, min, sum, Option, Some}
 use Rattle.{device_bench.specs.Receive.{ReceiveView, polled_bytes, given_of, put_if}}
@@ -13,18 +14,18 @@ use Rattle.device_shared.specs.{Seats.{poller_of, seats_received, seats_state, t
 use Rattle.device_shared.specs.{SharedReceive.AreAllCallers}
 use Rattle.device_shared.{specs.SharedReceive.{IsWholeAt, bytes_each, left_in, napi_at, packets_at}, proofs.Gathering.ring_from}
 
--- at both times it is an end of the same ring
+-- at both times this is an end of the same ring
 pub one_still : (input input' : RxIn) (x : RxCtx) → SameIn input input' → IsOneRing input x → IsOneRing input' x
 one_still input input' x same one = (one.0 ∙ sym same.0.0, one.1 ∙ sym same.0.1, one.2 ∙ sym same.0.2, one.3 ∙ sym same.0.3)
 
--- the receive side, as for one thread
+-- the receive side as the rules for one thread see it
 abbrev pub seen_side : State → List ℕ → ℕ → ReceiveView
 seen_side s l capacity = record { napi = s; packets = l; capacity = capacity }
 
 abbrev pub side_at : Option Seats → RxIn → ℕ → ReceiveView
 side_at place input capacity = seen_side (napi_at place) (packets_at input place) capacity
 
--- all seats are taken out of their field
+-- all callers are taken out of their field for a call
 pub whole_in : (n : Napi) (place : Option Seats) (s : Seats) (input : RxIn) (held capacity : ℕ) (seen : Seen) → place ≡ Some s
     → IsWholeAt n place input held capacity seen
     → AreAllCallers n s input held capacity seen
@@ -78,7 +79,7 @@ pub input_of_two : (n : Napi) (s : Seats) (input : RxIn) (held capacity : ℕ) (
     → PutsIntoRingOf input (poller_of s.turn) × PutsIntoRingOf input (thread_of s.turn)
 input_of_two n s input held capacity seen w = search (rules, ring_from)
 
--- the packets of a poll, by their number and their bytes
+-- the packets that a poll returned, as pairs of number and bytes
 given_number : (weight : ℕ) (packets : List Packet) → length (take weight packets) ≡ min weight (length (bytes_each packets))
 given_number weight packets = length-take weight packets ∙ ap (min weight) (sym (length-map packets (λ (p : Packet). p.bytes)))
 

@@ -1,4 +1,4 @@
--- What the types of the four values say of the instance's state, if all of them show the whole history.
+-- What the types of the four values imply about the instance's state, if all of them show the complete history.
 use Rattle.std.proofs.Common.{◌≡◌, ◌∙◌, ℕ, zero, suc, Bool, true, false, Option, Some, None}
 use Rattle.std.proofs.{Common.{ap, arith, eq-eqb, ne_eqb, refl, subst, sym, true≢false}, lemmas.Grind.common_steps}
 use Rattle.napi_model.specs.declared.state.{Place.{Place, TheVariants.{Granted, Polling, Control}}, State.State}
@@ -15,7 +15,7 @@ use Rattle.device_bench.specs.Receive as receive
 use Rattle.device_shared.specs.declared.seats.Enabled.TheVariants as enabled
 use Rattle.device_shared.specs.declared.seats.Turn.TheVariants as turn
 
--- no caller owns it; it may be queued
+-- no caller owns the instance, which may be queued
 abbrev pub rests : Place → Bool
 rests (Granted c) = false
 rests (Polling c) = false
@@ -26,12 +26,12 @@ abbrev pub ArePlaced : Option (ℕ × Bool) → State → Type 0
 ArePlaced None s = (rests s.place ≡ true) × (s.flags.in_busy_poll ≡ false)
 ArePlaced (Some who) s = CallerPolls who.0 who.1 s
 
--- the instance's state matches this role
+-- the instance's state is one that this role describes
 abbrev pub IsRole : Role → State → Type 0
 IsRole None s = (s.place ≡ Control 3) × (s.flags.disable ≡ false) × (s.flags.in_busy_poll ≡ false)
 IsRole (Some r) s = (s.flags.disable ≡ r.0) × ArePlaced r.1 s
 
--- no caller owns it
+-- if no number owns the instance, it is at rest
 unowned : (p : Place) → ((c : ℕ) → is_owner c p ≡ false) → rests p ≡ true
 unowned (Granted c) none = absurd (true≢false (sym (eq-eqb c c refl) ∙ none c))
 unowned (Polling c) none = absurd (true≢false (sym (eq-eqb c c refl) ∙ none c))
@@ -56,7 +56,7 @@ module _ (n : Napi) (first : RxCtx) (p0 p1 p2 p3 : Pass) (g : ShowAll n first p0
   state_is : s ≡ state_after (opening 3) (shown p3)
   state_is = at_three p3 g.all.three.controller
 
-  -- each of them shows this state
+  -- each of the four passes shows this state
   shows : {c : ℕ} (p : Pass) → ShowsAlone (shown p3) (delivered p3) c p → state_shown p ≡ s
   shows p sh = at_three p sh.controller ∙ ap (state_after (opening 3)) sh.shows ∙ sym state_is
 
@@ -105,7 +105,7 @@ module _ (n : Napi) (first : RxCtx) (p0 p1 p2 p3 : Pass) (g : ShowAll n first p0
   controlled place =
       let is = place ∙ ap Control g.all.three.number in (is, unbusy s busy (ap receive.is_polling_place is))
 
--- the controller's type says that it doesn't own the instance, and whether it marked a disable
+-- an enabled instance's controller doesn't own it, and its type says whether it marked a disable
 enabled_free : (e : Enabled) → is_owner (pass_number (enabled_pass e)) (state_shown (enabled_pass e)).place ≡ false
 enabled_free (enabled.On c) = is_free c.controls.stands
 enabled_free (enabled.Marked c) = is_free c.controls.stands

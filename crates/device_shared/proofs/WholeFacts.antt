@@ -1,4 +1,4 @@
--- The effect of a call on a receive side, after which all seats met.
+-- The effect of a call on a receive side (a ring and its instance), after which all callers met.
 use Rattle.std.proofs.Common.{◌≡◌, ◌∙◌, ◌≤◌, ℕ, List, Option, Some, sym, ap, subst, length, drop}
 use Rattle.rx_ring.specs.declared.ends.RxIn.{RxIn}
 use Rattle.{rx_ring.specs.{declared.packet.Packet.Packet, Ends.put_list}, napi_model.specs.declared.event.Operation.Operation}
@@ -9,7 +9,7 @@ use Rattle.device_shared.{specs.SharedReceive.{bytes_each, left_in, napi_at, pac
 use Rattle.device_shared.proofs.{Gathering.{received_then, seen_then, shows_still, sound_then}, RingFacts.{seen_side, whole_in}}
 use Rattle.device_shared.proofs.Roles.{IsRole, role_is}
 
--- a call was made, and then all met
+-- one caller made a call, and then all callers met
 pub record Called (c : ℕ) (os : List Operation) (n : Napi) (place place' : Option Seats) (s1 : Seats) (input : RxIn) (held capacity : ℕ)
     (seen seen' : Seen) : Type 0 where
   pub s0 : Seats
@@ -72,13 +72,13 @@ module _ {c : ℕ} {os : List Operation} {n : Napi} {place place' : Option Seats
     seen_is = seen_then c os n whole.first k.s0 s1 k.met.0 seen' whole.gathered k.acts k.met.2;
   })
 
--- the role before it
+-- the role before the call
 pub role_there : (n : Napi) (place : Option Seats) (input : RxIn) (held capacity : ℕ) (seen : Seen) (s0 : Seats) → place ≡ Some s0
     → IsWholeAt n place input held capacity seen → IsRole (role_of s0.turn) (napi_at place)
 role_there n place input held capacity seen s0 was at =
     let w = whole_in n place s0 input held capacity seen was at in
     subst (IsRole (role_of s0.turn)) (sym (ap napi_at was)) (role_is n w.first s0 w.gathered)
 
--- the side as it is seen
+-- the receive side after a call, as the rules for one thread see it
 pub viewed : {s t : State} {l k : List ℕ} (capacity : ℕ) → s ≡ t → l ≡ k → seen_side s l capacity ≡ seen_side t k capacity
 viewed capacity e f = λ i. seen_side (e i) (f i) capacity

@@ -1,4 +1,4 @@
--- What one of the callers of an instance did, while no other made calls.
+-- What one of the callers of an instance did, while no other caller made calls.
 use Rattle.device_shared.specs.{declared.seats.{Seats.Seats, Turn.Turn}, Seats.{AreSeats, Role, control_of, turn_ctx, poller_of, thread_of}}
 use Rattle.std.specs.Prelude.{◌≡◌, ℕ, zero, suc, ◌≤◌, ◌⊎◌, Bool, true, false, List, [], ◌∷◌, ◌++◌, flat_map, Option, Some, None}
 use Rattle.napi_model.specs.declared.event.Operation.{Operation, TheVariants.{Look, Schedule, Take, TakeDisable, Unmark, Enable}}
@@ -14,15 +14,15 @@ seat_at (suc zero) s = poller_of s.turn
 seat_at (suc (suc zero)) s = thread_of s.turn
 seat_at (suc (suc (suc n))) s = control_of s.turn
 
--- The context doesn't move; or the caller takes it, as it was given back last; or the caller gives it back with these packets,
--- which it has received since.
+-- What happens to the poll context: it doesn't move; or the caller takes it, as it was last returned; or the caller returns it
+-- after it has received these packets.
 abbrev pub CtxMoves : List Packet → Pass → Pass → Option RxCtx → Option RxCtx → Type 0
 CtxMoves packets p q None None = packets ≡ []
 CtxMoves packets p q (Some x) (Some y) = (packets ≡ []) × (y ≡ x)
 CtxMoves packets p q None (Some x) = (packets ≡ []) × (received_list x ≡ received_before q) × OwnsSlot q
 CtxMoves packets p q (Some x) None = (packets ≡ polled p x) × Continues (received_before p) (received_list x)
 
--- the caller with this number made these operations, and the others did nothing
+-- the caller with this number made these operations, and the other callers made none
 pub record CallerActs (c : ℕ) (os : List Operation) (n : Napi) (before after : Seats) : Type 0 where
   pub low : c ≤ 3
   pub packets : List Packet
@@ -33,7 +33,7 @@ pub record CallerActs (c : ℕ) (os : List Operation) (n : Napi) (before after :
   pub moves : CtxMoves packets (seat_at c before) (seat_at c after) (turn_ctx before.turn) (turn_ctx after.turn)
   pub seats : AreSeats n after
 
--- the interrupt requests a poll, and queues the instance if it is granted
+-- the interrupt handler requests a poll, and queues the instance if the request is granted
 abbrev pub AsksBy : Prep → Option Kind → List Operation → Type 0
 AsksBy Granted None os = ⊥
 AsksBy Granted (Some k) os =
@@ -43,7 +43,7 @@ AsksBy Missed kind os =
     (kind ≡ None) × (ts : List (Lost call.Schedule)) × (x : Seen) × (os ≡ flat_map looks ts ++ Look x ∷ Schedule Missed ∷ [])
 AsksBy Disabled kind os = (kind ≡ None) × (ts : List (Lost call.Schedule)) × (os ≡ flat_map looks ts ++ Schedule Disabled ∷ [])
 
--- ---- while a caller owns the instance, no other needs to look for it
+-- ---- while a caller owns the instance, the pollers don't need to try to take it
 
 abbrev pub nobody : {A : Type 0} → Option A → Bool
 nobody None = true
@@ -61,13 +61,13 @@ abbrev pub TakesBusilyBy : Bool → Bool → List Operation → Type 0
 TakesBusilyBy true taken os = PlanMakes busy_takes os taken
 TakesBusilyBy false taken os = (taken ≡ false) × (os ≡ [])
 
--- the controller tries to take an instance that it marked; an attempt that failed is two looks
+-- the controller tries to take an instance that it marked; an attempt that fails is two looks
 abbrev pub TriesBy : Bool → Bool → List Operation → Type 0
 TriesBy true true os = (x : Seen) × (os ≡ Look x ∷ TakeDisable true ∷ Unmark ∷ [])
 TriesBy true false os = (os ≡ TakeDisable false ∷ []) ⊎ ((t : Lost call.TakeDisable) × (os ≡ looks t))
 TriesBy false taken os = (taken ≡ false) × (os ≡ [])
 
--- if the controller took it, it has the context, which has received exactly what was delivered
+-- if the controller took the instance, it has the context, which has received exactly what was delivered
 abbrev pub TurnTakes : Pass → Turn → Bool → Type 0
 TurnTakes p t true = CtxMoves [] p (control_of t) None (turn_ctx t) × Quiet p (control_of t)
 TurnTakes p t false = (turn_ctx t ≡ None) × Quiet p (control_of t)
@@ -77,7 +77,7 @@ EnablesBy threaded os = (ts : List (Lost (call.Enable threaded))) × (x : Seen) 
 
 -- ---- what a call requires of the role
 
--- the caller that polls it
+-- the number of the caller that polls the instance
 abbrev pub who_polls : Option (ℕ × Bool) → ℕ
 who_polls None = 0
 who_polls (Some who) = who.0
@@ -86,11 +86,11 @@ abbrev pub role_poller : Role → ℕ
 role_poller None = 0
 role_poller (Some r) = who_polls r.1
 
--- this caller polls it, busily or not
+-- this caller polls the instance, and busy polls it or not
 abbrev pub PolledBy : ℕ → Bool → Role → Type 0
 PolledBy c busy r = (marked : Bool) × (r ≡ Some (marked, Some (c, busy)))
 
--- a caller polls it that may complete
+-- a caller polls the instance and may complete it
 abbrev pub MayComplete : Role → Type 0
 MayComplete r = (c : ℕ) × PolledBy c false r
 

@@ -1,4 +1,4 @@
--- How a receive side over an instance that threads could share ends.
+-- How a receive side (a ring and its instance) is closed, if its instance could be shared by threads.
 use Rattle.std.specs.Prelude.{◌≡◌, ℕ, Bool, true, false, List, [], ◌∷◌, ◌++◌, Option, Some, None, if◌then◌else◌}
 use Rattle.rx_ring.specs.{declared.{ends.{RxCtx.RxCtx, RxIn.RxIn}, packet.Packet.Packet}, Ends.{IsOneRing, SameCtx}}
 use Rattle.{rx_ring.specs.{Ends.{put_list, received_list, ring_of}, ReceiveRing.totals_of}, napi_model.specs.declared.event.Event.Event}
@@ -14,9 +14,9 @@ use Rattle.napi_model.specs.declared.state.Kind.TheVariants as kind
 use Rattle.napi_calls.specs.Seats as seats
 use Rattle.device_shared.specs.declared.seats.Enabled.TheVariants as enabled
 
--- ---- steps until the controller owns the instance
+-- ---- the steps until the controller owns the instance
 
--- the poller of the list tries to take it, and then the thread
+-- the poller of the list tries to take the instance, and then its thread
 abbrev pub LookFor : Pollers → Pollers → Type 0
 LookFor pollers (ListPolls w t) = Made (poller_pass pollers) (Take kind.List true ∷ []) w.pass
 LookFor pollers (ThreadPolls p w) =
@@ -25,12 +25,12 @@ LookFor pollers (Rest p t) =
     Made (poller_pass pollers) (Take kind.List false ∷ []) p.pass × Made (thread_pass pollers) (Take kind.Thread false ∷ []) t.pass
 LookFor pollers (PollsBusily b t) = ⊥
 
--- a caller that polls it stops busy polling, or releases it; if none polls it, the pollers try to take it
+-- a caller that polls the instance stops busy polling or releases it; if none polls it, the pollers try to take it
 abbrev pub LetsGo : Option (ℕ × Bool) → Pollers → Pollers → Type 0
 LetsGo None pollers after = LookFor pollers after
 LetsGo (Some who) pollers after = polls_at after ≡ (if who.1 then Some (who.0, false) else None)
 
--- if no caller owns it, the controller marks it, and then tries to take it
+-- if no caller owns the instance, the controller marks it, and then tries to take it
 abbrev pub TakesHold : Option (ℕ × Bool) → Enabled → Turn → Type 0
 TakesHold (Some who) e after = role_of after ≡ Some (is_enable_marked e, Some who)
 TakesHold None (enabled.On c) after = Made c.pass (MarkDisable ∷ []) (control_of after) × (role_of after ≡ Some (true, None))
@@ -43,7 +43,7 @@ LeavesTurn pollers e after = (left : Pollers) × LetsGo (polls_at pollers) polle
 
 -- ---- the end
 
--- the same seat at two times
+-- the same pass at two times
 pub record IsLater (p q : Pass) : Type 0 where
   pub begins : IsPrefix (shown p) (shown q)
   pub ring : seats.instance_ring q ≡ seats.instance_ring p
@@ -52,19 +52,19 @@ pub record IsLater (p q : Pass) : Type 0 where
 pub record IsSideClosed (side : ReceiveView) (end : ClosedSide) : Type 0 where
   pub ctx : RxCtx
   pub closed : IsClosed end.napi.value (end.interrupt.value ∷ end.poller.value ∷ end.thread.value ∷ []) end.control.value.pass ctx
-  -- its one history continues from the state that the receive side showed
+  -- the instance's history continues from the state that the receive side showed
   pub before : List Event
   pub rest : List Event
   pub history : closed.history ≡ before ++ rest
   pub state : state_after (opening 3) before ≡ side.napi
-  -- the packets that were put into its ring, the last of which it held
+  -- the ring's input end, by which its packets were put
   pub input : RxIn
   pub one : IsOneRing input ctx
   pub front : List Packet
   pub held : List Packet
   pub put : put_list input ≡ front ++ held
   pub held_is : bytes_each held ≡ side.packets
-  -- its context has polled all of them
+  -- the poll context, which has received all packets that were put
   pub last : RxCtx
   pub same : SameCtx ctx last
   pub polled : received_list last ≡ put_list input

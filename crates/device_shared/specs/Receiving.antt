@@ -4,8 +4,7 @@ use Rattle.rx_ring.specs.declared.ends.RxCtx.{RxCtx}
 use Rattle.rx_ring.specs.{declared.{ends.RxIn.RxIn, packet.Packet.Packet}, Ends.{SameIn, capacity_of, free_of, put_list, received_list}}
 use Rattle.device_shared.specs.{declared.seats.Seats.Seats, Seats.{control_of, turn_ctx, poller_of, thread_of}}
 
--- a context receives the next of all packets put, as many as its weight allows, and then every slot is known to be free that
--- holds no packet
+-- a context receives the next packets of the ring, as many as its weight allows; then every free slot is known to the input end
 pub record ReceivesNext (weight : ℕ) (input : RxIn) (ctx : RxCtx) (input' : RxIn) (ctx' : RxCtx) (given : List Packet) : Type 0 where
   pub same : SameIn input input'
   pub put : put_list input' ≡ put_list input
@@ -13,7 +12,7 @@ pub record ReceivesNext (weight : ℕ) (input : RxIn) (ctx : RxCtx) (input' : Rx
   pub received : received_list ctx' ≡ received_list ctx ++ given
   pub free : capacity_of input ≤ free_of input' + length (drop (length (received_list ctx')) (put_list input))
 
--- the poller receives the next packets; no event is made
+-- the caller that polls receives the next packets; no event is made
 pub record SeatsReceive (weight : ℕ) (input : RxIn) (before : Seats) (input' : RxIn) (after : Seats) (given : List Packet) : Type 0 where
   pub zeroth : after.interrupt.pass ≡ before.interrupt.pass
   pub one : poller_of after.turn ≡ poller_of before.turn

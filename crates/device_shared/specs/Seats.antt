@@ -1,5 +1,5 @@
--- All callers of one instance, owned by one thread: the interrupt is caller 0, the poller of the list 1, the device's thread 2,
--- and the controller 3.
+-- All callers of one instance, which one thread owns: number 0 is the interrupt handler, 1 the poller of the list, 2 the
+-- device's thread, and 3 the controller. A seat is such a caller with its `Pass`.
 use Rattle.napi_calls.specs.{Packets.delivered, Seats.{controller_of, shown, state_shown}, declared.types.Napi.Napi, Instance.IsSeatOf}
 use Rattle.std.specs.Prelude.{◌≡◌, ℕ, Bool, true, false, List, Option, Some, None}
 use Rattle.napi_calls.specs.{Knows.received_held, Alone.AllShow}
@@ -13,7 +13,7 @@ use Rattle.device_shared.specs.declared.seats.Enabled.{Enabled}
 use Rattle.device_shared.specs.declared.seats.Enabled.TheVariants as enabled
 use Rattle.device_shared.specs.declared.seats.Turn.TheVariants as turn
 
--- ---- the seat of each number
+-- ---- the pass of each number
 
 abbrev pub enabled_pass : Enabled → Pass
 enabled_pass (enabled.On c) = c.pass
@@ -56,7 +56,7 @@ abbrev pub turn_ctx : Turn → Option RxCtx
 turn_ctx (turn.Off p t c) = Some c.state.ctx
 turn_ctx (turn.On pollers e) = ctx_at pollers
 
--- the caller that polls, and whether busily
+-- the number of the caller that polls the instance, and whether it busy polls
 abbrev pub polls_at : Pollers → Option (ℕ × Bool)
 polls_at (Rest p t) = None
 polls_at (ListPolls w t) = Some (1, false)
@@ -67,8 +67,9 @@ abbrev pub is_enable_marked : Enabled → Bool
 is_enable_marked (enabled.On c) = false
 is_enable_marked (enabled.Marked c) = true
 
--- the controller owns the instance; or whether it marked it, which caller polls it, and whether busily. If all show the whole
--- history, the types of the four values say so much of the instance's state.
+-- A role says who owns the instance: the controller owns it, or a caller polls it (which one, and whether it busy polls), or
+-- neither; and whether the controller has marked it. If all four passes show the complete history, the types of their values
+-- determine the role.
 abbrev pub Role : Type 0
 Role = Option (Bool × Option (ℕ × Bool))
 
@@ -76,7 +77,7 @@ abbrev pub role_of : Turn → Role
 role_of (turn.Off p t c) = None
 role_of (turn.On pollers e) = Some (is_enable_marked e, polls_at pollers)
 
--- ---- all four seats
+-- ---- all four callers
 
 pub record IsSharedSeat (n : Napi) (p : Pass) : Type 0 where
   pub instance : IsSeatOf n p
@@ -100,7 +101,7 @@ pub record AreTurned (n : Napi) (t : Turn) : Type 0 where
 abbrev pub AreSeats : Napi → Seats → Type 0
 AreSeats n s = AreFour n s.interrupt.pass (poller_of s.turn) (thread_of s.turn) (control_of s.turn)
 
--- all of them show the one history, which is whole, and all deliveries of the first context, which is this one
+-- all four passes show the complete history, and all deliveries of this first context
 pub record ShowAll (n : Napi) (first : RxCtx) (p0 p1 p2 p3 : Pass) : Type 0 where
   pub seats : AreFour n p0 p1 p2 p3
   pub first_zeroth : first_in (view_of p0) ≡ Some first

@@ -1,4 +1,5 @@
--- A receive side over an instance that threads could share, as seen by the one thread that owns all its callers.
+-- A receive side (a ring and its instance) whose instance could be shared by threads, as the one thread that owns all its
+-- callers sees it.
 use Rattle.std.specs.Prelude.{◌≡◌, ◌≤◌, ◌+◌, ℕ, List, [], length, drop, map, Option, Some, None}
 use Rattle.rx_ring.specs.declared.ends.RxCtx.{RxCtx}
 use Rattle.rx_ring.specs.{declared.{ends.RxIn.RxIn, packet.Packet.Packet}, Ends.{IsOneRing, capacity_of, free_of, put_list}}
@@ -12,7 +13,7 @@ left_in input s = drop (length (seats_received s)) (put_list input)
 abbrev pub bytes_each : List Packet → List ℕ
 bytes_each packets = map (λ (p : Packet). p.bytes) packets
 
--- all are in their field except within a call
+-- the instance's state; the field is empty only during a call
 abbrev pub napi_at : Option Seats → State
 napi_at (Some s) = seats_state s
 napi_at None = opening 3
@@ -21,7 +22,8 @@ abbrev pub packets_at : RxIn → Option Seats → List ℕ
 packets_at input (Some s) = bytes_each (left_in input s)
 packets_at input None = []
 
--- these are all callers of the instance, over the ring of this end, whose packets and capacity are counted
+-- these are all callers of the instance, which is over the ring of this end; the ring's packets and capacity are counted
+-- correctly
 pub record AreAllCallers (n : Napi) (s : Seats) (input : RxIn) (held capacity : ℕ) (seen : Seen) : Type 0 where
   pub first : RxCtx
   pub gathered : AreGathered n first s
@@ -36,7 +38,7 @@ abbrev pub IsWholeAt : Napi → Option Seats → RxIn → ℕ → ℕ → Seen �
 IsWholeAt n (Some s) input held capacity seen = AreAllCallers n s input held capacity seen
 IsWholeAt n None input held capacity seen = ⊥
 
--- there is room to collect the callers at the end
+-- there is room for collecting the callers at the end
 pub record HasCallerRoom (callers many room : ℕ) : Type 0 where
   pub three : callers ≡ 3
   pub none : many ≡ 0

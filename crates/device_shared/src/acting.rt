@@ -23,7 +23,7 @@ use napi_model::{Kind, Prep};
 use poll_shared::{complete, hand_over};
 use std::sync::Wait;
 
-// Requests a poll, as the interrupt; if granted, it queues the instance.
+// Requests a poll, as an interrupt handler does; if the request is granted, it queues the instance.
 fn ask<R: Wait>(rt: &R, napi: &Napi, caller: Caller) -> (Caller, Prep, Option<Kind>)
     requires { IsSeatOf napi.now caller.pass }
     ensures asks { (os : List Operation) × Made caller.pass os result.0.pass
@@ -56,7 +56,8 @@ impl Enabled {
 }
 
 impl Turn {
-    // Returns the callers that may poll the instance, and its controller, if no caller owns it.
+    // Returns the callers that may poll the instance, and its controller, if no caller owns the instance; otherwise the same
+    // value.
     fn at_rest(self) -> Result<(Caller, Caller, Enabled), Turn>
         ensures { MatchResult result
             (λ r. self ≡ On (Rest r.0 r.1) r.2)
@@ -96,7 +97,7 @@ pub(crate) fn try_at_rest(
 }
 
 impl Seats {
-    /// Requests a poll, as the interrupt; if granted, it queues the instance.
+    /// Requests a poll, as an interrupt handler does; if the request is granted, it queues the instance.
     pub(crate) fn request<R: Wait>(self, rt: &R, napi: &Napi) -> (Seats, Prep, Option<Kind>)
         requires { AreSeats napi.now self }
         ensures { (os : List Operation) × AsksBy result.1 result.2 os
@@ -107,7 +108,7 @@ impl Seats {
         (Seats { interrupt, turn }, prep, kind)
     }
 
-    /// Sets, as the interrupt, whether the instance is scheduled on the device's thread.
+    /// Sets, from the interrupt handler, whether the instance is scheduled on the device's thread.
     pub(crate) fn set_threaded(self, napi: &Napi, threaded: bool) -> Seats
         requires { AreSeats napi.now self }
         ensures { CallerActs 0 (operation.SetThreaded threaded ∷ []) napi.now self result }
@@ -120,8 +121,8 @@ impl Seats {
         Seats { interrupt, turn }
     }
 
-    /// Tries to take the instance, from the list as its poller or from the thread's queue as the thread. If a caller owns it,
-    /// it makes no attempt.
+    /// Tries to take the instance from the list, for the poller of the list, or from the thread's queue, for the thread. Makes
+    /// no attempt if a caller owns the instance.
     pub(crate) fn take(self, napi: &Napi, kind: Kind) -> (Seats, bool)
         requires { AreSeats napi.now self }
         ensures { (os : List Operation)
@@ -263,7 +264,7 @@ impl Seats {
         Seats { interrupt, turn }
     }
 
-    /// Tries once to take an instance that the controller marked. While a caller polls it, it makes no attempt.
+    /// Tries once to take an instance that the controller marked. Makes no attempt while a caller polls the instance.
     pub(crate) fn try_take(self, napi: &Napi) -> (Seats, bool)
         requires seats { AreSeats napi.now self }
         requires marked { IsMarkedRole (role_of self.turn) }

@@ -1,4 +1,4 @@
-//! Ending a receive side: its instance, and its ring.
+//! Closes a receive side: its instance and its ring.
 
 ghost use Rattle.std.specs.Prelude.{◌≡◌, [], ◌∷◌, length, vec_capacity};
 ghost use Rattle.napi_calls.specs.Closed.{IsClosed};
@@ -79,7 +79,7 @@ pub(crate) fn disable<R: Wait>(rt: &R, napi: &Napi, turn: Turn) -> (Caller, Call
 }
 
 impl Pollers {
-    // Makes one step towards an instance that no caller polls.
+    // Makes one step towards a state in which no caller polls the instance.
     fn release<R: Wait>(self, rt: &R, napi: &Napi) -> Pollers
         requires { ArePollerSeats napi.now self }
         ensures pollers { ArePollerSeats napi.now result }
@@ -107,7 +107,7 @@ impl Pollers {
 }
 
 impl Turn {
-    /// Makes one step towards an instance that the controller owns.
+    /// Makes one step towards a state in which the controller owns the instance.
     pub(crate) fn leave<R: Wait>(pollers: Pollers, enabled: Enabled, rt: &R, napi: &Napi) -> Turn
         requires pollers { ArePollerSeats napi.now pollers }
         requires control { IsSharedSeat napi.now (enabled_pass enabled) }

@@ -1,9 +1,10 @@
-//! Internal crate of the facade `device_model`: the receive side of a device whose instance threads could share, while one
-//! thread owns all its callers, and the bench of such devices.
+//! Internal crate of the facade `device_model`: the receive side of a device (its ring and its instance), with an instance that
+//! threads could share, while one thread owns all its callers; and the bench of such devices.
 //!
-//! [`SharedReceive`] keeps the callers and the controller of an instance of `napi_calls`. After each of its calls they meet,
-//! and because no other thread has a seat, they then know the whole history of the instance. So each call has exactly the
-//! effect on ring and instance that the rules for one thread define, as [`ReceiveSide`](device_bench::ReceiveSide) requires.
+//! [`SharedReceive`] owns the callers and the controller of an instance of `napi_calls`. After each of its calls they meet, and
+//! because no other thread has a caller, they then know the complete history of the instance. So each call has exactly the
+//! effect on ring and instance that the rules for one thread define, as [`ReceiveSide`](device_bench::ReceiveSide) requires. A
+//! caller together with the part of the state table that it owns (a `Pass`) is called a seat here.
 #![tactic(auto)]
 
 mod acting;

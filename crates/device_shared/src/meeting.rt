@@ -1,4 +1,4 @@
-//! All callers of an instance meet, and so know its whole history.
+//! All callers of an instance meet, so that each knows its complete history.
 
 ghost use Rattle.std.specs.Prelude.{◌≡◌, None};
 ghost use Rattle.device_shared.specs.Meeting.{Meet, SeatsMeet, posted};
@@ -58,8 +58,8 @@ fn meet_pollers<S: Mode>(
 }
 
 impl Seats {
-    /// Lets all meet, by a look of the controller or of the poller. Returns what it saw, which is the state after the whole
-    /// history.
+    /// Lets all callers meet, by a look of the controller or of the poller. Returns what the look saw, which is the state after
+    /// the complete history.
     #[inline(always)]
     pub(crate) fn meet(self, napi: &Napi) -> (Seats, Seen)
         requires { AreSeats napi.now self }

@@ -1,4 +1,4 @@
-//! Opening a receive side.
+//! Opening a receive side: a ring and its instance.
 
 ghost use Rattle.std.specs.Prelude.{◌≡◌, length, vec_capacity};
 ghost use Rattle.device_shared.specs.Opening.{AreNew, AreNewCallers};
@@ -11,7 +11,7 @@ use rx_ring::{Batch, RingFault, ring};
 use std::alloc::{AllocError, Global};
 use std::sync::Wait;
 
-/// Opens receive sides whose instances threads could share. `rt` is the capability with which their calls would wait.
+/// Opens receive sides whose instances threads could share. `rt` is the capability by which their calls would wait.
 #[derive(Drop)]
 pub struct SharedOpener<R: Drop> {
     rt: R,
@@ -27,7 +27,7 @@ impl<R: Wait + Copy + Drop> From<R> for SharedOpener<R> {
     }
 }
 
-// Takes the three callers out of their list.
+// Takes the three callers out of their vector.
 fn new_seats(napi: &Napi, callers: &mut Vec<Caller>, control: Control<Off>) -> Seats
     requires { AreNewCallers napi.now callers.old.items control.pass }
     ensures new { AreNew napi.now result control.state.ctx }
@@ -52,7 +52,7 @@ impl<R: Wait + Copy + Drop> Opener<SharedReceive<R>> for SharedOpener<R> {
             Ok(made) => made,
             Err(NewBack { fault: _, ctx: _ }) => return Err(AllocError),
         };
-        // So every slot is known to be free.
+        // So the input end knows every free slot.
         control.beside(&mut input);
         let (seats, _) = new_seats(&napi, &mut callers, control).meet(&napi);
         let (seats, seen) = seats.enable(&self.rt, &napi, false).meet(&napi);

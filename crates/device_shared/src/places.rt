@@ -1,4 +1,4 @@
-//! Linear values in fields from which they are taken, and to which they return.
+//! Fields for linear values: a call takes the value out, and puts it back at its end.
 
 ghost use Rattle.std.specs.Prelude.{◌≡◌, None, Some, false, is_some, true};
 

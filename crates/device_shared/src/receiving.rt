@@ -10,8 +10,8 @@ use crate::seats::{Pollers, Seats, Turn};
 use napi_calls::{Busy, Polling};
 use rx_ring::{Batch, MAX_WEIGHT, RxIn};
 
-// Polls once. The ends of the ring meet before the poll, so that it finds every packet, and after it, so that every free slot
-// is known.
+// Polls once. The ends of the ring meet before the poll, so that it finds every packet, and after it, so that the input end
+// knows every free slot.
 fn poll(polling: &mut Polling, input: &mut RxIn, weight: usize, batch: &mut Batch)
     requires input { PutsIntoRingOf input.old polling.old.pass }
     requires weight { (1 ≤ weight) × (weight ≤ MAX_WEIGHT) }
@@ -38,7 +38,7 @@ fn poll_busily(busy: &mut Busy, input: &mut RxIn, weight: usize, batch: &mut Bat
 }
 
 impl Seats {
-    /// Polls the ring, as the caller that polls the instance. This isn't an event.
+    /// Polls the ring, by the caller that polls the instance. This isn't an event of the history.
     pub(crate) fn receive(self, input: &mut RxIn, weight: usize, batch: &mut Batch) -> Seats
         requires one { PutsIntoRingOf input.old (poller_of self.turn) }
         requires two { PutsIntoRingOf input.old (thread_of self.turn) }

@@ -8,7 +8,7 @@ pub(crate) enum Enabled {
     Marked(Control<Marked>),
 }
 
-/// The poller of the list and the device's thread, of which at most one polls the instance.
+/// The poller of the list and the device's thread. At most one of them polls the instance.
 pub(crate) enum Pollers {
     Rest(Caller, Caller),
     ListPolls(Polling, Caller),
@@ -16,13 +16,13 @@ pub(crate) enum Pollers {
     PollsBusily(Busy, Caller),
 }
 
-/// The owner of the instance: the controller, or one or none of the others.
+/// Which caller owns the instance: the controller, one of the others, or none.
 pub(crate) enum Turn {
     Off(Caller, Caller, Control<Off>),
     On(Pollers, Enabled),
 }
 
-/// The four callers: the interrupt, number 0, the poller of the list, 1, the device's thread, 2, and the controller, 3.
+/// The four callers: number 0 is the interrupt handler, 1 the poller of the list, 2 the device's thread, and 3 the controller.
 pub(crate) struct Seats {
     pub(crate) interrupt: Caller,
     pub(crate) turn: Turn,

@@ -17,17 +17,17 @@ use std::marker::Model;
 use std::snapshot::Snapshot;
 use std::sync::Wait;
 
-/// A receive ring and a NAPI instance that threads could share, with all its callers, owned by one thread. They meet after each
-/// call, so that each call knows the whole history of the instance.
+/// A receive ring and a NAPI instance that threads could share, with all its callers, owned by one thread. The callers meet
+/// after each call, so each call knows the complete history of the instance.
 ///
 /// It is linear: [`end`](SpentSide::end) waits until no caller owns the instance, disables and closes it, and polls all packets
 /// in the ring.
 pub struct SharedReceive<R: Wait + Drop> {
     pub(crate) rt: R,
     pub(crate) napi: Napi,
-    // `None` only within a call.
+    // The callers; `None` only during a call.
     pub(crate) seats: Option<Seats>,
-    // Room for the callers at the end.
+    // Room for collecting the callers at the end.
     pub(crate) callers: Vec<Caller>,
     pub(crate) input: RxIn,
     pub(crate) batch: Batch,
@@ -36,7 +36,7 @@ pub struct SharedReceive<R: Wait + Drop> {
     pub(crate) capacity: usize,
     // What the state word shows.
     pub(crate) seen: Seen,
-    // How many packets arrived, including those for which there was no room; it saturates. It numbers the packets.
+    // How many packets arrived, including those that found no room; the count saturates. A packet's number is this count.
     pub(crate) arrived: u64,
 }
 
@@ -58,7 +58,7 @@ impl<R: Wait + Drop> Model for SharedReceive<R> {
         × HasCallerRoom (callers_of s.napi) (length s.callers.items) (vec_capacity s.callers) };
 }
 
-// Lets all meet, and puts them back into their field.
+// Lets all callers meet, and puts them back into their field.
 #[inline(always)]
 fn keep(napi: &Napi, place: &mut Option<Seats>, seen: &mut Seen, seats: Seats)
     requires empty { is_some place.old ≡ false }

@@ -1,11 +1,11 @@
-//! Devices that are attached again, and devices of all numbers.
+//! Tests of devices that are attached twice, and of devices with all numbers.
 
 use crate::sides::counts_of;
 use device_model::{ReplayBench, SerialBench, SharedBench};
 use std::alloc::{AllocError, Global};
 use std::test::Fail;
 
-// A device that exists is unchanged. The program `memory_tests` tries failing allocations.
+// attaching a device again changes nothing; the program `memory_tests` tests failing allocations
 #[test]
 fn attached_again(rt: HostRuntime) -> Result<(), Fail> {
     let mut bench = SerialBench::new(rt.alloc())?;
@@ -21,7 +21,7 @@ fn attached_again(rt: HostRuntime) -> Result<(), Fail> {
     Ok(())
 }
 
-// Devices of all numbers, with rings of capacity 333 and more.
+// Attaches devices with all numbers, with rings of capacity 333 and more.
 fn attach_each<B: ReplayBench>(alloc: Global, bench: &mut B) -> Result<(), AllocError> {
     for device in 1..17u32 {
         bench.attach(alloc, device, 333 * device, 0)?;

@@ -1,4 +1,4 @@
-//! A bench of one thread: the counts of a device, and each call of a row.
+//! Tests of a bench for one thread: the counts of a device, and each call that a row makes.
 
 use device_model::{DeviceCounts, DeviceState, ReplayBench, SerialBench, TxCounts};
 use napi_model::Kind;

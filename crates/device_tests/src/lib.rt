@@ -1,4 +1,5 @@
-//! Tests of traces and of the devices that play them, from another crate as their users are: what no contract says.
+//! Tests of traces and of the devices on which they act, made like the code of a user of the crates. They test what no contract
+//! says.
 #![tactic(auto)]
 
 #[cfg(test)]

@@ -1,4 +1,4 @@
-//! How the records of a trace may be written, and the result for bytes that aren't records.
+//! Tests of the ways in which the records of a trace may be written, and of bytes that aren't records.
 
 use device_model::{Row, RowEvent, Trace, TraceFault, read_trace};
 use std::alloc::Global;
@@ -14,7 +14,7 @@ fn row(moment: u64, device: u32, event: RowEvent, value: u32) -> Row {
     }
 }
 
-// Returns what is read from a text of these rows after the header.
+// Returns the result of reading a text with these rows after the header.
 fn read_rows(alloc: Global, rows: &str) -> Result<Trace, TraceFault> {
     let text = format!(in alloc; "{HEADER}{rows}").map_err(|_| TraceFault::OutOfMemory)?;
     read_trace(alloc, text.as_bytes())
@@ -74,7 +74,7 @@ fn written() -> [&'static str; 6] {
     WRITTEN
 }
 
-// One trace in each way that records may be written.
+// one trace, in each way in which records may be written
 #[test]
 fn records(rt: HostRuntime) -> Result<(), Fail> {
     for text in written() {
@@ -85,14 +85,14 @@ fn records(rt: HostRuntime) -> Result<(), Fail> {
 }
 
 const QUOTED: [(&str, TraceFault); 7] = [
-    // A doubled quote, a comma and a line feed between quotes are part of the field.
+    // a doubled quote, a comma and a line feed between quotes are part of the field
     ("0,1,\"rx\"\"\",5\n", TraceFault::BadEvent { row: 1 }),
     ("0,1,\"r,x\",5\n", TraceFault::BadEvent { row: 1 }),
     ("0,1,\"rx\n\",5\n", TraceFault::BadEvent { row: 1 }),
     ("\"\"\"0\",1,rx,5\n", TraceFault::BadNumber { row: 1 }),
-    // A quote that is never closed takes the rest of the text.
+    // a quote that is never closed extends to the end of the text
     ("0,1,\"open,4\n1,1,rx,5\n", TraceFault::BadFields { row: 1 }),
-    // A second byte-order mark is part of the first field.
+    // a second byte-order mark is part of the first field
     ("\u{feff}0,1,open,4\n", TraceFault::BadNumber { row: 1 }),
     ("0,1,ｏpen,4\n", TraceFault::BadEvent { row: 1 }),
 ];
@@ -162,7 +162,7 @@ fn busy_rows_of_version_2(rt: HostRuntime) -> Result<(), Fail> {
     Ok(())
 }
 
-// A text that ends within a row.
+// Texts that end within a row.
 const CUT: [(&str, TraceFault); 4] = [
     ("2,0,softi", TraceFault::BadFields { row: 3 }),
     ("2,0", TraceFault::BadFields { row: 3 }),

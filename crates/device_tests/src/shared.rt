@@ -1,4 +1,4 @@
-//! A bench of one thread over instances that threads could share: its devices, and its end.
+//! Tests of a bench for one thread over instances that threads could share: its devices, and its end.
 
 use crate::sides::counts_of;
 use device_model::{ReplayBench, SharedBench};
@@ -6,7 +6,8 @@ use napi_model::Kind;
 use poll_engine::{Bench, Next};
 use std::test::Fail;
 
-// What arrived is polled or left. Then the bench ends, whose instances are handed over, repolled, to be disabled or disabled.
+// each packet that arrived is polled or left; then the bench ends, with instances that are queued, repolled, being disabled or
+// disabled
 #[test]
 fn packets_at_the_end(rt: HostRuntime) -> Result<(), Fail> {
     let mut bench = SharedBench::new(&rt, rt.alloc())?;
@@ -14,23 +15,23 @@ fn packets_at_the_end(rt: HostRuntime) -> Result<(), Fail> {
         assert_eq!(rt; bench.attach(rt.alloc(), device, 4, 0), Ok(()));
     }
     assert_eq!(rt; bench.attached(), 5);
-    // Repolled, and so handed to the list again.
+    // a repoll: the instance is queued on the list again
     assert_eq!(rt; bench.arrive(2, 100), Some(Kind::List));
     assert_eq!(rt; bench.arrive(2, 60), None);
     let once = bench.poll_once(2, 1);
     assert_eq!(rt; (once.work, once.next), (1, Next::Repoll));
-    // Handed to its thread.
+    // queued for its thread
     bench.set_threaded(3, true);
     assert_eq!(rt; bench.arrive(3, 7), Some(Kind::Thread));
-    // Handed to the list, with a disable that is pending.
+    // queued on the list, with a pending disable
     assert_eq!(rt; bench.arrive(5, 8), Some(Kind::List));
     bench.disable(5);
-    // Off.
+    // disabled
     bench.disable(16);
     bench.disable(7);
     bench.settle();
     assert_eq!(rt; bench.arrive(16, 9), None);
-    // Enabled with packets, busy polled, and not polled to the end.
+    // enabled, with packets that busy polling leaves
     for bytes in [10, 20, 30] {
         assert_eq!(rt; bench.arrive(7, bytes), None);
     }
@@ -53,7 +54,7 @@ fn packets_at_the_end(rt: HostRuntime) -> Result<(), Fail> {
         };
         assert_eq!(rt; packets, wanted, "of device {number}");
     }
-    // Its end polls what is left.
+    // the end of the bench polls the packets that are left
     let ends = bench.end();
     for (number, end) in ends.iter().enumerate() {
         let wanted = match number {
@@ -76,7 +77,7 @@ fn packets_at_the_end(rt: HostRuntime) -> Result<(), Fail> {
     Ok(())
 }
 
-// One more device, and one that is there already, leave a device as it was.
+// attaching another device, or one that exists, doesn't change a device
 #[test]
 fn another_device_stays(rt: HostRuntime) -> Result<(), Fail> {
     let mut bench = SharedBench::new(&rt, rt.alloc())?;
@@ -85,7 +86,7 @@ fn another_device_stays(rt: HostRuntime) -> Result<(), Fail> {
     bench.send(1, 1500);
     assert!(rt; bench.uses_transmit(1));
     let before = counts_of(&bench, 1);
-    // A device that is there stays as it is.
+    // a device that exists isn't changed
     assert_eq!(rt; bench.attach(rt.alloc(), 1, 8, 5), Ok(()));
     assert_eq!(rt; bench.attach(rt.alloc(), 3, 65536, 5), Ok(()));
     assert_eq!(rt; counts_of(&bench, 1), before);

@@ -1,4 +1,4 @@
-//! The counts of a device, and of its transmit side.
+//! Tests of the counts of a device, and of its transmit side.
 
 use device_model::{DeviceCounts, ReplayBench, ScriptDevice, SerialBench, opening_of, read_trace};
 use poll_engine::{Act, Device};
@@ -13,7 +13,7 @@ pub(crate) fn counts_of<B: ReplayBench>(bench: &B, device: u32) -> Option<Device
     }
 }
 
-// A done row of no packets counts nothing, but is a row of the transmit side.
+// a done row with 0 packets counts nothing, but makes the report show the transmit side
 #[test]
 fn used_without_a_packet(rt: HostRuntime) -> Result<(), Fail> {
     let mut bench = SerialBench::new(rt.alloc())?;
@@ -34,7 +34,7 @@ fn used_without_a_packet(rt: HostRuntime) -> Result<(), Fail> {
     Ok(())
 }
 
-// A device's acts apply its tx and done rows when they are asked for.
+// a device applies its tx and done rows when their acts are asked for
 #[test]
 fn scripted(rt: HostRuntime) -> Result<(), Fail> {
     let text = "moment,device,event,value

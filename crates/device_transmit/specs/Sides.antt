@@ -1,10 +1,10 @@
--- The transmit sides of a bench, as it stores them.
+-- The transmit sides of a bench's devices, as the program stores them.
 use Rattle.std.specs.Prelude.{◌≡◌, ℕ, Option, Some, None, length}
 use Rattle.device_transmit.specs.{Transmits.Transmits, Transmit.ShowsTransmit}
 use Rattle.device_transmit.specs.{Transmit.TransmitView, declared.{sides.TransmitSides.TransmitSides, transmit.Transmit.Transmit}}
 use Rattle.device_places.specs.Places.{at}
 
--- the stored transmit side represents this one
+-- the stored transmit side, if there is one, represents this one
 abbrev pub ShowsAt : Option Transmit → Option TransmitView → Type 0
 ShowsAt None None = Unit {0}
 ShowsAt (Some kept) (Some t) = ShowsTransmit kept t

@@ -7,12 +7,12 @@ use Rattle.tx_ring.specs.declared.event.TxFault.{TxFault}
 
 pub record TransmitView : Type 0 where
   pub queue : TransmitQueue
-  -- packets sent, packets that failed, packets completed, completions that failed
+  -- the counts of packets sent, of packets that failed, of packets completed and of completions that failed
   pub sent : ℕ
   pub held : ℕ
   pub done : ℕ
   pub denied : ℕ
-  -- whether there was a row
+  -- whether the device had a tx or done row
   pub used : Bool
 
 -- how long slack has to last before the limit shrinks, in milliseconds: the `hold_time` of `dql_init`, which
@@ -31,7 +31,7 @@ opened_transmit capacity moment = record {
   used = false;
 }
 
--- sends a packet, unless the queue has an error
+-- sends a packet, unless the queue has this error; otherwise counts it as failed
 abbrev pub sent_unless : Option TxFault → ℕ → TransmitView → TransmitView
 sent_unless None bytes t = record t { queue = after_send t.queue bytes; sent = raised t.sent 1; used = true }
 sent_unless (Some fault) bytes t = record t { held = raised t.held 1; used = true }
@@ -39,7 +39,7 @@ sent_unless (Some fault) bytes t = record t { held = raised t.held 1; used = tru
 abbrev pub after_tx : ℕ → TransmitView → TransmitView
 after_tx bytes t = sent_unless (send_fault t.queue bytes) bytes t
 
--- completes this many packets, unless the queue has an error
+-- completes this many packets, unless the queue has this error; otherwise counts a failed completion
 abbrev pub done_unless : Option TxFault → ℕ → ℕ → TransmitView → TransmitView
 done_unless None count moment t = record t { queue = after_done t.queue count moment; done = raised t.done count; used = true }
 done_unless (Some fault) count moment t = record t { denied = raised t.denied 1; used = true }
@@ -51,7 +51,7 @@ after_finish count moment t = done_unless (done_fault t.queue count) count momen
 abbrev pub tx_counts : TransmitView → TxCounts
 tx_counts t = record { sent = t.sent; held = t.held; done = t.done; denied = t.denied; state = tx_state t.queue }
 
--- the stored side represents this one: the ring represents the queue, whose totals may exceed 32 bits
+-- the stored side represents this one: its ring represents the queue, whose totals may exceed 32 bits
 pub record ShowsTransmit (kept : Transmit) (t : TransmitView) : Type 0 where
   pub queue : ShowsQueue kept.ring t.queue
   pub sent : kept.sent ≡ t.sent

@@ -5,20 +5,20 @@ use Rattle.device_transmit.specs.{Transmit.{TransmitView, tx_counts}, declared.t
 abbrev pub Transmits : Type 0
 Transmits = DeviceTable TransmitView
 
--- a call changed the transmit sides of a bench by this function
+-- a call changes the transmit sides of a bench by this function
 abbrev pub Changes : {B : Type 0} → (B → Transmits → Type 0) → (Transmits → Transmits) → B → B → Type 0
 Changes shows change old new = (all : Transmits) → shows old all → shows new (change all)
 
--- a call left them unchanged
+-- a call doesn't change the transmit sides of a bench
 abbrev pub KeepsTransmits : {B : Type 0} → (B → Transmits → Type 0) → B → B → Type 0
 KeepsTransmits shows old new = Changes shows (λ all. all) old new
 
--- the counts of a side, zeros if there is none
+-- the counts of a transmit side; zeros if there is none
 abbrev pub tx_counts_of : Option TransmitView → TxCounts
 tx_counts_of None = NONE
 tx_counts_of (Some t) = tx_counts t
 
--- whether there is a side that had a tx or done row
+-- whether there is a transmit side, and it had a tx or done row
 abbrev pub is_used : Option TransmitView → Bool
 is_used None = false
 is_used (Some t) = t.used

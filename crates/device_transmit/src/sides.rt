@@ -32,7 +32,7 @@ impl TransmitSides {
         Ok(TransmitSides { of })
     }
 
-    /// Adds the side of a device, unless it has one.
+    /// Adds the transmit side of a device, unless it has one.
     pub fn attach(&mut self, device: u32, transmit: Transmit)
         requires { IsWithin 1 16 device }
         ensures { (view : TransmitView) → ShowsTransmit transmit view
@@ -67,7 +67,7 @@ impl TransmitSides {
         }
     }
 
-    /// The counts of a side, zeros if there is none.
+    /// Returns the counts of a transmit side; zeros if there is none.
     pub fn counts(&self, device: u32) -> TxCounts
         ensures { (all : Transmits) → ShowsSides self.now all
             → result ≡ tx_counts_of (at device all) }
@@ -78,7 +78,7 @@ impl TransmitSides {
         }
     }
 
-    /// Returns whether there is a side that had a tx or done row.
+    /// Returns whether the device has a transmit side that had a tx or done row.
     pub fn is_used(&self, device: u32) -> bool
         ensures { (all : Transmits) → ShowsSides self.now all → result ≡ is_used (at device all) }
     {

@@ -11,7 +11,7 @@ use tx_ring::{TxFault, TxRing, TxState};
 /// How long slack has to last before the limit shrinks, in milliseconds.
 const HOLD: u64 = 1000;
 
-/// A device's transmit ring, and the counts of its tx and done rows. The counts saturate.
+/// The transmit side of a device: its ring, and the counts of its tx and done rows. The counts saturate.
 #[derive(Drop)]
 pub struct Transmit {
     ring: TxRing,
@@ -38,7 +38,7 @@ pub struct TxCounts {
 }
 
 impl TxCounts {
-    /// The counts if there is no transmit side.
+    /// The counts of a device without a transmit side.
     pub const NONE: TxCounts = TxCounts {
         sent: 0,
         held: 0,
@@ -104,7 +104,7 @@ impl Transmit {
         }
     }
 
-    /// The counts that the report shows.
+    /// Returns the counts that the report shows.
     pub fn counts(&self) -> TxCounts
         ensures { (view : TransmitView) → ShowsTransmit self.now view → result ≡ tx_counts view }
     {

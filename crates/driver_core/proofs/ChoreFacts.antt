@@ -1,4 +1,4 @@
--- A bit for each device at whose card something is to be done.
+-- A bit for each device whose card needs some action (a "chore").
 use Rattle.std.proofs.Common.{◌≡◌, ◌≢◌, ◌∙◌, inl, inr, ℕ, ◌<◌, ◌≤◌, ◌^◌, Bool, true, false, cond, List, length}
 use Rattle.std.proofs.Common.{refl, sym, ap, arith, w64, get_or, set, replicate}
 use Rattle.std.proofs.lemmas.{List.{get_or-replicate, get_or-set_other, get_or-set_same, get_or_default, get_or_past, length-replicate}}
@@ -28,7 +28,7 @@ no-chore (Some c) h = absurd (cc h)
 past : (devices : List DriverDevice) (id : ℕ) → length devices ≤ id → device_at devices id ≡ in_stage Closed false
 past devices id le = get_or_past devices id (in_stage Closed false) le
 
--- the lowest bit is of a device that has something to be done
+-- the lowest bit that is set belongs to a device whose card needs an action
 pub first_in : (devices : List DriverDevice) (bits : ℕ) → 0 < bits → bits < 2 ^ 64 → MarksChores devices bits
     → (trailing_zeros w64 bits < length devices) × (has_chore (device_at devices (trailing_zeros w64 bits)) ≡ true)
 first_in devices bits some fits marks =
@@ -45,7 +45,7 @@ first_in devices bits some fits marks =
     ] in
     (within, on)
 
--- without a bit nothing is to be done
+-- if no bit is set, no card needs an action
 pub none_in : (devices : List DriverDevice) (bits : ℕ) → bits ≡ 0 → length devices ≤ 64 → MarksChores devices bits
     → All (λ (d : DriverDevice). chore_at d.stage ≡ None) devices
 none_in devices bits zero few marks k d lt =
@@ -67,7 +67,7 @@ put_marks devices bits after id to lt same others marks k small = elim (cases_eq
       ∙ sym (ap (λ (d : DriverDevice). flag (has_chore d)) (get_or-set_other devices id k to (in_stage Closed false) ne))
 ]
 
--- closed devices have nothing to be done
+-- the cards of closed devices need no action
 pub new_marks : (count : ℕ) → MarksChores (replicate count (in_stage Closed false)) 0
 new_marks count k small =
     let closed : device_at (replicate count (in_stage Closed false)) k ≡ in_stage Closed false = elim (cases_lt k count) [

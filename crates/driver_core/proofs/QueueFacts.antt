@@ -1,4 +1,4 @@
--- What calls make of the poll list and the run over it.
+-- The effect of calls on the poll list and on the run over it.
 use Rattle.std.proofs.Common.{◌≡◌, ◌≢◌, ◌∙◌, inl, inr, ◌⊎◌, ℕ, ◌+◌, ◌<◌, ◌≤◌, Bool, true, false, cond, List, [], ◌∷◌, ◌++◌, length}
 use Rattle.std.proofs.Common.{refl, sym, ap, arith}
 use Rattle.std.proofs.Common.{Option, Some, None, get_or, set, MatchOption, length-append}
@@ -36,7 +36,7 @@ sum-set : (devices : List DriverDevice) (id : ℕ) (to : DriverDevice) → id < 
     → listed_in (set devices id to) + cond (listed_at devices id) 1 0 ≡ listed_in devices + cond (stage_is_listed to.stage) 1 0
 sum-set devices id to lt = sum_by-set (λ (d : DriverDevice). cond (stage_is_listed d.stage) 1 0) devices id to (in_stage Closed false) lt
 
--- a device that is listed as before changes nothing
+-- replacing a device by one that is listed exactly if it was changes nothing
 pub put_same : (devices : List DriverDevice) (list : List ℕ) (run : PollingRun) (id : ℕ) (to : DriverDevice) → id < length devices
     → stage_is_listed to.stage ≡ listed_at devices id → IsQueue devices list run → IsQueue (set devices id to) list run
 put_same devices list run id to lt same q = record {
@@ -61,7 +61,7 @@ occurs-other k id ne = elim (eqb_tells id k) [
   | inr a ↦ ap (λ (b : Bool). 0 + cond b 1 0) a.0
 ]
 
--- there is room for one that isn't listed
+-- the list has room for a device that isn't listed
 pub room : (devices : List DriverDevice) (list : List ℕ) (run : PollingRun) (id : ℕ) → id < length devices → listed_at devices id ≡ false
     → IsQueue devices list run → length list + held run < length devices
 room devices list run id lt unlisted q =
@@ -71,7 +71,7 @@ room devices list run id lt unlisted q =
     let most = count_by-le-length (λ (d : DriverDevice). stage_is_listed d.stage) (set devices id to) in
     omega (arith, t, most, q.size, length-set devices id to)
 
--- one that wasn't listed, and is now, goes onto the list
+-- a device that wasn't listed and now is was appended to the list
 pub put_new : (devices : List DriverDevice) (list : List ℕ) (run : PollingRun) (id : ℕ) (to : DriverDevice) → id < length devices
     → listed_at devices id ≡ false → stage_is_listed to.stage ≡ true → IsQueue devices list run
     → IsQueue (set devices id to) (list ++ id ∷ []) run
@@ -94,7 +94,7 @@ put_new devices list run id to lt unlisted listed q = record {
 
 -- ---- the run
 
--- what is the same however numbers are moved between lists
+-- a sum over lists doesn't change if numbers are moved between the lists
 module _ (m : List ℕ → ℕ) (add : (xs ys : List ℕ) → m (xs ++ ys) ≡ m xs + m ys) where
   none : m [] ≡ 0
   none = omega (arith, add [] [])
@@ -121,7 +121,7 @@ module _ (m : List ℕ → ℕ) (add : (xs ys : List ℕ) → m (xs ++ ys) ≡ m
 held-is : (run : PollingRun) → held run ≡ length (asked_for run.asked) + length run.own + length run.repoll
 held-is run = ap (λ (n : ℕ). n + length run.repoll) (length-append (asked_for run.asked) run.own)
 
--- the run asks for its next poll
+-- the run returns its next poll
 pub next_keeps : (devices : List DriverDevice) (list after : List ℕ) (run run' : PollingRun) → run.asked ≡ None
     → Asks all_held OwnPushes NothingBehind HasListRoom run list run'.asked run'.own after → run'.repoll ≡ run.repoll
     → IsQueue devices list run → IsQueue devices after run'
@@ -136,7 +136,7 @@ next_keeps devices list after run run' rests a repoll q =
       size = omega (arith, sizes, idle-length, ap (λ (xs : List ℕ). length xs) repoll, q.size, held-is run, held-is run');
     }
 
--- the same where budget or window may be spent
+-- the run goes on or ends, depending on whether its budget or window is used up
 pub advance_keeps : (devices : List DriverDevice) (list after : List ℕ) (run run' : PollingRun) (answer : Option ℕ) → run.asked ≡ None
     → (has_spent run ≡ true → (answer ≡ None) × (run' ≡ run) × (after ≡ list))
     → (has_spent run ≡ false → Asks all_held OwnPushes NothingBehind HasListRoom run list answer run'.own after)
@@ -201,7 +201,7 @@ finish_keeps devices list came after run run' rests nothing nobody back q =
 
 -- ---- a poll
 
--- its device goes onto the list again, or is to be repolled
+-- after the poll its device goes back to the list, or gets a repoll
 abbrev pub comes_back : Next → Bool
 comes_back next = is_arrival next || is_repoll next
 
@@ -223,7 +223,7 @@ flag-one : (b : Bool) → 1 ≤ flag b → b ≡ true
 flag-one true h = refl
 flag-one false h = absurd (omega arith)
 
--- the number that is being polled is that of a listed device
+-- the device that is being polled is a listed one
 pub asked_is_listed : (devices : List DriverDevice) (list : List ℕ) (run : PollingRun) (id : ℕ) → run.asked ≡ Some id
     → IsQueue devices list run → listed_at devices id ≡ true
 asked_is_listed devices list run id asked q =
@@ -282,7 +282,7 @@ polled_keeps devices list after run run' id to next lt asked rests own repoll ha
       size = omega (arith, moved length length-append, q.size, held-is run, held-is run', sum-set devices id to lt, was, now);
     }
 
--- ---- sleep
+-- ---- when the thread may sleep
 
 rests-at : (stage : Stage) → chore_at stage ≡ None → stage_is_listed stage ≡ false → IsAtRest stage
 rests-at Closed c l = tt
@@ -297,7 +297,7 @@ flag-none : (b : Bool) → flag b ≡ 0 → b ≡ false
 flag-none true h = absurd (omega arith)
 flag-none false h = refl
 
--- with nothing to be done at any card and nothing on the list each device is at rest
+-- if no card needs an action and nothing is on the list, each device is at rest
 pub all_rest : (devices : List DriverDevice) (list : List ℕ) (run : PollingRun)
     → All (λ (d : DriverDevice). chore_at d.stage ≡ None) devices
     → list ≡ [] → HoldsNothing run → IsQueue devices list run → All (λ (d : DriverDevice). IsAtRest d.stage) devices
@@ -314,7 +314,7 @@ all_rest devices list run chores empty nothing q k d lt =
     )) in
     rests-at (get_or devices k d).stage (chores k d lt) (rw e unlisted)
 
--- ---- of devices
+-- ---- the devices
 
 after-completion : (stopping missed : Bool)
     → stage_is_listed (completed_at stopping missed).0.stage ≡ comes_back (completed_at stopping missed).1
@@ -328,14 +328,14 @@ after-poll true false missed = refl
 after-poll true true missed = after-completion true missed
 after-poll false stopping missed = after-completion stopping missed
 
--- after a poll a device is listed if its number comes back
+-- after a poll, a device is listed exactly if its number goes back to the list
 pub polled_listed : (full : Bool) (d : DriverDevice)
     → stage_is_listed (after_driver_poll full d).0.stage ≡ comes_back (after_driver_poll full d).1
 polled_listed full d = after-poll full (is_stopping d.stage) d.missed
 
--- ---- what was said
+-- ---- the last action that was asked for
 
--- what was said last is still due after a device changed, if it is kept
+-- the action that was asked for last is still due after a device changed, if it is kept
 pub put_asked : (devices : List DriverDevice) (polled : Option ℕ) (said kept : Option (ℕ × Chore)) (id : ℕ) (to : DriverDevice)
     → id < length devices
     → (kept ≡ said) ⊎ (kept ≡ None)
@@ -360,7 +360,7 @@ put_asked devices run-asked said kept id to lt same due a =
       alone = λ k chore e. a.alone k chore (was k chore e);
     }
 
--- while a device is polled nothing is said of a card
+-- while a device is being polled, no action at a card is asked for
 pub asked_alone : (devices : List DriverDevice) (polled : Option ℕ) (id : ℕ) (said : Option (ℕ × Chore)) → polled ≡ Some id
     → IsStillDue devices polled said → said ≡ None
 asked_alone devices run-asked id None is a = refl

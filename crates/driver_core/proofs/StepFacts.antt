@@ -1,4 +1,4 @@
--- Each call of a device makes legal steps of its instance.
+-- Each call on a device makes legal steps of its instance.
 use Rattle.std.proofs.Common.{◌≡◌, inl, inr, Bool, true, false, [], ◌∷◌, refl, subst, sym}
 use Rattle.napi_model.specs.{History.{LegalHistory, state_after}, Step.{event, schedule_reply}}
 use Rattle.napi_model.specs.declared.event.Operation.TheVariants.{Schedule, Enable, MarkDisable}

@@ -1,17 +1,17 @@
--- What holds of a device and its card whatever happens, and whenever.
+-- An invariant of a device and its card: it holds after any events in any order.
 use Rattle.std.proofs.Common.{◌≡◌, ◌⊎◌, inl, inr, ℕ, ◌+◌, zero, suc, Bool, true, false, cond, List, [], ◌∷◌, refl, subst}
 use Rattle.std.specs.Prelude.{◌||◌, not}
 use Rattle.driver_core.specs.Device.{in_stage, completed_at, after_interrupt, after_open, after_poll_at, after_stop}
 use Rattle.driver_core.specs.World.{Hand, World, DriverEvent, free, to_mask, to_unmask, to_look, to_fetch, did_mask, did_unmask, saw, took}
 use Rattle.driver_core.specs.World.{arrives, interrupts, says, acts, reports, forgets, opens, stops, world_step, world_after, new_world}
-use Rattle.driver_core.specs.World.{says_by, hand_after, masked_after, packets_after, is_told, after_message, IsWatched}
+use Rattle.driver_core.specs.World.{says_by, hand_after, masked_after, packets_after, reported_hand, after_message, IsWatched}
 use Rattle.driver_core.specs.World.{NoPacketWaitsUnseen, IsMaskedWhileListed, ListedIsMasked}
 use Rattle.driver_core.specs.declared.device.{Stage.{Stage, TheVariants.{Closed, Masking, Closing, Listed, Unmasking, Looking, Armed}}}
 
 abbrev Quiet : Bool → ℕ → Type 0
 Quiet interrupting packets = (packets ≡ 0) ⊎ (interrupting ≡ true)
 
--- what holds at each stage of the device, by what the thread is doing
+-- the invariant, for each stage of the device and each thing that the thread may be doing
 abbrev Good : Hand → Stage → Bool → Bool → ℕ → Type 0
 Good free Closed m i p = m ≡ true
 Good free (Listed s) m i p = m ≡ true
@@ -117,7 +117,7 @@ polled-to true true missed m i p h = completed-to true missed m i p h
 polled-to false stopping missed m i p h = completed-to stopping missed m i p h
 
 reported : (hand : Hand) (stage : Stage) (missed m i : Bool) (p : ℕ) → Good hand stage m i p
-    → Good (is_told hand) (after_message hand (in_stage stage missed)).stage m i p
+    → Good (reported_hand hand) (after_message hand (in_stage stage missed)).stage m i p
 reported did_mask (Masking s) missed m i p h = h
 reported did_mask Closing missed m i p h = h
 reported did_mask stage missed m i p h = absurd h

@@ -9,7 +9,7 @@ use Rattle.napi_model.specs.declared.state.Kind.TheVariants as kind
 abbrev pub in_stage : Stage → Bool → DriverDevice
 in_stage stage missed = record { stage = stage; missed = missed }
 
--- ---- what is to be done at its card
+-- ---- what has to be done at its card
 
 abbrev pub chore_at : Stage → Option Chore
 chore_at Closed = None
@@ -22,8 +22,8 @@ chore_at Armed = None
 
 -- ---- the card interrupts (`napi_schedule_prep`)
 
--- While an instance is scheduled or disabled the request is missed; while it is being disabled it is rejected. Else it is
--- granted: the card is masked first, and then the instance is handed over.
+-- While an instance is scheduled or disabled, the request is missed; while it is being disabled, the request is rejected.
+-- Otherwise it is granted: first the card has to be masked, and then the instance is queued.
 abbrev pub interrupted_at : Stage → Bool → DriverDevice
 interrupted_at Closed missed = in_stage Closed true
 interrupted_at (Masking false) missed = in_stage (Masking false) true
@@ -35,10 +35,10 @@ interrupted_at Unmasking missed = in_stage (Masking false) missed
 interrupted_at Looking missed = in_stage (Masking false) missed
 interrupted_at Armed missed = in_stage (Masking false) missed
 
--- ---- its card was masked, unmasked, looked at
+-- ---- an action at its card was done: mask, unmask, look
 
--- After the mask a granted instance goes onto the poll list (`____napi_schedule`), and one that was stopped while no poll was
--- pending is disabled.
+-- After the card was masked, a granted instance goes on the poll list (`____napi_schedule`); an instance that was stopped while
+-- no poll was pending is disabled.
 abbrev pub masked_at : Stage → Stage
 masked_at (Masking stopping) = Listed stopping
 masked_at Closing = Closed
@@ -48,34 +48,34 @@ abbrev pub unmasked_at : Stage → Stage
 unmasked_at Unmasking = Looking
 unmasked_at stage = stage
 
--- a card that has packets then didn't interrupt for them: a poll is asked for
+-- if the card has packets when it is looked at, no interrupt was raised for them: so a poll is requested
 abbrev pub looked_at : Bool → Stage → Stage
 looked_at true Looking = Masking false
 looked_at false Looking = Armed
 looked_at has_more stage = stage
 
--- ---- it was polled (`__napi_poll`, `napi_complete_done`)
+-- ---- the device was polled (`__napi_poll`, `napi_complete_done`)
 
--- the instance is completed: again, if a request was missed, else released; a stop ends here
+-- the instance is completed: queued again if a request was missed, otherwise released; a pending stop ends here
 abbrev pub completed_at : Bool → Bool → DriverDevice × Next
 completed_at stopping true = (in_stage (Listed stopping) false, Again kind.List)
 completed_at false false = (in_stage Unmasking false, Gone)
 completed_at true false = (in_stage Closed false, Gone)
 
--- a poll that used its whole weight keeps the instance, unless it is being disabled
+-- after a poll that used its whole weight the instance stays scheduled, unless it is being disabled
 abbrev pub after_poll_at : Bool → Bool → Bool → DriverDevice × Next
 after_poll_at true false missed = (in_stage (Listed false) missed, Repoll)
 after_poll_at true true missed = completed_at true missed
 after_poll_at false stopping missed = completed_at stopping missed
 
--- ---- it is opened and stopped (`napi_enable`, `napi_disable`)
+-- ---- the device is opened and stopped (`napi_enable`, `napi_disable`)
 
--- after the enable the card is unmasked and looked at
+-- after the enable, the card has to be unmasked and looked at
 abbrev pub opened_at : Stage → Stage
 opened_at Closed = Unmasking
 opened_at stage = stage
 
--- a scheduled instance is polled until it is completed; another one is masked and disabled at once
+-- a scheduled instance is polled until it is completed; the card of any other instance is masked, and it is disabled
 abbrev pub stopped_at : Stage → Stage
 stopped_at (Masking stopping) = Masking true
 stopped_at (Listed stopping) = Listed true
@@ -91,14 +91,14 @@ MayStop Closed = ⊥
 MayStop Closing = ⊥
 MayStop _ = Unit {0}
 
--- a stop was asked for, and isn't done
+-- the device was stopped, and isn't closed yet
 abbrev pub is_stopping : Stage → Bool
 is_stopping Closing = true
 is_stopping (Masking stopping) = stopping
 is_stopping (Listed stopping) = stopping
 is_stopping _ = false
 
--- ---- the same of a device
+-- ---- the same functions on a whole device
 
 abbrev pub after_interrupt : DriverDevice → DriverDevice
 after_interrupt d = interrupted_at d.stage d.missed
@@ -118,17 +118,17 @@ after_open d = in_stage (opened_at d.stage) d.missed
 abbrev pub after_stop : DriverDevice → DriverDevice
 after_stop d = in_stage (stopped_at d.stage) d.missed
 
--- what was to be done at its card was done; a look found packets or none
+-- the action at its card was done; for a look, the flag says whether the card had packets
 abbrev pub did : Chore → Bool → DriverDevice → DriverDevice
 did Mask has_more d = masked d
 did Unmask has_more d = unmasked d
 did Look has_more d = after_look has_more d
 
--- after a poll, and how the poll ends
+-- the device after a poll, and how the poll ends
 abbrev pub after_driver_poll : Bool → DriverDevice → DriverDevice × Next
 after_driver_poll full d = after_poll_at full (is_stopping d.stage) d.missed
 
--- ---- words of clauses
+-- ---- properties that contracts use
 
 abbrev pub stage_is_listed : Stage → Bool
 stage_is_listed (Listed stopping) = true
@@ -139,7 +139,7 @@ IsMasking (Masking stopping) = Unit {0}
 IsMasking Closing = Unit {0}
 IsMasking _ = ⊥
 
--- closed, or unmasked, looked at after the unmask, and without packets then
+-- the device is closed; or its card was unmasked and then looked at, and had no packets
 abbrev pub IsAtRest : Stage → Type 0
 IsAtRest Closed = Unit {0}
 IsAtRest Armed = Unit {0}

@@ -1,4 +1,4 @@
--- What a driver holds, and what it says is to be done.
+-- The state of a driver, and what it asks the caller to do.
 use Rattle.std.specs.Prelude.{◌≡◌, ◌⊎◌, ◌≤◌, ◌<◌, ◌+◌, ℕ, Bool, true, false, List, [], ◌∷◌, ◌++◌, length, replicate, slice_set, Option}
 use Rattle.std.specs.Prelude.{Some, None, ◌==◌, nat_lt, if◌then◌else◌, slice_index_or}
 use Rattle.std.specs.List.{All}
@@ -25,14 +25,14 @@ stage_of driver id = (device_of driver id).stage
 abbrev pub poll_counts_of : Driver → ℕ → PollCounts
 poll_counts_of driver id = slice_index_or driver.counts.items id no_counts
 
--- the devices that are on the poll list and not yet in a run, in order
+-- the devices that are on the poll list and not in a run yet, in order
 abbrev pub list_of : Driver → List ℕ
 list_of driver = driver.list
 
 abbrev pub driver_limits : Driver → Limits
 driver_limits driver = driver.limits
 
--- a run is under way
+-- a run is in progress
 abbrev pub is_running : Driver → Bool
 is_running driver = driver.runs
 
@@ -40,21 +40,21 @@ is_running driver = driver.runs
 abbrev pub polled_device : Driver → Option ℕ
 polled_device driver = driver.run.asked
 
--- what was said last of a card, and isn't reported yet
+-- the action at a card that was asked for last, if it isn't reported yet
 abbrev pub said_of : Driver → Option (ℕ × Chore)
 said_of driver = driver.said
 
--- the number of what was said last
+-- the number of the action that was asked for last
 abbrev pub said_number_of : Driver → ℕ
 said_number_of driver = driver.number
 
--- nothing that was said is still to be reported
+-- the driver waits for no report
 abbrev pub AwaitsNothing : Driver → Type 0
 AwaitsNothing driver = (said_of driver ≡ None) × (polled_device driver ≡ None)
 
--- ---- what calls change
+-- ---- the effect of calls
 
--- the run, the limits of runs, the counts and the number are what they were
+-- the run, the limits of runs, the counts and the number are unchanged
 pub record SameRun (before after : Driver) : Type 0 where
   pub run : after.run ≡ before.run
   pub runs : after.runs ≡ before.runs
@@ -62,32 +62,33 @@ pub record SameRun (before after : Driver) : Type 0 where
   pub counts : after.counts ≡ before.counts
   pub number : after.number ≡ before.number
 
--- this device is so now, and nothing else changed, except that what was said last may not be due any more
+-- the device with this number is replaced, and nothing else changes, except that the action asked for last may not be due any
+-- more
 pub record PutsDevice (id : ℕ) (to : DriverDevice) (before after : Driver) : Type 0 where
   pub devices : driver_devices after ≡ slice_set (driver_devices before) id to
   pub list : after.list ≡ before.list
   pub same : SameRun before after
   pub said : (said_of after ≡ said_of before) ⊎ (said_of after ≡ None)
 
--- the same; if the device is listed now, it is the last on the list
+-- the device with this number is replaced; and if it is listed now, it is the last one on the list
 pub record PutsOnList (id : ℕ) (to : DriverDevice) (before after : Driver) : Type 0 where
   pub devices : driver_devices after ≡ slice_set (driver_devices before) id to
   pub list : after.list ≡ before.list ++ (if stage_is_listed to.stage then id ∷ [] else [])
   pub same : SameRun before after
   pub free : AwaitsNothing after
 
--- what was to be done at the card of a device was done
+-- the action at the card of a device was done
 abbrev pub DoesChore : ℕ → Chore → Bool → Driver → Driver → Type 0
 DoesChore id chore has_more before after = PutsOnList id (did chore has_more (device_of before id)) before after
 
--- the poll of a device that took so many packets, and how it ended
+-- the device after a poll that took this many packets, and how the poll ended
 abbrev pub after_poll_of : ℕ → ℕ → Driver → DriverDevice × Next
 after_poll_of id packets driver = after_driver_poll (packets == driver.limits.weight) (device_of driver id)
 
 abbrev pub poll_of : ℕ → ℕ → Driver → Poll
 poll_of id packets driver = record { id = id; once = record { work = packets; next = (after_poll_of id packets driver).1 } }
 
--- the poll under way was this one, and its device is what the poll leaves
+-- the poll in progress was of this device, and it has ended
 pub record Ends (id packets : ℕ) (before after : Driver) : Type 0 where
   pub devices : driver_devices after ≡ slice_set (driver_devices before) id (after_poll_of id packets before).0
   pub counts : after.counts.items ≡ slice_set before.counts.items id (count_one_poll packets (poll_counts_of before id))
@@ -97,7 +98,7 @@ pub record Ends (id packets : ℕ) (before after : Driver) : Type 0 where
 
 -- ---- reports
 
--- the driver waits for a report of so many packets: of a poll, or of what was said of a card
+-- the driver waits for this report: of a poll that took at most the weight, or of an action at a card
 abbrev pub IsAwaited : ℕ → ℕ → Option (ℕ × Chore) → Option ℕ → Type 0
 IsAwaited packets weight said (Some id) = packets ≤ weight
 IsAwaited packets weight (Some said) None = Unit {0}
@@ -113,7 +114,7 @@ ReportsOf packets before after said (Some id) = Ends id packets before after
 ReportsOf packets before after (Some said) None = DoesChore said.0 said.1 (nat_lt 0 packets) before after
 ReportsOf packets before after None None = ⊥
 
--- what was said last was done: a poll that took so many packets, or what was to be done at a card
+-- the action asked for last was done: a poll that took this many packets, or an action at a card
 abbrev pub Reports : ℕ → Driver → Driver → Type 0
 Reports packets before after = ReportsOf packets before after (said_of before) (polled_device before)
 
@@ -122,28 +123,29 @@ IsNumberedWhat before after number Sleep = (number ≡ 0) × (after ≡ before)
 IsNumberedWhat before after number (Ended report) = (number ≡ 0) × (after ≡ before)
 IsNumberedWhat before after number what = (number ≡ after) × (after ≡ following before)
 
--- what is to be reported has a number of its own, and what isn't has none
+-- what has to be reported has a number that isn't 0; anything else has number 0
 abbrev pub IsNumberedTodo : ℕ → ℕ → Todo → Type 0
 IsNumberedTodo before after todo = IsNumberedWhat before after todo.number todo.what
 
--- nothing is on the list, and no run is under way
+-- nothing is on the list, and no run is in progress
 pub record IsIdle (driver : Driver) : Type 0 where
   pub list : driver.list ≡ []
   pub run : HoldsNothing driver.run
 
--- a run is under way that began when the list held these devices, and made these polls; nothing else was put on the list since
+-- a run is in progress that began when the list held these devices, and made these polls; nothing else was put on the list
+-- since
 abbrev pub IsRunning : List ℕ → List Poll → Driver → Type 0
 IsRunning start polls driver = (is_running driver ≡ true) × IsGoing all_held OwnPushes NothingBehind start polls driver.list driver.run
 
--- the run that began when the list held these devices, and made these polls, is over, and this is its report
+-- a run that began when the list held these devices, and made these polls, is over, and this is its report
 abbrev pub IsDriverReport : Limits → List ℕ → List Poll → Driver → RunReport → Type 0
 IsDriverReport limits start polls after report = IsPlainRun limits.budget limits.window start polls (list_of after) report
 
--- so many devices, all closed
+-- this many devices, all closed
 abbrev pub AreClosed : ℕ → Driver → Type 0
 AreClosed count driver = driver_devices driver ≡ replicate count (in_stage Closed false)
 
--- what is said to be done is to be done; sleep is said only if each device is at rest, and nothing is on the list
+-- the action that the driver asks for is due; it asks for sleep only if each device is at rest and nothing is on the list
 abbrev pub IsDue : Driver → What → Type 0
 IsDue driver (Mask id) = (id < length (driver_devices driver)) × (chore_at (stage_of driver id) ≡ Some chore.Mask)
 IsDue driver (Unmask id) = (id < length (driver_devices driver)) × (chore_at (stage_of driver id) ≡ Some chore.Unmask)

@@ -1,5 +1,5 @@
--- What a driver keeps of its devices: the poll list and the run over it hold each listed device once, and no other one; a bit for
--- each device at whose card something is to be done; and what was said last.
+-- What a driver stores about its devices. The poll list and the run over it have each listed device once, and no other one.
+-- There is a bit for each device whose card needs an action, and the action that was asked for last.
 use Rattle.std.specs.Prelude.{◌≡◌, ◌<◌, ◌==◌, ℕ, ◌+◌, Bool, false, List, length, slice_index_or, count_by, if◌then◌else◌}
 use Rattle.std.specs.{Prelude.{Option, Some, None, is_some}, Int.bit_at}
 use Rattle.poll_runs.specs.{Driven.held, Turn.asked_for, declared.polling_run.PollingRun.PollingRun}
@@ -13,7 +13,7 @@ device_at devices id = slice_index_or devices id (in_stage Closed false)
 abbrev pub listed_at : List DriverDevice → ℕ → Bool
 listed_at devices id = stage_is_listed (device_at devices id).stage
 
--- bit n is set exactly if something is to be done at the card of device n
+-- bit n is set exactly if the card of device n needs an action
 abbrev pub MarksChores : List DriverDevice → ℕ → Type 0
 MarksChores devices bits = (id : ℕ) → id < 64 → bit_at bits id ≡ (if is_some (chore_at (device_at devices id).stage) then 1 else 0)
 
@@ -30,13 +30,13 @@ pub record IsQueue (devices : List DriverDevice) (list : List ℕ) (run : Pollin
       ≡ (if listed_at devices id then 1 else 0)
   pub size : length list + held run ≡ listed_in devices
 
--- a run has these limits
+-- a run in progress has these limits
 pub record HasLimits (limits : Limits) (run : PollingRun) : Type 0 where
   pub budget : run.budget ≡ limits.budget
   pub weight : run.weight ≡ limits.weight
   pub window : run.window ≡ limits.window
 
--- what was said last of a card is still to be done there, and then no device is polled
+-- the action at a card that was asked for last is still due, and no device is being polled then
 pub record IsStillDue (devices : List DriverDevice) (polled : Option ℕ) (said : Option (ℕ × Chore)) : Type 0 where
   pub range : (id : ℕ) (chore : Chore) → said ≡ Some (id, chore) → id < length devices
   pub chore : (id : ℕ) (chore : Chore) → said ≡ Some (id, chore) → chore_at (device_at devices id).stage ≡ Some chore

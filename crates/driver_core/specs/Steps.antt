@@ -1,4 +1,4 @@
--- A device as a NAPI instance, and its calls as legal steps of one (`LegalStep` of `napi_model`).
+-- A device of a driver as a NAPI instance. Its calls are legal steps of that instance (`LegalStep` of `napi_model`).
 use Rattle.std.specs.Prelude.{◌≡◌, ℕ, Bool, true, false, List, [], ◌∷◌}
 use Rattle.napi_model.specs.declared.{state.{Place.Place, Place.TheVariants.{Nobody, Granted, Control}, State.State}, event.{Event.Event}}
 use Rattle.napi_model.specs.declared.event.Operation.TheVariants.{Schedule, Hand, Take, Complete, MarkDisable, TakeDisable}
@@ -14,7 +14,7 @@ use Rattle.driver_core.specs.Device.{IsMasking, MayStop}
 use Rattle.driver_core.specs.declared.device.{DriverDevice.DriverDevice}
 use Rattle.driver_core.specs.declared.device.{Stage.{Stage, TheVariants.{Closed, Masking, Closing, Listed, Looking}}}
 
--- the callers of the instance: the one that opens and stops it, its interrupt, and its poller
+-- the callers of the instance: the one that opens and stops the device, its interrupt handler, and its poller
 abbrev pub CONTROLLER : ℕ
 CONTROLLER = 0
 
@@ -53,7 +53,7 @@ napi_of d = record {
   place = stage_place d.stage;
 }
 
--- by these events, each of them legal, the one device becomes the other
+-- these events are all legal, and lead from the one device to the other
 abbrev pub Leads : DriverDevice → List Event → DriverDevice → Type 0
 Leads d events d' = LegalHistory CONTROLLER (napi_of d) events × (napi_of d' ≡ state_after (napi_of d) events)
 
@@ -61,7 +61,7 @@ Leads d events d' = LegalHistory CONTROLLER (napi_of d) events × (napi_of d' �
 abbrev pub disables : List Event
 disables = event CONTROLLER (TakeDisable true) ∷ event CONTROLLER Unmark ∷ []
 
--- after the mask a granted instance is handed over, and an idle one is disabled
+-- the events when the card was masked: a granted instance is queued, and an idle one is disabled
 abbrev pub mask_events : Stage → List Event
 mask_events Closing = disables
 mask_events stage = event INTERRUPT (Hand kind.List) ∷ []
@@ -80,11 +80,11 @@ end_events true false missed = event POLLER (Hand kind.List) ∷ []
 end_events true true missed = complete_events true missed
 end_events false stopping missed = complete_events stopping missed
 
--- a poll: the instance is taken from the list, and the poll ends by its rule
+-- the events of a poll: the instance is taken from the list, and the poll ends by its rule
 abbrev pub poll_events : Bool → DriverDevice → List Event
 poll_events full d = event POLLER (Take kind.List true) ∷ end_events full (is_stopping d.stage) d.missed
 
--- law: each call of a device makes legal steps of its instance, with that object's replies
+-- law: each call on a device makes legal steps of its instance, with the replies of that object
 pub record CallsAreLegal : Type 0 where
   pub interrupted : (d : DriverDevice) → Leads d (event INTERRUPT (Schedule (schedule_reply (napi_of d))) ∷ []) (after_interrupt d)
   pub masked : (d : DriverDevice) → IsMasking d.stage → Leads d (mask_events d.stage) (masked d)

@@ -1,4 +1,4 @@
--- What is to be done at a card, as the driver says it.
+-- The action that the driver asks for, from what has to be done at a card.
 use Rattle.std.specs.Prelude.{ℕ}
 use Rattle.driver_core.specs.declared.device.Chore.{Chore}
 use Rattle.driver_core.specs.declared.device.Chore.TheVariants as chore

@@ -1,12 +1,13 @@
--- A device with its card, the thread that drives it, and packets that arrive. What `Driver::next` says is done in three steps. Between
--- any two of them packets may arrive, the card may interrupt, the device may be opened and stopped, and the thread may forget what it
--- was about, done or not, and ask again. A report under a number that isn't due changes nothing, so it is no event.
+-- A device with its card, the thread that drives it, and packets that arrive. The thread takes three steps: `Driver::next` says
+-- what to do, the thread does it, and reports it. Between any two of them, packets may arrive, the card may interrupt, and the
+-- device may be opened and stopped; and the thread may forget what it was about to do, done or not, and call `next` again. A
+-- report under a number that isn't due changes nothing, so it is no event.
 use Rattle.std.specs.Prelude.{◌≡◌, ◌⊎◌, ◌||◌, ℕ, ◌+◌, ◌-◌, zero, suc, Bool, true, false, not, List, [], ◌∷◌, if◌then◌else◌}
 use Rattle.driver_core.specs.Device.{in_stage, after_interrupt, after_look, masked, after_open, after_driver_poll, after_stop, unmasked}
 use Rattle.driver_core.specs.declared.device.{DriverDevice.DriverDevice}
 use Rattle.driver_core.specs.declared.device.Stage.{Stage, TheVariants.{Closed, Masking, Closing, Listed, Unmasking, Looking, Armed}}
 
--- what the thread is doing: nothing, or what `next` said, done or not yet, and not yet reported
+-- What the thread is doing: nothing; or what `next` asked for, done or not, and not reported yet.
 pub data Hand : Type 0 where
   free : Hand
   to_mask : Hand
@@ -15,15 +16,16 @@ pub data Hand : Type 0 where
   to_fetch : Hand
   did_mask : Hand
   did_unmask : Hand
-  -- it looked, and the card had packets or none
+  -- it looked at the card, which had packets or had none
   saw : Bool → Hand
-  -- it took packets, as many as the weight or fewer
+  -- it took packets from the card: as many as the weight, or fewer
   took : Bool → Hand
 
 pub record World : Type 0 where
   pub device : DriverDevice
   pub hand : Hand
-  -- the card: whether its interrupt is masked, whether it has an interrupt that isn't reported yet, the packets that it has
+  -- The card: whether its interrupt is masked, whether it has raised an interrupt that isn't reported yet, and how many packets
+  -- it has.
   pub masked : Bool
   pub interrupting : Bool
   pub packets : ℕ
@@ -33,13 +35,13 @@ pub data DriverEvent : Type 0 where
   arrives : DriverEvent
   -- an interrupt is reported to the driver
   interrupts : DriverEvent
-  -- `next` says what is to be done
+  -- the thread calls `next`
   says : DriverEvent
-  -- it is done; a fetch takes so many packets, which are the weight or fewer
+  -- the thread does what `next` asked for; a fetch takes this many packets, as many as the weight or fewer
   acts : ℕ → Bool → DriverEvent
-  -- it is reported
+  -- the thread reports it
   reports : DriverEvent
-  -- the thread asks again, without a report
+  -- the thread calls `next` again, without a report
   forgets : DriverEvent
   opens : DriverEvent
   stops : DriverEvent
@@ -77,12 +79,12 @@ abbrev pub packets_after : ℕ → Hand → ℕ → ℕ
 packets_after taken to_fetch packets = packets - taken
 packets_after taken hand packets = packets
 
-abbrev pub is_told : Hand → Hand
-is_told did_mask = free
-is_told did_unmask = free
-is_told (saw more) = free
-is_told (took full) = free
-is_told hand = hand
+abbrev pub reported_hand : Hand → Hand
+reported_hand did_mask = free
+reported_hand did_unmask = free
+reported_hand (saw more) = free
+reported_hand (took full) = free
+reported_hand hand = hand
 
 abbrev pub after_message : Hand → DriverDevice → DriverDevice
 after_message did_mask d = masked d
@@ -100,7 +102,7 @@ world_step (acts taken full) w = record w {
   masked = masked_after w.hand w.masked;
   packets = packets_after taken w.hand w.packets;
 }
-world_step reports w = record w { hand = is_told w.hand; device = after_message w.hand w.device }
+world_step reports w = record w { hand = reported_hand w.hand; device = after_message w.hand w.device }
 world_step forgets w = record w { hand = free }
 world_step opens w = record w { device = after_open w.device }
 world_step stops w = record w { device = after_stop w.device }
@@ -113,14 +115,14 @@ world_after (e ∷ es) w = world_after es (world_step e w)
 abbrev pub new_world : ℕ → World
 new_world packets = record { device = in_stage Closed false; hand = free; masked = true; interrupting = false; packets = packets }
 
--- an open device at rest has its card unmasked, and no packets, or an interrupt that isn't reported yet; a closed one is
--- masked
+-- the card of an open device at rest is unmasked, and has no packets or has an interrupt that isn't reported yet; the card of a
+-- closed device is masked
 abbrev pub IsWatched : Stage → World → Type 0
 IsWatched Armed w = (w.masked ≡ false) × ((w.packets ≡ 0) ⊎ (w.interrupting ≡ true))
 IsWatched Closed w = w.masked ≡ true
 IsWatched stage w = Unit {0}
 
--- law: whatever arrives, interrupts, is opened and stopped, and whenever, no packet waits unseen while the device is at rest
+-- law: after any events in any order, no packet waits without an interrupt while its device is at rest
 abbrev pub NoPacketWaitsUnseen : Type 0
 NoPacketWaitsUnseen =
     (packets : ℕ) (events : List DriverEvent) → (world_after events (new_world packets)).hand ≡ free

@@ -3,23 +3,23 @@
 ghost use Rattle.std.specs.Prelude.{◌≡◌};
 ghost use Rattle.driver_core.specs.Counts.{count_one_poll};
 
-/// The counts of a device's polls, since the driver was created.
+/// The counts of a device's polls, since the driver was created. Each count saturates.
 #[derive(Clone, Copy, Debug, PartialEq, Eq)]
 pub struct PollCounts {
-    /// The polls that were reported. It saturates.
+    /// The polls that were reported.
     pub polls: u64,
-    /// Their packets. It saturates.
+    /// The packets of these polls.
     pub packets: u64,
 }
 
 impl PollCounts {
-    /// No polls.
+    /// The counts before the first poll.
     pub const NONE: PollCounts = PollCounts {
         polls: 0,
         packets: 0,
     };
 
-    // After one more poll, of so many packets.
+    // Returns the counts after one more poll, with this many packets.
     pub(crate) fn and(self, packets: u32) -> PollCounts
         ensures { result ≡ count_one_poll packets self }
     {

@@ -5,34 +5,34 @@ ghost use Rattle.std.specs.Prelude.{◌≡◌};
 use napi_model::{Kind, Prep};
 use poll_runs::Next;
 
-/// The stage of a device: the state of its instance (`struct napi_struct`), and whether the interrupt of its card is masked.
+/// The stage of a device: the state of its instance (`struct napi_struct`), and whether its card's interrupt is masked.
 #[derive(Clone, Copy, PartialEq, Eq, PartialOrd, Ord, Debug)]
 pub enum Stage {
-    /// Disabled and masked (after `napi_disable`).
+    /// Disabled, and the card is masked (after `napi_disable`).
     Closed,
-    /// A poll was requested and granted. The card is to be masked, and then the device goes onto the poll list. True if it is
-    /// being stopped.
+    /// A poll was requested and granted. The card has to be masked; then the device goes on the poll list. True if the device
+    /// is being stopped.
     Masking(bool),
-    /// It was stopped while no poll was pending. The card is to be masked, and then the device is closed.
+    /// The device was stopped while no poll was pending. The card has to be masked; then the device is closed.
     Closing,
-    /// On the poll list or being polled, and masked. True if it is being stopped.
+    /// On the poll list or being polled; the card is masked. True if the device is being stopped.
     Listed(bool),
-    /// No poll is pending, and the card is to be unmasked: after the last poll, or after an open.
+    /// No poll is pending, and the card has to be unmasked: after the last poll, or after an open.
     Unmasking,
-    /// The card was unmasked, and is to be looked at: what arrived before the unmask didn't interrupt.
+    /// The card was unmasked, and has to be looked at: packets that arrived before the unmask raised no interrupt.
     Looking,
-    /// Unmasked, looked at after the unmask, and without packets then: the next packet interrupts.
+    /// The card was unmasked and then looked at, and had no packets: the next packet raises an interrupt.
     Armed,
 }
 
-/// What is to be done at the card of a device.
+/// An action that has to be done at the card of a device.
 #[derive(Clone, Copy, PartialEq, Eq, PartialOrd, Ord, Debug)]
 pub enum Chore {
-    /// Mask its interrupt.
+    /// Mask the card's interrupt.
     Mask,
-    /// Unmask its interrupt.
+    /// Unmask the card's interrupt.
     Unmask,
-    /// Look whether it has packets.
+    /// Look whether the card has packets.
     Look,
 }
 
@@ -57,14 +57,14 @@ impl DriverDevice {
         missed: false,
     };
 
-    // The same device, at another stage.
+    // Returns the same device, at another stage.
     fn to(self, stage: Stage) -> DriverDevice
         ensures { result ≡ in_stage stage self.missed }
     {
         DriverDevice { stage, ..self }
     }
 
-    /// What is to be done at its card, `None` if nothing is.
+    /// Returns the action that has to be done at its card, or `None` if there is none.
     pub fn chore(self) -> Option<Chore>
         ensures { result ≡ chore_at self.stage }
     {
@@ -76,14 +76,14 @@ impl DriverDevice {
         }
     }
 
-    // Whether it is on the poll list, or being polled.
+    // Returns whether it is on the poll list, or being polled.
     pub(crate) fn is_listed(self) -> bool
         ensures { result ≡ stage_is_listed self.stage }
     {
         matches!(&self.stage, Stage::Listed(_))
     }
 
-    // Whether it isn't closed or being stopped.
+    // Returns whether it may be stopped: it is neither closed nor being stopped.
     pub(crate) fn may_stop(self) -> bool
         ensures { IsTrue result ↔ MayStop self.stage }
     {
@@ -94,7 +94,7 @@ impl DriverDevice {
         }
     }
 
-    // The reply to an interrupt of its card.
+    // Returns the reply to an interrupt of its card.
     pub(crate) fn reply(self) -> Prep
         ensures { result ≡ schedule_reply (napi_of self) }
     {
@@ -105,7 +105,8 @@ impl DriverDevice {
         }
     }
 
-    /// Whether a poll was requested and isn't completed (`NAPI_STATE_SCHED`); a closed device counts too, as in the kernel.
+    /// Returns whether a poll was requested and isn't completed (`NAPI_STATE_SCHED`); a closed device counts too, as in the
+    /// kernel.
     pub fn is_scheduled(self) -> bool
         ensures { result ≡ stage_is_scheduled self.stage }
     {
@@ -115,7 +116,7 @@ impl DriverDevice {
         )
     }
 
-    /// Whether it is being stopped (`NAPI_STATE_DISABLE`).
+    /// Returns whether it is being stopped (`NAPI_STATE_DISABLE`).
     pub fn is_stopping(self) -> bool
         ensures { result ≡ is_stopping self.stage }
     {
@@ -125,7 +126,7 @@ impl DriverDevice {
         )
     }
 
-    // After an interrupt of its card.
+    // Returns the device after an interrupt of its card.
     pub(crate) fn interrupted(self) -> DriverDevice
         ensures { result ≡ after_interrupt self }
     {
@@ -139,7 +140,7 @@ impl DriverDevice {
         }
     }
 
-    // After its card was masked.
+    // Returns the device after its card was masked.
     fn masked(self) -> DriverDevice
         ensures { result ≡ masked self }
     {
@@ -150,7 +151,7 @@ impl DriverDevice {
         }
     }
 
-    // After its card was unmasked.
+    // Returns the device after its card was unmasked.
     fn unmasked(self) -> DriverDevice
         ensures { result ≡ unmasked self }
     {
@@ -160,7 +161,7 @@ impl DriverDevice {
         self
     }
 
-    // After its card was looked at, and had packets or none.
+    // Returns the device after its card was looked at; `has_more` says whether the card had packets.
     fn looked(self, has_more: bool) -> DriverDevice
         ensures { result ≡ after_look has_more self }
     {
@@ -174,7 +175,7 @@ impl DriverDevice {
         })
     }
 
-    // After what was to be done at its card was done; a look found packets or none.
+    // Returns the device after the action at its card was done; for a look, `has_more` says whether the card had packets.
     pub(crate) fn did(self, chore: Chore, has_more: bool) -> DriverDevice
         ensures { result ≡ did chore has_more self }
     {
@@ -185,7 +186,7 @@ impl DriverDevice {
         }
     }
 
-    // After its instance was completed, and how that ends the poll.
+    // Returns the device after its instance was completed, and how that ends the poll.
     fn completed(self, stopping: bool) -> (DriverDevice, Next)
         ensures { result ≡ completed_at stopping self.missed }
     {
@@ -204,7 +205,7 @@ impl DriverDevice {
         (self.to(stage), Next::Gone)
     }
 
-    // After a poll, which used its whole weight or less, and how the poll ends.
+    // Returns the device after a poll, and how the poll ends; `full` says whether it used its whole weight.
     pub(crate) fn polled(self, full: bool) -> (DriverDevice, Next)
         requires { stage_is_listed self.stage ≡ true }
         ensures { result ≡ after_driver_poll full self }
@@ -216,7 +217,7 @@ impl DriverDevice {
         self.completed(stopping)
     }
 
-    // After it was opened.
+    // Returns the device after it was opened.
     pub(crate) fn opened(self) -> DriverDevice
         ensures { result ≡ after_open self }
     {
@@ -226,7 +227,7 @@ impl DriverDevice {
         self
     }
 
-    // After it was stopped.
+    // Returns the device after it was stopped.
     pub(crate) fn stopped(self) -> DriverDevice
         ensures { result ≡ after_stop self }
     {

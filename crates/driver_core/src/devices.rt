@@ -1,4 +1,4 @@
-//! The devices of a driver, and which of them have something to be done at their cards.
+//! The devices of a driver, and which of their cards need an action.
 
 ghost use Rattle.std.specs.Prelude.{◌≡◌, ◌≢◌, ◌≤◌, ◌<◌, ℕ, length, if◌then◌else◌, IfOk, IfNone, IfSome, Some, None, replicate, slice_set, slice_index_or, false};
 ghost use Rattle.std.specs.List.{All};
@@ -10,11 +10,11 @@ ghost use Rattle.driver_core.specs.Queue.{device_at, MarksChores};
 use crate::device::{Chore, DriverDevice};
 use std::alloc::{AllocError, Global};
 
-/// At most 64 devices.
+/// The devices of a driver, at most 64.
 #[derive(Drop)]
 pub struct Devices {
     pub(crate) all: Vec<DriverDevice>,
-    // Bit n is set if something is to be done at the card of device n, so that the first one is found at once.
+    // Bit n is set if the card of device n needs an action, so that the first such card is found at once.
     chores: u64,
     ghost few: { length all.items ≤ 64 },
     ghost marks: { MarksChores all.items chores },
@@ -36,7 +36,7 @@ fn clear_bit(bits: u64, device: u32) -> u64
     bits & !(1u64 << device)
 }
 
-// These bits, with that of one device set or cleared.
+// Returns these bits, with the bit of one device set or cleared.
 fn with_bit(bits: u64, device: u32, on: bool) -> u64
     requires { device < 64 }
     ensures same { bit_at result device ≡ (if on then 1 else 0) }
@@ -50,7 +50,7 @@ fn with_bit(bits: u64, device: u32, on: bool) -> u64
 }
 
 impl Devices {
-    // So many closed devices.
+    // Returns this many closed devices.
     #[tactic(auto, using(crate::proofs::ChoreFacts::new_marks))]
     pub(crate) fn new(alloc: Global, count: u32) -> Result<Devices, AllocError>
         requires { count ≤ 64 }
@@ -63,7 +63,7 @@ impl Devices {
         })
     }
 
-    // A device, by its number.
+    // Returns the device with this number.
     pub(crate) fn get(&self, device: u32) -> DriverDevice
         requires { device < length self.now.all.items }
         ensures { result ≡ device_at self.now.all.items device }
@@ -71,7 +71,7 @@ impl Devices {
         self.all[device as usize]
     }
 
-    // A device is so now.
+    // Replaces the device with this number.
     #[tactic(auto, using(crate::proofs::ChoreFacts::put_marks))]
     pub(crate) fn put(&mut self, device: u32, to: DriverDevice)
         requires { device < length self.old.all.items }
@@ -81,7 +81,7 @@ impl Devices {
         self.chores = with_bit(self.chores, device, to.chore().is_some());
     }
 
-    // The first device at whose card something is to be done, and what.
+    // Returns the first device whose card needs an action, and the action.
     #[tactic(auto, using(crate::proofs::ChoreFacts::first_in, crate::proofs::ChoreFacts::none_in))]
     pub(crate) fn first_chore(&self) -> Option<(u32, Chore)>
         ensures none { IfNone result

@@ -15,9 +15,9 @@ use napi_model::Prep;
 use poll_runs::{Once, PlainList, PollList, PollingRun};
 use std::alloc::{AllocError, Global};
 
-/// The driver of up to 64 devices, for one thread: the instances, the poll list and the runs over it. It does no input or output:
-/// [`next`](Driver::next) says what is to be done, [`done`](Driver::done) reports that it was done, and the other calls report what
-/// else happened.
+/// The driver of up to 64 devices, for one thread: the instances, the poll list and the runs over it. It does no input or
+/// output: [`next`](Driver::next) returns what the caller has to do, [`done`](Driver::done) reports that it was done, and the
+/// other calls report what else happened.
 #[derive(Drop)]
 pub struct Driver {
     devices: Devices,
@@ -26,9 +26,9 @@ pub struct Driver {
     run: PollingRun,
     runs: bool,
     limits: Limits,
-    // What `next` said last of a card, if it is still to be reported. A fetch is kept in the run.
+    // The action at a card that `next` returned last, if it isn't reported yet. A fetch is stored in the run.
     said: Option<(u32, Chore)>,
-    // The number of what `next` said last.
+    // The number of the action that `next` returned last.
     number: u64,
     ghost counted: { length counts.items ≡ length devices.all.items },
     ghost queue: { IsQueue devices.all.items list run },
@@ -38,7 +38,7 @@ pub struct Driver {
     ghost numbers: { 1 ≤ number },
 }
 
-// The counts of so many devices.
+// Returns zero counts for this many devices.
 fn new_counts(alloc: Global, devices: usize) -> Result<Vec<PollCounts>, AllocError>
     ensures { IfOk result (λ counts. counts.items ≡ replicate devices no_counts) }
 {
@@ -56,7 +56,7 @@ impl Driver {
     ghost use Rattle.driver_core.specs.Steps.{napi_of};
     ghost use Rattle.driver_core.specs.Driver.{poll_counts_of, device_of, driver_devices, said_number_of, polled_device, poll_of, said_of, stage_of, is_running, driver_limits, list_of, AreClosed, Ends, DoesChore, IsDue, IsDriverReport, AwaitsNothing, IsIdle, IsNumberedTodo, IsReport, IsRunning, PutsDevice, Reports};
 
-    /// Creates a driver of so many devices, at most 64, all closed.
+    /// Creates a driver of this many devices, at most 64, all closed.
     pub fn new(alloc: Global, devices: u32, limits: Limits) -> Result<Driver, AllocError>
         requires { devices ≤ 64 }
         ensures devices { IfOk result (AreClosed devices) }
@@ -77,7 +77,7 @@ impl Driver {
         })
     }
 
-    /// The number of its devices, at most 64.
+    /// Returns the number of its devices, at most 64.
     pub fn len(&self) -> usize
         ensures len { result ≡ length (driver_devices self.now) }
         ensures few { result ≤ 64 }
@@ -85,7 +85,7 @@ impl Driver {
         self.devices.all.len()
     }
 
-    /// A device, by its number.
+    /// Returns the device with this number.
     pub fn device(&self, device: u32) -> DriverDevice
         requires { device < length (driver_devices self.now) }
         ensures { result ≡ device_of self.now device }
@@ -93,7 +93,7 @@ impl Driver {
         self.devices.get(device)
     }
 
-    /// The counts of a device's polls.
+    /// Returns the counts of a device's polls.
     pub fn counts(&self, device: u32) -> PollCounts
         requires { device < length (driver_devices self.now) }
         ensures { result ≡ poll_counts_of self.now device }
@@ -101,7 +101,7 @@ impl Driver {
         self.counts[device as usize]
     }
 
-    // A device is so now. What was said of it and isn't due any more is forgotten.
+    // Replaces the device with this number. If the action that was returned last isn't due any more, it is forgotten.
     fn put(&mut self, device: u32, to: DriverDevice)
         requires range { device < length (driver_devices self.old) }
         requires listed { stage_is_listed to.stage ≡ stage_is_listed (stage_of self.old device) }
@@ -111,8 +111,8 @@ impl Driver {
         self.said = still_due(self.said, device, to);
     }
 
-    /// Reports an interrupt of a card (`napi_schedule_prep`), at any time. If a poll is granted, [`next`](Driver::next) says what
-    /// to do, first to mask the card.
+    /// Reports an interrupt of a card (`napi_schedule_prep`), at any time. If the request for a poll is granted,
+    /// [`next`](Driver::next) returns what to do, first to mask the card.
     pub fn interrupt(&mut self, device: u32) -> Prep
         requires { device < length (driver_devices self.old) }
         ensures reply { result ≡ schedule_reply (napi_of (device_of self.old device)) }
@@ -140,8 +140,8 @@ impl Driver {
         Ok(())
     }
 
-    /// Stops a device that is open (`napi_disable`). It is closed once its card is masked, and the polls that were requested are
-    /// made.
+    /// Stops a device that is open (`napi_disable`). It is closed once its card is masked and the polls that were requested are
+    /// done.
     pub fn stop(&mut self, device: u32) -> Result<(), NotDue>
         requires { device < length (driver_devices self.old) }
         ensures when { IsOk result ↔ MayStop (stage_of self.old device) }
@@ -157,8 +157,8 @@ impl Driver {
         Ok(())
     }
 
-    // What was to be done at the card of a device was done. A device that was masked goes onto the poll list if its poll was
-    // granted (`____napi_schedule`), and is closed if it was stopped.
+    // Handles the report that the action at the card of a device was done. After a mask, a device goes on the poll list if its
+    // poll was granted (`____napi_schedule`), and is closed if it was stopped.
     #[tactic(auto, using(crate::proofs::QueueFacts::put_same, crate::proofs::QueueFacts::put_new, crate::proofs::QueueFacts::room))]
     fn did(&mut self, device: u32, chore: Chore, has_more: bool)
         requires range { device < length (driver_devices self.old) }
@@ -173,8 +173,8 @@ impl Driver {
         }
     }
 
-    // So many packets were taken from the card of the device that is polled, which ends the poll (`__napi_poll`,
-    // `napi_complete_done`).
+    // Handles the report that this many packets were taken from the card of the device that is being polled, which ends the
+    // poll (`__napi_poll`, `napi_complete_done`).
     #[tactic(auto, using(crate::proofs::QueueFacts::asked_alone))]
     fn fetched(&mut self, device: u32, packets: u32)
         requires range { device < length (driver_devices self.old) }
@@ -197,9 +197,10 @@ impl Driver {
         self.run.polled(&mut self.list, once);
     }
 
-    /// Reports that what `next` said under this number was done. After a look `packets` are those that the card has, or 1 if it
-    /// has any; after a fetch they are those that were taken, which ends the poll (`__napi_poll`, `napi_complete_done`). Fails
-    /// if the driver doesn't wait for this report any more, or if a fetch took more packets than it was to.
+    /// Reports that the action with this number was done. After a look, `packets` is the number of packets that the card has,
+    /// or 1 if it has any. After a fetch, it is the number of packets taken, and the report ends the poll (`__napi_poll`,
+    /// `napi_complete_done`). Fails if the driver doesn't wait for this report any more, or if a fetch took more packets than
+    /// it was allowed to.
     #[tactic(auto, using(crate::proofs::QueueFacts::asked_is_listed, crate::proofs::QueueFacts::asked_in_range))]
     pub fn done(&mut self, number: u64, packets: u32) -> Result<(), Refused>
         ensures when { IsOk result ↔ IsReport number packets self.old }
@@ -232,7 +233,7 @@ impl Driver {
         Ok(())
     }
 
-    // Begins a run, if none is under way.
+    // Begins a run, if none is in progress.
     #[tactic(auto, using(crate::proofs::QueueFacts::begin_keeps))]
     fn begin(&mut self)
         requires free { AwaitsNothing self.old }
@@ -258,7 +259,7 @@ impl Driver {
         self.runs = true;
     }
 
-    // The next poll of the run, or its end.
+    // Returns the next poll of the run, or its end.
     #[tactic(auto, using(crate::proofs::QueueFacts::next_keeps, crate::proofs::QueueFacts::finish_keeps, crate::proofs::QueueFacts::asked_is_listed, crate::proofs::QueueFacts::asked_in_range))]
     fn advance(&mut self) -> Todo
         requires free { AwaitsNothing self.old }
@@ -289,7 +290,7 @@ impl Driver {
         }
     }
 
-    // This, under the number of what was said last.
+    // Returns this action, under the number of the action returned last.
     fn todo(&self, what: What) -> Todo
         ensures number { result.number ≡ said_number_of self.now }
         ensures what { result.what ≡ what }
@@ -300,7 +301,7 @@ impl Driver {
         }
     }
 
-    // What was said last and is still to be reported.
+    // Returns the action that was returned last, if it isn't reported yet.
     #[tactic(auto, using(crate::proofs::QueueFacts::asked_is_listed, crate::proofs::QueueFacts::asked_in_range))]
     fn last(&self) -> Option<Todo>
         ensures none { IfNone result (AwaitsNothing self.now) }
@@ -316,7 +317,8 @@ impl Driver {
         Some(self.todo(what_of(device, chore)))
     }
 
-    /// Returns what is to be done next. It returns the same, with the same number, until that is reported, or isn't due any more.
+    /// Returns what the caller has to do next. It returns the same action, with the same number, until that action is reported
+    /// or isn't due any more.
     #[tactic(auto, using(crate::proofs::QueueFacts::all_rest))]
     pub fn next(&mut self) -> Todo
         ensures due { IsDue self.new result.what }
@@ -328,7 +330,7 @@ impl Driver {
         ensures counts { self.new.counts ≡ self.old.counts }
         ensures limits { driver_limits self.new ≡ driver_limits self.old }
 
-        // The runs are polling runs over the list, as long as no device is put on it meanwhile.
+        // The runs are polling runs over the list, as long as no other device is put on it during the run.
         ensures begins { is_running self.old ≡ false → is_running self.new ≡ true
             → IsRunning (list_of self.old) [] self.new }
         ensures going { (start : List _) (polls : List Poll) → IsRunning start polls self.old

@@ -3,19 +3,19 @@
 ghost use Rattle.driver_core.specs.Steps.{CallsAreLegal};
 ghost use Rattle.driver_core.specs.World.{ListedIsMasked, NoPacketWaitsUnseen};
 
-/// Packets may arrive, the card may interrupt, and the device may be opened and stopped, in any order, and between any two steps of
-/// what [`Driver::next`](crate::Driver::next) says. Whenever the device is at rest and open, its card is unmasked, and has no
-/// packets, or an interrupt that isn't reported yet.
+/// Packets may arrive, the card may interrupt, and the device may be opened and stopped, in any order, and between any two
+/// steps of the thread that does what [`Driver::next`](crate::Driver::next) returns. Whenever the device is open and at rest,
+/// its card is unmasked, and has no packets or has an interrupt that isn't reported yet.
 pub fn no_packet_waits_unseen()
     ensures { NoPacketWaitsUnseen }
 {}
 
-/// While a device is on the poll list, polled, or closed, its card is masked.
+/// While a device is on the poll list, being polled, or closed, its card is masked.
 pub fn listed_is_masked()
     ensures { ListedIsMasked }
 {}
 
-/// Each call of a device makes legal steps of its NAPI instance, with the replies of that object.
+/// Each call on a device makes legal steps of its NAPI instance, with the replies of that object.
 pub fn calls_are_legal()
     ensures { CallsAreLegal }
 {}

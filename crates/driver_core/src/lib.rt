@@ -1,9 +1,8 @@
 //! The core of a driver that polls up to 64 devices by NAPI's rules on one thread.
 //!
-//! [`Driver`] owns the instances, the poll list and the runs over it, and does no input or output: [`Driver::next`] says what is
-//! to be done at a card, [`Driver::done`] reports that it was done, and the other calls report what else happened.
-//! `specs/DriverDevice`
-//! has the rule of one device, `specs/World` a card and a thread that drives it.
+//! [`Driver`] owns the instances, the poll list and the runs over it, and does no input or output: [`Driver::next`] returns
+//! what the caller has to do at a card, [`Driver::done`] reports that it was done, and the other calls report what else
+//! happened. `specs/Device.antt` has the rule of one device, `specs/World.antt` a card and a thread that drives it.
 #![tactic(auto)]
 
 mod counts;

@@ -1,6 +1,6 @@
 //! The limits of runs.
 
-ghost use Rattle.std.specs.Prelude.{◌≤◌};
+ghost use Rattle.poll_runs.specs.Ranges.{IsBudget, IsWeight, IsWindow};
 
 /// The limits of a run (`net_rx_action`).
 #[derive(Clone, Copy, Debug, PartialEq, Eq)]
@@ -9,9 +9,9 @@ pub struct Limits {
     pub budget: u32,
     /// The packets that one poll takes at most, 1 to 64 (`napi_struct.weight`).
     pub weight: u32,
-    /// The polls after which it stops, 1 to 65535, in place of `netdev_budget_usecs`.
+    /// The polls after which it stops, 1 to 65535; it takes the place of `netdev_budget_usecs`.
     pub window: u32,
-    ghost budgets: { (1 ≤ budget) × (budget ≤ 65535) },
-    ghost weights: { (1 ≤ weight) × (weight ≤ 64) },
-    ghost windows: { (1 ≤ window) × (window ≤ 65535) },
+    ghost budgets: { IsBudget budget },
+    ghost weights: { IsWeight weight },
+    ghost windows: { IsWindow window },
 }

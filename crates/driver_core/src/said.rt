@@ -1,4 +1,4 @@
-//! What a driver said last, and its number.
+//! The action that a driver asked for last, and its number.
 
 ghost use Rattle.std.specs.Prelude.{◌≡◌, ◌≢◌, ◌⊎◌, ◌≤◌, ℕ, Some, None};
 ghost use Rattle.driver_core.specs.Device.{chore_at};
@@ -18,7 +18,7 @@ pub(crate) fn following(number: u64) -> u64
     number + 1
 }
 
-// What was said, unless it was of this device, and isn't to be done at its card as it is now.
+// Returns the action that was asked for, unless it was at the card of this device and isn't due there any more.
 pub(crate) fn still_due(
     said: Option<(u32, Chore)>,
     device: u32,

@@ -7,21 +7,21 @@ ghost use Rattle.driver_core.specs.Todo.{what_of};
 use crate::device::Chore;
 use poll_runs::RunReport;
 
-/// What is to be done, at one of a driver's devices by number.
+/// What a driver asks the caller to do, at the device with this number.
 #[derive(Clone, Copy, Debug, PartialEq, Eq)]
 pub enum What {
-    /// Mask the interrupt of its card.
+    /// Mask the interrupt of the device's card.
     Mask(u32),
-    /// Unmask the interrupt of its card.
+    /// Unmask the interrupt of the device's card.
     Unmask(u32),
-    /// Look whether its card has packets.
+    /// Look whether the device's card has packets.
     Look(u32),
-    /// Take packets from its card, at most as many as the second number says, and deliver them.
+    /// Take packets from the device's card, at most as many as the second number says, and deliver them.
     Fetch(u32, u32),
-    /// A run ended (`net_rx_action`). Other work may be done before the next call of [`Driver::next`](crate::Driver::next). There
-    /// is nothing to report.
+    /// A run has ended (`net_rx_action`). The caller may do other work before it calls [`Driver::next`](crate::Driver::next)
+    /// again. There is nothing to report.
     Ended(RunReport),
-    /// Nothing, until the next interrupt, open or stop. There is nothing to report.
+    /// Do nothing until the next interrupt, open or stop. There is nothing to report.
     Sleep,
 }
 
@@ -29,9 +29,9 @@ pub enum What {
 /// [`Driver::done`](crate::Driver::done).
 #[derive(Clone, Copy, Debug, PartialEq, Eq)]
 pub struct Todo {
-    /// The number by which it is reported; 0 if there is nothing to report.
+    /// The number under which to report it; 0 if there is nothing to report.
     pub number: u64,
-    /// What is to be done.
+    /// What has to be done.
     pub what: What,
 }
 
@@ -39,16 +39,16 @@ pub struct Todo {
 #[derive(Clone, Copy, Debug, PartialEq, Eq)]
 pub struct NotDue;
 
-/// Why a report wasn't accepted. It changed nothing.
+/// Why a report was rejected. Nothing has changed.
 #[derive(Clone, Copy, Debug, PartialEq, Eq)]
 pub enum Refused {
-    /// The driver doesn't wait for it any more.
+    /// The driver doesn't wait for this report any more.
     NotDue,
-    /// A fetch took more packets than it was to.
+    /// A fetch took more packets than it was allowed to.
     TooMany,
 }
 
-// What is to be done at the card of a device.
+// Returns the action at the card of a device, as the driver asks for it.
 pub(crate) fn what_of(device: u32, chore: Chore) -> What
     ensures what { result ≡ what_of device chore }
     ensures more { (report : _) → result ≢ Ended report }

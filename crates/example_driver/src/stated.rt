@@ -1,11 +1,12 @@
-//! A bench that states its polls as equations: the outcome of a poll and the card after it are functions of the card and the
-//! weight (`specs/Polled.antt`). The prover rejects a poll that returns `Gone` without completing.
+//! A bench that declares its polls as equations: the outcome of a poll and the card after it are functions of the card and the
+//! weight (`specs/Polled.antt`). So the prover rejects a poll that returns `Gone` without completing.
 
 ghost use Rattle.std.specs.Prelude.{◌≡◌, ◌≤◌, ◌==◌, length};
 ghost use Rattle.napi_model.specs.Serial.{state_of};
 ghost use Rattle.napi_model.specs.declared.state.Place.TheVariants.{Polling};
 ghost use Rattle.example_driver.specs.Polled.{CardPolls, card_ended, card_given, card_polled, received, card_view};
 ghost use Rattle.example_driver.specs.declared.card.TheConstants.{POLLER};
+ghost use Rattle.poll_engine.specs.Ranges.{IsWeight};
 
 use crate::card::{CARD, Card, CardDriver, POLLER};
 use napi_model::{Done, Kind};
@@ -19,10 +20,10 @@ pub(crate) struct StatedBench {
 }
 
 impl Card {
-    // Takes the next packets. `beside` lets the ends of the ring meet, so that these are all that the ring holds, up to the
-    // weight.
+    // Takes the next packets. `beside` lets the ends of the ring meet, so the poll finds everything that the ring holds, up to
+    // the weight.
     fn poll_ring(&mut self, weight: u32) -> u32
-        requires { (1 ≤ weight) × (weight ≤ 64) }
+        requires { IsWeight weight }
         ensures card { card_view self.new ≡ received weight (card_view self.old) }
         ensures work { result ≡ length (card_given weight (card_view self.old)) }
     {
@@ -30,7 +31,7 @@ impl Card {
         self.ctx.poll(weight as usize, &mut self.batch) as u32
     }
 
-    // Ends a poll.
+    // Ends a poll; `is_whole` says whether it used its whole weight.
     fn end_poll(&mut self, is_whole: bool) -> Next
         requires { (state_of self.old.napi).place ≡ Polling POLLER }
         ensures next { result ≡ (card_ended is_whole (card_view self.old)).0 }
@@ -53,7 +54,7 @@ impl Card {
     // Takes the card from the list and polls it once.
     #[tactic(auto, unfolding(crate::specs::Polled::card_polled))]
     fn poll(&mut self, weight: u32) -> Once
-        requires { (1 ≤ weight) × (weight ≤ 64) }
+        requires { IsWeight weight }
         ensures once { result ≡ (card_polled weight (card_view self.old)).0 }
         ensures card { card_view self.new ≡ (card_polled weight (card_view self.old)).1 }
         ensures bound { result.work ≤ weight }

@@ -1,4 +1,4 @@
--- Lists from which everything was popped.
+-- Lists from which all elements were popped.
 use Rattle.std.proofs.Common.{◌≡◌, List, [], ◌∷◌, ◌++◌, length, length-append, refl, arith}
 
 -- a list of three is empty after three pops

@@ -19,7 +19,7 @@ pub record IsMarked (p : Pass) : Type 0 where
   pub free : IsNoOwner p
   pub marked : Disable true p
 
--- taken by the controller, with the mark not cleared yet
+-- the controller has taken the instance, and the mark of the disable isn't cleared yet
 pub record IsTaken (p : Pass) : Type 0 where
   pub controller : IsController p
   pub owner : Controls p

@@ -1,5 +1,5 @@
-//! Tests of the library's calls below those of `napi_calls`, from another crate like those of its users: worked runs, failing
-//! calls, and threads. There are only tests here, so that the crates below are proved once.
+//! Tests of the library crates below `napi_calls`, made like the code of their users: examples worked by hand, calls that fail,
+//! and threads. The crate has only tests, so that the crates below it are proved once.
 #![tactic(auto)]
 
 #[cfg(test)]

@@ -1,4 +1,4 @@
-//! Worked runs, digit by digit.
+//! Tests of queue limits worked by hand, number by number.
 
 use dql_core::{Dql, DqlFault, LimitEvent};
 use std::process::Abort;

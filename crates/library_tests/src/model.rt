@@ -1,4 +1,4 @@
-//! A worked list of events, and the state words.
+//! Tests of a list of events worked by hand, and of the state words.
 
 ghost use Rattle.std.specs.Prelude.{◌≡◌};
 ghost use Rattle.napi_model.specs.Serial.{serial_controller};
@@ -14,7 +14,7 @@ use std::test::Fail;
 /// The controller's number; callers 0 and 1 make the requests and the polls.
 const CONTROLLER: u32 = 2;
 
-/// An instance of this controller.
+/// An instance with this controller.
 #[derive(Drop)]
 struct ModelInstance {
     napi: SerialNapi,
@@ -279,7 +279,7 @@ fn malformed_words(rt: HostRuntime) {
     assert_eq!(rt; decode(1 + (1 << 32) + (1 << 33)), None, "both marks");
 }
 
-// A caller's own list is extracted from a long history, if allocations succeed.
+// a caller's own list can be extracted from a long history, if allocations succeed
 #[test]
 fn own_events_of_a_long_history(rt: HostRuntime) -> Result<(), Fail> {
     let missed = Operation::Schedule(Prep::Missed);

@@ -1,4 +1,5 @@
-//! Worked runs, and what no contract says: that later puts find room, that polls find what was put, and two threads.
+//! Tests of a ring: examples worked by hand, and what no contract says: that later puts find room, that polls find what was
+//! put, and that both work from two threads.
 
 ghost use Rattle.std.specs.Prelude.{◌≡◌, ◌≤◌, ◌<◌, length, min, take, IsOk};
 ghost use Rattle.rx_ring.specs.ReceiveRing.{NAPI_POLL_WEIGHT, held_of};
@@ -13,7 +14,7 @@ fn packet(number: u64, bytes: u32) -> Packet {
     Packet { number, bytes }
 }
 
-// What follows from the contracts of both calls: a poll right after `beside` is exact.
+// A poll right after `beside` is exact, as the contracts of both calls imply.
 fn poll_beside(input: &mut RxIn, ctx: &mut RxCtx, weight: usize, batch: &mut Batch) -> usize
     requires ring { IsOneRing input.old ctx.old }
     requires weight { (1 ≤ weight) × (weight ≤ NAPI_POLL_WEIGHT) }
@@ -69,7 +70,7 @@ fn receive_ring_of_two(rt: HostRuntime) -> Result<(), Fail> {
     Ok(())
 }
 
-// The program `memory_tests` tests failing allocations.
+// the program `memory_tests` tests failing allocations
 #[test]
 fn rings_of_the_least_and_the_greatest_capacity(rt: HostRuntime) -> Result<(), Fail> {
     for capacity in [1, 65_536] {
@@ -95,7 +96,7 @@ fn faults_have_numbers_and_texts(rt: HostRuntime) -> Result<(), Fail> {
     Ok(())
 }
 
-// A poll right after `beside` returns what was in the ring then, and the next poll what was put since.
+// a poll right after `beside` returns what was in the ring then, and the next poll returns what was put since
 #[test]
 fn put_after_beside_waits_for_the_next_poll(rt: HostRuntime) -> Result<(), Fail> {
     let (mut input, mut ctx) = ring(rt.alloc(), 4)?;
@@ -111,8 +112,29 @@ fn put_after_beside_waits_for_the_next_poll(rt: HostRuntime) -> Result<(), Fail>
     Ok(())
 }
 
-// No contract says that a poll reads the ring: each of many polls finds what was put before it, with any number of polls and
-// packets, and with more bytes than 32 bits count.
+// A poll into an array writes its first places, also if the packets pass the end of the ring, and leaves the others.
+#[test]
+fn polls_into_an_array(rt: HostRuntime) -> Result<(), Fail> {
+    let (mut input, mut ctx) = ring(rt.alloc(), 3)?;
+    let mut packets = [packet(9, 90); 3];
+    assert_eq!(rt; ctx.poll_into(3, &mut packets), 0);
+    assert_eq!(rt; input.put(packet(1, 10)), Ok(()));
+    assert_eq!(rt; ctx.poll_into(2, &mut packets), 1);
+    assert_eq!(rt;
+        packets.as_slice(),
+        [packet(1, 10), packet(9, 90), packet(9, 90)].as_slice()
+    );
+    let burst = [packet(2, 20), packet(3, 30), packet(4, 40)];
+    assert_eq!(rt; input.put_all(&burst), 3);
+    assert_eq!(rt; ctx.poll_into(3, &mut packets), 3);
+    assert_eq!(rt; packets.as_slice(), burst.as_slice());
+    assert_eq!(rt; ctx.counts().packets, 4);
+    assert_eq!(rt; ctx.counts().bytes, 100);
+    Ok(())
+}
+
+// no contract says that a poll reads the ring, so this is tested: each of many polls finds what was put before it, with many
+// packets, and with more bytes in all than 32 bits can count
 #[test]
 fn a_poll_finds_what_was_put_after_a_million_packets(rt: HostRuntime) -> Result<(), Fail> {
     let (mut input, mut ctx) = ring(rt.alloc(), 64)?;
@@ -125,7 +147,7 @@ fn a_poll_finds_what_was_put_after_a_million_packets(rt: HostRuntime) -> Result<
     Ok(())
 }
 
-// After a context was given away and taken back, a poll finds what was put meanwhile.
+// after a context went to another owner and came back, a poll finds what was put meanwhile
 #[test]
 fn context_given_away_overlooks_nothing(rt: HostRuntime) -> Result<(), Fail> {
     let (mut input, mut ctx) = ring(rt.alloc(), 4)?;

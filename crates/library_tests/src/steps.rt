@@ -1,4 +1,4 @@
-//! Each step of an instance's owners and of its controller, with the state word after it: the words are those of
+//! Each step of an instance's owners and of its controller, with the state word after it. The words are those of
 //! docs/FORMATS.md.
 
 ghost use Rattle.std.specs.Prelude.{◌≡◌, true, false};
@@ -95,7 +95,7 @@ fn releases(rt: &impl Abort, table: &StateTable, pass: &mut Pass, seen: Seen)
     assert_eq!(rt; done, Ok(Done::Released));
 }
 
-// Busy polls: takes the idle instance, completes a poll, which is held, and stops.
+// Busy polls: takes the idle instance, completes a poll, which returns Held, and stops.
 fn busy_takes(rt: &impl Abort, table: &StateTable, pass: &mut Pass, seen: Seen)
     requires table { IsPassOf table.now pass.old }
     ensures table { SameTable pass.old pass.new }
@@ -167,7 +167,7 @@ fn unmarks(table: &StateTable, pass: &mut Pass)
     table.unmark(pass);
 }
 
-// Is granted the idle instance, queues it, takes it again, polls it and releases it.
+// Polls the idle instance: is granted it, queues it, takes it, polls it and releases it.
 fn is_polled(rt: &impl Abort, table: &StateTable, pass: &mut Pass, watch: &mut Pass)
     requires passes { IsPassOf table.now pass.old × IsPassOf table.now watch.old }
     requires within { IsSlotFilled pass.old }
@@ -187,7 +187,7 @@ fn is_polled(rt: &impl Abort, table: &StateTable, pass: &mut Pass, watch: &mut P
     saw(rt, table, watch, 0);
 }
 
-// Busy polls the idle instance, completes a poll, which is held, stops, and releases it.
+// Busy polls the idle instance: takes it, completes a poll, which returns Held, stops, and releases it.
 fn is_busy_polled(rt: &impl Abort, table: &StateTable, pass: &mut Pass, watch: &mut Pass)
     requires passes { IsPassOf table.now pass.old × IsPassOf table.now watch.old }
     ensures pass { SameTable pass.old pass.new }

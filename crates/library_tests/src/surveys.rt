@@ -1,4 +1,5 @@
-//! All passes of a table meet: the look by which they do so is in the own list of the pass that makes it, and in no other.
+//! Tests of surveys: all passes of a table meet by one look, which is in the own list of the pass that makes it, and in no
+//! other own list.
 ghost use Rattle.std.specs.Prelude.{◌≡◌, [], ◌∷◌, IfSome};
 ghost use Rattle.napi_model.specs.declared.event.Operation.TheVariants.{Look};
 ghost use Rattle.napi_model.specs.Step.{event};
@@ -47,7 +48,7 @@ fn table_of_three(alloc: Global, ctx: RxCtx) -> Option<Opened>
     })
 }
 
-// What the controller saw, and the passes after it.
+// What the controller's look saw, and the passes after it.
 #[derive(Drop)]
 struct Surveyed {
     seen: Seen,

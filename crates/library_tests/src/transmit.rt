@@ -1,4 +1,4 @@
-//! Worked runs, digit by digit.
+//! Tests of transmit rings worked by hand, number by number.
 
 use dql_core::Dql;
 use std::alloc::Global;
@@ -85,7 +85,7 @@ fn transmit_refusals(rt: HostRuntime) -> Result<(), Fail> {
     Ok(())
 }
 
-// The program `memory_tests` tests failing allocations.
+// the program `memory_tests` tests failing allocations
 #[test]
 fn a_ring_of_the_greatest_capacity(rt: HostRuntime) -> Result<(), Fail> {
     let mut limit = Dql::new(1000, 1_879_048_192, 1000, 0)?;

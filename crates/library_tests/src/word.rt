@@ -1,4 +1,4 @@
-//! Worked runs on one thread and on several, whose own lists at the end are proved.
+//! Tests on one thread and on several, worked by hand. Each caller's own list at the end is proved.
 ghost use Rattle.std.specs.Prelude.{◌≡◌, ℕ, ◌+◌, ◌-◌, ◌<◌, ◌≤◌, ◌^◌, List, [], ◌∷◌, length, map, Some, None, slice_get, IfSome, IsTrue, false, ◌++◌};
 ghost use Rattle.rx_ring.specs.declared.ends.RxCtx.{RxCtx};
 ghost use Rattle.napi_model.specs.declared.event.Event.{Event};
@@ -18,7 +18,7 @@ use std::alloc::Global;
 use std::test::Fail;
 use std::thread::join;
 
-// A table with two callers, 0 and 1, and the controller 2: the three passes, and the vector from which they were taken.
+// A table with two callers, 0 and 1, and the controller 2: the three passes, and the empty vector from which they were popped.
 #[derive(Drop)]
 pub(crate) struct OpenedTable {
     pub(crate) table: StateTable,
@@ -53,7 +53,7 @@ pub(crate) fn table_of_two(alloc: Global, ctx: RxCtx) -> Option<OpenedTable>
     })
 }
 
-// The controller's own list after it enabled the instance, when no other word than 9 was possible.
+// Enables the instance, whose state word can only have been 9. The contract states the controller's own list.
 fn enable(table: &StateTable, control: &mut Pass) -> bool
     requires table { IsPassOf table.now control.old }
     requires new { (ctx : RxCtx) × IsNewPass table.now 2 ctx 2 control.old }
@@ -70,7 +70,8 @@ fn enable(table: &StateTable, control: &mut Pass) -> bool
     }
 }
 
-// The first looks and is granted the schedule; the second expects no flag and finds SCHED, expects that, and is missed.
+// Caller 0 reads the word and is granted the schedule. Caller 1 expects a word without flags and finds SCHED; then it expects
+// SCHED, and its request is missed.
 fn swaps(table: &StateTable, first: &mut Pass, second: &mut Pass) -> Option<(Seen, Seen)>
     requires table { IsPassOf table.now first.old × IsPassOf table.now second.old }
     ensures table { SameTable first.old first.new × SameTable second.old second.new }
@@ -104,7 +105,7 @@ fn swaps(table: &StateTable, first: &mut Pass, second: &mut Pass) -> Option<(See
     Some((idle, found))
 }
 
-// The end of a table of three: each caller's own list is the events of its number in the one history.
+// Closes a table with three passes: each caller's own list is the events of its number in the history.
 pub(crate) fn end_of_three(opened: OpenedTable) -> Option<Ended>
     requires first { IsPassOf opened.table opened.first }
     requires second { IsPassOf opened.table opened.second }
@@ -128,7 +129,7 @@ pub(crate) fn end_of_three(opened: OpenedTable) -> Option<Ended>
     Some(napi_word::end(table, passes))
 }
 
-// Two callers and a controller, which enables the instance: what each found, and the end.
+// What each of two callers and the controller found, and the end of the table.
 #[derive(Drop)]
 struct Lost {
     idle: Seen,
@@ -158,7 +159,7 @@ fn lost_exchange(alloc: Global, ctx: RxCtx) -> Option<Lost>
     })
 }
 
-// The program `memory_tests` tests failing allocations.
+// the program `memory_tests` tests failing allocations
 #[test]
 fn there_is_memory_for_every_number_of_passes(rt: HostRuntime) -> Result<(), Fail> {
     for seats in 1..=9u32 {
@@ -185,7 +186,7 @@ fn a_lost_exchange_is_a_look(rt: HostRuntime) -> Result<(), Fail> {
     Ok(())
 }
 
-// The result of a pass that made many steps: how many schedules were granted, and how many steps were made.
+// What a pass did that made many steps: how many schedules were granted, and how many steps it made.
 #[derive(Drop)]
 struct Turned {
     pass: Pass,
@@ -193,7 +194,7 @@ struct Turned {
     steps: u64,
 }
 
-// One schedule: a load and, unless a disable is pending, an exchange.
+// Makes one schedule: a load and, unless a disable is pending, a compare-exchange.
 fn schedule_once(table: &StateTable, turned: &mut Turned)
     requires table { IsPassOf table.now turned.old.pass }
     requires room { turned.old.steps + 2 < 2 ^ 64 }
@@ -215,7 +216,7 @@ fn schedule_once(table: &StateTable, turned: &mut Turned)
     }
 }
 
-// Its own list is as long as the number of its steps.
+// Schedules this many times. The pass's own list is as long as the number of its steps.
 fn schedule_often(table: &StateTable, pass: Pass, turns: u32) -> Turned
     requires table { IsPassOf table.now pass }
     ensures table { IsPassOf table.now result.pass }

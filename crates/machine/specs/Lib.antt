@@ -1,6 +1,6 @@
-pub use Rattle.machine_words.specs.Usual
-pub use Rattle.machine_words.specs.Words
-pub use Rattle.machine_words.specs.declared.settings.MachineSettings
+pub use Rattle.machine_model.specs.Usual
+pub use Rattle.machine_model.specs.Args
+pub use Rattle.machine_model.specs.declared.settings.MachineSettings
 pub use Rattle.machine_model.specs.Machine
 pub use Rattle.machine_model.specs.Processor
 pub use Rattle.machine_laws.specs.Applications
@@ -8,8 +8,8 @@ pub use Rattle.machine_laws.specs.Deferrals
 pub use Rattle.machine_laws.specs.Fates
 pub use Rattle.machine_laws.specs.Lives
 pub use Rattle.machine_laws.specs.Times
-pub use Rattle.machine_lives.specs.Reports
-pub use Rattle.replay_words.specs.declared.words.WordFault
+pub use Rattle.machine_laws.specs.Reports
+pub use Rattle.replay_args.specs.declared.args.WordFault
 pub use Rattle.replay_text.specs.Written
 pub use Rattle.machine_report.specs.Answer
 pub use Rattle.machine_report.specs.Arrivals

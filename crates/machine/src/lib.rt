@@ -1,23 +1,22 @@
-//! A receiving machine in time, by Linux's polling rules: what latency, drops and processor time follow from settings, arrivals
-//! and the costs of interrupts, polls, packets and their use. For programs that predict what another setting would do.
+//! A machine that receives packets over simulated time, by Linux's polling rules. It shows which latency, drops and processor
+//! time follow from settings, arrivals and the costs of interrupts, polls, packets and their use. For programs that predict the
+//! effect of another setting.
 //!
-//! From the bytes of arrivals to the bytes of a report, or the message and the exit status of an error; and the options of a
-//! program that runs it. A facade: it adds nothing to its internal crates. `machine_words` has the options, `machine_model` the
-//! machine, `machine_report` arrivals, report and errors; `machine_laws` and `machine_lives` have what follows for whole runs.
+//! It computes the bytes of a report from the bytes of arrivals, or the message and the exit status of an error, and it parses
+//! the options of a program. This is a facade: it adds nothing to its internal crates. `machine_model` has the options and the
+//! machine, `machine_report` the arrivals, the report and the errors; `machine_laws` has what is proved about whole runs.
 //! `specs/Lib.antt` re-exports what contracts cite. The program `napi_machine` makes these calls.
 #![tactic(auto)]
 
 pub use machine_laws::{
     application_ends, application_is_fed, application_serves, arrives_as_one, clocks_never_fall,
     deferral_is_bounded, delivers_in_order, each_lives, empty_polls_are_few, every_run_ends,
-    no_wait_is_less, nothing_is_left, receiving_is_apart, runs_as_one, tells_of_device,
-    tells_of_use, timers_are_near, uses_in_order, works_within,
+    no_wait_is_less, nothing_is_left, receiving_is_apart, reports_live, runs_as_one,
+    tells_of_device, tells_of_use, timers_are_near, uses_in_order, works_within,
 };
-pub use machine_lives::reports_live;
 pub use machine_model::{
-    ApplicationReport, Machine, ProcessorCounts, ProcessorReport, QueueCounts, QueueReport,
-    WaitCounts,
+    ApplicationReport, Machine, MachineSettings, ProcessorCounts, ProcessorReport, QueueCounts,
+    QueueReport, WaitCounts, parse_words,
 };
 pub use machine_report::{Arrival, Arrivals, MachineFault, fault_line, run_machine, status};
-pub use machine_words::{MachineSettings, parse_words};
-pub use replay_words::{WordFault, word_line, word_status};
+pub use replay_args::{WordFault, word_line, word_status};

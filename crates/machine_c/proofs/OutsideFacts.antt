@@ -1,4 +1,4 @@
--- An error whose status is that of bad arrivals comes from the bytes.
+-- If an error's status is that of bad arrivals, the bytes of the arrivals cause it.
 use Rattle.std.proofs.Common.{◌≡◌, ◌⊎◌, inl, inr, ap, subst, arith}
 use Rattle.machine_report.specs.Fault.{IsMachineOutside, IsMachineOutOfMemory}
 use Rattle.machine_report.specs.declared.fault.MachineFault.{MachineFault}
@@ -19,6 +19,6 @@ pub theirs : (fault : MachineFault) (Is : Type 0) → IsMachineOutside fault ⊎
 theirs fault Is (inl outside) bad = absurd (never fault outside bad)
 theirs fault Is (inr is) bad = is
 
--- out of memory has its status
+-- an error of an allocation has the status OUT_OF_MEMORY
 pub memory-status : (fault : MachineFault) → IsMachineOutOfMemory fault → machine_c_status fault ≡ 112
 memory-status fault memory = ap (λ (f : MachineFault). machine_c_status f) memory.0

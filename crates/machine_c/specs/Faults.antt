@@ -1,11 +1,11 @@
--- The errors of the machine as numbers.
+-- The errors of the machine, as the numbers that C gets.
 use Rattle.std.specs.Prelude.{ℕ}
 use Rattle.machine_report.specs.declared.fault.MachineFault.{MachineFault}
 use Rattle.machine_report.specs.declared.fault.MachineFault.TheVariants.{BadFields, BadNumber, OutOfRange, Falls, ReadFailed}
 use Rattle.machine_report.specs.declared.fault.MachineFault.TheVariants.{OutOfMemory, OutputFailed}
 use Rattle.machine_c.specs.Status.{MACHINE_BAD_ARRIVALS, MACHINE_OUT_OF_MEMORY}
 
--- an error that doesn't come from the arrivals is that of an allocation
+-- the status of an error: bad arrivals if the bytes cause it, otherwise out of memory
 abbrev pub machine_c_status : MachineFault → ℕ
 machine_c_status ReadFailed = MACHINE_OUT_OF_MEMORY
 machine_c_status OutOfMemory = MACHINE_OUT_OF_MEMORY

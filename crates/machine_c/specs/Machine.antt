@@ -1,6 +1,6 @@
 -- The arguments and results of a run of the machine for C.
 use Rattle.std.specs.Prelude.{◌≡◌, ◌⊎◌, ℕ, List}
-use Rattle.machine_words.specs.declared.settings.MachineSettings.{MachineSettings}
+use Rattle.machine_model.specs.declared.settings.MachineSettings.{MachineSettings}
 use Rattle.machine_report.specs.{Answer.{IsReportOf, IsArrivalsFault}, Fault.{IsMachineOutside, machine_fault_number}}
 use Rattle.machine_report.specs.declared.fault.MachineFault.{MachineFault}
 use Rattle.machine_c.specs.{Faults.{machine_c_status, machine_fault_row}, Settings.AsksMachine, Status.MACHINE_OUT_OF_MEMORY}
@@ -10,7 +10,7 @@ use Rattle.machine_c.specs.declared.{machine.FqMachineRan.FqMachineRan, settings
 abbrev pub HasSizes : FqMachineSettings → FqMachineRan → Type 0
 HasSizes asked ran = (asked.size ≡ 96) × (ran.size ≡ 96)
 
--- the text is the report of these arrivals with the settings that are asked for
+-- the text is the report of these arrivals with the requested settings
 abbrev pub IsMachineReport : FqMachineSettings → List ℕ → List ℕ → Type 0
 IsMachineReport asked bytes text = (s : MachineSettings) × AsksMachine asked s × IsReportOf s bytes text
 
@@ -18,12 +18,12 @@ IsMachineReport asked bytes text = (s : MachineSettings) × AsksMachine asked s 
 abbrev pub IsMachineFault : FqMachineSettings → List ℕ → MachineFault → Type 0
 IsMachineFault asked bytes fault = (s : MachineSettings) × AsksMachine asked s × IsArrivalsFault s bytes fault
 
--- an error occurred that is reported as out of memory: one that doesn't come from the bytes, or one of theirs
+-- an error with the status OUT_OF_MEMORY occurred: it came from outside the arrivals, or is the result for these arrivals
 abbrev pub MachineLacksMemory : FqMachineSettings → List ℕ → Type 0
 MachineLacksMemory asked bytes = (fault : MachineFault) × (machine_c_status fault ≡ MACHINE_OUT_OF_MEMORY)
     × (IsMachineOutside fault ⊎ IsMachineFault asked bytes fault)
 
--- an error is reported by its number and its row, and there is no report
+-- an error is reported by its number and its row; there is no report then
 pub record Tells (fault : MachineFault) (ran : FqMachineRan) : Type 0 where
   pub number : ran.fault ≡ machine_fault_number fault
   pub row : ran.row ≡ machine_fault_row fault

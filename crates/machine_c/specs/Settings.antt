@@ -1,10 +1,10 @@
 -- The settings of the machine for C, with their ranges.
 use Rattle.std.specs.Prelude.{◌≡◌, ℕ, [], ◌∷◌, List, if◌then◌else◌}
-use Rattle.machine_words.specs.declared.settings.MachineSettings.{MachineSettings}
+use Rattle.machine_model.specs.declared.settings.MachineSettings.{MachineSettings}
 use Rattle.machine_c.specs.Ranges.{IsOutAt}
 use Rattle.machine_c.specs.declared.{ranges.Range.Range, settings.FqMachineSettings.FqMachineSettings}
 
--- these settings are asked for; a flag is 0 or 1
+-- these are the settings that the struct asks for; a flag in it is 0 or 1
 pub record AsksMachine (asked : FqMachineSettings) (s : MachineSettings) : Type 0 where
   pub processors : s.processors ≡ asked.processors
   pub queues : s.queues ≡ asked.queues
@@ -42,6 +42,6 @@ ranges_of asked =
     ∷ range asked.interrupt 0 1000000000 ∷ range asked.poll 0 1000000000 ∷ range asked.packet 0 1000000000
     ∷ range asked.use_time 0 1000000000 ∷ range asked.wake 0 1000000000 ∷ []
 
--- the setting with this number is out of its range; the first one in the struct is 1
+-- the setting with this number is out of its range; the first setting of the struct has number 1
 abbrev pub IsSettingOut : FqMachineSettings → ℕ → Type 0
 IsSettingOut asked number = IsOutAt (ranges_of asked) number

@@ -1,4 +1,4 @@
--- The statuses that the machine's calls return, which are among those of all calls for C.
+-- The statuses that the machine's calls return. They are among the statuses of all calls for C.
 use Rattle.std.specs.Prelude.{ℕ}
 
 abbrev pub MACHINE_OK : ℕ

@@ -1,4 +1,4 @@
-//! Errors of arrivals, as numbers.
+//! Errors of arrivals, as the numbers that C gets.
 
 ghost use Rattle.std.specs.Prelude.{◌≡◌};
 ghost use Rattle.machine_c.specs.Faults.{machine_c_status, machine_fault_row};
@@ -6,8 +6,8 @@ ghost use Rattle.machine_c.specs.Faults.{machine_c_status, machine_fault_row};
 use crate::status;
 use machine_report::MachineFault;
 
-/// Returns the status of an error. Reading arrivals from memory never fails, so a reader or a writer fails only if an allocation
-/// does.
+/// Returns the status of an error. Arrivals are read from memory and the report is written to memory, so a reader or a writer
+/// fails only if an allocation does.
 pub(crate) fn machine_c_status(fault: &MachineFault) -> u32
     ensures { result ≡ machine_c_status fault.now }
 {

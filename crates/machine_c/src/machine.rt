@@ -1,4 +1,4 @@
-//! A whole run of the machine, from the caller's bytes into the caller's bytes.
+//! A whole run of the machine, from arrivals in the caller's memory to a report in the caller's memory.
 
 ghost use Rattle.std.specs.Prelude.{◌≡◌, ◌≢◌, ◌<◌, ◌⊎◌, ◌↔◌, ℕ, List, IfOk, IfErr, length, take};
 ghost use Rattle.machine_report.specs.Answer.{IsReportOf, IsArrivalsFault};
@@ -12,8 +12,8 @@ use crate::fault::{machine_c_status, machine_fault_row};
 use crate::ranges::first_out;
 use crate::settings::{FqMachineSettings, ranges_of, settings_of};
 use crate::status;
+use machine_model::MachineSettings;
 use machine_report::{MachineFault, fault_line, run_machine};
-use machine_words::MachineSettings;
 use std::alloc::Global;
 use std::mem::size_of;
 
@@ -38,7 +38,7 @@ pub struct FqMachineRan {
 impl FqMachineRan {
     const SIZE: usize = size_of::<FqMachineRan>();
 
-    // No report and no error.
+    // Returns a result without a report and without an error.
     fn none() -> FqMachineRan
         ensures size { result.size ≡ 96 }
         ensures none { (result.length ≡ 0) × (result.row ≡ 0) × (result.fault ≡ 0)
@@ -55,7 +55,7 @@ impl FqMachineRan {
     }
 }
 
-// Returns the settings that are asked for, or which of them is out of its range.
+// Returns the settings that the struct asks for, or the number of the first one that is out of its range.
 fn asked_by(asked: &FqMachineSettings) -> Result<MachineSettings, u32>
     ensures asked { IfOk result (λ s. AsksMachine asked.now s) }
     ensures out { IfErr result (λ number. IsSettingOut asked.now number) }
@@ -84,7 +84,7 @@ fn report_of(
     }
 }
 
-// Puts a report into the caller's array, if that has room for all of it.
+// Copies a report to the caller's array, if that has room for all of it.
 fn put_report(text: &[u8], report: &mut [u8], ran: &mut FqMachineRan) -> u32
     ensures ok { result ≡ MACHINE_OK → take ran.new.length report.new ≡ text.now }
     ensures no_room { result ≢ MACHINE_OK
@@ -100,7 +100,7 @@ fn put_report(text: &[u8], report: &mut [u8], ran: &mut FqMachineRan) -> u32
     status::OK
 }
 
-// Puts a message into an array of zeros, if there is room for it and a 0 after it.
+// Copies a message to an array of zeros, if there is room for it and a terminating 0.
 fn put_message(text: &[u8], message: &mut [u8])
     ensures { length text.now < length message.old → take (length text.now) message.new ≡ text.now }
 {
@@ -116,12 +116,12 @@ fn message_of(alloc: Global, fault: &MachineFault) -> Result<String, MachineFaul
     Ok(fault_line(alloc, fault)?)
 }
 
-// Reports an error of the arrivals by its numbers and its message, which is without its line feed.
-fn tell(alloc: Global, fault: &MachineFault, ran: &mut FqMachineRan) -> u32
-    ensures told { result ≡ MACHINE_BAD_ARRIVALS
+// Reports an error of the arrivals: its numbers, and its message without the line feed.
+fn report_fault(alloc: Global, fault: &MachineFault, ran: &mut FqMachineRan) -> u32
+    ensures reported { result ≡ MACHINE_BAD_ARRIVALS
         → (machine_c_status fault.now ≡ MACHINE_BAD_ARRIVALS) × Tells fault.now ran.new
         × (ran.new.setting ≡ 0) }
-    ensures untold { result ≢ MACHINE_BAD_ARRIVALS
+    ensures unreported { result ≢ MACHINE_BAD_ARRIVALS
         → (result ≡ MACHINE_OUT_OF_MEMORY) × (ran.new ≡ ran.old)
         × ((machine_c_status fault.now ≡ MACHINE_OUT_OF_MEMORY)
         ⊎ ((why : MachineFault) × IsMachineOutOfMemory why)) }
@@ -141,9 +141,9 @@ fn tell(alloc: Global, fault: &MachineFault, ran: &mut FqMachineRan) -> u32
     }
 }
 
-/// Like `run_machine`, from the bytes of arrivals into an array: the report is the first `length` bytes of it. Returns ok; no room,
-/// and then nothing is written; bad size of one of the structs; bad setting, and which; bad arrivals, with the numbers and the
-/// message of their error; or out of memory.
+/// Like `run_machine`, from the bytes of arrivals to an array: the report is the first `length` bytes of the array. Returns OK;
+/// NO_ROOM, and writes nothing; BAD_SIZE for one of the structs; BAD_SETTING, with the setting's number; BAD_ARRIVALS, with the
+/// numbers and the message of their error; or OUT_OF_MEMORY.
 #[unsafe(no_mangle)]
 pub extern "C" fn fq_machine(
     alloc: Global,
@@ -152,7 +152,7 @@ pub extern "C" fn fq_machine(
     report: &mut [u8],
     ran: &mut FqMachineRan,
 ) -> u32
-    // What is written is the report of the arrivals with these settings, and an error is theirs.
+    // The text that is written is the report of the arrivals with these settings, and an error that is reported is theirs.
     ensures written { result ≡ MACHINE_OK
         → IsMachineReport settings.now arrivals.now (take ran.new.length report.new) }
     ensures no_room { result ≡ MACHINE_NO_ROOM → (text : List ℕ)
@@ -165,11 +165,11 @@ pub extern "C" fn fq_machine(
         → result ≢ MACHINE_BAD_ARRIVALS → result ≢ MACHINE_BAD_SETTING → result ≢ MACHINE_BAD_SIZE
         → (result ≡ MACHINE_OUT_OF_MEMORY) × MachineLacksMemory settings.now arrivals.now }
 
-    // Structs of other sizes are rejected, and then nothing is written; after every other error no report is.
+    // Structs of other sizes are rejected, and nothing is written; nor is a report after any other error.
     ensures size { (result ≡ MACHINE_BAD_SIZE) ↔ ¬ HasSizes settings.now ran.old }
     ensures same { result ≡ MACHINE_BAD_SIZE → ran.new ≡ ran.old }
     ensures kept { result ≢ MACHINE_OK → report.new ≡ report.old }
-    // What is returned besides the status is of the report, of the error or of the setting, and otherwise 0.
+    // The other results describe the report, the error or the setting; if there is none, they are 0.
     ensures faultless { result ≢ MACHINE_BAD_SIZE → result ≢ MACHINE_BAD_ARRIVALS
         → (ran.new.fault ≡ 0) × (ran.new.row ≡ 0) }
     ensures set { result ≢ MACHINE_BAD_SIZE → result ≢ MACHINE_BAD_SETTING
@@ -184,7 +184,7 @@ pub extern "C" fn fq_machine(
     match asked_by(settings) {
         Ok(asked) => match report_of(alloc, &asked, arrivals) {
             Ok(text) => put_report(text.as_slice(), report, ran),
-            Err(fault) => tell(alloc, &fault, ran),
+            Err(fault) => report_fault(alloc, &fault, ran),
         },
         Err(number) => {
             ran.setting = number;

@@ -1,10 +1,10 @@
-//! Numbers with the ranges that they have to be in.
+//! Numbers together with the ranges that they must be in.
 
 ghost use Rattle.std.specs.Prelude.{◌≡◌, ◌≤◌, ◌<◌, ◌↔◌, IfNone, IfSome, IsTrue, length};
 ghost use Rattle.std.specs.List.{All};
 ghost use Rattle.machine_c.specs.Ranges.{IsIn, IsOutAt};
 
-/// A number, and the least and the greatest that it may be.
+/// A number with its least and its greatest value.
 #[derive(Clone, Copy)]
 pub(crate) struct Range {
     value: u32,
@@ -12,7 +12,7 @@ pub(crate) struct Range {
     most: u32,
 }
 
-/// A number with its range.
+/// Returns a number with its range.
 pub(crate) fn within(value: u32, least: u32, most: u32) -> Range
     ensures { result ≡ record { value = value; least = least; most = most } }
 {
@@ -20,7 +20,7 @@ pub(crate) fn within(value: u32, least: u32, most: u32) -> Range
 }
 
 impl Range {
-    // Whether the number is in its range.
+    // Returns whether the number is in its range.
     fn is_in(self) -> bool
         ensures { IsTrue result ↔ IsIn self }
     {
@@ -28,7 +28,7 @@ impl Range {
     }
 }
 
-/// Returns which is the first that is out of its range, counted from 1.
+/// Returns the position of the first number that is out of its range, counted from 1.
 pub(crate) fn first_out(ranges: &[Range]) -> Option<u32>
     requires { length ranges.now ≤ 64 }
     ensures all_in { IfNone result (All IsIn ranges.now) }

@@ -2,22 +2,22 @@
 
 ghost use Rattle.std.specs.Prelude.{◌≡◌, ◌≢◌, ◌↔◌};
 ghost use Rattle.std.specs.List.{All};
-ghost use Rattle.machine_words.specs.declared.settings.MachineSettings.{MachineSettings};
-ghost use Rattle.machine_words.specs.Usual.{IsUsual};
+ghost use Rattle.machine_model.specs.declared.settings.MachineSettings.{MachineSettings};
+ghost use Rattle.machine_model.specs.Usual.{IsUsual};
 ghost use Rattle.machine_c.specs.Ranges.{IsIn};
 ghost use Rattle.machine_c.specs.Settings.{AsksMachine, ranges_of};
 ghost use Rattle.machine_c.specs.Status.{MACHINE_OK, MACHINE_BAD_SIZE};
 
 use crate::ranges::{Range, within};
 use crate::status;
-use machine_words::{
+use machine_model::{
     MOST_BUDGET, MOST_DEFERRALS, MOST_FRAMES, MOST_PLACES, MOST_PROCESSORS, MOST_QUEUES, MOST_TIME,
     MOST_WEIGHT, MOST_WINDOW, MachineSettings,
 };
 use std::mem::size_of;
 
 /// The settings of the machine: `struct fq_machine_settings`. Times are in nanoseconds. Each setting is that of
-/// `machine_words::MachineSettings`, with its range; a flag is 0 or 1.
+/// `machine_model::MachineSettings`, with its range; a flag is 0 or 1.
 #[repr(C)]
 #[derive(Clone, Copy)]
 pub struct FqMachineSettings {
@@ -27,11 +27,11 @@ pub struct FqMachineSettings {
     pub processors: u32,
     /// Queues of each device, 1 to 64.
     pub queues: u32,
-    /// Packets that a queue's ring holds, 1 to 65536.
+    /// Packets that the ring of a queue holds, 1 to 65536.
     pub ring: u32,
-    /// Packets that a processor's socket holds, 1 to 65536.
+    /// Packets that the socket of a processor holds, 1 to 65536.
     pub socket: u32,
-    /// Whether a poll takes packets as `process_backlog` does.
+    /// Whether a poll processes its packets as `process_backlog` does.
     pub backlog: u32,
     /// Packets that a run polls before it is squeezed, 0 to 65535.
     pub budget: u32,
@@ -41,29 +41,29 @@ pub struct FqMachineSettings {
     pub window: u32,
     /// The time after which a run is squeezed, 1 to 1000000000.
     pub time_limit: u32,
-    /// How long a card waits with its interrupt, 0 to 1000000000.
+    /// How long a card delays its interrupt, 0 to 1000000000 (`ethtool -C rx-usecs`, in nanoseconds).
     pub rx_nsecs: u32,
-    /// Frames at which a card interrupts earlier, 0 to 65535.
+    /// The number of frames at which a card interrupts before that time, 0 to 65535 (`rx-frames`).
     pub rx_frames: u32,
-    /// How often a device that completes a poll stays masked, 0 to 65535.
+    /// How often a queue stays masked after a poll that completes, 0 to 65535 (`napi_defer_hard_irqs`).
     pub defer_hard_irqs: u32,
-    /// The time of the timer of such a device, 0 to 1000000000.
+    /// The timeout of the timer that polls such a queue, 0 to 1000000000 (`gro_flush_timeout`).
     pub gro_flush_timeout: u32,
-    /// Whether each device is polled by its own thread.
+    /// Whether each queue is polled by its own thread.
     pub threaded: u32,
-    /// Whether the application has its own processor.
+    /// Whether the application runs on its own processor.
     pub apart: u32,
-    /// The time from waking that application until it runs, 0 to 1000000000.
+    /// The time from waking such an application until it runs, 0 to 1000000000.
     pub app_wake: u32,
-    /// The time of an interrupt, 0 to 1000000000.
+    /// The time that an interrupt takes, 0 to 1000000000.
     pub interrupt: u32,
-    /// The time of a poll before its first packet, 0 to 1000000000.
+    /// The time that a poll takes before its first packet, 0 to 1000000000.
     pub poll: u32,
-    /// The time of each packet of a poll, 0 to 1000000000.
+    /// The time that each packet of a poll takes, 0 to 1000000000.
     pub packet: u32,
-    /// The time that the application uses a packet, 0 to 1000000000.
+    /// The time that the application takes for a packet, 0 to 1000000000.
     pub use_time: u32,
-    /// The time to wake an idle processor, 0 to 1000000000.
+    /// The time that it takes to wake an idle processor, 0 to 1000000000.
     pub wake: u32,
 }
 
@@ -71,7 +71,7 @@ pub struct FqMachineSettings {
 pub(crate) const SETTINGS: usize = 21;
 
 impl FqMachineSettings {
-    /// Its size in bytes.
+    /// The size of the struct in bytes.
     pub(crate) const SIZE: usize = size_of::<FqMachineSettings>();
 }
 
@@ -104,7 +104,7 @@ pub(crate) fn ranges_of(asked: &FqMachineSettings) -> [Range; SETTINGS]
     ]
 }
 
-/// Returns the machine that is asked for.
+/// Returns the machine's settings that the struct asks for.
 pub(crate) fn settings_of(asked: &FqMachineSettings) -> MachineSettings
     requires { All IsIn (ranges_of asked.now) }
     ensures { AsksMachine asked.now result }
@@ -134,7 +134,7 @@ pub(crate) fn settings_of(asked: &FqMachineSettings) -> MachineSettings
     }
 }
 
-// Returns what asks for a machine.
+// Returns the struct that asks for these settings.
 fn asking(settings: &MachineSettings) -> FqMachineSettings
     ensures asks { AsksMachine result settings.now }
     ensures size { result.size ≡ FqMachineSettings.SIZE }
@@ -165,8 +165,8 @@ fn asking(settings: &MachineSettings) -> FqMachineSettings
     }
 }
 
-/// Sets all settings to their defaults, like `MachineSettings::default`, in a struct of `size` bytes, which it also sets. Returns
-/// ok, or bad size, and nothing is written.
+/// Sets all settings to their defaults, like `MachineSettings::default`, in a struct of `size` bytes, and sets its `size`.
+/// Returns OK, or BAD_SIZE and writes nothing.
 #[unsafe(no_mangle)]
 pub extern "C" fn fq_machine_usual(settings: &mut FqMachineSettings, size: usize) -> u32
     ensures usual { result ≡ MACHINE_OK

@@ -1,7 +1,7 @@
-//! The statuses that the machine's calls return: some of those of `enum fq_status`. This crate depends on nothing that threads
-//! share, so not on `c_handles`, which has the others.
+//! The statuses that the machine's calls return: some of those of `enum fq_status`. They are repeated here because `c_handles`,
+//! which has all of them, depends on crates for threads, and this crate doesn't.
 
-/// The report is written, or the settings are.
+/// The report or the settings were written.
 pub(crate) const OK: u32 = 0;
 
 /// Out of memory.

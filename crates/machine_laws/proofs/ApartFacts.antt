@@ -1,9 +1,9 @@
--- An application on its own processor depends only on the deliveries.
+-- Law: an application on its own processor depends only on the packets that are delivered to it.
 use Rattle.std.proofs.Common.{◌≡◌, ◌∙◌, ℕ, ◌+◌, ◌-◌, ◌<◌, ◌≤◌, ◌^◌, Bool, true, false, Option, Some, None, List, [], ◌∷◌, ◌++◌, map, refl}
 use Rattle.std.proofs.Common.{sym, ap}
 use Rattle.std.{proofs.{Common.{subst, arith}, lemmas.{List.append-nil}}, specs.{List.AllByRecursion}}
 use Rattle.std.specs.Prelude.{◌==◌, ◌&&◌, if◌then◌else◌, is_some, length, not, position}
-use Rattle.{machine_words.specs.declared.settings.MachineSettings.MachineSettings, device_places.specs.Places.{at, changed}}
+use Rattle.{machine_model.specs.declared.settings.MachineSettings.MachineSettings, device_places.specs.Places.{at, changed}}
 use Rattle.machine_laws.specs.{Lives.{MachineEvent, InTurn, behind, next, packet}, Fates.{next_delivery, delivery_by, delivery_of, used_by}}
 use Rattle.machine_laws.specs.Applications.{ApplicationEnds, ApplicationIsFed, ApplicationServes, deliveries, ended_until, fed_all}
 use Rattle.machine_laws.specs.Applications.{being_read}
@@ -37,7 +37,7 @@ use Rattle.machine_model.specs.declared.processor.Upcoming.TheVariants as upcomi
 abbrev pub AllThreads : List RunnableTask → Type 0
 AllThreads tasks = AllByRecursion (λ task. is_application task ≡ false) tasks
 
--- nothing is used here, and no task is the application
+-- the receiving processor uses no packet, and the application isn't among its tasks
 pub record Alone (s : MachineSettings) (a : ApplicationView) (p : ProcessorView) : Type 0 where
   pub settings : p.settings ≡ s
   pub application : p.application ≡ a
@@ -118,7 +118,7 @@ alone-takes : (s : MachineSettings) (a : ApplicationView) (p : ProcessorView) �
     → Alone s a (takes_up p)
 alone-takes s a p apart goes h = walk-any (Alone s a) (Alone s a) (alone-walk s a apart) p (goes-unasked s p goes) (λ busy. h) (λ idle. h)
 
--- ---- work that ends
+-- ---- when work ends
 
 pub not-wakes : (t a h : Bool) → a ≡ true → (t && not a && h) ≡ false
 not-wakes false a h is = refl
@@ -204,7 +204,7 @@ alone-ended s a p apart goes h settings =
       tasks = threads-ended p (ap (λ (x : MachineSettings). x.apart) h.settings ∙ apart) h.tasks;
     }
 
--- ---- what disturbs
+-- ---- when a use or an idle time is interrupted
 
 alone-aside : (s : MachineSettings) (a : ApplicationView) (t : ℕ) (w : Work) (p : ProcessorView) → p.work ≡ w → Alone s a p
     → Alone s a (set_aside t w p)
@@ -250,7 +250,7 @@ alone-arrives s a moment n p apart goes h =
     either (Alone s a) (has_room_at (at n devices)) (disturbed moment q) q
     (λ room. alone-disturbed s a moment q apart (goes-devices s p q goes refl refl refl refl) e) (λ full. e)
 
--- ---- over a life
+-- ---- over a processor's life
 
 fed-delivery : (s : MachineSettings) (now : ℕ) (o : Option (ℕ × ℕ)) (ds : List (ℕ × ℕ)) → fed_by s now o (fed_all s ds)
     ≡ fed_all s (with_delivery now o ds)
@@ -276,7 +276,7 @@ alone-on s (next ∷ earlier) apart =
 pub application-is-fed : ApplicationIsFed
 application-is-fed s events apart = (alone-on s events apart).application
 
--- ---- deliveries come one after the other
+-- ---- deliveries have increasing times
 
 rising-later : (t u : ℕ) (ds : List (ℕ × ℕ)) → t ≤ u → Rising t ds → Rising u ds
 unfolding Rising

@@ -1,10 +1,10 @@
--- An application on its own processor uses what was delivered to it, in order, one packet after the other.
+-- Law: an application on its own processor uses the packets that were delivered to it in order, one after the other.
 use Rattle.std.proofs.Common.{◌≡◌, ◌∙◌, ℕ, ◌+◌, ◌-◌, ◌*◌, ◌<◌, ◌≤◌, ◌^◌, Bool, true, false, List, [], ◌∷◌, ◌++◌, append_assoc}
 use Rattle.std.proofs.Common.{length, length-append, map, refl, sym, ap, subst, arith}
 use Rattle.std.proofs.lemmas.Bool.{and_parts, leb-true}
 use Rattle.std.proofs.lemmas.List.{append-nil, map-append}
 use Rattle.std.{proofs.{lemmas.Grind.common_steps, Math.Nat.mul-le-mul_right}, specs.Prelude.{◌&&◌, if◌then◌else◌, nat_le}}
-use Rattle.{machine_words.specs.declared.settings.MachineSettings.MachineSettings, circular_buffer.specs.Buffer.{Buffer}}
+use Rattle.{machine_model.specs.declared.settings.MachineSettings.MachineSettings, circular_buffer.specs.Buffer.{Buffer}}
 use Rattle.machine_laws.specs.Applications.{UsesFollow, Serves, ended_until, ended_with, fed_all, being_read, placed_all, use_of, used_all}
 use Rattle.machine_laws.specs.Fates.{counting}
 use Rattle.machine_model.specs.declared.application.Activity.{Activity, TheVariants.{Asleep, Waking, Using}}
@@ -66,15 +66,15 @@ over-not false is never = cc is
 leb-is : (a b : ℕ) → a ≤ b → nat_le a b ≡ true
 leb-is a b less = grind (arith, common_steps)
 
--- ---- what is true of an application at a time
+-- ---- the invariant of the application at a time
 
 pub record Works (s : MachineSettings) (t : ℕ) (placed away : List ℕ) (uses : List (ℕ × ℕ)) (a : ApplicationView) : Type 0 where
   pub serves : Serves s placed away uses a
-  -- the use under way begins at the end of the one before or later, and ends last
+  -- the use in progress begins when the previous use ended or later, and it ends after all others
   pub chain : UsesFollow s.use_time 0 (uses ++ use_of a)
   pub last : last_end 0 (uses ++ use_of a) ≤ a.end
   pub fits : a.end < 2 ^ 64
-  -- it slept before that time, and wakes for a packet
+  -- while it sleeps, its last use ended at or before this time
   pub low : a.activity ≡ Asleep → a.end ≤ t
   pub full : a.activity ≡ Waking → a.socket.items ≡ [] → ⊥
 
@@ -111,7 +111,7 @@ ended-waits (Using came) a uses is =
     ∙ (sym (counting-more (map wait_of uses) (a.end - came) no_waits)
     ∙ ap (λ (xs : List ℕ). counting xs no_waits) (sym (map-append wait_of uses ((came, a.end) ∷ []))))
 
--- each use corresponds to one time that it was woken
+-- it was woken at most once for each use
 woken-less : (w : Activity) (wakes n : ℕ) (items : List ℕ) → is_awake w ≡ true → (w ≡ Waking → items ≡ [] → ⊥)
     → wakes ≤ n + (if is_awake w then 1 else 0) → items ≡ [] → wakes ≤ n + length (being_read w)
 woken-less Asleep wakes n items awake full less empty = cc awake
@@ -126,7 +126,7 @@ woken-more (Using came) wakes n less = omega (arith, less)
 uses-length : (uses : List (ℕ × ℕ)) (a : ApplicationView) → length (uses ++ use_of a) ≡ length uses + length (being_read a.activity)
 uses-length uses a = omega (arith, length-append uses (use_of a), hand-length a.activity a.end)
 
--- the order of its packets, after the one in hand was used
+-- after the packet in use was used, the order of its packets is the same
 uses-order : (placed : List ℕ) (uses : List (ℕ × ℕ)) (a : ApplicationView)
     → placed ≡ map arrival uses ++ (being_read a.activity ++ a.socket.items) → placed ≡ map arrival (uses ++ use_of a) ++ a.socket.items
 uses-order placed uses a is =
@@ -335,7 +335,7 @@ works-refuses s t came placed away uses a w =
 
 -- ---- over all deliveries
 
--- they come one after the other, and the last one at that time or before
+-- the deliveries have increasing times, and the last one is at or before this time
 unfoldable pub Rising : ℕ → List (ℕ × ℕ) → Type 0
 Rising t [] = Unit {0}
 Rising t ((now, came) ∷ earlier) = (now ≤ t) × Rising now earlier
@@ -401,7 +401,7 @@ works-all s t ((now, came) ∷ earlier) apart fits rising =
 
 -- ---- after the end
 
--- after it takes the next one there is one packet fewer, or it sleeps
+-- after it takes its next packet, the socket has one packet fewer; without a packet it sleeps
 goes-next : (time : ℕ) (items : List ℕ) (a e : ApplicationView) → EndedBy a e → a.end < 2 ^ 64
     → let b = takes_next time items e in (b.end < 2 ^ 64) × ((x : ℕ) (more : List ℕ) → items ≡ x ∷ more → b.socket.items ≡ more)
     × (items ≡ [] → is_awake b.activity ≡ false)
@@ -425,7 +425,7 @@ not-over t a below is = by (is_awake a.activity) refl
     by false same = same
     by true same = absurd (over-not (nat_le a.end t) (leb-is a.end t below) (rw same at is))
 
--- after it has advanced as far as possible it sleeps
+-- after it has done all its work, it sleeps
 asleep-with : (time : ℕ) (items : List ℕ) (a : ApplicationView) → a.socket.items ≡ items → a.end < 2 ^ 64
     → is_awake (went_on_with items (2 ^ 64 - 1) time a).activity ≡ false
 unfolding went_on_with

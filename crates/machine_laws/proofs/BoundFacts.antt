@@ -1,4 +1,4 @@
--- On an idle processor a device's NAPI timer leads to its packets at once.
+-- Law: when a queue's NAPI timer expires on an idle processor, the queue's oldest packet is delivered at once.
 use Rattle.std.proofs.Common.{◌≡◌, ◌∙◌, ℕ, zero, suc, ◌+◌, ◌-◌, ◌<◌, ◌≤◌, Bool, true, false, Option, Some, None, List, [], ◌∷◌, ◌++◌}
 use Rattle.std.proofs.Common.{length, refl, sym, ap}
 use Rattle.std.proofs.Common.{subst, arith}
@@ -8,7 +8,7 @@ use Rattle.std.specs.List.{position_or_len}
 use Rattle.std.specs.Option.{option_map_or}
 use Rattle.std.specs.Prelude.{◌==◌, ◌&&◌, ◌||◌, if◌then◌else◌, is_some, nat_le, nat_lt, not}
 use Rattle.std.specs.Prelude.{position, slice_get}
-use Rattle.machine_words.specs.declared.settings.MachineSettings.{MachineSettings}
+use Rattle.machine_model.specs.declared.settings.MachineSettings.{MachineSettings}
 use Rattle.device_places.specs.Places.{at, changed}
 use Rattle.machine_laws.specs.{Deferrals.DeferralIsBounded, Lives.{behind}}
 use Rattle.machine_model.specs.declared.device.Phase.{Phase}
@@ -32,7 +32,7 @@ use Rattle.machine_model.specs.Device as device
 use Rattle.machine_laws.proofs.{TableFacts.{at-apart, at-changed, at-either, map_at}, WorkFacts.{Goes, goes-on, stirred}}
 use Rattle.machine_laws.proofs.LeftFacts.{Resting, list-empty, rested-on}
 
--- ---- choices
+-- ---- which work is chosen
 
 if-on : {A : Type 0} (b : Bool) (x y : A) → b ≡ true → (if b then x else y) ≡ x
 if-on true x y is = refl
@@ -42,7 +42,7 @@ if-of : {A : Type 0} (b : Bool) (x y : A) → b ≡ false → (if b then x else 
 if-of false x y is = refl
 if-of true x y is = cc is
 
--- ---- the first device that asks
+-- ---- the first queue that asks for an interrupt
 
 below-is : (ds : QueueViews) (n : ℕ) → asks_at (at n ds) ≡ true → n < length ds
 below-is [] n asks = cc asks
@@ -114,7 +114,7 @@ interrupted-is n p polling single = by (is_polling p.settings) p.settings.thread
     by true true polling single = cc single
     by false t polling single = cc polling
 
--- the timer's device asks, and no other does
+-- the queue whose timer expired asks for an interrupt, and no other queue does
 one-asks : (n : ℕ) (ds : QueueViews) (d : QueueView) (until : ℕ) → ((k : ℕ) → asks_at (at k ds) ≡ false) → at n ds ≡ Some d → d.phase
     ≡ Deferred until
     → position asks_at (changed expired n ds) ≡ Some n
@@ -128,7 +128,7 @@ one-asks n ds d until quiet there deferred =
     apart : (k : ℕ) → k < n → (n == k) ≡ false
     apart k below = grind (arith, common_steps)
 
--- after its interrupt none asks
+-- after its interrupt was taken up, no queue asks for one
 none-asks : (n : ℕ) (ds : QueueViews) → ((k : ℕ) → asks_at (at k ds) ≡ false) → (k : ℕ)
     → asks_at (at k (changed (interrupted true) n (changed expired n ds))) ≡ false
 unfolding map_at interrupted
@@ -165,7 +165,7 @@ rests-begins n p polling list =
     if-on (is_polling p.settings && not (length p.softirq.list == 0)) (begins_run p) (leaves_softirq p.rest p)
     (ap (λ (b : Bool). b && not (length p.softirq.list == 0)) polling ∙ ap (λ (xs : List ℕ). not (length xs == 0)) list)
 
--- the run asks for the device
+-- the run polls this queue first
 asks-first : (n clock : ℕ) (s : MachineSettings) (list : List ℕ) (run : Option RunView) (began : ℕ) → is_polling s ≡ true → list ≡ n ∷ []
     → asked_in (run_next (begun clock s.budget s.weight s.window (record { list = list; run = run; began = began }))).run ≡ Some n
 unfolding run_next
@@ -217,9 +217,9 @@ busy-takes : (p : ProcessorView) → is_busy p.work ≡ true → takes_up p ≡ 
 unfolding takes_up
 busy-takes p busy = rw busy refl
 
--- ---- all three
+-- ---- all three steps together
 
--- the interrupt has ended, and the first poll is under way
+-- the interrupt has ended, and the first poll of the run is in progress
 pub record PollsFirst (n : ℕ) (p q : ProcessorView) : Type 0 where
   pub work : q.work ≡ Poll n
   pub ends : q.ends ≡ saturated (p.ends + p.settings.poll)
@@ -269,7 +269,7 @@ after-poll n came p work found third =
     ap (λ (u : Upcoming). happens u p) third ∙ (ap takes_up (ended-poll n p work ∙ looks-is n came e found) ∙ busy-takes q refl) in
     subst (λ (x : ProcessorView). TakesFirst n came p x) (sym is) (record { work = refl; ends = refl })
 
--- the timer expires on an idle processor
+-- the processor after the timer expired on it, while it was idle
 abbrev pub awake : ℕ → ℕ → ProcessorView → ProcessorView
 awake until n p =
     let counts = record p.counts { interrupt_time = saturated (p.counts.interrupt_time + p.settings.wake) } in

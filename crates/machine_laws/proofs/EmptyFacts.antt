@@ -1,10 +1,10 @@
--- After its last packet few polls of a device are empty.
+-- Law: after its last packet, only a few polls of a queue are empty.
 use Rattle.std.proofs.Common.{◌≡◌, ◌∙◌, ℕ, ◌+◌, ◌-◌, ◌<◌, ◌≤◌, Bool, true, false, Option, Some, None, List, [], ◌∷◌, length, refl, sym}
 use Rattle.std.proofs.Common.{ap, subst, arith}
 use Rattle.std.{proofs.lemmas.{Bool.{eqb-true}, Grind.common_steps}, specs.{Prelude.{◌==◌, ◌&&◌, if◌then◌else◌}}}
 use Rattle.std.{specs.Prelude.{is_some, max, nat_lt, not}, proofs.Common.◌++◌}
 use Rattle.machine_model.specs.Softirq.{asked_in}
-use Rattle.{machine_words.specs.declared.settings.MachineSettings.MachineSettings, device_places.specs.Places.{at, changed}}
+use Rattle.{machine_model.specs.declared.settings.MachineSettings.MachineSettings, device_places.specs.Places.{at, changed}}
 use Rattle.machine_laws.specs.Lives.{MachineEvent, behind, next, packet}
 use Rattle.machine_laws.specs.Fates.{finds_room}
 use Rattle.machine_laws.specs.Deferrals.{EmptyPollsAreFew, emptied, emptied_by, empty_polls}
@@ -27,7 +27,7 @@ use Rattle.machine_laws.proofs.StandFacts.{Even, Stands, by_thread, devices-sche
 use Rattle.machine_model.specs.declared.processor.Upcoming.TheVariants as upcomings
 use Rattle.machine_model.specs.Device as device
 
--- ---- how many empty polls can follow
+-- ---- how many empty polls can still follow
 
 unfoldable pub most : MachineSettings → ℕ
 most s = max 1 s.defer_hard_irqs
@@ -52,7 +52,7 @@ unfoldable pub defer_in : Option QueueView → ℕ
 defer_in None = 0
 defer_in (Some d) = d.deferrals
 
--- after this many empty polls
+-- at most this many empty polls can still follow, after `count` of them
 pub record Few (s : MachineSettings) (count : ℕ) (o : Option QueueView) : Type 0 where
   pub sum : count + rest_at s o ≤ most s
   pub low : defer_in o + 1 ≤ most s
@@ -81,7 +81,7 @@ few-same : (s : MachineSettings) (count : ℕ) (o q : Option QueueView) → Few 
     → Few s count q
 few-same s count o q f rest deferrals = record { sum = omega (arith, f.sum, rest); low = omega (arith, f.low, deferrals) }
 
--- a change that keeps phase and deferrals
+-- a change of a queue that changes neither its phase nor its deferrals
 pub record Calm (f : QueueView → QueueView) : Type 0 where
   pub phase : (d : QueueView) → (f d).phase ≡ d.phase
   pub deferrals : (d : QueueView) → (f d).deferrals ≡ d.deferrals
@@ -108,7 +108,7 @@ calm-next false = record { phase = λ d. refl; deferrals = λ d. refl }
 calm-delivered : (now came : ℕ) → Calm (device.queue_delivered now came)
 calm-delivered now came = record { phase = λ d. refl; deferrals = λ d. refl }
 
--- ---- work is taken up
+-- ---- work begins
 
 few-interrupted : (s : MachineSettings) (count : ℕ) (polling : Bool) (o : Option QueueView) → asks_at o ≡ true → Few s count o
     → Few s count (map_at (interrupted polling) o)
@@ -183,7 +183,7 @@ phase-rest all Scheduled deferrals is = refl
 phase-rest all (Deferred until) deferrals is = cc is
 phase-rest all Fired deferrals is = cc is
 
--- the device's interrupt is deferred once more, or it is unmasked
+-- the queue's interrupt is deferred once more, or it is unmasked
 few-deferred : (s : MachineSettings) (count x until : ℕ) (b : Bool) (d : QueueView) → count + x ≤ most s → x ≤ most s
     → Few s count (Some (record d { deferrals = x - 1; phase = if not (x == 0) && b then Deferred until else Quiet }))
 unfolding rest_at defer_in
@@ -198,7 +198,7 @@ few-deferred s count x until b d sum low = by (x == 0) b refl
     by false true is = let some : 0 < x = positive x is in record { sum = omega (arith, sum, some); low = less }
     by false false is = record { sum = omega (arith, sum); low = less }
 
--- a poll without packets is one more, and one with packets resets the count
+-- an empty poll adds one to the count, and a poll with packets resets it
 few-completed : (s : MachineSettings) (count now given : ℕ) (d : QueueView) → is_scheduled d.phase ≡ true → Few s count (Some d)
     → Few s (if given == 0 then count + 1 else 0) (Some (queue_completed now given s d))
 unfolding queue_completed rest_at defer_in
@@ -233,7 +233,7 @@ few-polled s count now given (Some d) scheduled few short =
     is-one true is = refl
     is-one false is = cc is
 
--- a poll that used its whole weight doesn't change phase and deferrals
+-- a poll that used its whole weight changes neither the phase nor the deferrals
 pub calm-full : (s : MachineSettings) (now given : ℕ) → (given == s.weight) ≡ true → Calm (queue_polled now given s)
 unfolding queue_polled
 calm-full s now given full = record {
@@ -241,7 +241,7 @@ calm-full s now given full = record {
   deferrals = λ d. rw full refl;
 }
 
--- of each device
+-- the count of empty polls stays within its bound for each queue of the processor
 fews-polled : (s : MachineSettings) (m n count now given : ℕ) (ds : QueueViews) → ((m == n) ≡ true → scheduled_at (at n ds) ≡ 1)
     → Few s count (at n ds) → (given == s.weight) ≡ false
     → Few s (if m == n then (if given == 0 then count + 1 else 0) else count) (at n (changed (queue_polled now given s) m ds))
@@ -260,7 +260,7 @@ next-same backlog m n ds =
     at-kept scheduled_at (without_next backlog) m n ds
     (λ d. ap (λ (phase : Phase). if is_scheduled phase then 1 else 0) ((calm-next backlog).phase d))
 
--- a poll that takes its first packet
+-- a poll takes its first packet, so it isn't empty
 looks-first : (s : MachineSettings) (n m count now : ℕ) (ds : QueueViews) → ((m == n) ≡ true → scheduled_at (at n ds) ≡ 1)
     → Few s count (at n ds)
     → Looks (λ es w. Few s (if m == n && not (is_some (next_packet_at s.backlog (at m ds))) then count + 1 else count) (at n es))
@@ -286,7 +286,7 @@ looks-first s n m count now ds scheduled few =
     also true few = few
     also false few = few
 
--- a poll that has processed packets
+-- a poll that has processed packets isn't empty
 few-zero : (s : MachineSettings) (b : Bool) (count : ℕ) (o : Option QueueView) → Few s count o → Few s (if b then 0 else count) o
 few-zero s true count o few = few-none s o few.low
 few-zero s false count o few = few
@@ -330,7 +330,7 @@ emptied-rest n count (Use came) p none = refl
 few-count : (s : MachineSettings) (count other : ℕ) (o : Option QueueView) → other ≡ count → Few s count o → Few s other o
 few-count s count other o is few = record { sum = omega (arith, few.sum, is); low = few.low }
 
--- without polling
+-- an interrupt on a machine without polling
 few-lone : (s : MachineSettings) (n count : ℕ) (p : ProcessorView) (ds : QueueViews) → polled_by p.work ≡ None → count ≡ 0
     → Few s count (at n p.devices) → defer_in (at n ds) ≡ defer_in (at n p.devices) → Few s (emptied_by n p.work p count) (at n ds)
 few-lone s n count p ds none zero few same =
@@ -383,7 +383,7 @@ ends-few s n count p goes stands few lone = record {
         polled-scheduled s n m p (subst (λ (k : ℕ). Even s n (by_thread s k) p) places stands.even)
         (subst (λ (o : Option ℕ). asked_in p.softirq.run ≡ (if s.threaded then None else o)) polls goes.asked) here
 
--- ---- what disturbs, and what arrives
+-- ---- timers, interruptions and arrivals
 
 few-disturbed : (s : MachineSettings) (n count moment : ℕ) (p : ProcessorView) → Goes s p → Few s count (at n p.devices)
     → Few s count (at n (disturbed moment p).devices)
@@ -478,7 +478,7 @@ few-arrives s n count moment m p goes few =
     either (λ r. Few s k (at n r.devices)) (has_room_at (at m devices)) (disturbed moment q) q
     (λ room. few-disturbed s n k moment q (goes-devices s p q goes refl refl refl refl) now) (λ full. now)
 
--- ---- over a life
+-- ---- over a processor's life
 
 zero-if : (b : Bool) (count : ℕ) → count ≡ 0 → (if b then 0 else count) ≡ 0
 zero-if true count is = refl
@@ -489,7 +489,7 @@ emptied-none n count Never p none = refl
 emptied-none n count upcomings.Ends p none = emptied-rest n count p.work p none
 emptied-none n count (Expires timer) p none = refl
 
--- without polling there is no empty poll
+-- a machine without polling has no empty polls
 none-empty : (s : MachineSettings) (n : ℕ) (events : List MachineEvent) → is_polling s ≡ false → empty_polls n s events ≡ 0
 unfolding empty_polls
 none-empty s n [] lone = refl

@@ -1,7 +1,7 @@
--- The devices of a processor after work ends, case by case.
+-- The queues of a processor after its work ends, case by case.
 use Rattle.std.proofs.Common.{◌≡◌, ℕ, ◌+◌, ◌-◌, Bool, true, false, Option, Some, None, refl}
 use Rattle.std.specs.{Prelude.{if◌then◌else◌, option_map}}
-use Rattle.{machine_words.specs.declared.settings.MachineSettings.MachineSettings, device_places.specs.Places.{at, changed}}
+use Rattle.{machine_model.specs.declared.settings.MachineSettings.MachineSettings, device_places.specs.Places.{at, changed}}
 use Rattle.{machine_laws.specs.Fates.delivery_of, poll_runs.specs.declared.bench.{Next.TheVariants.{Gone, Repoll}, Once.Once}}
 use Rattle.std.{specs.Prelude.{◌==◌, nat_lt}, proofs.Common.◌∷◌}
 use Rattle.machine_model.specs.declared.{processor.ProcessorCounts.ProcessorCounts, tasks.RunnableTask.TheVariants.Thread}
@@ -13,7 +13,7 @@ use Rattle.machine_model.specs.Processor.{ProcessorView, delivers, delivers_olde
 use Rattle.machine_model.specs.Processor.{is_polling, poll_looks, spent}
 use Rattle.machine_laws.proofs.{WalkFacts.either, WorkFacts.looks-by}
 
--- a poll that processed this many packets takes the next one: what holds for the devices and the work after that
+-- what has to be shown if a poll that processed `given` packets takes its next one, or ends
 pub record Looks (Q : QueueViews → Work → Type 0) (s : MachineSettings) (now m given : ℕ) (devices : QueueViews) : Type 0 where
   pub some : (came : ℕ) → next_packet_at s.backlog (at m devices) ≡ Some came
       → Q (changed (without_next s.backlog) m devices) (Packet (record { device = m; came = came; given = given }))
@@ -21,7 +21,7 @@ pub record Looks (Q : QueueViews → Work → Type 0) (s : MachineSettings) (now
       → Q (changed (queue_polled now given s) m (changed (without_next s.backlog) m devices)) Nothing
   pub full : nat_lt given s.weight ≡ false → Q (changed (queue_polled now given s) m devices) Nothing
 
--- what holds for what is delivered, for the devices and the work when the work in progress ends
+-- what has to be shown when the work in progress ends: about the packet delivered, the queues, and the work after it
 pub record Ends (Q : Option (ℕ × ℕ) → QueueViews → Work → Type 0) (p : ProcessorView) : Type 0 where
   pub rest : polled_by p.work ≡ None → ((m : ℕ) → p.work ≡ Interrupt m → is_polling p.settings ≡ true) → Q None p.devices Nothing
   pub silent : (m : ℕ) → p.work ≡ Interrupt m → is_polling p.settings ≡ false → next_packet_at false (at m p.devices) ≡ None
@@ -96,7 +96,7 @@ ends-work Q (Packet hand) p counts is e =
     (record p { clock = p.ends; work = Nothing; counts = counts }) refl (e.packet hand is)
 ends-work Q (Use came) p counts is e = e.rest (ap polled_by is) (λ m same. cc (is, same))
 
--- the work in progress ends
+-- the property holds after the work in progress ends, if it holds in each case
 pub ends : (Q : Option (ℕ × ℕ) → QueueViews → Work → Type 0) (p : ProcessorView) → Ends Q p
     → Q (delivery_of p.work p) (ends_current p).devices (ends_current p).work
 unfolding ends_current

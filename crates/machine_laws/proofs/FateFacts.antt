@@ -1,8 +1,8 @@
--- The fate of packets: each is delivered in order.
+-- The fate of packets: each is delivered, in order.
 use Rattle.std.proofs.Common.{◌≡◌, ◌∙◌, ℕ, ◌+◌, ◌<◌, Bool, true, false, Option, Some, None, List, [], ◌∷◌, ◌++◌, append_assoc, length, drop}
 use Rattle.std.proofs.{Common.{refl, sym, ap, subst, arith}, lemmas.{List.append-nil, Bool.eqb-true, Grind.common_steps}}
 use Rattle.std.specs.{Prelude.{◌==◌, ◌&&◌, if◌then◌else◌, is_some, not, position, slice_get}}
-use Rattle.{machine_words.specs.declared.settings.MachineSettings.MachineSettings}
+use Rattle.{machine_model.specs.declared.settings.MachineSettings.MachineSettings}
 use Rattle.device_places.{specs.Places.{added_at, at, changed}}
 use Rattle.machine_laws.specs.Lives.{MachineEvent, behind, next, packet}
 use Rattle.machine_laws.specs.Fates.{DeliversInOrder, came, delivered_packets, next_delivery, delivery_by, delivery_of, finds_room}
@@ -25,9 +25,9 @@ use Rattle.machine_model.specs.{Kept.polled_by, declared.device.Phase.TheVariant
 use Rattle.machine_model.specs.declared.processor.Upcoming.TheVariants as upcomings
 use Rattle.machine_model.specs.Device as device
 
--- ---- a device's part that no work changes
+-- ---- a part of a queue that no work changes
 
--- a part of a device that stays as work begins and timers expire
+-- a part of a queue that stays the same when work begins and when timers expire
 pub record Blind {A : Type 0} (g : Option QueueView → A) : Type 0 where
   pub interrupted : (polling : Bool) (d : QueueView) → g (Some (interrupted polling d)) ≡ g (Some d)
   pub expired : (d : QueueView) → g (Some (expired d)) ≡ g (Some d)
@@ -80,7 +80,7 @@ seen-takes s g b n p goes =
     (goes-unasked s p goes)
     (λ busy. record { seen = refl }) (λ idle. record { seen = refl })).seen
 
--- ---- what disturbs a processor changes no device
+-- ---- an interruption of a use or an idle time changes no queue
 
 aside-devices : (moment : ℕ) (w : Work) (p : ProcessorView) → (set_aside moment w p).devices ≡ p.devices
 aside-devices moment Nothing p = refl
@@ -96,7 +96,7 @@ aside-hand n moment (Poll m) p is = refl
 aside-hand n moment (Packet hand) p is = refl
 aside-hand n moment (Use came) p is = rw is refl
 
--- the devices stay, and what a poll has in hand
+-- the queues are unchanged, and so is the packet that a poll processes
 pub record Undisturbed (p q : ProcessorView) : Type 0 where
   pub devices : q.devices ≡ p.devices
   pub hand : (n : ℕ) → hand_of n q.work ≡ hand_of n p.work
@@ -113,7 +113,7 @@ undisturbed moment p =
     (record p { clock = moment })
     (λ yes. record { devices = refl; hand = λ n. refl }) (λ no. record { devices = refl; hand = λ n. refl }))
 
--- ---- the work that is taken up has no packet in hand
+-- ---- work that begins has no packet yet
 
 pub record NoHand (n : ℕ) (p : ProcessorView) : Type 0 where
   pub none : hand_of n p.work ≡ []
@@ -163,7 +163,7 @@ hand-takes s n p goes = by (is_busy p.work) refl
         (λ no. record { settings = refl })).none
         ∙ sym (idle-hand n p.work idle)
 
--- ---- a device's queues
+-- ---- the packets of a queue
 
 unfoldable pub queued : Option QueueView → List ℕ
 queued o = taken_in o ++ queue_ring o
@@ -212,7 +212,7 @@ taken-polled now given s d =
     let e : QueueView = record d { counts = record d.counts { polls = saturated (d.counts.polls + 1) } } in
     if-same (λ (x : QueueView). x.taken) (given == s.weight) e (queue_completed now given s e) d.taken refl refl
 
--- the first of a list
+-- the first element of a list
 front-some : (xs : List ℕ) (c : ℕ) → slice_get xs 0 ≡ Some c → xs ≡ c ∷ drop 1 xs
 front-some [] c is = cc is
 front-some (x ∷ xs) c is = cc is
@@ -225,7 +225,7 @@ no-length : (xs : List ℕ) → (length xs == 0) ≡ true → xs ≡ []
 no-length [] is = refl
 no-length (x ∷ xs) is = let none : length (x ∷ xs) ≡ 0 = eqb-true (length (x ∷ xs)) 0 is in absurd (omega arith)
 
--- the next packet is the oldest
+-- the next packet of a queue is its oldest one
 taken-some : (taken ring : List ℕ) (c : ℕ) (b : Bool) → (length taken == 0) ≡ b → slice_get (if b then ring else taken) 0 ≡ Some c
     → c ∷ (drop 1 (if b then ring else taken) ++ (if b then [] else ring)) ≡ taken ++ ring
 taken-some taken ring c true none is =
@@ -271,7 +271,7 @@ unfolding map_at
 next-none-at backlog None plain is = refl
 next-none-at backlog (Some d) plain is = next-none backlog d plain is
 
--- of the devices of a processor, only that one changes
+-- only this queue of the processor changes when a poll takes its next packet
 pub look-some : (backlog : Bool) (m n c : ℕ) (ds : QueueViews) → (backlog ≡ false → taken_in (at n ds) ≡ [])
     → next_packet_at backlog (at m ds) ≡ Some c
     → (if m == n then c ∷ [] else []) ++ queued (at n (changed (without_next backlog) m ds)) ≡ queued (at n ds)
@@ -287,13 +287,13 @@ look-none backlog m n ds plain is =
     (λ here. next-none-at backlog (at n ds) plain (subst (λ (k : ℕ). next_packet_at backlog (at k ds) ≡ None) (eqb-true m n here) is))
     (λ other. refl)
 
--- without a backlog nothing is taken
+-- without a backlog, taking a packet moves none out of the ring first
 plain-next : (d : QueueView) → taken_in (Some (without_next false d)) ≡ taken_in (Some d)
 plain-next d = refl
 
--- ---- what ends
+-- ---- when work ends
 
--- what a device has: held by a poll, taken, and in its ring
+-- the packets that a queue has: the one that a poll processes, those that `process_backlog` moved, and those in its ring
 abbrev pub holds : ℕ → QueueViews → Work → List ℕ
 holds n ds w = hand_of n w ++ queued (at n ds)
 
@@ -315,7 +315,7 @@ looks-more s n m given now more xs ds l = record {
   full = λ most. ap (λ (ys : List ℕ). more ++ ys) (l.full most);
 }
 
--- nothing is taken without a backlog, nor without polling
+-- without a backlog or without polling, no packets are moved out of the ring
 abbrev pub IsPlain : MachineSettings → ℕ → QueueViews → Type 0
 IsPlain s n ds = (s.backlog && is_polling s) ≡ false → taken_in (at n ds) ≡ []
 
@@ -397,7 +397,7 @@ pub with-apart : (capacity m n : ℕ) (ds : QueueViews) → (m == n) ≡ false �
 unfolding with_device
 with-apart capacity m n ds other = grind (arith, common_steps, at-added-apart, at-made)
 
--- what holds of the device that a packet arrived for, with the packet, and of each other as it was
+-- what has to be shown when a packet arrives: about its queue, with the packet, and about each other queue, which is unchanged
 pub at-arrived : (Q : Bool → Option QueueView → Type 0) (s : MachineSettings) (moment capacity m n : ℕ) (ds : QueueViews)
     → ((m == n) ≡ true → Q true (Some (after_packet moment s (made_at capacity (at n ds))))) → ((m == n) ≡ false → Q false (at n ds))
     → Q (m == n) (at n (changed (after_packet moment s) m (with_device capacity m ds)))
@@ -410,7 +410,7 @@ at-arrived Q s moment capacity m n ds here apart =
     (here same))
     (λ other. subst (λ (o : Option QueueView). Q false o) (sym (with-apart capacity m n ds other)) (apart other))
 
--- how a device takes a packet
+-- what has to be shown about a queue for which a packet arrives: with room and without
 pub packet-by : (Q : Bool → QueueView → Type 0) (moment : ℕ) (s : MachineSettings) (d : QueueView)
     → (let e : QueueView = record d { counts = record d.counts { arrived = saturated (d.counts.arrived + 1) } } in
     let f : QueueView = record e { ring = d.ring ++ moment ∷ [] } in
@@ -457,7 +457,7 @@ unfolding made_at
 made-taken capacity None = refl
 made-taken capacity (Some d) = refl
 
--- a device that a packet arrives for has room as the device that was made for it
+-- whether a queue has room is the same before and after it is made for its first packet
 pub room-made : (capacity n : ℕ) (ds : QueueViews) → has_room_at (at n (with_device capacity n ds)) ≡ has_room (made_at capacity (at n ds))
 room-made capacity n ds = ap has_room_at (with-here capacity n ds)
 
@@ -480,7 +480,7 @@ arrived-taken moment m n p =
     at-arrived (λ same o. taken_in o ≡ taken_in (at n p.devices)) p.settings moment p.settings.ring m n p.devices
     (λ here. packet-taken moment p.settings made ∙ made-taken p.settings.ring (at n p.devices)) (λ other. refl)
 
--- ---- what is disturbed
+-- ---- when a use or an idle time is interrupted
 
 pub disturbed-part : {A : Type 0} (s : MachineSettings) (g : Option QueueView → A) → Blind g → (n moment : ℕ) (p : ProcessorView) → Goes s p
     → g (at n (disturbed moment p).devices) ≡ g (at n p.devices)
@@ -495,7 +495,7 @@ unfolding disturbed
 disturbed-hand s n moment p goes =
     hand-takes s n (stirred moment p) (work-stirred s moment p goes) ∙ (undisturbed moment p).hand n
 
--- a part of a device over an event: the event changes it as the end of work does, and no more
+-- if the end of work changes this part of a queue in the given way, so does any event
 pub part-happens : {A : Type 0} (s : MachineSettings) (g : Option QueueView → A) → Blind g
     → (Q : A → Type 0) (n : ℕ) (u : Upcoming) (p : ProcessorView)
     → Goes s p → Q (g (at n p.devices)) → Q (g (at n (ends_current p).devices)) → Q (g (at n (happens u p).devices))
@@ -507,7 +507,7 @@ part-happens {A = A} s g b Q n (Expires timer) p goes stays ended =
     subst Q (sym (disturbed-part s g b n timer.at q (goes-devices s p q goes refl refl refl refl)
     ∙ at-kept g expired timer.device n p.devices b.expired)) stays
 
--- ---- over a life
+-- ---- over a processor's life
 
 taken-next : (backlog : Bool) (d : QueueView) → backlog ≡ false → taken_in (Some (without_next backlog d)) ≡ taken_in (Some d)
 taken-next false d is = refl
@@ -572,7 +572,7 @@ plain-on s n (next ∷ earlier) plain =
     part-happens s taken_in taken-blind (λ xs. xs ≡ []) n (upcoming p) p (goes-on s earlier) (plain-on s n earlier plain)
     (ends-plain s n p (goes-on s earlier) plain (plain-on s n earlier plain))
 
--- what is held by a poll, taken or in the ring
+-- the packets that a queue has, after one more event
 happens-hold : (s : MachineSettings) (n : ℕ) (u : Upcoming) (p : ProcessorView) → Goes s p → IsPlain p.settings n p.devices
     → packet_for n (delivery_by u p) ++ holds n (happens u p).devices (happens u p).work ≡ holds n p.devices p.work
 happens-hold s n Never p goes plain = refl

@@ -2,7 +2,7 @@
 use Rattle.std.proofs.Common.{◌≡◌, ◌∙◌, ℕ, ◌+◌, ◌-◌, ◌<◌, ◌≤◌, ◌^◌, Bool, true, false, Option, Some, None, List, [], ◌∷◌, map, refl, ap}
 use Rattle.std.proofs.Common.{arith}
 use Rattle.std.{specs.{List.AllByRecursion, Prelude.{◌==◌, ◌&&◌, if◌then◌else◌, not}}}
-use Rattle.machine_words.specs.declared.settings.MachineSettings.{MachineSettings}
+use Rattle.machine_model.specs.declared.settings.MachineSettings.{MachineSettings}
 use Rattle.machine_laws.specs.{Lives.{MachineEvent, InTurn, behind, next, packet}, Times.NoWaitIsLess}
 use Rattle.machine_laws.specs.Fates.{next_delivery, delivery_by, delivery_of, packet_for, use_by, use_waits, used_by, packet_waits}
 use Rattle.machine_model.specs.declared.processor.{Work.{Work, TheVariants.{Nothing, Interrupt, Poll, Packet, Use}}, InHand.InHand}
@@ -12,7 +12,7 @@ use Rattle.machine_laws.proofs.{OverFacts.{both, over}, TimeFacts.{IsFair, Timed
 use Rattle.machine_laws.proofs.WorkFacts.{Goes, goes-on, work-ended}
 use Rattle.machine_model.specs.declared.processor.Upcoming.TheVariants as upcomings
 
--- the waits of what is delivered at the end of the work
+-- the waits of the packets delivered when the work ends
 given-waits : (s : MachineSettings) (n : ℕ) (p : ProcessorView) (o : Option (ℕ × ℕ)) → delivery_of p.work p ≡ o
     → is_polling p.settings ≡ true
     → ((hand : InHand) → p.work ≡ Packet hand → saturated (hand.came + s.packet) ≤ p.ends) → p.ends < 2 ^ 64 - 1
@@ -35,7 +35,7 @@ used-waits s p (Poll n) is using low = tt
 used-waits s p (Packet hand) is using low = tt
 used-waits s p (Use came) is using low = let below = using came is in (omega (arith, below, low), tt)
 
--- the clock after the next event is the time at which work ends
+-- if the next event is the end of work, the clock after it is the time of that end
 ends-clock : (s : MachineSettings) (p : ProcessorView) → Goes s p → (takes_up (ends_current p)).clock ≡ p.ends
 ends-clock s p goes = clock-takes s (ends_current p) (work-ended s p goes) ∙ (over p).clock
 

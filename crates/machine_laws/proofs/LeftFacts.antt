@@ -1,11 +1,11 @@
--- When nothing is left to happen, no packet is left.
+-- Law: when nothing is left to happen, no packet is left.
 use Rattle.std.proofs.Common.{◌≡◌, ◌∙◌, ℕ, zero, suc, ◌+◌, ◌-◌, ◌<◌, ◌≤◌, ◌^◌, Bool, true, false, Option, Some, None, List, [], ◌∷◌, ◌++◌}
 use Rattle.std.proofs.Common.{length, refl, sym}
 use Rattle.std.proofs.Common.{ap, subst, arith}
 use Rattle.std.proofs.lemmas.Bool.{eqb-true, eqb-false, leb-false, ltb-false}
 use Rattle.std.proofs.lemmas.List.Sums.{sum_by-append, sum_by-cons}
 use Rattle.std.specs.{Prelude.{◌==◌, ◌&&◌, if◌then◌else◌, is_some, min, nat_lt, not, position}, List.position_or_len}
-use Rattle.{machine_words.specs.declared.settings.MachineSettings.MachineSettings, device_places.specs.Places.{at, changed}}
+use Rattle.{machine_model.specs.declared.settings.MachineSettings.MachineSettings, device_places.specs.Places.{at, changed}}
 use Rattle.machine_laws.specs.{Lives.{MachineEvent, behind, next, packet}, Fates.{NothingIsLeft, queue_ring, taken_in}}
 use Rattle.machine_model.specs.declared.{device.Phase.{Phase, TheVariants.{Quiet, Coalescing, Raised, Scheduled, Deferred, Fired}}}
 use Rattle.machine_model.specs.declared.processor.{Work.{Work, TheVariants.{Nothing, Interrupt, Poll, Packet, Use}}}
@@ -38,7 +38,7 @@ use Rattle.machine_laws.proofs.TendFacts.{Early, EarlyUp, TendAt, next-early, no
 use Rattle.machine_laws.proofs.{TimeFacts.{since}, TimerFacts.{Late, NextBy, NotBefore, next-is, timer_in}}
 use Rattle.machine_model.specs.declared.processor.Upcoming.TheVariants as upcomings
 
--- ---- tasks
+-- ---- runnable tasks
 
 abbrev pub is_one : RunnableTask → ℕ
 is_one task = if is_application task then 1 else 0
@@ -77,7 +77,7 @@ apps-with tasks most = by (applications tasks == 0) refl
         omega (arith, apps-append tasks (Application ∷ []), apps-cons Application [], zero, none)
     by false is = let some : applications tasks ≡ 0 → ⊥ = eqb-false (applications tasks) 0 is in omega (arith, some, most)
 
--- the application is a task at most once, and it is one if its socket isn't empty
+-- the application is among the tasks at most once, and it is there if its socket isn't empty
 pub record Tasked (s : MachineSettings) (p : ProcessorView) : Type 0 where
   pub settings : p.settings ≡ s
   pub single : applications p.tasks ≤ 1
@@ -129,9 +129,9 @@ tasked-settle s tasks p h is = record {
         let zero : length p.application.socket.items ≡ 0 = eqb-true (length p.application.socket.items) 0 none in omega (arith, zero)
     by false some before = before
 
--- ---- nothing is taken up
+-- ---- no work begins
 
--- an idle processor has nothing to do
+-- a processor without work in progress has nothing to do
 pub record Resting (p : ProcessorView) : Type 0 where
   pub quiet : (n : ℕ) → asks_at (at n p.devices) ≡ false
   pub idle : p.softirq.run ≡ None
@@ -168,7 +168,7 @@ position-none ds none = by (nat_lt (position_or_len asks_at ds) (length ds)) ref
     by true less none = cc none
     by false more none = all-quiet ds (ltb-false (position_or_len asks_at ds) (length ds) more)
 
--- it has no task
+-- the application isn't among the tasks twice
 two-apps : (more before : List RunnableTask) → Application ∷ more ≡ runnable true before → applications before ≤ 1 → ⊥
 two-apps more [] is most = cc is
 two-apps more (Application ∷ rest) is most =
@@ -248,7 +248,7 @@ rested-takes : (s : MachineSettings) (p : ProcessorView) → Goes s p → Tasked
 rested-takes s p goes h =
     walk-any (Tasked s) (Rested s) (rested-walk s) p (goes-unasked s p goes) (λ busy. busy-rested s p busy h) (λ idle. h)
 
--- ---- work ends
+-- ---- when work ends
 
 tasked-polled : (s : MachineSettings) (n given : ℕ) (p : ProcessorView) → Tasked s p → Tasked s (ends_poll n given p)
 unfolding ends_poll
@@ -335,7 +335,7 @@ tasked-ended s p h =
     let q : ProcessorView = record p { clock = p.ends; work = Nothing; counts = spent p.work (p.ends - p.clock) p.counts } in
     tasked-work s p.work q (tasked-of s p q h refl refl (omega arith))
 
--- ---- what disturbs
+-- ---- when a use or an idle time is interrupted
 
 tasked-aside : (s : MachineSettings) (moment : ℕ) (w : Work) (p : ProcessorView) → Tasked s p → Tasked s (set_aside moment w p)
 tasked-aside s moment Nothing p h = h
@@ -359,7 +359,7 @@ rested-disturbed : (s : MachineSettings) (moment : ℕ) (p : ProcessorView) → 
 unfolding disturbed
 rested-disturbed s moment p goes h = rested-takes s (stirred moment p) (work-stirred s moment p goes) (tasked-stirred s moment p h)
 
--- ---- over a life
+-- ---- over a processor's life
 
 rested-happens : (s : MachineSettings) (u : Upcoming) (p : ProcessorView) → Goes s p → Rested s p → Rested s (happens u p)
 rested-happens s Never p goes h = h
@@ -368,7 +368,7 @@ rested-happens s (Expires timer) p goes h =
     let q : ProcessorView = record p { devices = changed expired timer.device p.devices } in
     rested-disturbed s timer.at q (goes-devices s p q goes refl refl refl refl) (tasked-of s p q h.tasked refl refl (omega arith))
 
--- a packet that finds no room changes no phase
+-- a packet that finds no room doesn't change the phase of its queue
 full-phase : (moment : ℕ) (s : MachineSettings) (d : QueueView) → has_room d ≡ false → (after_packet moment s d).phase ≡ d.phase
 unfolding after_packet
 full-phase moment s d full = rw full refl
@@ -435,7 +435,7 @@ rested-on s (next ∷ earlier) = let p = behind s earlier in rested-happens s (u
 
 -- ---- at the end
 
--- what is due never happens
+-- if nothing happens next, nothing will ever happen
 ends-never : (u : Upcoming) (p : ProcessorView) → NextBy u p → EarlyUp u → (is_busy p.work ≡ true → p.ends < 2 ^ 64)
     → is_by (2 ^ 64 - 1) u p ≡ false → NotBefore (2 ^ 64) p
 ends-never Never p is early fits none = is (2 ^ 64)
@@ -451,7 +451,7 @@ idle-nothing (Poll n) busy = absurd (busy refl)
 idle-nothing (Packet hand) busy = absurd (busy refl)
 idle-nothing (Use came) busy = absurd (busy refl)
 
--- a device that neither asks, nor waits, nor is scheduled is quiet
+-- a queue that neither asks for an interrupt, nor waits for a timer, nor is scheduled is quiet
 phase-quiet : (phase : Phase) → asks phase ≡ false → Late (2 ^ 64) (timer_of phase) → Early (timer_of phase) → is_scheduled phase ≡ false
     → phase ≡ Quiet
 phase-quiet Quiet none late early free = refl
@@ -492,7 +492,7 @@ both-false : (a b : Bool) → b ≡ false → (a && b) ≡ false
 both-false true b is = is
 both-false false b is = refl
 
--- its number is nowhere
+-- a queue that isn't scheduled has its number neither on the list, nor in the run, nor among the tasks
 placeless : (s : MachineSettings) (n : ℕ) (p : ProcessorView) → Goes s p → Resting p → places n p ≡ 0
 unfolding listed_at count
 placeless s n p goes r =

@@ -20,3 +20,4 @@ pub mod NearFacts
 pub mod BoundFacts
 pub mod RunFacts
 pub mod LifeFacts
+pub mod LivesFacts

@@ -1,11 +1,11 @@
--- Each processor of a machine lived, and its events are determined.
+-- Each processor of a machine has a life (a list of events), and its events are determined.
 use Rattle.std.proofs.Common.{◌≡◌, ◌∙◌, ℕ, zero, suc, ◌-◌, ◌/◌, ◌%◌, ◌<◌, ◌≤◌, ◌^◌, Bool, true, false, Some, List, [], ◌∷◌, length}
 use Rattle.std.proofs.Common.{length-set, replicate, refl, slice_set, sym, ap, arith}
 use Rattle.std.proofs.lemmas.Option.{slice_get_within}
 use Rattle.std.proofs.lemmas.Bool.{eq-eqb, eqb-false}
 use Rattle.std.specs.Prelude.{◌==◌, slice_get}
 use Rattle.circular_buffer.proofs.Places.{slice_get-set_other, slice_get-set_same, slice_get-some}
-use Rattle.{std.proofs.lemmas.{Bool.{eqb-true}, Grind.common_steps}, machine_words.specs.declared.settings.MachineSettings.MachineSettings}
+use Rattle.{std.proofs.lemmas.{Bool.{eqb-true}, Grind.common_steps}, machine_model.specs.declared.settings.MachineSettings.MachineSettings}
 use Rattle.machine_laws.specs.Lives.{ArrivesAsOne, EachLives, Ended, MachineEvent, InTurn, Lived, RunsAsOne, Took, behind, next}
 use Rattle.machine_laws.specs.Lives.{own_packets, packet}
 use Rattle.machine_laws.specs.Lives.{packets_in}
@@ -14,7 +14,7 @@ use Rattle.machine_model.specs.Processor.{Advances, ProcessorView, processor_aft
 use Rattle.machine_model.specs.Processor.{upcoming}
 use Rattle.machine_model.specs.declared.processor.Upcoming.{Upcoming, TheVariants.{Never, Ends, Expires}}
 
--- of two runs up to the same moment, neither has fewer steps than the other
+-- two runs up to the same time have the same number of steps: neither has fewer
 never-less : (moment : ℕ) (p q r : ProcessorView) → (f : Advances moment p q) → (g : Advances moment p r) → f.count < g.count → ⊥
 never-less moment p q r f g less = grind (arith, common_steps)
 
@@ -36,7 +36,7 @@ arrives-as-one moment device before after other f g =
 
 -- ---- a processor
 
--- what is due by a moment is due by a later one
+-- an event that is due by a time is due by a later time
 by-later : (moment until : ℕ) (u : Upcoming) (p : ProcessorView) → moment ≤ until → is_by moment u p ≡ true → is_by until u p ≡ true
 by-later moment until Never p most due = cc due
 by-later moment until Ends p most due = grind (arith, common_steps)
@@ -66,7 +66,7 @@ unfolding behind InTurn packets_in
 lived-next s moment packets p l due =
     record { events = next ∷ l.events; behind = ap step l.behind; turns = (rw l.behind at due, l.turns); came = l.came }
 
--- steps that are due
+-- the steps of a life up to a time are due by that time
 lived-after : (s : MachineSettings) (moment : ℕ) (packets : List (ℕ × ℕ)) (p : ProcessorView) → Lived s moment packets p → (count : ℕ)
     → ((n : ℕ) → n < count → is_due moment (processor_after n p) ≡ true) → Lived s moment packets (processor_after count p)
 unfolding processor_after
@@ -93,7 +93,7 @@ lived-arrives s moment n packets p l none = record {
 
 -- ---- the machine
 
--- how many there are, and each of them
+-- the machine has this many processors, and each has a life
 pub record AllLived (s : MachineSettings) (until : ℕ) (packets : List (ℕ × ℕ)) (m : Machine) : Type 0 where
   pub count : length m ≡ s.processors
   pub each : (number : ℕ) (p : ProcessorView) → slice_get m number ≡ Some p → Lived s until (own_packets s.processors number packets) p

@@ -1,8 +1,8 @@
--- A NAPI timer is at most `gro-flush-timeout` ahead.
+-- Law: a queue's NAPI timer expires at most `gro-flush-timeout` after it was set.
 use Rattle.std.proofs.Common.{◌≡◌, ℕ, ◌+◌, ◌<◌, ◌≤◌, ◌^◌, Bool, true, false, Option, Some, None, List, [], ◌∷◌, ◌++◌, length, refl, sym}
 use Rattle.std.proofs.Common.{ap, subst, arith}
 use Rattle.std.specs.Prelude.{◌==◌, ◌&&◌, ◌||◌, if◌then◌else◌, nat_le, not}
-use Rattle.{machine_words.specs.declared.settings.MachineSettings.MachineSettings, device_places.specs.Places.{at, changed}}
+use Rattle.{machine_model.specs.declared.settings.MachineSettings.MachineSettings, device_places.specs.Places.{at, changed}}
 use Rattle.machine_laws.specs.{Deferrals.TimersAreNear, Lives.{MachineEvent, InTurn, behind, next, packet}}
 use Rattle.machine_model.specs.declared.device.Phase.{Phase}
 use Rattle.machine_model.specs.declared.device.Phase.TheVariants.{Quiet, Coalescing, Raised, Scheduled, Deferred, Fired}
@@ -127,7 +127,7 @@ near-polled now given s d near = by (given == s.weight)
 near-next : (end : ℕ) (backlog : Bool) (d : QueueView) → NearBy end d.phase → NearBy end (without_next backlog d).phase
 near-next end backlog d near = subst (λ (x : Phase). NearBy end x) (sym ((calm-next backlog).phase d)) near
 
--- ---- work is taken up and ends
+-- ---- when work begins and ends
 
 pub record Nears (end n : ℕ) (p : ProcessorView) : Type 0 where
   pub near : Near end (at n p.devices)
@@ -208,7 +208,7 @@ near-disturbed s end n moment p goes near =
     nears-takes s end n (stirred moment p) (work-stirred s moment p goes)
     (subst (λ (ds : QueueViews). Near end (at n ds)) (sym (undisturbed moment p).devices) near)
 
--- ---- over a life
+-- ---- over a processor's life
 
 near-happens : (s : MachineSettings) (t n : ℕ) (u : Upcoming) (p : ProcessorView) → Goes s p → t ≤ time_by u p t
     → Near (t + s.gro_flush_timeout) (at n p.devices)

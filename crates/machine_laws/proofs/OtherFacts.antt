@@ -1,7 +1,7 @@
--- The receiving side is the same with any other application on a processor of its own.
+-- Law: the receiving side stays the same if the application on its own processor is replaced by another one.
 use Rattle.std.proofs.Common.{◌≡◌, ◌∙◌, ℕ, ◌+◌, ◌-◌, Bool, true, false, Option, Some, None, List, [], ◌∷◌, ◌++◌, refl, sym, ap, subst}
 use Rattle.std.specs.{Option.option_map_or, Prelude.{◌==◌, ◌&&◌, if◌then◌else◌, is_some, length, nat_lt, not, position, slice_get}}
-use Rattle.{machine_words.specs.declared.settings.MachineSettings.MachineSettings, device_places.specs.Places.{at, changed}}
+use Rattle.{machine_model.specs.declared.settings.MachineSettings.MachineSettings, device_places.specs.Places.{at, changed}}
 use Rattle.machine_laws.specs.Lives.{MachineEvent, InTurn, behind, next, packet}
 use Rattle.machine_laws.specs.Applications.{ReceivingIsApart, changed_application, deliveries, fed_all}
 use Rattle.machine_model.specs.declared.processor.{Work.{Work, TheVariants.{Nothing, Interrupt, Poll, Packet, Use}}, Rest.Rest}
@@ -30,7 +30,7 @@ use Rattle.machine_laws.proofs.ApartFacts.{AllThreads, Alone, alone-of, alone-on
 use Rattle.machine_laws.proofs.WorkFacts.{goes-on, stirred, work-ended}
 use Rattle.machine_model.specs.declared.processor.Upcoming.TheVariants as upcomings
 
--- this processor with another application
+-- the processor with another application and its settings
 abbrev pub other : MachineSettings → ApplicationView → ProcessorView → ProcessorView
 other t b p = record p { settings = changed_application p.settings t; application = b }
 
@@ -53,12 +53,12 @@ is-option : (t : MachineSettings) (o : Option ℕ) (f g : ℕ → ProcessorView)
 is-option t None f g x y some none = none
 is-option t (Some n) f g x y some none = some n
 
--- a step of both
+-- a step of the processor with the other application is the step of the original processor, with the other application
 is-map : (t : MachineSettings) (f : ProcessorView → ProcessorView) (x y : ProcessorView) → IsOther t x y
     → ((b : ApplicationView) → IsOther t (f x) (f (other t b x))) → IsOther t (f x) (f y)
 is-map t f x y is step = let r = step is.0 in (r.0, ap f is.1 ∙ r.1)
 
--- ---- what is taken up
+-- ---- when work begins
 
 is-scheduled : (t : MachineSettings) (c : Bool) (n : ℕ) (b : ApplicationView) (p : ProcessorView)
     → IsOther t (if c then scheduled n p else p) (if c then scheduled n (other t b p) else other t b p)
@@ -160,7 +160,7 @@ is-takes t b p apart all =
     (is-if t (is_some p.softirq.run) (goes_on p) (rests p) (goes_on (other t b p)) (rests (other t b p)) (is-goes t b p apart all)
     (is-rests t b p apart all)))
 
--- ---- what ends
+-- ---- when work ends
 
 if-false : (c : Bool) (xs ys : List RunnableTask) → c ≡ false → (if c then xs else ys) ≡ ys
 if-false false xs ys is = refl
@@ -239,7 +239,7 @@ unfolding ends_current
 is-ended t b p apart =
     is-ends t p.work b (record p { clock = p.ends; work = Nothing; counts = spent p.work (p.ends - p.clock) p.counts }) apart
 
--- ---- what disturbs
+-- ---- when a use or an idle time is interrupted
 
 is-aside : (t : MachineSettings) (moment : ℕ) (w : Work) (b : ApplicationView) (p : ProcessorView)
     → IsOther t (set_aside moment w p) (set_aside moment w (other t b p))
@@ -263,7 +263,7 @@ is-stirred t moment b p =
     (b, refl)
     (b, refl))
 
--- what is known of the application in both
+-- what both processors have in common, and what each application depends on
 apart-of : (s : MachineSettings) (a : ApplicationView) (p : ProcessorView) → s.apart ≡ true → Alone s a p → p.settings.apart ≡ true
 apart-of s a p apart h = ap (λ (x : MachineSettings). x.apart) h.settings ∙ apart
 
@@ -276,7 +276,7 @@ is-disturbed s t a moment b p apart h =
     is-map t takes_up (stirred moment p) (stirred moment (other t b p)) (is-stirred t moment b p)
     (λ c. is-takes t c (stirred moment p) (apart-of s a (stirred moment p) apart k) k.tasks)
 
--- ---- over a life
+-- ---- over a processor's life
 
 is-happens : (s t : MachineSettings) (a : ApplicationView) (u : Upcoming) (b : ApplicationView) (p : ProcessorView) → s.apart ≡ true
     → Alone s a p
@@ -301,7 +301,7 @@ is-arrives s t a moment n b p apart h =
     is-if t (has_room_at (at n devices)) (disturbed moment q) q (disturbed moment (other t b q)) (other t b q)
     (is-disturbed s t a moment b q apart (alone-of s a p q h refl refl h.unused refl h.tasks)) (b, refl)
 
--- with the settings of the life, or with those of the processor
+-- the settings that both processors have, apart from those of the application
 made : (s t : MachineSettings) (p q : ProcessorView) → p.settings ≡ s → IsOther t p q
     → (b : ApplicationView) × (q ≡ record p { settings = changed_application s t; application = b })
 made s t p q is o = (o.0, o.1 ∙ ap (λ (x : MachineSettings). record p { settings = changed_application x t; application = o.0 }) is)
@@ -312,7 +312,7 @@ unmade : (s t : MachineSettings) (p q : ProcessorView)
 unmade s t p q o is =
     (o.0, o.1 ∙ ap (λ (x : MachineSettings). record p { settings = changed_application x t; application = o.0 }) (sym is))
 
--- the same events have the same effect on both, except for the settings and the application
+-- the same events have the same effect on both processors, except on the settings and the application
 other-on : (s t : MachineSettings) (events : List MachineEvent) → s.apart ≡ true
     → (b : ApplicationView) ×
     (behind (changed_application s t) events ≡ record (behind s events) { settings = changed_application s t; application = b })
@@ -343,7 +343,7 @@ due-other s t b moment p Never = refl
 due-other s t b moment p upcomings.Ends = refl
 due-other s t b moment p (Expires timer) = refl
 
--- what is due is due in both
+-- an event that is due on one processor is due on the other
 turns-on : (s t : MachineSettings) (until : ℕ) (events : List MachineEvent) → s.apart ≡ true → InTurn s until events
     → InTurn (changed_application s t) until events
 unfolding InTurn

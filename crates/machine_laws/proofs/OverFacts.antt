@@ -1,4 +1,4 @@
--- Lists of times, and the state of a processor after its work has ended.
+-- Lists of times, and the state of a processor just after its work has ended.
 use Rattle.std.proofs.Common.{◌≡◌, ℕ, ◌+◌, ◌-◌, true, false, Option, Some, None, List, [], ◌∷◌, ◌++◌, refl, ap}
 use Rattle.std.specs.{List.AllByRecursion, Prelude.{◌==◌, if◌then◌else◌}}
 use Rattle.{device_places.specs.Places.{at, changed}}
@@ -28,9 +28,9 @@ pub weaker : (P Q : ℕ → Type 0) (xs : List ℕ) → ((x : ℕ) → P x → Q
 weaker P Q [] so all = tt
 weaker P Q (x ∷ xs) so all = (so x all.0, weaker P Q xs so all.1)
 
--- ---- work ends
+-- ---- when work ends
 
--- when work has ended
+-- p's work has ended in q: nothing else has changed yet
 pub record Over (p q : ProcessorView) : Type 0 where
   pub settings : q.settings ≡ p.settings
   pub clock : q.clock ≡ p.clock

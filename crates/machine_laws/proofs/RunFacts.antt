@@ -1,14 +1,14 @@
--- The events on a processor end.
+-- Law: the events on a processor end.
 use Rattle.std.proofs.Common.{◌≡◌, ◌∙◌, ℕ, zero, suc, ◌<◌, Bool, true, false, None, refl, sym, ap, subst, arith}
 use Rattle.std.specs.Prelude.{if◌then◌else◌}
-use Rattle.{machine_words.specs.declared.settings.MachineSettings.MachineSettings}
+use Rattle.{machine_model.specs.declared.settings.MachineSettings.MachineSettings}
 use Rattle.{machine_laws.specs.{Deferrals.EveryRunEnds, Lives.behind}}
 use Rattle.machine_model.specs.Processor.{Advances, ProcessorView, processor_after, is_due, step, upcoming}
 use Rattle.machine_model.proofs.LeftFacts.{left, load, step-asked}
 use Rattle.machine_model.specs.{Kept.polled_by, Softirq.asked_in}
 use Rattle.machine_laws.proofs.WorkFacts.{Goes, goes-on, work-happens}
 
--- a step first, or last
+-- n + 1 steps are a step followed by n steps, or n steps followed by one
 after-step : (count : ℕ) (p : ProcessorView) → processor_after count (step p) ≡ processor_after (suc count) p
 unfolding processor_after
 after-step zero p = refl

@@ -3,7 +3,7 @@ use Rattle.std.proofs.Common.{◌≡◌, ◌∙◌, ℕ, ◌+◌, ◌-◌, Bool,
 use Rattle.std.proofs.Common.{length-append, map}
 use Rattle.std.proofs.{Common.{refl, sym, ap, subst, arith}, lemmas.{List.append-nil, Grind.common_steps}}
 use Rattle.std.specs.Prelude.{◌==◌, if◌then◌else◌, is_some, not, option_map, position}
-use Rattle.{machine_words.specs.declared.settings.MachineSettings.MachineSettings, device_places.specs.Places.{at, changed}}
+use Rattle.{machine_model.specs.declared.settings.MachineSettings.MachineSettings, device_places.specs.Places.{at, changed}}
 use Rattle.machine_laws.specs.Lives.{MachineEvent, behind, next, packet}
 use Rattle.machine_laws.specs.Fates.{TellsOfUse, UsesInOrder, counting, next_delivery, delivery_by, delivery_of, kept, placed, refused}
 use Rattle.machine_laws.specs.Fates.{resting, use_by, use_waits, used_by}
@@ -26,9 +26,9 @@ use Rattle.machine_laws.proofs.{WalkFacts.{Walk, either, walk-any}, TallyFacts.c
 use Rattle.machine_laws.proofs.WorkFacts.{Goes, goes-devices, goes-on, goes-unasked, looks-by, stirred, work-ended, work-stirred}
 use Rattle.machine_model.specs.declared.processor.Upcoming.TheVariants as upcomings
 
--- ---- what the end of work does to the application
+-- ---- the effect of the end of work on the application
 
--- the part of a processor that doesn't depend on the way of polling
+-- two processors are equal in the part that polling and interrupts don't change
 pub record Same (p q : ProcessorView) : Type 0 where
   pub application : q.application ≡ p.application
   pub rest : q.rest ≡ p.rest
@@ -55,7 +55,7 @@ same-looks n given p nothing =
     record { application = e.application; rest = e.rest; unused = e.unused })
     (λ full. same-polled n given p nothing)
 
--- what holds for what is delivered, for what was used and for the application when the work in progress ends
+-- what has to be shown when the work in progress ends: about the packet delivered, the packets used, and the application
 pub record Feeds (Q : Option (ℕ × ℕ) → List ℕ → ApplicationView → Type 0) (p : ProcessorView) : Type 0 where
   pub none : Q None [] p.application
   pub gives : (m came : ℕ) → delivery_of p.work p ≡ Some (m, came) → Q (Some (m, came)) [] (fed p.ends came p.settings p.application)
@@ -122,15 +122,15 @@ pub feeds : (Q : Option (ℕ × ℕ) → List ℕ → ApplicationView → Type 0
 unfolding ends_current
 feeds Q p f = feeds-work Q p.work p (spent p.work (p.ends - p.clock) p.counts) refl f
 
--- ---- what holds as work is taken up
+-- ---- what holds when work begins
 
--- nothing is used: the packets of an interrupted use and of the socket
+-- no packet is in use: these are the packets of an interrupted use and of the socket
 pub record Holds (xs : List ℕ) (r : ℕ) (v : WaitsView) (p : ProcessorView) : Type 0 where
   pub items : resting p.rest ++ p.application.socket.items ≡ xs
   pub refused : p.application.refused ≡ r
   pub waits : p.application.waits ≡ v
 
--- and with the packet that is used; no use was interrupted then
+-- a packet is in use, and these are the packets still to use; then no other use was interrupted
 pub record Uses (xs : List ℕ) (r : ℕ) (v : WaitsView) (p : ProcessorView) : Type 0 where
   pub items : used_by p.work ++ (resting p.rest ++ p.application.socket.items) ≡ xs
   pub refused : p.application.refused ≡ r
@@ -201,7 +201,7 @@ use-walk xs r v = record {
 idle-unused : (w : Work) → is_busy w ≡ false → used_by w ≡ []
 idle-unused w idle = grind (arith, common_steps)
 
--- taking up work doesn't change what the application has to use
+-- when work begins, the packets that the application still has to use stay the same
 use-takes : (s : MachineSettings) (xs : List ℕ) (r : ℕ) (v : WaitsView) (p : ProcessorView) → Goes s p → Uses xs r v p
     → Uses xs r v (takes_up p)
 use-takes s xs r v p goes u =
@@ -212,7 +212,7 @@ use-takes s xs r v p goes u =
       waits = u.waits;
     })
 
--- ---- what disturbs
+-- ---- when a use or an idle time is interrupted
 
 use-aside : (xs : List ℕ) (r : ℕ) (v : WaitsView) (moment : ℕ) (w : Work) (p : ProcessorView) → p.work ≡ w → Uses xs r v p
     → Uses xs r v (set_aside moment w p)
@@ -261,7 +261,7 @@ pub fed-here : (s : MachineSettings) (now came : ℕ) (a : ApplicationView) → 
 unfolding fed
 fed-here s now came a here = rw here refl
 
--- what was delivered and used: the socket has those that found room, and the others are dropped
+-- what was delivered and used: of the packets delivered, the socket has those that found room, and the others were dropped
 pub record Moved (now : ℕ) (a : ApplicationView) (gives : Option (ℕ × ℕ)) (used : List ℕ) (b : ApplicationView) : Type 0 where
   pub items : b.socket.items ≡ a.socket.items ++ placed (has_place a) gives
   pub refused : (k : ℕ) → a.refused ≡ saturated k → b.refused ≡ saturated (k + length (placed (not (has_place a)) gives))
@@ -318,7 +318,7 @@ moved s p settings here =
       uses = λ came is. moved-uses p.ends came p.application;
     })
 
--- ---- over a life
+-- ---- over a processor's life
 
 pub record Lives (s : MachineSettings) (events : List MachineEvent) : Type 0 where
   pub order : kept s events ≡ fate.used_packets s events ++ (used_by (behind s events).work
@@ -327,7 +327,7 @@ pub record Lives (s : MachineSettings) (events : List MachineEvent) : Type 0 whe
   pub waits : (behind s events).application.waits ≡ counting (use_waits s events) no_waits
   pub alone : (came : ℕ) → (behind s events).work ≡ Use came → (behind s events).rest ≡ None
 
--- what happens, as it is delivered and used
+-- what one event delivers and uses
 pub record Happened (p : ProcessorView) (gives : Option (ℕ × ℕ)) (first : List ℕ) (q : ProcessorView) : Type 0 where
   pub items : first ++ (used_by q.work ++ (resting q.rest ++ q.application.socket.items))
       ≡ (used_by p.work ++ (resting p.rest ++ p.application.socket.items)) ++ placed (has_place p.application) gives
@@ -362,7 +362,7 @@ uses-of : (p : ProcessorView) → ((came : ℕ) → p.work ≡ Use came → p.re
     → Uses (used_by p.work ++ (resting p.rest ++ p.application.socket.items)) p.application.refused p.application.waits p
 uses-of p alone = record { items = refl; refused = refl; waits = refl; alone = alone }
 
--- work ends whose packet was used
+-- the work that ends is the use of the oldest packet
 used-first : (w : Work) (rest : Option Rest) (items more : List ℕ) → ((came : ℕ) → w ≡ Use came → rest ≡ None)
     → used_by w ++ (resting rest ++ (items ++ more)) ≡ (used_by w ++ (resting rest ++ items)) ++ more
 used-first w rest items more alone =

@@ -1,5 +1,5 @@
--- A device is scheduled if and only if its number is on the poll list, in the run, among the tasks or being polled, and it is
--- there once.
+-- Law: a queue is scheduled if and only if its number is on the poll list, in the run, among the tasks, or being polled; and it
+-- is in only one of these places.
 use Rattle.std.proofs.Common.{◌≡◌, ◌∙◌, ℕ, ◌+◌, ◌-◌, ◌≤◌, Bool, true, false, Option, Some, None, List, [], ◌∷◌, ◌++◌, drop, length, refl}
 use Rattle.std.proofs.Common.{sym, ap, subst, arith}
 use Rattle.std.proofs.lemmas.Bool.{eqb-true}
@@ -7,7 +7,7 @@ use Rattle.std.proofs.lemmas.Grind.{common_steps}
 use Rattle.std.specs.Option.{option_map_or}
 use Rattle.std.specs.Prelude.{◌==◌, ◌&&◌, ◌||◌, if◌then◌else◌, is_some}
 use Rattle.std.specs.Prelude.{nat_le, not, position, slice_get}
-use Rattle.{machine_words.specs.declared.settings.MachineSettings.MachineSettings, device_places.specs.Places.{at, changed}}
+use Rattle.{machine_model.specs.declared.settings.MachineSettings.MachineSettings, device_places.specs.Places.{at, changed}}
 use Rattle.machine_laws.specs.Lives.{MachineEvent, behind, next, packet}
 use Rattle.poll_runs.specs.{Turn.asked_for, declared.bench.{Next.TheVariants.{Gone, Repoll}, Once.Once}}
 use Rattle.machine_model.specs.declared.{device.Phase.{Phase, TheVariants.{Quiet, Coalescing, Raised, Scheduled, Deferred, Fired}}}
@@ -101,7 +101,7 @@ listed-told : (n m : ℕ) (full : Bool) (work : ℕ) (list : List ℕ) (run : Op
 unfolding listed_at count_in softirq_polled count
 listed-told n m full work list run began asked = grind (arith, common_steps, count-append)
 
--- ---- tasks
+-- ---- runnable tasks
 
 unfoldable pub threads : ℕ → List RunnableTask → ℕ
 threads n [] = 0
@@ -131,7 +131,7 @@ unfolding with_application
 threads-woken n true tasks = threads-with n _ tasks
 threads-woken n false tasks = refl
 
--- ---- a device
+-- ---- one queue
 
 abbrev pub masked_at : Option QueueView → Bool
 masked_at o = option_map_or (λ d. is_masked d.phase) o false
@@ -184,7 +184,7 @@ not-scheduled Scheduled never = cc never
 not-scheduled (Deferred until) never = cc never
 not-scheduled Fired never = cc never
 
--- what stays of a phase
+-- the phase may change, but whether it counts as scheduled stays the same
 pub record PhaseKept (a b : Phase) : Type 0 where
   pub scheduled : is_scheduled b ≡ is_scheduled a
   pub masked : is_masked b ≡ is_masked a
@@ -260,7 +260,7 @@ kept-next true d = by (length d.taken == 0)
     by false = kept-same d.phase
 kept-next false d = kept-same d.phase
 
--- a poll ends: with its whole weight the device stays scheduled, else it isn't any more
+-- after a poll that used its whole weight the queue stays scheduled; after any other one it isn't scheduled any more
 bit-polled : (now given : ℕ) (s : MachineSettings) (o : Option QueueView) (m n : ℕ) → (m == n) ≡ true → scheduled_at o ≡ 1
     → scheduled_at (map_at (queue_polled now given s) o) + (if given == s.weight then 0 else one m n) ≡ scheduled_at o
 unfolding map_at queue_polled queue_completed
@@ -299,30 +299,30 @@ bits-polled now given s m n ds is =
     by true = omega arith
     by false = omega arith
 
--- ---- a processor
+-- ---- the processor
 
 abbrev pub polled_at : ℕ → Work → ℕ
 polled_at n (Poll m) = one m n
 polled_at n (Packet hand) = one hand.device n
 polled_at n _ = 0
 
--- the occurrences of a number except for the thread that polls it
+-- how often a number is on the poll list, in the run and among the tasks, not counting the thread that polls it
 abbrev pub places : ℕ → ProcessorView → ℕ
 places n p = listed_at n p.softirq + threads n p.tasks
 
 abbrev pub by_thread : MachineSettings → ℕ → ℕ
 by_thread s k = if s.threaded then k else 0
 
--- without polling no device is masked
+-- without polling, no card's interrupt is ever masked
 abbrev pub NeverMasked : MachineSettings → ℕ → QueueViews → Type 0
 NeverMasked s n ds = is_polling s ≡ false → masked_at (at n ds) ≡ false
 
--- with this many occurrences elsewhere
+-- a queue is scheduled exactly if its number occurs once, counting `more` occurrences elsewhere
 pub record Even (s : MachineSettings) (n more : ℕ) (p : ProcessorView) : Type 0 where
   pub same : places n p + more ≡ scheduled_at (at n p.devices)
   pub never : NeverMasked s n p.devices
 
--- nothing is under way
+-- no work is in progress
 pub record Still (s : MachineSettings) (n : ℕ) (p : ProcessorView) : Type 0 where
   pub rests : Rests s p
   pub even : Even s n 0 p
@@ -423,7 +423,7 @@ even-start s n p none e =
     let x = p.settings in
     record { same = omega (arith, listed-begun n q.list q.run q.began p.clock x.budget x.weight x.window none, e.same); never = e.never }
 
--- a run asks only if there are no threads
+-- a run asks for a poll only if there are no threads
 not-threaded : (s : MachineSettings) (m : ℕ) (p : ProcessorView) → Goes s (polls m p) → asked_in p.softirq.run ≡ Some m → s.threaded ≡ false
 not-threaded s m p g asked = by s.threaded refl
   where
@@ -494,7 +494,7 @@ stand-takes s n p goes h =
           (sym (ap (λ (k : ℕ). by_thread s k) (idle-polled n p.work idle) ∙ no-thread s));
     })
 
--- ---- work ends
+-- ---- when work ends
 
 same-threaded : (s : MachineSettings) (p : ProcessorView) → p.settings ≡ s → p.settings.threaded ≡ s.threaded
 same-threaded s p is = ap (λ (x : MachineSettings). x.threaded) is
@@ -519,7 +519,7 @@ bit-most (Some d) = by (is_scheduled d.phase)
 one-here : (m n : ℕ) → (m == n) ≡ true → one m n ≡ 1
 one-here m n here = ap (λ (b : Bool). if b then 1 else 0) here
 
--- what is polled is scheduled
+-- a queue that is polled is scheduled
 pub polled-scheduled : (s : MachineSettings) (n m : ℕ) (p : ProcessorView) → Even s n (by_thread s (one m n)) p
     → asked_in p.softirq.run ≡ (if s.threaded then None else Some m) → (m == n) ≡ true → scheduled_at (at n p.devices) ≡ 1
 polled-scheduled s n m p e asked here = by s.threaded refl
@@ -577,7 +577,7 @@ work-polled m given p =
     either (λ (r : ProcessorView). r.work ≡ p.work) p.settings.threaded (record q { tasks = if full then Thread m ∷ q.tasks else q.tasks })
     (record q { softirq = softirq_polled once q.softirq }) (λ t. refl) (λ t. refl)
 
--- nothing is polled any more
+-- the poll has ended, and no queue is polled
 idle-stands : (s : MachineSettings) (n : ℕ) (p : ProcessorView) → p.work ≡ Nothing → Even s n 0 p → Stands s n p
 idle-stands s n p nothing e = record {
   even =
@@ -628,7 +628,7 @@ kept-again : (phase : Phase) (b : Bool) → is_masked phase ≡ false → PhaseK
 kept-again phase true never = kept-same phase
 kept-again phase false never = kept-raised phase never
 
--- without polling
+-- after an interrupt on a machine without polling, a queue is scheduled exactly if its number occurs once
 even-again : (s : MachineSettings) (n m : ℕ) (p : ProcessorView) → is_polling s ≡ false → Even s n 0 p
     → Even s n 0 (record p { devices = changed raised_again m p.devices })
 unfolding map_at
@@ -698,7 +698,7 @@ stand-ended s n p goes h =
     stand-work s n p.work q refl goes.rests.settings goes.asked goes.polled
     (even-of s n (by_thread s (polled_at n p.work)) (by_thread s (polled_at n p.work)) p q h.even refl refl refl refl)
 
--- ---- what disturbs
+-- ---- when a use or an idle time is interrupted
 
 stand-aside : (s : MachineSettings) (n moment : ℕ) (w : Work) (p : ProcessorView) → p.work ≡ w → Stands s n p
     → Stands s n (set_aside moment w p)
@@ -735,7 +735,7 @@ stand-disturbed : (s : MachineSettings) (n moment : ℕ) (p : ProcessorView) →
 unfolding disturbed
 stand-disturbed s n moment p goes h = stand-takes s n (stirred moment p) (work-stirred s moment p goes) (stand-stirred s n moment p h)
 
--- ---- over a life
+-- ---- over a processor's life
 
 stand-happens : (s : MachineSettings) (n : ℕ) (u : Upcoming) (p : ProcessorView) → Goes s p → Stands s n p → Stands s n (happens u p)
 stand-happens s n Never p goes h = h

@@ -1,4 +1,4 @@
--- What is at a number of a table after one entry changed.
+-- The entry at a number of a table, after one entry changed.
 use Rattle.std.proofs.Common.{◌≡◌, ℕ, Bool, true, false, Option, Some, None, ◌++◌, replicate}
 use Rattle.std.proofs.{Common.{refl, sym, arith}, lemmas.{Bool.{eqb-true, eqb-false}, Grind.{common_steps, get_or-set_at}}}
 use Rattle.std.{proofs.lemmas.List.get_or-set_other, specs.Prelude.{◌==◌}}
@@ -28,7 +28,7 @@ at-apart-from f m n ds (Some d) other = get_or-set_other ds m n (Some (f d)) Non
 pub at-apart : {A : Type 0} (f : A → A) (m n : ℕ) (ds : DeviceTable A) → (m == n) ≡ false → at n (changed f m ds) ≡ at n ds
 at-apart f m n ds other = at-apart-from f m n ds (at m ds) other
 
--- what holds of the entry that changes, and of each other as it was
+-- what has to be shown about the entry that changes, and about each other entry, which is unchanged
 pub at-either : {A : Type 0} (Q : Bool → Option A → Type 0) (f : A → A) (m n : ℕ) (ds : DeviceTable A)
     → ((m == n) ≡ true → Q true (map_at f (at n ds))) → ((m == n) ≡ false → Q false (at n ds)) → Q (m == n) (at n (changed f m ds))
 at-either {A = A} Q f m n ds here apart = by (m == n) refl
@@ -37,7 +37,7 @@ at-either {A = A} Q f m n ds here apart = by (m == n) refl
     by true same = rw (at-here f m n ds same) (here same)
     by false other = rw (at-apart f m n ds other) (apart other)
 
--- what a change keeps of an entry, it keeps of each
+-- if a change keeps a part of the entry that it changes, it keeps that part of every entry
 pub at-kept : {A B : Type 0} → (g : Option A → B) (f : A → A) (m n : ℕ) (ds : DeviceTable A) → ((d : A) → g (Some (f d)) ≡ g (Some d))
     → g (at n (changed f m ds)) ≡ g (at n ds)
 unfolding map_at
@@ -47,6 +47,6 @@ at-kept {A = A} g f m n ds same = at-either (λ b o. g o ≡ g (at n ds)) f m n 
     by None = refl
     by (Some d) = same d
 
--- entries that are made are empty
+-- entries that are added to a table are empty
 pub at-made : {A : Type 0} (n count : ℕ) (ds : DeviceTable A) → at n (ds ++ replicate count None) ≡ at n ds
 at-made n count ds = grind (arith, common_steps)

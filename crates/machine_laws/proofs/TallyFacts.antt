@@ -1,8 +1,8 @@
--- The counts of a device are those of its packets.
+-- The counts of a queue are those of its packets.
 use Rattle.std.proofs.Common.{◌≡◌, ◌∙◌, ℕ, ◌+◌, ◌-◌, Bool, true, false, Option, Some, None, List, [], ◌∷◌, ◌++◌, length, length-append, map}
 use Rattle.std.proofs.{Common.{refl, sym, ap, subst, arith}, lemmas.{List.append-nil, Bool.eqb-true}}
 use Rattle.std.specs.Prelude.{◌==◌, ◌&&◌, if◌then◌else◌, is_some, not}
-use Rattle.{machine_words.specs.declared.settings.MachineSettings.MachineSettings, device_places.specs.Places.{at, changed}}
+use Rattle.{machine_model.specs.declared.settings.MachineSettings.MachineSettings, device_places.specs.Places.{at, changed}}
 use Rattle.machine_laws.specs.Lives.{MachineEvent, behind, next, packet}
 use Rattle.machine_laws.specs.Fates.{CountsFates, TellsOfDevice, came, counting, delivered_packets, next_delivery, delivery_by}
 use Rattle.machine_laws.specs.Fates.{delivery_of, finds_room, hand_of, packet_for, packet_waits}
@@ -67,7 +67,7 @@ tally-polled now given s d =
     let e : QueueView = record d { counts = record d.counts { polls = saturated (d.counts.polls + 1) } } in
     if-same tally_of (given == s.weight) e (queue_completed now given s e) (tally_of d) refl refl
 
--- ---- these packets were delivered
+-- ---- the packets that were delivered
 
 pub record Given (now : ℕ) (batch : List ℕ) (old new : Tally) : Type 0 where
   pub arrived : new.arrived ≡ old.arrived
@@ -112,7 +112,7 @@ given-delivered now came m n ds there =
 given-then : (now : ℕ) (batch : List ℕ) (old mid new : Tally) → Given now batch old mid → new ≡ mid → Given now batch old new
 given-then now batch old mid new g is = subst (λ (t : Tally). Given now batch old t) (sym is) g
 
--- ---- what ends
+-- ---- when work ends
 
 looks-given : (s : MachineSettings) (n m given now : ℕ) (batch : List ℕ) (old : Tally) (ds : QueueViews)
     → Given now batch old (tally (at n ds))
@@ -172,7 +172,7 @@ ends-given n p there = record {
     old : Tally
     old = tally (at n p.devices)
 
--- ---- a device that isn't there has no packet
+-- ---- a queue that doesn't exist has no packets
 
 ends-there : (n : ℕ) (p : ProcessorView) → Ends (λ o ds w. is_some (at n ds) ≡ is_some (at n p.devices)) p
 ends-there n p = record {
@@ -214,7 +214,7 @@ none-there : (o : Option QueueView) → o ≡ None → is_some o ≡ false
 none-there None is = refl
 none-there (Some d) is = cc is
 
--- no packet arrived for a device that doesn't exist
+-- no packet arrived for a queue that doesn't exist
 never-came : (s : MachineSettings) (n : ℕ) (events : List MachineEvent) → is_some (at n (behind s events).devices) ≡ false
     → came true n s events ≡ []
 unfolding behind step arrives came
@@ -250,9 +250,9 @@ present s n events none =
     append-none (delivered_packets n s events) (hand_of n (behind s events).work) _
     (sym (never-came s n events (none-there (at n (behind s events).devices) none)) ∙ holds-order s n events)
 
--- ---- what arrives
+-- ---- when a packet arrives
 
--- a packet arrived, and it found room or didn't
+-- a packet arrived, and there was room for it or there wasn't
 pub record Took (room : Bool) (old new : Tally) : Type 0 where
   pub arrived : new.arrived ≡ saturated (old.arrived + 1)
   pub dropped : new.dropped ≡ (if room then old.dropped else saturated (old.dropped + 1))
@@ -274,7 +274,7 @@ unfolding made_at tally
 made-tally capacity None = refl
 made-tally capacity (Some d) = refl
 
--- what is counted after that
+-- the counts after that arrival
 pub record Counts (a d : ℕ) (old new : Tally) : Type 0 where
   pub arrived : new.arrived ≡ saturated (a + d)
   pub dropped : new.dropped ≡ saturated d
@@ -316,7 +316,7 @@ arrived-counts moment m n a d p arrived dropped =
     (λ here. counts-took (finds_room n p) moment a d (tally o) (tally (Some (after_packet moment p.settings made))) took arrived dropped)
     (λ other. record { arrived = omega (arith, arrived); dropped = omega (arith, dropped); polled = refl; waits = refl })
 
--- ---- over a life
+-- ---- over a processor's life
 
 pub record Told (a d : ℕ) (gone waited : List ℕ) (t : Tally) : Type 0 where
   pub arrived : t.arrived ≡ saturated (a + d)

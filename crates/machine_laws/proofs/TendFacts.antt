@@ -1,9 +1,10 @@
--- A device whose interrupt isn't raised, deferred or handled has no packet, and its timer is below the end of the clock.
+-- Law: a queue has no packets unless its interrupt is raised, deferred or in progress; its timer is before the end of the
+-- clock.
 use Rattle.std.proofs.Common.{◌≡◌, ◌∙◌, ℕ, suc, ◌+◌, ◌<◌, ◌≤◌, ◌^◌, Bool, true, false, Option, Some, None, List, [], ◌∷◌, ◌++◌, length}
 use Rattle.std.proofs.{Common.{refl, sym, ap, subst, arith}, lemmas.{Bool.{eqb-true, eq-eqb, ltb-false}}}
 use Rattle.std.specs.Option.{option_map, option_map_or}
 use Rattle.std.specs.Prelude.{◌==◌, ◌&&◌, ◌||◌, if◌then◌else◌, is_some, nat_le, nat_lt, not, position, slice_get}
-use Rattle.{machine_words.specs.declared.settings.MachineSettings.MachineSettings, device_places.specs.Places.{at, changed}}
+use Rattle.{machine_model.specs.declared.settings.MachineSettings.MachineSettings, device_places.specs.Places.{at, changed}}
 use Rattle.machine_laws.specs.{Lives.{MachineEvent, behind, next, packet}, Fates.{taken_in}}
 use Rattle.machine_model.specs.declared.device.Phase.{Phase}
 use Rattle.machine_model.specs.declared.device.Phase.TheVariants.{Quiet, Coalescing, Raised, Scheduled, Deferred, Fired}
@@ -45,7 +46,7 @@ abbrev pub TendAt : Bool → Option QueueView → Type 0
 TendAt exempt None = Unit {0}
 TendAt exempt (Some d) = Tend exempt d
 
--- its interrupt without polling is in progress
+-- its interrupt is in progress, on a machine without polling
 abbrev pub lone : MachineSettings → ℕ → Work → Bool
 lone s n (Interrupt m) = not (is_polling s) && m == n
 lone s n _ = false
@@ -60,7 +61,7 @@ tend-same b d e t phase same = record {
   quiet = λ is free. same ∙ t.quiet (sym phase ∙ is) free;
 }
 
--- a change that keeps phase and packets
+-- a change of a queue that keeps its phase and its packets
 tends-same : (b : Bool) (f : QueueView → QueueView) (m n : ℕ) (ds : QueueViews) → ((d : QueueView) → (f d).phase ≡ d.phase)
     → ((d : QueueView) → queued (Some (f d)) ≡ queued (Some d)) → TendAt b (at n ds) → TendAt b (at n (changed f m ds))
 unfolding map_at
@@ -70,7 +71,7 @@ tends-same b f m n ds phase same t = at-either (λ c o. TendAt b o) f m n ds (λ
     by None t = tt
     by (Some d) t = tend-same b d (f d) t (phase d) (same d)
 
--- ---- work is taken up
+-- ---- when work begins
 
 tend-interrupted : (polling : Bool) (d : QueueView) → Tend (not polling) (interrupted polling d)
 unfolding interrupted
@@ -163,7 +164,7 @@ tended-takes s n p goes h =
       tend = subst (λ (b : Bool). TendAt b (at n p.devices)) (idle-lone s n p.work idle) h.tend;
     })
 
--- ---- work ends
+-- ---- when work ends
 
 lone-polling : (s : MachineSettings) (n : ℕ) (w : Work) → ((m : ℕ) → w ≡ Interrupt m → is_polling s ≡ true) → lone s n w ≡ false
 lone-polling s n Nothing polls = refl
@@ -187,7 +188,7 @@ no-length : (xs : List ℕ) → (length xs == 0) ≡ true → xs ≡ []
 no-length [] is = refl
 no-length (x ∷ xs) is = let none : length (x ∷ xs) ≡ 0 = eqb-true (length (x ∷ xs)) 0 is in absurd (omega arith)
 
--- without polling: what is raised again has packets
+-- without polling: an interrupt that is raised again has packets
 tend-again : (b : Bool) (d : QueueView) → Early (timer_of d.phase) → d.taken ≡ [] → Tend false (raised_again d)
 unfolding queued
 tend-again b d early plain = by (length d.ring == 0) refl
@@ -207,7 +208,7 @@ tends-again s m n ds t plain =
     by None t plain = tt
     by (Some d) t plain = tend-again true d t.early plain
 
--- with an exemption that stays
+-- the law holds for all queues but one, whose interrupt is in progress
 tends-early : (s : MachineSettings) (m n : ℕ) (f : QueueView → QueueView) (ds : QueueViews) → ((d : QueueView) → (f d).phase ≡ d.phase)
     → is_polling s ≡ false
     → TendAt (lone s n (Interrupt m)) (at n ds) → TendAt (lone s n (Interrupt m)) (at n (changed f m ds))
@@ -272,7 +273,7 @@ early-polled now given s d early = by (given == s.weight)
         early-if (not (deferrals == 0) && not (s.gro_flush_timeout == 0)) (Deferred (saturated (now + s.gro_flush_timeout))) Quiet
         (omega arith) tt
 
--- a device that has no packet completes
+-- a queue that has no packet completes
 tends-polled : (now given : ℕ) (s : MachineSettings) (m n : ℕ) (ds : QueueViews) → queued (at n ds) ≡ [] → TendAt false (at n ds)
     → TendAt false (at n (changed (queue_polled now given s) m ds))
 unfolding map_at
@@ -369,7 +370,7 @@ ends-tend s n p goes stands plain h = record {
         polled-scheduled s n m p (subst (λ (k : ℕ). Even s n (by_thread s k) p) places stands.even)
         (subst (λ (o : Option ℕ). asked_in p.softirq.run ≡ (if s.threaded then None else o)) polls goes.asked) here
 
--- ---- what disturbs, and what arrives
+-- ---- interruptions and arrivals
 
 tended-aside : (s : MachineSettings) (n moment : ℕ) (w : Work) (p : ProcessorView) → p.work ≡ w → Tended s n p
     → Tended s n (set_aside moment w p)
@@ -488,7 +489,7 @@ tended-arrives s n moment m p goes h =
     either (Tended s n) (has_room_at (at m devices)) (disturbed moment q) q
     (λ room. tended-disturbed s n moment q (goes-devices s p q goes refl refl refl refl) e) (λ full. e)
 
--- ---- over a life
+-- ---- over a processor's life
 
 pub nothing-lone : (s : MachineSettings) (n : ℕ) (w : Work) → (w ≡ Nothing) → lone s n w ≡ false
 nothing-lone s n w is = ap (lone s n) is
@@ -501,7 +502,7 @@ ended-lone s n ds (Poll m) t none = t
 ended-lone s n ds (Packet hand) t none = t
 ended-lone s n ds (Use came) t none = t
 
--- what ends leaves a packet of a poll in hand, or nothing
+-- after work ends, the next work is a packet of the same poll, or none
 no-interrupt : (p : ProcessorView) (m : ℕ) → (ends_current p).work ≡ Interrupt m → ⊥
 no-interrupt p m is =
     let k = (over p).kind (ap is_busy is) in
@@ -534,7 +535,7 @@ tended-on s n (next ∷ earlier) =
     tended-happens s n (upcoming p) p goes (stands-on s n earlier) (λ k. plain-of s k p goes.rests.settings (plain-on s k earlier))
     (tended-on s n earlier)
 
--- ---- the soonest timer is below the end of the clock
+-- ---- the next timer is before the end of the clock
 
 abbrev pub EarlyTimer : Option Timer → Type 0
 EarlyTimer None = Unit {0}

@@ -1,9 +1,9 @@
--- Time never decreases, and what arrived, what waits and the work in progress are in order.
+-- Law: time never decreases; arrivals, waiting packets and the work in progress are in the order of their times.
 use Rattle.std.proofs.Common.{◌≡◌, ◌∙◌, ℕ, ◌+◌, ◌-◌, ◌<◌, ◌≤◌, ◌^◌, Bool, true, false, Option, Some, None, List, [], ◌∷◌, ◌++◌, refl, sym}
 use Rattle.std.proofs.Common.{ap}
 use Rattle.std.proofs.{Common.{subst, arith}, lemmas.{Bool.{leb-true}}}
 use Rattle.std.specs.{List.AllByRecursion, Prelude.{◌==◌, ◌&&◌, if◌then◌else◌, is_some, not, position}}
-use Rattle.machine_words.specs.declared.settings.MachineSettings.{MachineSettings}
+use Rattle.machine_model.specs.declared.settings.MachineSettings.{MachineSettings}
 use Rattle.device_places.specs.Places.{at, changed}
 use Rattle.circular_buffer.specs.Buffer.{buffer}
 use Rattle.machine_laws.specs.Lives.{MachineEvent, InTurn, behind, next, packet}
@@ -36,7 +36,7 @@ use Rattle.machine_laws.proofs.{OverFacts.{both, over, parts, weaker}, SocketFac
 use Rattle.machine_model.specs.declared.processor.Upcoming.TheVariants as upcomings
 use Rattle.machine_model.specs.Device as device
 
--- ---- what is true at a time
+-- ---- the invariant at a time
 
 abbrev pub use_cost : MachineSettings → ℕ
 use_cost s = s.packet + s.use_time
@@ -54,7 +54,7 @@ Served s t items = IsFair s → AllByRecursion (λ came. saturated (came + s.pac
 abbrev pub Left : MachineSettings → ℕ → Option Rest → Type 0
 Left s t o = IsFair s → (rest : Rest) → o ≡ Some rest → saturated (rest.came + use_cost s) ≤ saturated (t + rest.left)
 
--- nothing is under way
+-- no work is in progress
 pub record Base (s : MachineSettings) (t : ℕ) (p : ProcessorView) : Type 0 where
   pub settings : p.settings ≡ s
   pub fits : p.clock < 2 ^ 64
@@ -65,7 +65,7 @@ pub record Base (s : MachineSettings) (t : ℕ) (p : ProcessorView) : Type 0 whe
   pub socket : Served s t p.application.socket.items
   pub rest : Left s t p.rest
 
--- and if no device asks for an interrupt, it took no time to wake up
+-- no work is in progress; and if no queue asks for an interrupt, no time was spent on waking up
 pub record Calm (s : MachineSettings) (t : ℕ) (p : ProcessorView) : Type 0 where
   pub base : Base s t p
   pub low : position asks_at p.devices ≡ None → p.clock ≡ t
@@ -83,7 +83,7 @@ pub record Timed (s : MachineSettings) (t : ℕ) (p : ProcessorView) : Type 0 wh
   pub socket : Served s t p.application.socket.items
   pub rest : Left s t p.rest
 
--- ---- work is taken up
+-- ---- when work begins
 
 base-of : (s : MachineSettings) (t : ℕ) (p q : ProcessorView) → Base s t p → q.settings ≡ p.settings → q.clock ≡ p.clock
     → q.devices ≡ p.devices
@@ -99,7 +99,7 @@ base-of s t p q b settings clock devices application rest = record {
   rest = rw rest b.rest;
 }
 
--- work other than a packet of a poll begins; if it is a use, its begin and its time are given
+-- work other than a packet of a poll begins; if it is a use, its begin and its duration are given
 timed-begins : (s : MachineSettings) (t : ℕ) (w : Work) (time : ℕ) (p : ProcessorView) → Base s t p → is_busy w ≡ true
     → ((hand : InHand) → w ≡ Packet hand → ⊥)
     → ((came : ℕ) → w ≡ Use came → (p.clock ≡ t) × (IsFair s → saturated (came + use_cost s) ≤ saturated (p.clock + time)))
@@ -245,9 +245,9 @@ pub record Ready (s : MachineSettings) (t : ℕ) (p : ProcessorView) : Type 0 wh
 timed-takes : (s : MachineSettings) (t : ℕ) (p : ProcessorView) → Goes s p → Ready s t p → Timed s t (takes_up p)
 timed-takes s t p goes r = walk-any (Calm s t) (Timed s t) (timed-walk s t) p (goes-unasked s p goes) r.busy r.idle
 
--- ---- work ends
+-- ---- when work ends
 
--- timers, what arrived, and the packet in hand
+-- the times of the timers, of the packets that arrived, and of the packet that a poll processes
 pub record Kept (t : ℕ) (ds : QueueViews) (w : Work) : Type 0 where
   pub timers : AllLate t ds
   pub came : Came t ds
@@ -333,7 +333,7 @@ left-later : (s : MachineSettings) (t u : ℕ) (o : Option Rest) → t ≤ u →
 left-later s t u o less left fair rest is =
     let first : saturated (rest.came + use_cost s) ≤ saturated (t + rest.left) = left fair rest is in omega (arith, first, less)
 
--- a packet that is delivered at that time may be put into the socket
+-- a packet that is delivered at this time may be put into the socket
 served-fed : (s : MachineSettings) (t came : ℕ) (a : ApplicationView) → (IsFair s → saturated (came + s.packet) ≤ t)
     → Served s t a.socket.items
     → Served s t (fed t came s a).socket.items
@@ -358,7 +358,7 @@ polling-of false c is = cc is
 same-delivery : (x y : ℕ × ℕ) → Some x ≡ Some y → x.1 ≡ y.1
 same-delivery x y is = let same : x ≡ y = cc is in ap (λ (z : ℕ × ℕ). z.1) same
 
--- with polling only a packet in hand is delivered
+-- with polling, only the packet that a poll processes is delivered
 pub hand-delivery : (s : MachineSettings) (t : ℕ) (w : Work) (p : ProcessorView) (m came : ℕ) → is_polling p.settings ≡ true
     → ((hand : InHand) → w ≡ Packet hand → saturated (hand.came + s.packet) ≤ t) → delivery_of w p ≡ Some (m, came)
     → saturated (came + s.packet) ≤ t
@@ -424,9 +424,9 @@ ready-ended s t p h busy late plain =
       };
     }
 
--- ---- what disturbs
+-- ---- when a use or an idle time is interrupted
 
--- the same at a later time, before which nothing happens
+-- the invariant still holds at a later time, if nothing happens before that
 timed-later : (s : MachineSettings) (t u : ℕ) (p : ProcessorView) → Timed s t p → t ≤ u → NotBefore u p → Timed s u p
 timed-later s t u p h less before = record {
   settings = h.settings;
@@ -592,14 +592,14 @@ unfolding disturbed
 clock-disturbed s t p fits goes h =
     omega (arith, clock-takes s (stirred t p) (work-stirred s t p goes), clock-stirred s t p fits h)
 
--- ---- over a life
+-- ---- over a processor's life
 
 abbrev pub time_by : Upcoming → ProcessorView → ℕ → ℕ
 time_by Never p t = t
 time_by upcomings.Ends p t = p.ends
 time_by (Expires timer) p t = timer.at
 
--- when the last event was
+-- the time of the last event
 unfoldable pub now : MachineSettings → List MachineEvent → ℕ
 now s [] = 0
 now s (packet moment number ∷ earlier) = moment
@@ -716,7 +716,7 @@ rises-arrives s t moment n p fits goes h less none =
     clock-more true low = omega arith
     clock-more false low = low refl
 
--- what holds at the time of the last event
+-- the invariant at the time of the last event
 pub record Since (s : MachineSettings) (until : ℕ) (events : List MachineEvent) : Type 0 where
   pub timed : Timed s (now s events) (behind s events)
   pub within : now s events ≤ until

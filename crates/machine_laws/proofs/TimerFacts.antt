@@ -1,9 +1,9 @@
--- Timers: none that is set is before what happens next.
+-- Timers: none that is set is before the next event.
 use Rattle.std.proofs.Common.{◌≡◌, ℕ, zero, suc, ◌+◌, ◌<◌, ◌≤◌, ◌^◌, Bool, true, false, Option, Some, None, [], ◌∷◌, refl, sym, subst}
 use Rattle.std.proofs.Common.{arith}
 use Rattle.std.proofs.lemmas.{Bool.{leb-true, leb-false}}
 use Rattle.std.specs.{Option.{option_map, option_map_or}, Prelude.{◌==◌, ◌&&◌, ◌||◌, if◌then◌else◌, nat_le, not, length}}
-use Rattle.{machine_words.specs.declared.settings.MachineSettings.MachineSettings, device_places.specs.Places.{at, changed}}
+use Rattle.{machine_model.specs.declared.settings.MachineSettings.MachineSettings, device_places.specs.Places.{at, changed}}
 use Rattle.machine_model.specs.declared.devices.Timer.{Timer}
 use Rattle.machine_model.specs.declared.device.Phase.{Phase}
 use Rattle.machine_model.specs.declared.device.Phase.TheVariants.{Quiet, Coalescing, Raised, Scheduled, Deferred, Fired}
@@ -17,7 +17,7 @@ use Rattle.machine_model.specs.Processor.{ProcessorView, is_busy, is_by, is_due,
 use Rattle.machine_laws.proofs.{TableFacts.{at-either, map_at}, FateFacts.packet-by}
 use Rattle.machine_model.specs.Device as device
 
--- ---- a timer that isn't before a time
+-- ---- a timer that isn't before a given time
 
 abbrev pub timer_in : Option QueueView → Option ℕ
 timer_in None = None
@@ -34,7 +34,7 @@ pub late-less : (l m : ℕ) (o : Option ℕ) → l ≤ m → Late m o → Late l
 late-less l m None less late = tt
 late-less l m (Some t) less late = omega (arith, less, late)
 
--- no timer is before the soonest
+-- no timer is before the one that expires first
 abbrev pub SoonBy : Option Timer → Option ℕ → Type 0
 SoonBy None None = Unit {0}
 SoonBy None (Some t) = ⊥
@@ -77,14 +77,14 @@ soonest k zero (place ∷ more) =
 soonest k (suc n) (place ∷ more) =
     soon-more (timer_at k place) (soonest_from (k + 1) more) (timer_in (at n more)) (soonest (k + 1) n more)
 
--- ---- what happens next
+-- ---- the next event
 
--- neither work ends nor a timer expires before that time
+-- neither the end of work nor a timer is before that time
 pub record NotBefore (m : ℕ) (p : ProcessorView) : Type 0 where
   pub timers : AllLate m p.devices
   pub ends : is_busy p.work ≡ true → m ≤ p.ends
 
--- what is known of what happens next
+-- what the kind of the next event implies
 abbrev pub NextBy : Upcoming → ProcessorView → Type 0
 NextBy Never p = (m : ℕ) → NotBefore m p
 NextBy Ends p = (is_busy p.work ≡ true) × NotBefore p.ends p
@@ -118,7 +118,7 @@ later-not m k p b less = record {
   ends = λ yes. omega (arith, less, b.ends yes);
 }
 
--- what isn't due by a time
+-- an event that isn't due by a time
 due-not : (m : ℕ) (u : Upcoming) (p : ProcessorView) → NextBy u p → is_by m u p ≡ false → NotBefore m p
 due-not m Never p is none = is m
 due-not m Ends p is none = let less : m < p.ends = leb-false p.ends m none in later-not m p.ends p is.1 (omega (arith, less))
@@ -128,7 +128,7 @@ due-not m (Expires timer) p is none =
 pub not-due : (m : ℕ) (p : ProcessorView) → is_due m p ≡ false → NotBefore m p
 not-due m p none = due-not m (upcoming p) p (next-is p) none
 
--- ---- what changes of a device's timer
+-- ---- how a queue's timer changes
 
 late-if : (m : ℕ) (b : Bool) (x y : Phase) → Late m (timer_of x) → Late m (timer_of y) → Late m (timer_of (if b then x else y))
 late-if m true x y first second = first
@@ -139,7 +139,7 @@ late-device : (m : ℕ) (b : Bool) (x y : QueueView) → Late m (timer_of x.phas
 late-device m true x y first second = first
 late-device m false x y first second = second
 
--- a change of one device
+-- a change of one queue
 late-changed : (m : ℕ) (f : QueueView → QueueView) (k : ℕ) (ds : QueueViews)
     → ((d : QueueView) → Late m (timer_of d.phase) → Late m (timer_of (f d).phase)) → AllLate m ds → AllLate m (changed f k ds)
 unfolding map_at
@@ -226,7 +226,7 @@ pub lates-packet : (m moment : ℕ) (s : MachineSettings) (k : ℕ) (ds : QueueV
 lates-packet m moment s k ds less fits all =
     late-changed m (after_packet moment s) k ds (λ d late. late-packet m moment s d less fits late) all
 
--- ---- the soonest timer is one that is set
+-- ---- the timer that expires first is one of those that are set
 
 abbrev pub LateTimer : ℕ → Option Timer → Type 0
 LateTimer t None = Unit {0}

@@ -1,9 +1,9 @@
--- What a processor takes up, case by case: a property that each case keeps.
+-- Which work a processor begins, case by case, and a property that each case preserves.
 use Rattle.std.specs.Prelude.{◌==◌, ◌&&◌, if◌then◌else◌, is_some, not, position, slice_get}
 use Rattle.std.proofs.Common.{◌≡◌, ◌<◌, ℕ, arith, Bool, true, false, Option, Some, None, List, [], ◌∷◌, length, refl}
 use Rattle.std.{proofs.lemmas.{List.Quantifiers.position-Some, Grind.common_steps}, specs.Option.option_map_or}
 use Rattle.{device_places.{proofs.PlaceFacts.none-of, specs.Places.at}}
-use Rattle.{machine_words.specs.declared.settings.MachineSettings.MachineSettings}
+use Rattle.{machine_model.specs.declared.settings.MachineSettings.MachineSettings}
 use Rattle.machine_model.specs.declared.processor.Work.{Work}
 use Rattle.machine_model.specs.declared.processor.Work.TheVariants.{Nothing, Use}
 use Rattle.machine_model.specs.declared.processor.Rest.{Rest}
@@ -18,7 +18,7 @@ pub record Free (p : ProcessorView) : Type 0 where
   pub nothing : p.work ≡ Nothing
   pub unasked : asked_in p.softirq.run ≡ None
 
--- no task can run
+-- none of the runnable tasks can run
 abbrev pub NoTask : List RunnableTask → List ℕ → Type 0
 NoTask [] items = Unit {0}
 NoTask (Application ∷ more) items = items ≡ []
@@ -30,7 +30,7 @@ IsFirst [] = ⊥
 IsFirst (Application ∷ more) = Unit {0}
 IsFirst (Thread number ∷ more) = ⊥
 
--- nothing is taken up
+-- the processor begins no work
 pub record Still (p : ProcessorView) : Type 0 where
   pub quiet : position asks_at p.devices ≡ None
   pub idle : p.softirq.run ≡ None
@@ -45,11 +45,11 @@ nexted p = record p { softirq = run_next p.softirq }
 abbrev pub started : ProcessorView → ProcessorView
 started p = record p { softirq = begun p.clock p.settings.budget p.settings.weight p.settings.window p.softirq }
 
--- the poll of the number that the run asks for, or else other work
+-- the poll of the queue for which the run asks, or other work
 abbrev pub polls_or : ProcessorView → Option ℕ → ProcessorView → ProcessorView
 polls_or other asked p = option_map_or (λ number. polls number p) asked other
 
--- with threads, an idle application has been removed from the front of the tasks
+-- with threads: an idle application was removed from the front of the tasks
 abbrev pub IsSettled : (ProcessorView → Type 0) → ProcessorView → Type 0
 IsSettled P p = p.settings.threaded ≡ true
     → (before : List RunnableTask) × (p.tasks ≡ runnable (length p.application.socket.items == 0) before) × P (record p { tasks = before })
@@ -80,7 +80,7 @@ pub run-ended : (late : Bool) (p : ProcessorView) → (ends_run late p).softirq.
 unfolding ends_run run_ended
 run-ended late p = refl
 
--- ---- below the softirq
+-- ---- when there is nothing for the softirq
 
 -- no run is in progress, and none begins
 pub record Out (p : ProcessorView) : Type 0 where
@@ -165,7 +165,7 @@ walk-leaves P Q w (Some rest) p is free held quiet idle list = w.resume rest p f
 walk-leaves P Q w None p is free held quiet idle list =
     walk-out P Q w p (record { free = free; quiet = quiet; idle = idle; list = list; rest = is }) held
 
--- ---- the softirq
+-- ---- when there is something for the softirq
 
 walk-asked : (P Q : ProcessorView → Type 0) → Walk P Q → (o : Option ℕ) (p other : ProcessorView) → asked_in (run_next p.softirq).run ≡ o
     → P (nexted p)
@@ -182,7 +182,7 @@ both-second a b both = grind (arith, common_steps)
 pub positive : (k : ℕ) → not (k == 0) ≡ true → 0 < k
 positive k is = grind (arith, common_steps)
 
--- a run that begins over a list that isn't empty asks for a number
+-- a run that begins over a list that isn't empty asks for a poll
 begun-asks : (s : MachineSettings) (list : List ℕ) (began clock : ℕ) → is_polling s ≡ true → not (length list == 0) ≡ true
     → let q : SoftirqView = record { list = list; run = None; began = began } in
     asked_in (run_next (begun clock s.budget s.weight s.window q)).run ≡ None → ⊥
@@ -238,7 +238,7 @@ walk-by P Q w None p lowest free held =
     either Q (is_some p.softirq.run) (goes_on p) (rests p) (λ some. walk-goes P Q w p free held lowest)
     (λ none. walk-rests P Q w p free held (none-of p.softirq.run none) lowest)
 
--- what is taken up if no work is in progress
+-- which work begins, if no work is in progress
 pub walk : (P Q : ProcessorView → Type 0) → Walk P Q → (p : ProcessorView) → Free p → P p → Q (takes_up p)
 unfolding takes_up
 walk P Q w p free held =
@@ -250,7 +250,7 @@ walk P Q w p free held =
 idle-is : (work : Work) → is_busy work ≡ false → work ≡ Nothing
 idle-is work idle = grind (arith, common_steps)
 
--- and if some is, nothing is taken up
+-- if work is in progress already, no other work begins
 pub walk-any : (P Q : ProcessorView → Type 0) → Walk P Q → (p : ProcessorView) → (is_busy p.work ≡ false → asked_in p.softirq.run ≡ None)
     → (is_busy p.work ≡ true → Q p) → (is_busy p.work ≡ false → P p) → Q (takes_up p)
 unfolding takes_up

@@ -1,4 +1,4 @@
--- A run's work is always less than budget plus weight; and what is polled by the run or by a thread.
+-- A run's work is always less than budget plus weight; and which queues a run or a thread polls.
 use Rattle.std.proofs.lemmas.Grind.{common_steps}
 use Rattle.std.specs.List.{AllByRecursion}
 use Rattle.std.specs.Prelude.{◌==◌, ◌&&◌, IfSome, if◌then◌else◌, is_some, not, option_map, nat_lt}
@@ -6,7 +6,7 @@ use Rattle.std.proofs.Common.{◌≡◌, ◌∙◌, ℕ, ◌+◌, ◌<◌, ◌�
 use Rattle.std.proofs.Common.{arith}
 use Rattle.poll_runs.specs.declared.bench.Next.TheVariants.{Gone, Repoll}
 use Rattle.poll_runs.specs.declared.bench.Once.{Once}
-use Rattle.machine_words.specs.declared.settings.MachineSettings.{MachineSettings}
+use Rattle.machine_model.specs.declared.settings.MachineSettings.{MachineSettings}
 use Rattle.device_places.specs.Places.{at, changed}
 use Rattle.machine_laws.specs.Lives.{MachineEvent, behind, next, packet}
 use Rattle.machine_laws.specs.Times.{WorksWithin}
@@ -46,21 +46,22 @@ RunsIn s (Some r) = Runs s r
 abbrev pub all_applications : List RunnableTask → Type 0
 all_applications tasks = AllByRecursion (λ task. is_application task ≡ true) tasks
 
--- the settings stay; only polling without threads fills the poll list, and only polling with threads makes threads runnable
+-- the settings never change; the poll list has entries only with polling and without threads, and threads are runnable only
+-- with threads
 pub record Rests (s : MachineSettings) (p : ProcessorView) : Type 0 where
   pub settings : p.settings ≡ s
   pub run : RunsIn s p.softirq.run
   pub soft : (is_polling s && not s.threaded) ≡ false → (p.softirq.list ≡ []) × (p.softirq.run ≡ None)
   pub threads : (is_polling s && s.threaded) ≡ false → all_applications p.tasks
 
--- what is polled is asked for by the run, if there are no threads
+-- without threads, the queue that is polled is the one for which the run asked
 pub record Goes (s : MachineSettings) (p : ProcessorView) : Type 0 where
   pub rests : Rests s p
   pub asked : asked_in p.softirq.run ≡ (if s.threaded then None else polled_by p.work)
   pub polled : is_polling s ≡ false → polled_by p.work ≡ None
   pub given : work_given p.work < s.weight
 
--- ---- the parts
+-- ---- the parts of the proof
 
 next-runs : (s : MachineSettings) (list : List ℕ) (run : Option RunView) (began : ℕ) → asked_in run ≡ None → RunsIn s run
     → RunsIn s (run_next (record { list = list; run = run; began = began })).run
@@ -71,7 +72,7 @@ runs-next : (s : MachineSettings) (q : SoftirqView) → asked_in q.run ≡ None 
 unfolding run_next
 runs-next s q none held = next-runs s q.list q.run q.began none held
 
--- with an empty list and no run, there is none after that
+-- if the list is empty and no run is in progress, the same holds after the next step
 next-none : (q : SoftirqView) → (q.list ≡ []) × (q.run ≡ None) → ((run_next q).list ≡ []) × ((run_next q).run ≡ None)
 unfolding run_next
 next-none q none = by q.run none.1
@@ -127,7 +128,7 @@ idle-asked : (b : Bool) (x : Option ℕ) → x ≡ (if b then None else None) �
 idle-asked true x is = is
 idle-asked false x is = is
 
--- ---- what is taken up
+-- ---- when work begins
 
 asked-idle : (b : Bool) (x : Option ℕ) → x ≡ None → x ≡ (if b then None else None)
 asked-idle true x none = none
@@ -183,7 +184,7 @@ goes-begins s work time p h asked polled given = record {
   given = given;
 }
 
--- no work is in progress, and the run asks for nothing
+-- no work is in progress, and the run doesn't ask for a poll
 pub record Clear (s : MachineSettings) (p : ProcessorView) : Type 0 where
   pub rests : Rests s p
   pub unasked : asked_in p.softirq.run ≡ None
@@ -321,7 +322,7 @@ work-walk s = record {
   };
 }
 
--- ---- what ends
+-- ---- when work ends
 
 work-delivers : (s : MachineSettings) (n came : ℕ) (p : ProcessorView) → Rests s p → Rests s (delivers n came p)
 unfolding delivers
@@ -332,7 +333,7 @@ work-delivers s n came p h = record {
   threads = λ no. all-if (p.settings.threaded && not p.settings.apart && has_place p.application) p.tasks (h.threads no);
 }
 
--- a poll ends
+-- the case that a poll ends
 goes-ended : (s : MachineSettings) (p : ProcessorView) → p.work ≡ Nothing → Clear s p → Goes s p
 goes-ended s p nothing c = record {
   rests = c.rests;
@@ -383,7 +384,7 @@ work-polled s n given p h asked polling few nothing =
       unasked = told-asks p.softirq.run once;
     }))
 
--- a poll takes the next packet, or ends
+-- the cases that a poll takes its next packet, and that it ends
 pub looks-by : (Q : ProcessorView → Type 0) (n given : ℕ) (p : ProcessorView)
     → ((came : ℕ) → next_packet_at p.settings.backlog (at n p.devices) ≡ Some came → nat_lt given p.settings.weight ≡ true
     → Q (begins (Packet (record { device = n; came = came; given = given })) p.settings.packet
@@ -496,7 +497,7 @@ goes-unasked s p g idle = idle-asked s.threaded (asked_in p.softirq.run) (rw (id
 pub work-takes : (s : MachineSettings) (p : ProcessorView) → Goes s p → Goes s (takes_up p)
 work-takes s p g = walk-any (Rests s) (Goes s) (work-walk s) p (goes-unasked s p g) (λ busy. g) (λ idle. g.rests)
 
--- ---- what disturbs
+-- ---- when a use or an idle time is interrupted
 
 aside : (s : MachineSettings) (moment : ℕ) (work : Work) (p : ProcessorView) → p.work ≡ work → Goes s p → Goes s (set_aside moment work p)
 aside s moment Nothing p is g = g
@@ -529,7 +530,7 @@ goes-devices s p q g settings softirq tasks work =
       given = rw work g.given;
     }
 
--- the processor after a disturbance, before work is taken up
+-- the processor after an interruption, before other work begins
 abbrev pub stirred : ℕ → ProcessorView → ProcessorView
 stirred moment p =
     let asked = is_some (position asks_at p.devices) in
@@ -550,7 +551,7 @@ pub work-disturbed : (s : MachineSettings) (moment : ℕ) (p : ProcessorView) �
 unfolding disturbed
 work-disturbed s moment p g = work-takes s (stirred moment p) (work-stirred s moment p g)
 
--- ---- over a life
+-- ---- over a processor's life
 
 pub work-happens : (s : MachineSettings) (u : Upcoming) (p : ProcessorView) → Goes s p → Goes s (happens u p)
 work-happens s Never p g = g

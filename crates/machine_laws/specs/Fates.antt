@@ -1,7 +1,7 @@
 -- The fate of packets over a processor's life. Lists are in the order of the events.
 use Rattle.std.specs.Prelude.{◌≡◌, ℕ, ◌+◌, ◌-◌, ◌^◌, ◌==◌, ◌&&◌, not, Bool, true, false, List, [], ◌∷◌, ◌++◌, length, map}
 use Rattle.std.specs.Prelude.{Option, Some, None, if◌then◌else◌, option_map}
-use Rattle.{device_places.specs.Places.at, machine_words.specs.declared.settings.MachineSettings.MachineSettings}
+use Rattle.{device_places.specs.Places.at, machine_model.specs.declared.settings.MachineSettings.MachineSettings}
 use Rattle.machine_laws.specs.Lives.{MachineEvent, InTurn, behind, next, packet}
 use Rattle.machine_model.specs.{Device.QueueView, Devices.{has_room_at, next_packet_at, with_device}, Application.has_place}
 use Rattle.machine_model.specs.{Processor.{ProcessorView, is_due, is_polling, upcoming}, Waits.{WaitsView, counted, saturated, no_waits}}
@@ -10,7 +10,7 @@ use Rattle.machine_model.specs.declared.processor.{Work.Work, Rest.Rest, Upcomin
 use Rattle.machine_model.specs.declared.processor.Work.TheVariants.{Nothing, Interrupt, Packet, Use}
 use Rattle.machine_model.specs.declared.processor.Upcoming.TheVariants.{Ends}
 
--- ---- at a device
+-- ---- at a queue
 
 abbrev pub queue_ring : Option QueueView → List ℕ
 queue_ring None = []
@@ -20,11 +20,11 @@ abbrev pub taken_in : Option QueueView → List ℕ
 taken_in None = []
 taken_in (Some d) = d.taken
 
--- whether there is room in its ring for a packet that arrives for this device now
+-- whether there is room in its ring for a packet that arrives for this queue now
 abbrev pub finds_room : ℕ → ProcessorView → Bool
 finds_room n p = has_room_at (at n (with_device p.settings.ring n p.devices))
 
--- the packets of a device for which there was room when they arrived, or for which there was none
+-- the packets of a queue that found room when they arrived (true), or that found none (false)
 unfoldable pub came : Bool → ℕ → MachineSettings → List MachineEvent → List ℕ
 came room n s [] = []
 came room n s (next ∷ earlier) = came room n s earlier
@@ -33,14 +33,15 @@ came true n s (packet moment number ∷ earlier) =
 came false n s (packet moment number ∷ earlier) =
     came false n s earlier ++ (if number == n && not (finds_room n (behind s earlier)) then moment ∷ [] else [])
 
--- the device and the packet that work delivers when it ends: a poll's packet, or without polling the oldest one of its ring
+-- the queue and the packet that work delivers when it ends: the packet that a poll processed; without polling, the oldest one
+-- in the ring
 abbrev pub delivery_of : Work → ProcessorView → Option (ℕ × ℕ)
 delivery_of (Packet hand) p = Some (hand.device, hand.came)
 delivery_of (Interrupt number) p =
     if is_polling p.settings then None else option_map (λ came. (number, came)) (next_packet_at false (at number p.devices))
 delivery_of _ p = None
 
--- the delivery that happens next
+-- what the next event delivers
 abbrev pub delivery_by : Upcoming → ProcessorView → Option (ℕ × ℕ)
 delivery_by Ends p = delivery_of p.work p
 delivery_by _ p = None
@@ -52,39 +53,39 @@ abbrev pub packet_for : ℕ → Option (ℕ × ℕ) → List ℕ
 packet_for n None = []
 packet_for n (Some (number, came)) = if number == n then came ∷ [] else []
 
--- the packets of a device that were delivered
+-- the packets of a queue that were delivered
 unfoldable pub delivered_packets : ℕ → MachineSettings → List MachineEvent → List ℕ
 delivered_packets n s [] = []
 delivered_packets n s (packet moment number ∷ earlier) = delivered_packets n s earlier
 delivered_packets n s (next ∷ earlier) = delivered_packets n s earlier ++ packet_for n (next_delivery (behind s earlier))
 
--- the packet of a device that a poll has in hand
+-- the packet of a queue that a poll processes
 abbrev pub hand_of : ℕ → Work → List ℕ
 hand_of n (Packet hand) = if hand.device == n then hand.came ∷ [] else []
 hand_of n _ = []
 
--- Law: a packet for which there was room is delivered once and in order, or it is held by a poll, in the queue that was
--- taken, or in the ring.
+-- Law: a packet that found room is delivered once and in order, or it is still in its queue: in use by a poll, moved by
+-- `process_backlog`, or in the ring.
 abbrev pub DeliversInOrder : Type 0
 DeliversInOrder = (s : MachineSettings) (n : ℕ) (events : List MachineEvent)
     → let p = behind s events in
     came true n s events ≡ delivered_packets n s events ++ (hand_of n p.work ++ (taken_in (at n p.devices) ++ queue_ring (at n p.devices)))
 
--- ---- the counts of a device
+-- ---- the counts of a queue
 
--- a list of waits, counted one by one
+-- counts with these waits added, one by one
 unfoldable pub counting : List ℕ → WaitsView → WaitsView
 counting [] w = w
 counting (wait ∷ more) w = counting more (counted wait w)
 
--- the waits of a device's packets, from arrival to delivery
+-- the waits of a queue's packets, from arrival to delivery
 unfoldable pub packet_waits : ℕ → MachineSettings → List MachineEvent → List ℕ
 packet_waits n s [] = []
 packet_waits n s (packet moment number ∷ earlier) = packet_waits n s earlier
 packet_waits n s (next ∷ earlier) = let p = behind s earlier in packet_waits n s earlier
     ++ map (λ came. p.ends - came) (packet_for n (next_delivery p))
 
--- the counts of a device, zeros for one that doesn't exist
+-- the counts of a queue; zeros for a queue that doesn't exist
 abbrev pub queue_counts_in : Option QueueView → QueueCounts
 queue_counts_in None = NONE
 queue_counts_in (Some d) = d.counts
@@ -99,19 +100,19 @@ pub record CountsFates (n : ℕ) (s : MachineSettings) (events : List MachineEve
   pub polled : (queue_counts_in device).polled ≡ saturated (length (delivered_packets n s events))
   pub counted : waits_in device ≡ counting (packet_waits n s events) no_waits
 
--- Law: the counts of a device and its waits are those of these packets.
+-- Law: the counts of a queue, and its waits, are those of these packets.
 abbrev pub TellsOfDevice : Type 0
 TellsOfDevice = (s : MachineSettings) (n : ℕ) (events : List MachineEvent) → CountsFates n s events (at n (behind s events).devices)
 
 -- ---- at the socket of an application on the same processor
 
--- for the packet that is delivered next: whether there is room in the socket, or it is dropped
+-- the packet that is delivered next, if it finds room in the socket (true), or if it is dropped (false)
 abbrev pub placed : Bool → Option (ℕ × ℕ) → List ℕ
 placed true (Some (number, came)) = came ∷ []
 placed true None = []
 placed false gives = []
 
--- the packets for which there was room when they were delivered, or that were dropped
+-- the packets that found room when they were delivered (true), or that were dropped (false)
 unfoldable pub kept : MachineSettings → List MachineEvent → List ℕ
 kept s [] = []
 kept s (packet moment number ∷ earlier) = kept s earlier
@@ -122,7 +123,7 @@ refused s [] = []
 refused s (packet moment number ∷ earlier) = refused s earlier
 refused s (next ∷ earlier) = let p = behind s earlier in refused s earlier ++ placed (not (has_place p.application)) (next_delivery p)
 
--- the packet that is used, and that of an interrupted use
+-- the packet in use, and that of an interrupted use
 abbrev pub used_by : Work → List ℕ
 used_by (Use came) = came ∷ []
 used_by _ = []
@@ -136,32 +137,32 @@ abbrev pub use_by : Upcoming → Work → List ℕ
 use_by Ends work = used_by work
 use_by _ work = []
 
--- those that were used
+-- the packets that were used
 unfoldable pub used_packets : MachineSettings → List MachineEvent → List ℕ
 used_packets s [] = []
 used_packets s (packet moment number ∷ earlier) = used_packets s earlier
 used_packets s (next ∷ earlier) = let p = behind s earlier in used_packets s earlier ++ use_by (upcoming p) p.work
 
--- Law: a packet for which there was room in the socket is used once and in order, or its use is in progress or was interrupted,
--- or it is in the socket.
+-- Law: a packet that found room in the socket is used once and in order, or its use is in progress or was interrupted, or it is
+-- in the socket.
 abbrev pub UsesInOrder : Type 0
 UsesInOrder = (s : MachineSettings) (events : List MachineEvent) → s.apart ≡ false → let p = behind s events in
     kept s events ≡ used_packets s events ++ (used_by p.work ++ (resting p.rest ++ p.application.socket.items))
 
--- the waits from arrival to the end of the use
+-- the waits of the packets used, from arrival to the end of the use
 unfoldable pub use_waits : MachineSettings → List MachineEvent → List ℕ
 use_waits s [] = []
 use_waits s (packet moment number ∷ earlier) = use_waits s earlier
 use_waits s (next ∷ earlier) =
     let p = behind s earlier in use_waits s earlier ++ map (λ came. p.ends - came) (use_by (upcoming p) p.work)
 
--- Law: the counts of dropped packets and of the waits of those used are those of these packets.
+-- Law: the counts of dropped packets, and the waits of packets that were used, are those of these packets.
 abbrev pub TellsOfUse : Type 0
 TellsOfUse = (s : MachineSettings) (events : List MachineEvent) → s.apart ≡ false → let a = (behind s events).application in
     (a.refused ≡ saturated (length (refused s events))) × (a.waits ≡ counting (use_waits s events) no_waits)
 
--- Law: when nothing is left to happen, no work is in progress or interrupted, and no packet is left in a ring, in a queue that
--- was taken out of one, or in the socket.
+-- Law: when nothing is left to happen, no work is in progress or interrupted, and no packet is left: not in a ring, not moved
+-- by `process_backlog`, not in the socket.
 abbrev pub NothingIsLeft : Type 0
 NothingIsLeft = (s : MachineSettings) (events : List MachineEvent) → InTurn s (2 ^ 64 - 1) events → let p = behind s events in
     is_due (2 ^ 64 - 1) p ≡ false

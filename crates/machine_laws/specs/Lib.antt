@@ -3,3 +3,4 @@ pub mod Fates
 pub mod Times
 pub mod Applications
 pub mod Deferrals
+pub mod Reports

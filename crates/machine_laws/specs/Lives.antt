@@ -1,6 +1,6 @@
--- The life of a processor: packets that arrive, and the events between them.
+-- The life of a processor: a list of the packets that arrived and of the events between them.
 use Rattle.std.specs.Prelude.{◌≡◌, ◌≤◌, ◌<◌, ℕ, ◌-◌, ◌/◌, ◌%◌, ◌^◌, ◌==◌, true, false, List, [], ◌∷◌, Some, slice_get, if◌then◌else◌}
-use Rattle.{machine_words.specs.declared.settings.MachineSettings.MachineSettings}
+use Rattle.{machine_model.specs.declared.settings.MachineSettings.MachineSettings}
 use Rattle.{machine_model.specs.Processor.{ProcessorView, Advances, arrives}}
 use Rattle.machine_model.specs.{Application.went_on, Machine.{PacketArrives, Finishes, Machine, opened_machine}}
 use Rattle.machine_model.specs.Processor.{is_due, opened_processor, step}
@@ -9,7 +9,7 @@ use Rattle.machine_model.specs.Processor.{is_due, opened_processor, step}
 abbrev pub RunsAsOne : Type 0
 RunsAsOne = (moment : ℕ) (p q r : ProcessorView) → Advances moment p q → Advances moment p r → q ≡ r
 
--- Law: an arrival turns each machine into exactly one machine.
+-- Law: an arrival leads from each machine to exactly one machine.
 abbrev pub ArrivesAsOne : Type 0
 ArrivesAsOne = (moment device : ℕ) (before after other : Machine) → PacketArrives moment device before after
     → PacketArrives moment device before other
@@ -17,24 +17,25 @@ ArrivesAsOne = (moment device : ℕ) (before after other : Machine) → PacketAr
 
 -- ---- the life of a processor
 
--- a packet arrives at a time for the device with this number, or the next event happens: work ends or a timer expires
+-- a packet arrives at a time for the queue with this number, or the next event happens: work ends or a timer expires
 pub data MachineEvent : Type 0 where
   packet : ℕ → ℕ → MachineEvent
   next : MachineEvent
 
--- a new processor after these events, the last of which is the first of the list
+-- the processor after these events, from a new one on; the last event is the first of the list
 unfoldable pub behind : MachineSettings → List MachineEvent → ProcessorView
 behind s [] = opened_processor s
 behind s (packet moment number ∷ earlier) = arrives moment number (behind s earlier)
 behind s (next ∷ earlier) = step (behind s earlier)
 
--- the events are in order: all that happens up to a time happens before a packet arrives then, and times don't decrease
+-- the events are in order: everything that is due up to a time happens before a packet that arrives at that time, and times
+-- don't decrease
 unfoldable pub InTurn : MachineSettings → ℕ → List MachineEvent → Type 0
 InTurn s until [] = Unit {0}
 InTurn s until (packet moment number ∷ earlier) = (moment ≤ until) × (is_due moment (behind s earlier) ≡ false) × InTurn s moment earlier
 InTurn s until (next ∷ earlier) = (is_due until (behind s earlier) ≡ true) × InTurn s until earlier
 
--- the packets among events, each as its moment and its device's number
+-- the packets among these events, each as its arrival time and its queue's number
 unfoldable pub packets_in : List MachineEvent → List (ℕ × ℕ)
 packets_in [] = []
 packets_in (packet moment number ∷ earlier) = (moment, number) ∷ packets_in earlier
@@ -46,7 +47,7 @@ pub record Lived (s : MachineSettings) (until : ℕ) (packets : List (ℕ × ℕ
   pub turns : InTurn s until events
   pub came : packets_in events ≡ packets
 
--- the packets that arrived at a machine, the last one first: when, and for which device; and those of one processor
+-- the packets that arrived at a machine, the last one first: the time and the queue of each; and those of one processor
 unfoldable pub Took : MachineSettings → ℕ → List (ℕ × ℕ) → Machine → Type 0
 Took s until [] m = m ≡ opened_machine s
 Took s until ((moment, device) ∷ earlier) m =
@@ -58,15 +59,15 @@ own_packets processors processor ((moment, device) ∷ earlier) =
     if (device - 1) % processors == processor then (moment, (device - 1) / processors) ∷ own_packets processors processor earlier
     else own_packets processors processor earlier
 
--- a processor with such a life, on which nothing is left to happen, and whose application has advanced to its end
+-- a processor with such a life, on which nothing is left to happen, and whose application has finished its work
 pub record Ended (s : MachineSettings) (packets : List (ℕ × ℕ)) (p : ProcessorView) : Type 0 where
   pub ready : ProcessorView
   pub lived : Lived s (2 ^ 64 - 1) packets ready
   pub none : is_due (2 ^ 64 - 1) ready ≡ false
   pub finishes : p ≡ record ready { application = went_on (2 ^ 64 - 1) ready.settings.use_time ready.application }
 
--- Law: each processor of a machine has such a life, with the packets of its own devices; and when the machine has finished
--- nothing is left.
+-- Law: each processor of a machine has such a life, with the packets of its own queues; when the machine has finished, nothing
+-- is left.
 abbrev pub EachLives : Type 0
 EachLives = (s : MachineSettings) (until : ℕ) (packets : List (ℕ × ℕ)) (m : Machine) → Took s until packets m
     → ((number : ℕ) (p : ProcessorView) → slice_get m number ≡ Some p → Lived s until (own_packets s.processors number packets) p)

@@ -1,14 +1,15 @@
 //! Internal crate of the facade `machine`: laws of the receiving machine, for all settings and all arrivals.
 //!
 //! Each law is the contract of a function that does nothing. `specs/` has their statements: `Lives` defines the life of a
-//! processor, `Fates` the fate of packets, `Times` times and work, `Applications` an application on its own processor, and
-//! `Deferrals` deferred interrupts.
+//! processor, `Fates` the fate of packets, `Times` times and work, `Applications` an application on its own processor,
+//! `Deferrals` deferred interrupts, and `Reports` says that they hold for what a report shows.
 #![tactic(auto)]
 
 ghost use Rattle.machine_laws.specs.Applications.{ApplicationEnds, ApplicationIsFed, ApplicationServes, ReceivingIsApart};
 ghost use Rattle.machine_laws.specs.Deferrals.{DeferralIsBounded, EmptyPollsAreFew, EveryRunEnds, TimersAreNear};
 ghost use Rattle.machine_laws.specs.Fates.{DeliversInOrder, NothingIsLeft, TellsOfDevice, TellsOfUse, UsesInOrder};
 ghost use Rattle.machine_laws.specs.Lives.{ArrivesAsOne, EachLives, RunsAsOne};
+ghost use Rattle.machine_laws.specs.Reports.{ReportsLives};
 ghost use Rattle.machine_laws.specs.Times.{ClocksNeverFall, NoWaitIsLess, WorksWithin};
 
 /// The events on a processor up to a time are determined.
@@ -16,12 +17,12 @@ pub fn runs_as_one()
     ensures { RunsAsOne }
 {}
 
-/// An arrival turns each machine into exactly one machine.
+/// An arrival leads from each machine to exactly one machine.
 pub fn arrives_as_one()
     ensures { ArrivesAsOne }
 {}
 
-/// Each processor of a machine has a life by these laws, with the packets of its own devices.
+/// Each processor of a machine has a life by these laws, with the packets of its own queues.
 pub fn each_lives()
     ensures { EachLives }
 {}
@@ -41,22 +42,22 @@ pub fn works_within()
     ensures { WorksWithin }
 {}
 
-/// A packet for which there was room in its device's ring is delivered once and in order, or it is still there.
+/// A packet that found room in its queue's ring is delivered once and in order, or it is still in the queue.
 pub fn delivers_in_order()
     ensures { DeliversInOrder }
 {}
 
-/// The counts of a device and its waits are those of its packets.
+/// The counts of a queue, and its waits, are those of its packets.
 pub fn tells_of_device()
     ensures { TellsOfDevice }
 {}
 
-/// A packet for which there was room in the socket is used once and in order, or it is still there.
+/// A packet that found room in the socket is used once and in order, or it is still there.
 pub fn uses_in_order()
     ensures { UsesInOrder }
 {}
 
-/// The counts of dropped packets and of the waits of those used are those of these packets.
+/// The counts of dropped packets, and the waits of packets that were used, are those of these packets.
 pub fn tells_of_use()
     ensures { TellsOfUse }
 {}
@@ -66,29 +67,28 @@ pub fn nothing_is_left()
     ensures { NothingIsLeft }
 {}
 
-/// On its own processor the application depends only on the deliveries.
+/// An application on its own processor depends only on the packets that are delivered to it.
 pub fn application_is_fed()
     ensures { ApplicationIsFed }
 {}
 
-/// On its own processor the application uses each packet for which there was room once and in order. Uses don't overlap, its
-/// idle time isn't negative, it sleeps only while the socket is empty, and it is woken at most once for each packet that it
-/// uses.
+/// An application on its own processor uses each packet that found room once and in order. Uses don't overlap, its idle time
+/// isn't negative, it sleeps only while the socket is empty, and it is woken at most once for each packet that it uses.
 pub fn application_serves()
     ensures { ApplicationServes }
 {}
 
-/// After the end the application sleeps, and all packets for which there was room were used.
+/// After the end of the run the application sleeps, and all packets that found room were used.
 pub fn application_ends()
     ensures { ApplicationEnds }
 {}
 
-/// With any other application on its own processor, the rest of the receiving processor is the same.
+/// With any other application on its own processor, the rest of the receiving processor stays the same.
 pub fn receiving_is_apart()
     ensures { ReceivingIsApart }
 {}
 
-/// After its last packet at most `defer-hard-irqs` polls of a device are empty, or one if that is 0.
+/// After the last packet of a queue, at most `defer-hard-irqs` of its polls are empty, or one if that is 0.
 pub fn empty_polls_are_few()
     ensures { EmptyPollsAreFew }
 {}
@@ -98,13 +98,21 @@ pub fn every_run_ends()
     ensures { EveryRunEnds }
 {}
 
-/// When a packet arrives for a device whose interrupt is deferred, its NAPI timer expires at most `gro-flush-timeout` later.
+/// When a packet arrives for a queue whose interrupt is deferred, the queue's NAPI timer expires at most `gro-flush-timeout`
+/// later.
 pub fn timers_are_near()
     ensures { TimersAreNear }
 {}
 
-/// On an idle processor the oldest packet of a device whose NAPI timer expires is delivered at once: at most the times to wake up, of
-/// an interrupt, of a poll and of a packet later.
+/// If a queue's NAPI timer expires on an idle processor, its oldest packet is delivered at most `wake` + `interrupt` + `poll` +
+/// `packet` later.
 pub fn deferral_is_bounded()
     ensures { DeferralIsBounded }
 {}
+
+/// Each processor of a report lived as the laws say, with the packets of the bytes read, until nothing was left.
+pub fn reports_live()
+    ensures { ReportsLives }
+{
+    each_lives();
+}

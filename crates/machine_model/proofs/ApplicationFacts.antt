@@ -1,8 +1,8 @@
--- The application advances, step by step.
+-- The application does its work over time, step by step.
 use Rattle.std.proofs.{Common.{◌≡◌, ◌∙◌, ℕ, ◌+◌, ◌≤◌, ◌<◌, Bool, true, false, List, [], ◌∷◌, length, refl, sym, arith}}
 use Rattle.std.proofs.{lemmas.Grind.common_steps}
 use Rattle.std.specs.Prelude.{if◌then◌else◌}
-use Rattle.machine_words.specs.declared.settings.MachineSettings.{MachineSettings}
+use Rattle.machine_model.specs.declared.settings.MachineSettings.{MachineSettings}
 use Rattle.machine_model.specs.declared.application.Activity.{Activity, TheVariants.Asleep}
 use Rattle.machine_model.specs.Application.{ApplicationView, ended_by, fed, goes_on, is_awake, is_use_over, takes_next, went_on}
 use Rattle.machine_model.specs.Application.{went_on_with}
@@ -19,7 +19,7 @@ goes-more : (use_time : ℕ) (a : ApplicationView) (came : ℕ) (more : List ℕ
 unfolding goes_on
 goes-more use_time a came more is = rw is refl
 
--- a sleeping application has no work that ends
+-- a sleeping application has no work that could end
 asleep : (moment : ℕ) (a : ApplicationView) → a.activity ≡ Asleep → is_use_over moment a ≡ false
 asleep moment a is = rw is refl
 
@@ -43,7 +43,7 @@ went-goes moment use_time a over = by a.socket.items refl
         (goes-none use_time a is)))
     by (came ∷ more) is = rw (over, goes-more use_time a came more is) refl
 
--- ---- how much is left
+-- ---- how much work is left
 
 unfoldable pub left_of : ApplicationView → ℕ
 left_of a = length a.socket.items + (if is_awake a.activity then 1 else 0)

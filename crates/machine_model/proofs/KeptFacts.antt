@@ -1,7 +1,7 @@
 -- The invariant of each processor is preserved.
 use Rattle.std.proofs.Common.{◌≡◌, ◌∙◌, ℕ, ◌+◌, ◌<◌, ◌≤◌, Bool, true, false, Option, Some, None, length, refl, sym, arith}
 use Rattle.std.{proofs.lemmas.Grind.common_steps, specs.Prelude.{◌==◌, if◌then◌else◌}}
-use Rattle.machine_words.specs.declared.settings.MachineSettings.{MachineSettings}
+use Rattle.machine_model.specs.declared.settings.MachineSettings.{MachineSettings}
 use Rattle.{poll_runs.specs.declared.bench.Next.TheVariants.{Gone, Repoll}, device_places.specs.Places.{changed}}
 use Rattle.poll_runs.specs.declared.bench.Once.{Once}
 use Rattle.machine_model.specs.{Device.{queue_polled}, Devices.{QueueViews}, Processor.is_polling, Shown.{held_in, listed}}
@@ -15,20 +15,20 @@ pub if-none : (b : Bool) (o : Option ℕ) → o ≡ None → (if b then None els
 if-none true o none = refl
 if-none false o none = none
 
--- devices change, and at least as many are scheduled
+-- the queues change, and at least as many are scheduled as before
 pub kept-devices : (s : MachineSettings) (w : Work) (ds es : QueueViews) (q : SoftirqView) → ProcessorKept s w ds q
     → all_scheduled ds ≤ all_scheduled es
     → ProcessorKept s w es q
 kept-devices s w ds es q k more =
     record { few = omega (arith, k.few, more); unused = k.unused; asked = k.asked; weight = k.weight; within = k.within }
 
--- other work, of the same device if it is a poll
+-- other work begins; if it is a poll, it is of the same queue
 pub kept-work : (s : MachineSettings) (w v : Work) (ds : QueueViews) (q : SoftirqView) → ProcessorKept s w ds q → polled_by v ≡ polled_by w
     → work_given v < s.weight → ProcessorKept s v ds q
 kept-work s w v ds q k same within =
     record { few = k.few; unused = k.unused; asked = rw same k.asked; weight = k.weight; within = within }
 
--- with threads any device may be polled
+-- with threads, any queue may be polled
 pub kept-thread : (s : MachineSettings) (w v : Work) (ds : QueueViews) (q : SoftirqView) → ProcessorKept s w ds q → s.threaded ≡ true
     → work_given v < s.weight → ProcessorKept s v ds q
 kept-thread s w v ds q k threaded within =
@@ -40,7 +40,7 @@ list-is s polling threaded = grind (arith, common_steps)
 no-list : (s : MachineSettings) → is_polling s ≡ false → has_list s ≡ false
 no-list s polling = grind (arith, common_steps)
 
--- without polling the devices may change as they like
+-- without polling, any change of the queues preserves it
 pub kept-lone : (s : MachineSettings) (w : Work) (ds es : QueueViews) (q : SoftirqView) → ProcessorKept s w ds q → is_polling s ≡ false
     → ProcessorKept s w es q
 kept-lone s w ds es q k lone =
@@ -73,7 +73,7 @@ kept-begun s w ds q moment k none idle polling threaded =
       within = k.within;
     }
 
--- the run asks for a device, or is over
+-- the run asks for the poll of a queue, or is over
 pub kept-next : (s : MachineSettings) (w v : Work) (ds : QueueViews) (q : SoftirqView) → ProcessorKept s w ds q → asked_in q.run ≡ None
     → asked_in (run_next q).run ≡ (if s.threaded then None else polled_by v) → work_given v < s.weight → ProcessorKept s v ds (run_next q)
 kept-next s w v ds q k none asked within =
@@ -137,7 +137,7 @@ kept-alone s w ds es q k threaded least =
     threads : (s : MachineSettings) → s.threaded ≡ true → has_list s ≡ false
     threads s threaded = grind (arith, common_steps)
 
--- a list that isn't empty is one of a machine without threads
+-- if the list isn't empty, the machine has no threads
 pub list-unthreaded : (s : MachineSettings) (w : Work) (ds : QueueViews) (q : SoftirqView) → ProcessorKept s w ds q → 0 < length q.list
     → s.threaded ≡ false
 list-unthreaded s w ds q k some = by s.threaded refl
@@ -149,12 +149,12 @@ list-unthreaded s w ds q k some = by s.threaded refl
     by true threaded = absurd (omega (arith, some, k.unused (threads threaded)))
     by false threaded = refl
 
--- while nothing is polled, the run asks for nothing
+-- while no queue is polled, the run doesn't ask for a poll
 pub kept-idle : (s : MachineSettings) (w : Work) (ds : QueueViews) (q : SoftirqView) → ProcessorKept s w ds q → polled_by w ≡ None
     → asked_in q.run ≡ None
 kept-idle s w ds q k idle = k.asked ∙ if-none s.threaded (polled_by w) idle
 
--- the run's device is the one that is polled
+-- the queue for which the run asks is the one that is polled
 pub kept-asks : (s : MachineSettings) (w : Work) (ds : QueueViews) (q : SoftirqView) (n : ℕ) → ProcessorKept s w ds q → s.threaded ≡ false
     → polled_by w ≡ Some n → asked_in q.run ≡ Some n
 kept-asks s w ds q n k threaded polled = k.asked ∙ rw (threaded, polled) refl
@@ -166,7 +166,7 @@ asked-listed q n asked = by q.run asked
     by None asked = cc asked
     by (Some r) asked = rw asked (omega arith)
 
--- a run that asks for a device is one of a machine without threads
+-- if a run asks for a poll, the machine has no threads
 pub asks-unthreaded : (s : MachineSettings) (w : Work) (ds : QueueViews) (q : SoftirqView) (n : ℕ) → ProcessorKept s w ds q
     → asked_in q.run ≡ None
     → asked_in (run_next q).run ≡ Some n → s.threaded ≡ false

@@ -1,11 +1,11 @@
--- A measure of the work that remains on a processor: every event decreases it.
+-- A measure of the work that remains on a processor. Every event decreases it.
 use Rattle.std.proofs.Common.{◌≡◌, ◌∙◌, ℕ, ◌+◌, ◌-◌, ◌*◌, ◌<◌, ◌≤◌, Bool, true, false, Option, Some, None, List, [], ◌∷◌, ◌++◌}
 use Rattle.std.proofs.Common.{length, ap, refl, sym, arith}
 use Rattle.std.proofs.lemmas.{List.Quantifiers.position-Some, Bool.eqb-true, Grind.common_steps}
 use Rattle.std.specs.Prelude.{◌==◌, ◌&&◌, if◌then◌else◌, is_some, nat_le, nat_lt, not, position, slice_get}
 use Rattle.std.specs.Option.{option_map_or}
 use Rattle.{poll_runs.specs.{Turn.asked_for, declared.bench.Once.Once}, device_places.specs.Places.{at, changed}}
-use Rattle.machine_words.specs.declared.settings.MachineSettings.{MachineSettings}
+use Rattle.machine_model.specs.declared.settings.MachineSettings.{MachineSettings}
 use Rattle.machine_model.specs.declared.{device.Phase.{TheVariants.{Raised}}, devices.Timer.Timer}
 use Rattle.machine_model.specs.declared.processor.{InHand.InHand, Rest.Rest, Upcoming.Upcoming}
 use Rattle.machine_model.specs.declared.processor.{Work.{Work, TheVariants.{Nothing, Interrupt, Poll, Packet, Use}}}
@@ -31,9 +31,9 @@ use Rattle.machine_model.proofs.WeightFacts.{weight-polled, expired-less, soones
 use Rattle.machine_model.proofs.WeightFacts.{entries-begun, entries-ended, entries-polled, threads, threads-thread, if-application}
 use Rattle.machine_model.proofs.WeightFacts.{same-runnable, is_thread, after-first}
 
--- ---- all remaining work, by the weight of a packet
+-- ---- all remaining work, if a packet counts this much
 
--- the weight of a packet: more than all that its poll can cause
+-- what a packet counts: more than all that its poll can cause
 abbrev pub load : ℕ
 load = 327679
 
@@ -61,7 +61,7 @@ idle-left : (w : ℕ) (p : ProcessorView) → p.work ≡ Nothing → left w p �
 unfolding left left_by
 idle-left w p nothing = rw nothing (omega arith)
 
--- ---- what is taken up
+-- ---- when work begins
 
 schedules-less : (w n time : ℕ) (polling : Bool) (q : ProcessorView)
     → left w (begins (Interrupt n) time (if polling then scheduled n q else q)) ≤ base w q + 3
@@ -129,7 +129,7 @@ leaves-less w None p is nothing = by p.settings.threaded p.settings.apart
     by false true = omega (arith, idle-left w p nothing)
     by false false = uses-less w p.application.socket.items p refl nothing
 
--- a poll of the run's device, or other work
+-- the poll of the queue for which the run asks, or other work
 asks-less : (w most : ℕ) (asked : Option ℕ) (p other : ProcessorView) → base w p + 2 * length (asked_for asked) ≤ most
     → left w other ≤ most
     → left w (option_map_or (λ number. polls number p) asked other) ≤ most
@@ -200,7 +200,7 @@ idle-less w p nothing none None lowest =
 idle-is : (work : Work) → is_busy work ≡ false → work ≡ Nothing
 idle-is work idle = grind (arith, common_steps)
 
--- nothing is asked while nothing is under way
+-- the run asks for nothing while no work is in progress
 takes-less : (w : ℕ) (p : ProcessorView) → (p.work ≡ Nothing → asked_in p.softirq.run ≡ None) → left w (takes_up p) ≤ left w p
 unfolding takes_up
 takes-less w p none =
@@ -211,7 +211,7 @@ takes-less w p none =
     let nothing = idle-is p.work idle in
     omega (arith, idle-less w p nothing (none nothing) (position asks_at p.devices) refl, idle-left w p nothing))
 
--- ---- what ends
+-- ---- when work ends
 
 delivers-most : (w n came : ℕ) (p : ProcessorView) → base w (delivers n came p) ≤ base w p + 1
 unfolding base delivers
@@ -260,7 +260,7 @@ lone-less w n p least = by (next_packet_at false (at n p.devices)) refl
         let q = delivers_oldest n (Some came) p in
         omega (arith, raised-base w 3 n q (weight-raised w (at n q.devices)), oldest-less w n (Some came) p (omega (arith, least)) is)
 
--- a poll ends: what its device may still do, and its next poll
+-- the end of a poll: what its queue may still do, and its next poll
 abbrev pub extra : ℕ → ℕ
 extra given = if given == 0 then 0 else 327677
 

@@ -18,7 +18,7 @@ pub record Same (q r : SoftirqView) : Type 0 where
   pub some : is_some r.run ≡ is_some q.run
   pub weight : weight_in r.run ≡ weight_in q.run
 
--- one more poll, or none, only moves numbers
+-- the next poll of a run, or its end, only moves numbers between the lists
 next-moves : (own repoll list : List ℕ)
     → length ((filled own repoll list).1)
     + (length (asked_for (slice_get (filled own repoll list).0 0) ++ drop 1 (filled own repoll list).0) + length repoll)
@@ -58,7 +58,7 @@ ended-same list run began none = grind (arith, common_steps)
 pub listed-ended : (q : SoftirqView) → asked_in q.run ≡ None → listed (run_ended q) ≡ listed q
 listed-ended q none = ended-same q.list q.run q.began none
 
--- a poll that used its whole weight puts its number back; any other one releases it
+-- after a poll that used its whole weight, its number goes to the repolls; after any other poll it leaves
 polled-moves : (full : Bool) (work n : ℕ) (list : List ℕ) (run : Option RunView) (began : ℕ) → asked_in run ≡ Some n
     → let q : SoftirqView = record { list = list; run = run; began = began } in
     listed (softirq_polled (record { work = work; next = if full then Repoll else Gone }) q) + (if full then 0 else 1) ≡ listed q

@@ -23,7 +23,7 @@ arrive-exact moment device count before old new is least most value arrives =
       others = refl;
     })
 
--- the first processors have advanced until nothing is left, the others not yet
+-- the first processors have finished: nothing is left on them; the others haven't yet
 pub record Finished (before now : Machine) (count : ℕ) : Type 0 where
   pub size : length now ≡ length before
   pub done : (n : ℕ) (p : ProcessorView) → n < count → slice_get before n ≡ Some p

@@ -1,4 +1,4 @@
--- The cached values of the devices, as one of them changes.
+-- The cached values of a processor's queues, after one queue changed.
 use Rattle.std.proofs.Common.{◌≡◌, ◌∙◌, ◌⊎◌, inl, inr, ℕ, zero, suc, ◌+◌, ◌^◌, ◌<◌, ◌≤◌, Bool, true, false}
 use Rattle.std.proofs.Common.{Option, Some, None, List, [], ◌∷◌}
 use Rattle.std.proofs.Common.{◌++◌, length, replicate, slice_index_or, slice_set, refl, sym, ap, subst, arith, w64}
@@ -7,7 +7,7 @@ use Rattle.std.proofs.lemmas.{Bool.cases_eq, Grind.{common_steps, get_or-set_at}
 use Rattle.std.proofs.lemmas.List.{get_or-set_other, length-set, Sums.position_or_len_is}
 use Rattle.std.proofs.lemmas.Nat.Bits.{bit_at-trailing_zeros, bit_at-zero}
 use Rattle.{device_places.{proofs.PlaceFacts.{at-index, below-some}, specs.Places.{at, changed, changed_from}}}
-use Rattle.machine_words.specs.declared.settings.MachineSettings.{MachineSettings}
+use Rattle.machine_model.specs.declared.settings.MachineSettings.{MachineSettings}
 use Rattle.machine_model.specs.Device.{QueueView, after_packet, is_masked, new_queue, without_next}
 use Rattle.machine_model.specs.Devices.{QueueViews, asks_at, soonest_from, sooner, timer_at}
 use Rattle.machine_model.specs.Shown.{IsMask, IsPending, earlier, mask_bit, has_timer}
@@ -45,7 +45,7 @@ at-same xs n y below = get_or-set_at xs n n y None refl below
 at-other : (xs : QueueViews) (n m : ℕ) (y : Option QueueView) → (m ≡ n → ⊥) → at m (slice_set xs n y) ≡ at m xs
 at-other xs n m y other = get_or-set_other xs n m y None other
 
--- ---- masks
+-- ---- bit masks
 
 mask_bit-on : (b : Bool) → mask_bit b ≡ 1 → b ≡ true
 mask_bit-on true e = refl
@@ -98,7 +98,7 @@ module _ (holds : Option QueueView → Bool) where
   pub inside : (xs : QueueViews) (mask n : ℕ) → holds None ≡ false → IsMask holds xs mask → n < 64 → bit_at mask n ≡ 1 → n < length xs
   inside xs mask n none is small set = within xs n none (held-at xs mask n is small set)
 
--- ---- the lowest that asks
+-- ---- the lowest queue that asks for an interrupt
 
 position-at : (xs : QueueViews) (i : ℕ) → position_or_len asks_at xs ≡ i → i < length xs → position asks_at xs ≡ Some i
 position-at xs i at below = grind (arith, common_steps)
@@ -122,7 +122,7 @@ lowest-some xs mask some fits is =
     (λ _. held-at asks_at xs mask first is low.0 low.1))
     below
 
--- ---- the soonest timer
+-- ---- the timer that expires first
 
 front-some : (a b : Timer) → a.device < b.device → sooner (Some a) (Some b) ≡ earlier (Some b) (Some a)
 front-some a b lower = grind (arith, common_steps)
@@ -169,7 +169,7 @@ soonest-from k (x ∷ xs) (suc n) y below =
     (λ b is. omega (arith, named (k + 1 + n) y b is))
     ∙ ap (λ (m : ℕ). earlier (sooner (timer_at k x) (soonest_from (k + 1) (slice_set xs n None))) (timer_at m y)) same)
 
--- the soonest of all is that of the others, or that of one device
+-- the first of all timers is the first of the others, or that of this queue
 soonest-set : (xs : QueueViews) (n : ℕ) (y : Option QueueView) → n < length xs
     → soonest_from 0 (slice_set xs n y) ≡ earlier (soonest_from 0 (slice_set xs n None)) (timer_at n y)
 soonest-set xs n y below =
@@ -179,7 +179,8 @@ soonest-set xs n y below =
 abbrev pub is_of : Option Timer → ℕ → Bool
 is_of timer n = option_map_or (λ t. t.device == n) timer false
 
--- before a device's timer was `was`, and now it is `own`: the soonest of all, unless it was that of the device
+-- before, a queue's timer was `was`, and now it is `own`: the first of all timers now, if the first one before wasn't that of
+-- the queue
 renewed : (n : ℕ) (old rest was own : Option Timer) → old ≡ earlier rest was → ((a : Timer) → was ≡ Some a → a.device ≡ n)
     → is_of old n ≡ false
     → earlier rest own ≡ earlier old own
@@ -190,7 +191,7 @@ renewed n old (Some r) None own is named other = rw is refl
 renewed n old (Some r) (Some a) own is named other =
     let here = named a refl in let one = rw is at other in rw is (grind (arith, common_steps, here, one))
 
--- it was that of the device, and stays so
+-- if the queue's timer was the first of all timers and still is, the first timer stays the same
 stays-by : (rest was : Option Timer) → earlier rest (earlier rest was) ≡ earlier rest was
 stays-by None None = refl
 stays-by None (Some a) = refl
@@ -232,9 +233,9 @@ soonest-stays change n before after old own below timer stays is was =
     let same : earlier rest old ≡ old = ap (λ (t : Option Timer). earlier rest t) came ∙ (stays-by rest one ∙ sym came) in
     sym (now ∙ (ap (λ (t : Option Timer). earlier rest t) (sym timer ∙ stays) ∙ same))
 
--- ---- changes after which all stays
+-- ---- changes after which the cached values stay the same
 
--- the entry asks as before, and its timer is the same
+-- the entry asks for an interrupt exactly as before, and its timer is the same
 pending-same : (xs : QueueViews) (n : ℕ) (y : Option QueueView) (p : Pending) → n < length xs → length xs ≤ 64
     → asks_at y ≡ asks_at (at n xs)
     → has_timer y ≡ has_timer (at n xs)
@@ -249,12 +250,12 @@ pending-same xs n y p below few asks timed timer was = record {
       ∙ (ap (λ (t : Option Timer). earlier (soonest_from 0 (slice_set xs n None)) t) timer ∙ sym (soonest-before xs n below)));
 }
 
--- the value that was read from the entry is the device there
+-- the value that was read from the entry is the queue there
 there : (xs : QueueViews) (n : ℕ) (x : Option QueueView) (d : QueueView) → n < length xs → x ≡ slice_index_or xs n x → x ≡ Some d
     → at n xs ≡ Some d
 there xs n x d below found some = at-index xs n x below (sym found) ∙ some
 
--- what holds for the devices, after the one in this entry changed
+-- what has to be shown for all queues, after the one in this entry changed
 pub changed-kept : (f : QueueView → QueueView) (xs : QueueViews) (n : ℕ) (x : Option QueueView) (d e : QueueView)
     → n < length xs
     → x ≡ slice_index_or xs n x
@@ -274,7 +275,7 @@ changed-kept f xs n x d e below found some is old new now after now_is kept =
           (after f xs (now_is ∙ change) kept.1),
     )
 
--- the same if its phase stays
+-- what has to be shown for all queues is the same if the changed queue's phase stays the same
 pub phase-kept : (xs : QueueViews) (n : ℕ) (x : Option QueueView) (d e : QueueView) (old : Pending)
     → n < length xs
     → x ≡ slice_index_or xs n x
@@ -295,7 +296,7 @@ pub phase-masked : (moment : ℕ) (s : MachineSettings) (d : QueueView) → is_m
 unfolding after_packet
 phase-masked moment s d masked = grind (arith, common_steps)
 
--- a new device asks for nothing
+-- a new queue doesn't ask for an interrupt and has no timer
 pub opened-kept : (xs : QueueViews) (n capacity : ℕ) (e : QueueView) (old : Pending)
     → n < length xs
     → at n xs ≡ None
@@ -346,7 +347,7 @@ pending-none p asking timed soonest = record {
   soonest = soonest;
 }
 
--- the devices after one changed
+-- the cached values after this change of one queue
 pub pending-changed : (change : QueueView → QueueView) (n : ℕ) (before after : QueueViews) (old new : Pending) → n < length after
     → after ≡ changed change n before
     → (bit_at new.asking n ≡ mask_bit (asks_at (at n after))) × ((m : ℕ) → m < 64 → (m ≡ n → ⊥) → bit_at new.asking m ≡ bit_at old.asking m)

@@ -1,8 +1,8 @@
--- Sums over a processor's devices as one of them changes, and how many are scheduled.
+-- Sums over a processor's queues after one of them changed, and how many are scheduled.
 use Rattle.std.proofs.Common.{◌+◌, ◌≤◌, Bool, true, false, Option, Some, None, [], ◌∷◌, ◌++◌, length, replicate, arith, ◌≡◌, ℕ}
 use Rattle.std.{proofs.lemmas.{List.Sums.sum_by-cons, Grind.common_steps}, specs.Prelude.{◌==◌, sum_by, if◌then◌else◌}}
 use Rattle.{device_places.{proofs.PlaceFacts.below-some, specs.Places.{at, changed}}, machine_model.specs.Devices.{QueueViews, asks_at}}
-use Rattle.machine_words.specs.declared.settings.MachineSettings.{MachineSettings}
+use Rattle.machine_model.specs.declared.settings.MachineSettings.{MachineSettings}
 use Rattle.machine_model.specs.{Device.{QueueView, after_packet, expired, interrupted, is_masked, notified, queue_polled}}
 use Rattle.machine_model.specs.{Device.{asks, expired_phase, without_next}, Kept.{all_scheduled, is_scheduled, scheduled_at}}
 use Rattle.machine_model.specs.declared.device.Phase.{Phase}
@@ -62,7 +62,7 @@ pub scheduled-most : (xs : QueueViews) → all_scheduled xs ≤ length xs
 scheduled-most [] = omega arith
 scheduled-most (x ∷ xs) = omega (arith, sum_by-cons scheduled_at x xs, one-most x, scheduled-most xs)
 
--- ---- which changes schedule none
+-- ---- changes that schedule no queue
 
 expired-open : (phase : Phase) → is_scheduled (expired_phase phase) ≡ is_scheduled phase
 expired-open phase = grind (arith, common_steps)

@@ -1,4 +1,4 @@
--- What a poll reports to a run, over a list of one thread.
+-- What a poll reports to a run over a list of one thread.
 use Rattle.std.{proofs.Common.{◌≡◌, ℕ, ◌+◌, true, false, Option, Some, None, List, [], ◌∷◌, ◌++◌, refl}, specs.Prelude.is_some}
 use Rattle.std.specs.Prelude.{if◌then◌else◌}
 use Rattle.poll_runs.specs.{Plain.{HasListRoom, OwnPushes, all_held}, Polls.{is_arrival, is_repoll}}

@@ -1,4 +1,4 @@
--- The soonest of timers, one after the other.
+-- The timer that expires first, found entry by entry.
 use Rattle.std.proofs.Common.{◌≡◌, ◌∙◌, ◌⊎◌, inl, inr, ℕ, ◌+◌, ◌-◌, ◌*◌, ◌%◌, ◌^◌, ◌<◌, ◌≤◌, zero, suc, Bool, true, false}
 use Rattle.std.proofs.Common.{Option, Some, None, length, drop, get_or, refl, ap, sym, arith, w64}
 use Rattle.std.proofs.{lemmas.{Bool.cases_eq, Grind.common_steps, List.drop_all, Nat.and_le_l}, Math.Seq.drop-cons}
@@ -63,7 +63,8 @@ less-than a b less = grind (arith, common_steps)
 at-least : (a b : ℕ) → nat_lt a b ≡ false → b ≤ a
 at-least a b least = grind (arith, common_steps)
 
--- A walk over the bits of a mask: `best` is the soonest timer of the entries below `from`, and `left` has the bits from there on.
+-- A loop over the bits of a mask: `best` is the first timer of the entries below `from`, and `left` has the bits of the entries
+-- from there on.
 pub record Walked (places : QueueViews) (timed : ℕ) (best : Option Timer) (left : ℕ) : Type 0 where
   pub from : ℕ
   pub fits : from ≤ length places
@@ -137,7 +138,7 @@ walk-end places timed best left mask few none was =
     sym (was.rest ∙ (ap (λ (t : Option Timer). sooner best t) (past
     ∙ ap (λ (xs : QueueViews). soonest_from size xs) (drop_all size places (omega arith))) ∙ sooner-none best))
 
--- the bit of the walk that is cleared makes the rest smaller
+-- clearing the bit of an entry makes the remaining mask smaller
 pub walk-less : (left n : ℕ) → 0 < left → left < 2 ^ 64 → n ≡ trailing_zeros w64 left
     → bit_and left (bit_not w64 (1 * 2 ^ n % 2 ^ 64)) < left
 walk-less left n some fits is = by (cases_eq after left)

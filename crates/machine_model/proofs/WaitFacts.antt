@@ -1,10 +1,10 @@
--- Buckets, and what is counted in them.
+-- Buckets of waits, and how a wait is counted in them.
 use Rattle.std.proofs.{Math.Nat.{div-lt_iff_lt-mul, mod-eq_of_lt, one-le-pow, pow-le-pow_right, mul-le-mul}}
 use Rattle.std.proofs.{Common.{◌≡◌, ℕ, ◌+◌, ◌-◌, ◌*◌}}
 use Rattle.std.{proofs.{Common.{◌/◌, ◌%◌, ◌^◌, ◌<◌, ◌≤◌, arith}, lemmas.Nat.{leading_length, pow-add}}}
 use Rattle.std.{specs.Int.Count.count_leading_zeros}
 
--- a wait has fewer than 1024 of the bucket's first digits, and at most 54 digits follow them
+-- a wait is below 1024 times a power of two, with an exponent of at most 54: so the number of its bucket is in range
 pub bucket-below : (wait rest : ℕ) → wait < 2 ^ 64 → rest ≡ 54 - count_leading_zeros 64 wait → 512 * rest + wait / 2 ^ rest < 28672
 bucket-below wait rest fits is =
     let digits = leading_length 64 wait fits in
@@ -16,7 +16,7 @@ bucket-below wait rest fits is =
     (omega (arith, power, split, digits.2)) in
     omega (arith, is, below)
 
--- the least wait of a bucket fits
+-- the least wait of a bucket fits into 64 bits
 pub least-fits : (first rest : ℕ) → first < 1024 → rest ≤ 54 → first * 2 ^ rest % 18446744073709551616 ≡ first * 2 ^ rest
 least-fits first rest few most =
     let power : 2 ^ rest ≤ 2 ^ 54 = pow-le-pow_right {n = 2} (omega arith) most in

@@ -1,11 +1,12 @@
--- The weights of devices, the poll list and the tasks in the measure of remaining work, and which timer is the soonest.
+-- The parts of the measure of remaining work: those of the queues, of the poll list and of the tasks; and which timer expires
+-- first.
 use Rattle.std.proofs.Common.{◌≡◌, ◌∙◌, ℕ, zero, suc, ◌+◌, ◌-◌, ◌*◌, ◌≤◌, Bool, true, false, Option, Some, None, List, [], ◌∷◌, ◌++◌}
 use Rattle.std.proofs.Common.{◌⊎◌, inl, inr, length, length-append, drop, ap, refl, arith}
 use Rattle.std.proofs.lemmas.{Bool.eqb-true, Grind.common_steps}
 use Rattle.std.specs.Prelude.{◌==◌, if◌then◌else◌, nat_le, slice_get, sum_by}
 use Rattle.std.specs.Option.{option_map, option_map_or}
 use Rattle.{poll_runs.specs.{Polls.is_repoll, Turn.asked_for, declared.bench.Once.Once}, device_places.specs.Places.{at, changed}}
-use Rattle.machine_words.specs.declared.settings.MachineSettings.{MachineSettings}
+use Rattle.machine_model.specs.declared.settings.MachineSettings.{MachineSettings}
 use Rattle.machine_model.specs.declared.{device.Phase.{Phase, TheVariants.{Coalescing, Raised, Deferred, Fired}}, devices.Timer.Timer}
 use Rattle.machine_model.specs.declared.{tasks.RunnableTask.{RunnableTask, TheVariants.{Application, Thread}}}
 use Rattle.machine_model.specs.Device.{QueueView, queue_completed, queue_delivered, expired, interrupted, next_packet, queue_polled}
@@ -17,7 +18,7 @@ use Rattle.machine_model.specs.Softirq.{softirq_polled, polled_run, pushed}
 use Rattle.machine_model.specs.Tasks.{after_first, applications, runnable, with_application}
 use Rattle.machine_model.proofs.{PlacesFacts.{map_at, sum-changed}}
 
--- ---- devices
+-- ---- queues
 
 abbrev pub phase_weight : Phase → ℕ
 phase_weight Raised = 3
@@ -40,7 +41,7 @@ pub changed-weights : (w : ℕ) (f : QueueView → QueueView) (n : ℕ) (xs : Qu
     → weights w (changed f n xs) + weight_at w (at n xs) ≡ weights w xs + weight_at w (map_at f (at n xs))
 changed-weights w f n xs = sum-changed (weight_at w) f n xs
 
--- a change that adds at most this much to a device adds at most this much to all
+-- a change that adds at most this much to the measure of one queue adds at most this much to that of all queues
 pub weights-most : (w more : ℕ) (f : QueueView → QueueView) (n : ℕ) (xs : QueueViews)
     → weight_at w (map_at f (at n xs)) ≤ weight_at w (at n xs) + more → weights w (changed f n xs) ≤ weights w xs + more
 weights-most w more f n xs most = omega (arith, changed-weights w f n xs, most)
@@ -68,7 +69,7 @@ unfolding map_at weight_at weight_of
 weight-delivered w now came None = refl
 weight-delivered w now came (Some d) = refl
 
--- a packet that is taken leaves one fewer
+-- after a packet is taken, one fewer is left
 pub drop-first : (xs : List ℕ) (came : ℕ) → slice_get xs 0 ≡ Some came → length (drop 1 xs) + 1 ≡ length xs
 drop-first [] came is = cc is
 drop-first (x ∷ xs) came is = omega arith
@@ -139,7 +140,7 @@ unfolding map_at weight_at
 looked-most w backlog None = omega arith
 looked-most w backlog (Some d) = omega (arith, weight-looked w backlog d)
 
--- a poll that completes may leave deferrals, if it processed packets
+-- a poll that completes may leave deferred interrupts, if it processed packets
 pub weight-completed : (w now given : ℕ) (s : MachineSettings) (d : QueueView)
     → weight_of w (queue_completed now given s d) ≤ weight_of w d + (if given == 0 then 0 else 5 * s.defer_hard_irqs)
 unfolding weight_of queue_completed
@@ -166,7 +167,7 @@ expired-less w number timer (Some d) is = by (timer_of d.phase) refl
     by None none = absurd (cc (none, is))
     by (Some at) some = omega (arith, weight-expired w at d some)
 
--- ---- the soonest timer is that of its device
+-- ---- the timer that expires first is that of its queue
 
 pub either : (a b : Option Timer) (timer : Timer) → sooner a b ≡ Some timer → (a ≡ Some timer) ⊎ (b ≡ Some timer)
 either None b timer is = inr is

@@ -1,6 +1,6 @@
 -- The application, which uses the packets of a socket: on the processor that receives, or on one of its own.
 use Rattle.std.specs.Prelude.{ℕ, ◌+◌, ◌-◌, ◌&&◌, nat_le, nat_lt, Bool, true, false, List, [], ◌∷◌, ◌++◌, length, if◌then◌else◌}
-use Rattle.{circular_buffer.specs.Buffer.{Buffer, buffer}, machine_words.specs.declared.settings.MachineSettings.MachineSettings}
+use Rattle.{circular_buffer.specs.Buffer.{Buffer, buffer}, machine_model.specs.declared.settings.MachineSettings.MachineSettings}
 use Rattle.machine_model.specs.{declared.application.Activity.Activity, Waits.{WaitsView, counted, saturated, no_waits}}
 use Rattle.machine_model.specs.declared.application.Activity.TheVariants.{Asleep, Waking, Using}
 
@@ -9,9 +9,9 @@ pub record ApplicationView : Type 0 where
   pub socket : Buffer ℕ
   -- packets that a full socket dropped
   pub refused : ℕ
-  -- from arrival to the end of the use
+  -- the waits of its packets, from arrival to the end of the use
   pub waits : WaitsView
-  -- on its own processor: what it does, when that ends or ended last, and how often it was woken
+  -- only on its own processor: what it does, when that ends or the last use ended, and how often it was woken
   pub activity : Activity
   pub end : ℕ
   pub wakes : ℕ
@@ -20,7 +20,7 @@ abbrev pub opened_application : MachineSettings → ApplicationView
 opened_application s =
     record { socket = buffer [] s.socket; refused = 0; waits = no_waits; activity = Asleep; end = 0; wakes = 0 }
 
--- the use of a packet that arrived then ends
+-- a packet's use ends; `came` is when the packet arrived
 abbrev pub used : ℕ → ℕ → ApplicationView → ApplicationView
 used now came a = record a { waits = counted (now - came) a.waits }
 
@@ -30,16 +30,16 @@ abbrev pub is_awake : Activity → Bool
 is_awake Asleep = false
 is_awake _ = true
 
--- its work ends at or before that time
+-- its current work ends at or before this time
 abbrev pub is_use_over : ℕ → ApplicationView → Bool
 is_use_over moment a = is_awake a.activity && nat_le a.end moment
 
--- its work ends: the packet in hand was used
+-- its work ends: it woke up, or its packet was used
 abbrev pub ended_by : Activity → ApplicationView → ApplicationView
 ended_by (Using came) a = used a.end came a
 ended_by _ a = a
 
--- it takes the oldest packet out of the socket, and sleeps if there is none
+-- it takes the oldest packet out of the socket; if there is none, it sleeps
 abbrev pub takes_next : ℕ → List ℕ → ApplicationView → ApplicationView
 takes_next use_time [] a = record a { activity = Asleep }
 takes_next use_time (came ∷ more) a =
@@ -48,7 +48,7 @@ takes_next use_time (came ∷ more) a =
 unfoldable pub goes_on : ℕ → ApplicationView → ApplicationView
 goes_on use_time a = takes_next use_time a.socket.items (ended_by a.activity a)
 
--- it advances to a time, with at most these packets
+-- it works until this time, with at most these packets
 unfoldable pub went_on_with : List ℕ → ℕ → ℕ → ApplicationView → ApplicationView
 went_on_with [] moment use_time a = if is_use_over moment a then goes_on use_time a else a
 went_on_with (came ∷ more) moment use_time a =
@@ -72,7 +72,7 @@ put came a = record a { socket = buffer (a.socket.items ++ came ∷ []) a.socket
 abbrev pub refuses : ApplicationView → ApplicationView
 refuses a = record a { refused = saturated (a.refused + 1) }
 
--- on its own processor it has advanced to this time, and is woken if it sleeps
+-- a packet is delivered to an application on its own processor, which has worked until this time, and is woken if it sleeps
 unfoldable pub fed : ℕ → ℕ → MachineSettings → ApplicationView → ApplicationView
 fed now came s a =
     let b = if s.apart then went_on now s.use_time a else a in

@@ -1,4 +1,4 @@
--- The devices of a processor, by their numbers there.
+-- The queues of a processor, by their numbers there.
 use Rattle.std.specs.Prelude.{ℕ, ◌+◌, ◌-◌, nat_le, Bool, false, [], ◌∷◌, ◌++◌, length, replicate, Option, Some, None, if◌then◌else◌}
 use Rattle.std.specs.Option.{option_and_then, option_map, option_map_or}
 use Rattle.{device_places.specs.Places.{DeviceTable, added}, machine_model.specs.declared.devices.Timer.Timer}
@@ -7,11 +7,11 @@ use Rattle.machine_model.specs.Device.{QueueView, asks, is_fired, has_room, next
 abbrev pub QueueViews : Type 0
 QueueViews = DeviceTable QueueView
 
--- a device is made by its first packet
+-- a queue is created when its first packet arrives
 unfoldable pub with_device : ℕ → ℕ → QueueViews → QueueViews
 with_device capacity number devices = added number (new_queue capacity) (devices ++ replicate (number + 1 - length devices) None)
 
--- ---- for the device in an entry, if there is one
+-- ---- the queue in an entry of the table, if there is one
 
 abbrev pub asks_at : Option QueueView → Bool
 asks_at place = option_map_or (λ d. asks d.phase) place false
@@ -28,7 +28,7 @@ next_packet_at backlog place = option_and_then (next_packet backlog) place
 abbrev pub timer_at : ℕ → Option QueueView → Option Timer
 timer_at number place = option_and_then (λ d. option_map (λ at. record { at = at; device = number }) (timer_of d.phase)) place
 
--- ---- the soonest timer, of those at one time that of the lowest device
+-- ---- the timer that expires first; if two expire at the same time, that of the lower queue
 
 abbrev pub sooner : Option Timer → Option Timer → Option Timer
 sooner None other = other

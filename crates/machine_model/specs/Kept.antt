@@ -1,12 +1,12 @@
--- The invariant of each processor of the program. It isn't part of the machine's definition.
+-- The invariant of each processor in the program. It isn't part of the machine's definition.
 use Rattle.std.specs.Prelude.{◌≡◌, ◌≤◌, ◌<◌, ◌&&◌, not, Bool, true, false, is_some, ℕ, sum_by, Option, Some, None, if◌then◌else◌}
-use Rattle.{std.specs.Option.option_map_or, machine_words.specs.declared.settings.MachineSettings.MachineSettings}
+use Rattle.{std.specs.Option.option_map_or, machine_model.specs.declared.settings.MachineSettings.MachineSettings}
 use Rattle.{machine_model.specs.Device.QueueView}
 use Rattle.machine_model.specs.{Devices.QueueViews, Shown.{listed, weight_in}, Softirq.{SoftirqView, asked_in}}
 use Rattle.machine_model.specs.{Processor.{ProcessorView, is_polling}}
 use Rattle.machine_model.specs.declared.{device.Phase.{Phase, TheVariants.Scheduled}, processor.Work.{Work, TheVariants.{Poll, Packet}}}
 
--- how many devices are scheduled
+-- how many queues are scheduled
 abbrev pub is_scheduled : Phase → Bool
 is_scheduled Scheduled = true
 is_scheduled _ = false
@@ -17,7 +17,7 @@ scheduled_at place = option_map_or (λ d. if is_scheduled d.phase then 1 else 0)
 abbrev pub all_scheduled : QueueViews → ℕ
 all_scheduled devices = sum_by scheduled_at devices
 
--- the device that is polled, and how many packets its poll processed so far
+-- the queue that is polled, and how many packets its poll processed so far
 abbrev pub polled_by : Work → Option ℕ
 polled_by (Poll number) = Some number
 polled_by (Packet packet) = Some packet.device
@@ -27,17 +27,17 @@ abbrev pub work_given : Work → ℕ
 work_given (Packet packet) = packet.given
 work_given _ = 0
 
--- there is a poll list, and not threads or interrupts only
+-- the machine has a poll list: it polls, and without threads
 abbrev pub has_list : MachineSettings → Bool
 has_list s = is_polling s && not s.threaded
 
 pub record ProcessorKept (settings : MachineSettings) (work : Work) (devices : QueueViews) (softirq : SoftirqView) : Type 0 where
-  -- each number on the list and in the run is that of a scheduled device
+  -- each number on the list and in the run is that of a scheduled queue
   pub few : listed softirq ≤ all_scheduled devices
   pub unused : has_list settings ≡ false → listed softirq ≡ 0
-  -- the run polls the device that is polled
+  -- the queue for which the run asks is the one that is polled
   pub asked : asked_in softirq.run ≡ (if settings.threaded then None else polled_by work)
-  -- the run's weight is the machine's, and a poll processes no more
+  -- the run's weight is the machine's, and a poll processes at most that
   pub weight : is_some softirq.run ≡ true → weight_in softirq.run ≡ settings.weight
   pub within : work_given work < settings.weight
 

@@ -1,3 +1,5 @@
+pub mod Usual
+pub mod Args
 pub mod Waits
 pub mod Device
 pub mod Devices

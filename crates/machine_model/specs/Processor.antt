@@ -1,8 +1,8 @@
--- A processor: what it takes up, and what happens as work ends, timers expire and packets arrive.
+-- A processor: which work it begins, and what happens when work ends, timers expire and packets arrive.
 use Rattle.std.specs.Prelude.{◌≡◌, ℕ, zero, suc, ◌+◌, ◌-◌, ◌<◌, ◌==◌, ◌||◌, ◌&&◌, not, nat_le, nat_lt, Bool, true, false, List, [], ◌∷◌}
 use Rattle.std.specs.{Prelude.{◌++◌, length, position, slice_get, Option, Some, None, is_some, if◌then◌else◌}, Option.option_map_or}
 use Rattle.{circular_buffer.specs.Buffer.{buffer}, device_places.specs.Places.{at, changed}}
-use Rattle.{machine_words.specs.declared.settings.MachineSettings.MachineSettings}
+use Rattle.{machine_model.specs.declared.settings.MachineSettings.MachineSettings}
 use Rattle.{poll_runs.specs.declared.bench.Next.TheVariants.{Gone, Repoll}}
 use Rattle.poll_runs.specs.declared.bench.Once.{Once}
 use Rattle.machine_model.specs.Device.{after_packet, queue_delivered, expired, interrupted, queue_polled, raised_again, without_next}
@@ -18,15 +18,15 @@ use Rattle.machine_model.specs.declared.processor.Upcoming.TheVariants.{Never, E
 
 pub record ProcessorView : Type 0 where
   pub settings : MachineSettings
-  -- the work in progress, when it ends, and when it began, or the time of the last event
+  -- the work in progress, and when it ends; `since` is when it began, or the time of the last event
   pub work : Work
   pub ends : ℕ
   pub clock : ℕ
   pub devices : QueueViews
-  -- the poll list and the run; with threads the runnable tasks, except a thread that polls
+  -- the poll list and the run; with threads also the runnable tasks, without the thread that polls
   pub softirq : SoftirqView
   pub tasks : List RunnableTask
-  -- what is left of a use that was interrupted
+  -- the rest of a use that was interrupted
   pub rest : Option Rest
   pub application : ApplicationView
   pub counts : ProcessorCounts
@@ -38,7 +38,7 @@ abbrev pub is_busy : Work → Bool
 is_busy Nothing = false
 is_busy _ = true
 
--- ---- a piece of work begins
+-- ---- work begins
 
 abbrev pub begins : Work → ℕ → ProcessorView → ProcessorView
 begins work time p = record p { work = work; ends = saturated (p.clock + time) }
@@ -48,7 +48,7 @@ abbrev pub scheduled : ℕ → ProcessorView → ProcessorView
 scheduled number p =
     if p.settings.threaded then record p { tasks = p.tasks ++ Thread number ∷ [] } else record p { softirq = pushed number p.softirq }
 
--- an interrupt, of the card or of the NAPI timer; without polling it takes a packet too
+-- an interrupt of the card or of the NAPI timer; without polling it also takes a packet
 unfoldable pub interrupts : ℕ → ProcessorView → ProcessorView
 interrupts number p =
     let polling = is_polling p.settings in
@@ -68,9 +68,9 @@ uses (came ∷ more) p =
     let socket = buffer more p.application.socket.capacity in
     begins (Use came) p.settings.use_time (record p { application = record p.application { socket = socket } })
 
--- ---- what is taken up: the first that there is
+-- ---- which work begins: the first that is possible, in this order
 
--- a thread makes a poll, the application uses a packet
+-- a thread makes a poll, or the application uses a packet
 abbrev pub runs : Option RunnableTask → ProcessorView → ProcessorView
 runs None p = p
 runs (Some Application) p = uses p.application.socket.items p
@@ -81,13 +81,13 @@ runs_first p =
     let tasks = runnable (length p.application.socket.items == 0) p.tasks in
     runs (slice_get tasks 0) (record p { tasks = after_first tasks })
 
--- the rest of an interrupted use, the first task, or the application
+-- after the softirq: the rest of an interrupted use, the first task, or the application
 abbrev pub leaves_softirq : Option Rest → ProcessorView → ProcessorView
 leaves_softirq (Some rest) p = begins (Use rest.came) rest.left (record p { rest = None })
 leaves_softirq None p =
     if p.settings.threaded then runs_first p else (if p.settings.apart then p else uses p.application.socket.items p)
 
--- a run begins over the whole list and makes its first poll (`net_rx_action`)
+-- a run begins: it takes the whole list and makes its first poll (`net_rx_action`)
 unfoldable pub begins_run : ProcessorView → ProcessorView
 begins_run p =
     let s = p.settings in
@@ -98,7 +98,7 @@ unfoldable pub rests : ProcessorView → ProcessorView
 rests p =
     if is_polling p.settings && not (length p.softirq.list == 0) then begins_run p else leaves_softirq p.rest p
 
--- the run ends, squeezed if it reached its budget or its window, or if it is late
+-- the run ends; it is squeezed if it reached its budget or its window, or if its time is over
 unfoldable pub ends_run : Bool → ProcessorView → ProcessorView
 ends_run late p =
     let spent = option_map_or is_run_spent p.softirq.run false in
@@ -107,11 +107,11 @@ ends_run late p =
     let counts = record p.counts { runs = saturated (p.counts.runs + 1); squeezed = squeezed; late = alone } in
     record p { softirq = run_ended p.softirq; counts = counts }
 
--- the run in progress, which made a poll, has used up its time
+-- the run in progress has made a poll, and has used up its time
 abbrev pub is_late : ProcessorView → Bool
 is_late p = nat_le p.settings.time_limit (p.clock - p.softirq.began)
 
--- the run in progress: its end or its next poll
+-- the run in progress ends, or makes its next poll
 unfoldable pub goes_on : ProcessorView → ProcessorView
 goes_on p =
     let q = record p { softirq = run_next p.softirq } in
@@ -124,9 +124,9 @@ takes_up p =
     else option_map_or (λ number. interrupts number p) (position asks_at p.devices)
     (if is_some p.softirq.run then goes_on p else rests p)
 
--- ---- a piece of work ends
+-- ---- work ends
 
--- a packet of a device is delivered, and the application is runnable if it took it
+-- a packet of a queue is delivered; if the socket took it, the application becomes runnable
 unfoldable pub delivers : ℕ → ℕ → ProcessorView → ProcessorView
 delivers number came p =
     let s = p.settings in
@@ -137,7 +137,7 @@ delivers number came p =
       tasks = if wakes then with_application p.tasks else p.tasks;
     }
 
--- an interrupt without polling delivers the oldest packet
+-- an interrupt without polling delivers the oldest packet of its queue
 abbrev pub delivers_oldest : ℕ → Option ℕ → ProcessorView → ProcessorView
 delivers_oldest number None p = p
 delivers_oldest number (Some came) p = delivers number came (record p { devices = changed (without_next false) number p.devices })
@@ -147,8 +147,8 @@ ends_interrupt number p =
     let q = delivers_oldest number (next_packet_at false (at number p.devices)) p in
     record q { devices = changed raised_again number q.devices }
 
--- a poll that processed this many packets ends: a device that is polled again gets a repoll from the run, or its thread stays
--- first
+-- A poll that processed this many packets ends. If the queue is polled again, the run puts it on its repolls, or its thread is
+-- the first task again.
 unfoldable pub ends_poll : ℕ → ℕ → ProcessorView → ProcessorView
 ends_poll number given p =
     let full = given == p.settings.weight in
@@ -158,7 +158,7 @@ ends_poll number given p =
     if p.settings.threaded then record q { tasks = if full then Thread number ∷ q.tasks else q.tasks }
     else record q { softirq = softirq_polled once q.softirq }
 
--- a poll that processed this many packets takes the next one
+-- a poll that processed this many packets takes its next one, or ends
 unfoldable pub poll_looks : ℕ → ℕ → ProcessorView → ProcessorView
 poll_looks number given p =
     let backlog = p.settings.backlog in
@@ -176,7 +176,7 @@ ends_by (Poll number) p = poll_looks number 0 p
 ends_by (Packet packet) p = poll_looks packet.device (packet.given + 1) (delivers packet.device packet.came p)
 ends_by (Use came) p = record p { application = used p.clock came p.application }
 
--- the time of work is counted
+-- the time that a piece of work took is added to the processor's counts
 abbrev pub spent : Work → ℕ → ProcessorCounts → ProcessorCounts
 spent Nothing time counts = counts
 spent (Interrupt number) time counts = record counts { interrupt_time = saturated (counts.interrupt_time + time) }
@@ -186,9 +186,9 @@ spent _ time counts = record counts { poll_time = saturated (counts.poll_time + 
 unfoldable pub ends_current : ProcessorView → ProcessorView
 ends_current p = ends_by p.work (record p { clock = p.ends; work = Nothing; counts = spent p.work (p.ends - p.clock) p.counts })
 
--- ---- what disturbs a processor that is idle or uses a packet
+-- ---- an interrupt while the processor is idle or the application uses a packet
 
--- what is left of the use is the rest
+-- the use is interrupted, and its rest is kept for later
 abbrev pub set_aside : ℕ → Work → ProcessorView → ProcessorView
 set_aside moment (Use came) p =
     let counts = spent (Use came) (moment - p.clock) p.counts in
@@ -207,7 +207,7 @@ disturbed moment p =
 
 -- ---- time passes
 
--- What happens next if no packet arrives: work under way ends, or a timer before that end expires.
+-- What happens next if no packet arrives: the work in progress ends, or a timer expires before that.
 abbrev pub upcoming : ProcessorView → Upcoming
 upcoming p =
     let first = λ (timer : Timer). if is_busy p.work && nat_le p.ends timer.at then Ends else Expires timer in
@@ -233,14 +233,14 @@ unfoldable pub processor_after : ℕ → ProcessorView → ProcessorView
 processor_after zero p = p
 processor_after (suc count) p = step (processor_after count p)
 
--- it advances to a time: everything happens that happens at or before that time, in order, and no more
+-- the processor advances to a time: everything that is due at or before it happens, in order, and nothing else
 pub record Advances (moment : ℕ) (p q : ProcessorView) : Type 0 where
   pub count : ℕ
   pub each : (n : ℕ) → n < count → is_due moment (processor_after n p) ≡ true
   pub last : q ≡ processor_after count p
   pub none : is_due moment q ≡ false
 
--- a packet arrives for a device of a processor that has advanced to that time
+-- a packet arrives for a queue of a processor that has advanced to this time
 unfoldable pub arrives : ℕ → ℕ → ProcessorView → ProcessorView
 arrives moment number p =
     let devices = with_device p.settings.ring number p.devices in

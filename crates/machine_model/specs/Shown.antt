@@ -1,5 +1,5 @@
--- The program's state, as the definitions see it: a driven run, and cached values of the devices so that no step searches them.
--- It isn't part of the machine's definition.
+-- The program's state, as the definitions see it: a polling run whose polls the processor makes, and cached values of the
+-- queues, so that no step searches them. It isn't part of the machine's definition.
 use Rattle.std.specs.Prelude.{◌≡◌, ◌<◌, ℕ, ◌+◌, ◌==◌, ◌||◌, ◌&&◌, nat_lt, Bool, true, false, ◌++◌, length, is_some, Option, Some, None}
 use Rattle.std.specs.{Prelude.{if◌then◌else◌}, Option.option_map_or, Int.bit_at}
 use Rattle.{poll_runs.specs.Turn.asked_for, poll_runs.specs.declared.polling_run.PollingRun.PollingRun, device_places.specs.Places.at}
@@ -33,25 +33,25 @@ held_in run = option_map_or (λ r. length (asked_for r.asked ++ r.own) + length 
 abbrev pub listed : SoftirqView → ℕ
 listed q = length q.list + held_in q.run
 
--- ---- of the devices
+-- ---- the cached values of the queues
 
 abbrev pub mask_bit : Bool → ℕ
 mask_bit b = if b then 1 else 0
 
--- a mask has the bits of the devices in whose entries that holds
+-- the mask has a bit for each queue whose entry has this property
 abbrev pub IsMask : (Option QueueView → Bool) → QueueViews → ℕ → Type 0
 IsMask holds devices mask = (n : ℕ) → n < 64 → bit_at mask n ≡ mask_bit (holds (at n devices))
 
 abbrev pub has_timer : Option QueueView → Bool
 has_timer place = option_map_or (λ d. is_some (timer_of d.phase)) place false
 
--- which devices ask, whose timer is set, and the soonest timer
+-- the cached values: which queues ask for an interrupt, which have a timer, and the timer that expires first
 pub record IsPending (devices : QueueViews) (pending : Pending) : Type 0 where
   pub asking : IsMask asks_at devices pending.asking
   pub timed : IsMask has_timer devices pending.timed
   pub soonest : pending.soonest ≡ soonest_from 0 devices
 
--- the sooner of two timers, the one of the lower device at one time
+-- of two timers the one that expires first; if both expire at the same time, that of the lower queue
 abbrev pub earlier : Option Timer → Option Timer → Option Timer
 earlier None other = other
 earlier (Some timer) None = Some timer

@@ -1,15 +1,16 @@
 -- A processor's poll list, and the polling run in progress over it (`struct softnet_data`).
-use Rattle.std.specs.Prelude.{ℕ, ◌+◌, nat_le, ◌||◌, Bool, List, [], ◌∷◌, ◌++◌, drop, slice_get, Option, Some, None, if◌then◌else◌}
-use Rattle.{std.specs.Option.{option_and_then, option_map, option_map_or}, poll_runs.specs.{Polls.is_repoll, Turn.asked_for}}
+use Rattle.std.specs.Prelude.{ℕ, ◌+◌, Bool, List, [], ◌∷◌, ◌++◌, drop, slice_get, Option, Some, None, if◌then◌else◌}
+use Rattle.std.specs.Option.{option_and_then, option_map, option_map_or}
+use Rattle.poll_runs.specs.{Polls.is_repoll, Run.is_squeezed, Turn.asked_for}
 use Rattle.poll_runs.specs.declared.bench.Once.{Once}
 
 pub record RunView : Type 0 where
-  -- what it took and hasn't polled, and the repolls
+  -- the numbers that the run took and hasn't polled; the next field has the repolls
   pub own : List ℕ
   pub repoll : List ℕ
   -- the number whose poll is in progress
   pub asked : Option ℕ
-  -- its polls, and their packets
+  -- how many polls the run made; the next field counts their packets
   pub polls : ℕ
   pub work : ℕ
   pub budget : ℕ
@@ -19,7 +20,7 @@ pub record RunView : Type 0 where
 pub record SoftirqView : Type 0 where
   pub list : List ℕ
   pub run : Option RunView
-  -- when the run began, or the last one
+  -- when the run began, or the last run if none is in progress
   pub began : ℕ
 
 abbrev pub asked_in : Option RunView → Option ℕ
@@ -35,24 +36,24 @@ begun moment budget weight window q =
     record { own = q.list; repoll = []; asked = None; polls = 0; work = 0; budget = budget; weight = weight; window = window } in
     record { list = []; run = Some r; began = moment }
 
--- the work reaches the budget, or the number of polls the window
+-- the run is squeezed if it ends now
 abbrev pub is_run_spent : RunView → Bool
-is_run_spent r = nat_le r.budget r.work || nat_le r.window r.polls
+is_run_spent r = is_squeezed r.budget r.window r.polls r.work
 
--- what is left of its own numbers, and the list: if all that it took is polled and no repoll is pending, it takes the whole
+-- the run's own numbers, and the list: if all of its own numbers are polled and no repoll is pending, the run takes the whole
 -- list
 abbrev pub filled : List ℕ → List ℕ → List ℕ → List ℕ × List ℕ
 filled [] [] list = (list, [])
 filled own repoll list = (own, list)
 
--- what is polled next, if anything
+-- the next poll of the run, if there is one
 abbrev pub next_from : List ℕ × List ℕ → RunView → SoftirqView → SoftirqView
 next_from (own, list) r q = record q { list = list; run = Some (record r { own = drop 1 own; asked = slice_get own 0 }) }
 
 unfoldable pub run_next : SoftirqView → SoftirqView
 run_next q = option_map_or (λ r. if is_run_spent r then q else next_from (filled r.own r.repoll q.list) r q) q.run q
 
--- the outcome of the poll of that number
+-- the run after the poll of that number, with this outcome
 abbrev pub polled_run : Once → RunView → RunView
 polled_run once r =
     let repoll = r.repoll ++ (if is_repoll once.next then asked_for r.asked else []) in
@@ -61,6 +62,6 @@ polled_run once r =
 unfoldable pub softirq_polled : Once → SoftirqView → SoftirqView
 softirq_polled once q = record q { run = option_map (polled_run once) q.run }
 
--- the run ends: what it took and didn't poll, what arrived meanwhile, and the repolls
+-- the run ends: the list has what the run took and didn't poll, then what arrived meanwhile, then the repolls
 unfoldable pub run_ended : SoftirqView → SoftirqView
 run_ended q = record q { list = option_map_or (λ r. r.own ++ q.list ++ r.repoll) q.run q.list; run = None }

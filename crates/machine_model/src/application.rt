@@ -1,12 +1,12 @@
 //! The application, which uses the packets of a socket: on the processor that receives, or on one of its own.
 
+use crate::settings::MachineSettings;
 use crate::waits::{WaitCounts, Waits};
 use circular_buffer::HeapCircularBuffer;
-use machine_words::MachineSettings;
 use std::alloc::{AllocError, Global};
 use std::marker::Model;
 
-/// What is reported of an application that has its own processor.
+/// The report of an application that has its own processor.
 #[derive(Clone, Copy, Debug, PartialEq, Eq)]
 pub struct ApplicationReport {
     /// When its last use ended, in nanoseconds; 0 if it was never woken.
@@ -97,7 +97,7 @@ impl Application {
         self.socket.pop_front()
     }
 
-    /// Ends the use of a packet that arrived at `came`. Fails if the allocation for counting its wait fails; then nothing is
+    /// Ends the use of the packet that arrived at `came`. Fails if the allocation for counting its wait fails; then nothing is
     /// counted.
     pub(crate) fn use_packet(&mut self, now: u64, came: u64) -> Result<(), AllocError>
         ensures { OnOk result (self.new ≡ used now came self.old) }
@@ -106,14 +106,14 @@ impl Application {
         Ok(())
     }
 
-    // Returns whether its work ends at or before that time.
+    // Returns whether its work ends at or before this time.
     fn is_over(&self, moment: u64) -> bool
         ensures { result ≡ is_use_over moment self.now }
     {
         self.activity != Activity::Asleep && self.end <= moment
     }
 
-    // Ends its work; it takes the next packet or sleeps.
+    // Ends its work: it takes its next packet, or sleeps.
     #[tactic(auto, unfolding(crate::specs::Application::goes_on))]
     fn go_on(&mut self, use_time: u32) -> Result<(), AllocError>
         ensures { OnOk result (self.new ≡ goes_on use_time self.old) }
@@ -131,7 +131,7 @@ impl Application {
         Ok(())
     }
 
-    /// On its own processor: advances to that time. Fails if the allocation for counting a wait fails.
+    /// Works until this time, on its own processor. Fails if the allocation for counting a wait fails.
     pub(crate) fn go_on_until(&mut self, moment: u64, use_time: u32) -> Result<(), AllocError>
         ensures { OnOk result (self.new ≡ went_on moment use_time self.old) }
     {
@@ -152,8 +152,8 @@ impl Application {
         }
     }
 
-    /// Delivers a packet that arrived at `came` to it: a full socket drops it. Fails if the allocation for counting a wait
-    /// fails.
+    /// Delivers a packet that arrived at `came` to the application. A full socket drops it. Fails if the allocation for
+    /// counting a wait fails.
     #[tactic(auto, unfolding(crate::specs::Application::fed))]
     pub(crate) fn feed(
         &mut self,
@@ -181,14 +181,14 @@ impl Application {
         self.refused
     }
 
-    /// The waits of its packets, from arrival to the end of the use.
+    /// Returns what the report shows of the waits of its packets, from arrival to the end of the use.
     pub(crate) fn waits(&self) -> WaitCounts
         ensures { result ≡ summary_of self.now.waits }
     {
         self.waits.summary()
     }
 
-    /// What is reported of it on its own processor.
+    /// Returns the report of an application on its own processor.
     pub(crate) fn report(&self) -> ApplicationReport
         ensures { result ≡ record { end = self.now.end; wakes = self.now.wakes } }
     {

@@ -1,17 +1,17 @@
-//! One device: a queue of a card with its NAPI instance, and its counts.
+//! A receive queue of a card, with its NAPI instance and its counts.
 
 ghost use Rattle.std.specs.Prelude.{◌≡◌, ◌≤◌, Some, IfOk, OnOk};
 ghost use Rattle.machine_model.specs.Machine.{queue_report};
 ghost use Rattle.machine_model.specs.Device.{after_packet, asks, queue_completed, queue_delivered, expired, expired_phase, has_room, interrupted, is_fired, is_masked, next_packet, notified, new_queue, queue_polled, raised_again, timer_of, without_next};
 
+use crate::settings::MachineSettings;
 use crate::waits::{WaitCounts, Waits};
 use circular_buffer::HeapCircularBuffer;
-use machine_words::MachineSettings;
 use std::alloc::{AllocError, Global};
 use std::marker::Model;
 use std::mem;
 
-/// The counts of a device.
+/// The counts of a queue.
 #[derive(Clone, Copy, Debug, PartialEq, Eq)]
 pub struct QueueCounts {
     /// Packets that arrived.
@@ -20,7 +20,7 @@ pub struct QueueCounts {
     pub dropped: u64,
     /// Packets that were delivered.
     pub polled: u64,
-    /// Its interrupts, without those of its NAPI timer.
+    /// Its interrupts, not counting those of its NAPI timer.
     pub interrupts: u64,
     /// Its polls.
     pub polls: u64,
@@ -37,7 +37,7 @@ impl QueueCounts {
     };
 }
 
-/// What is reported of a device.
+/// The report of a queue.
 #[derive(Clone, Copy, Debug, PartialEq, Eq)]
 pub struct QueueReport {
     /// The counts.
@@ -46,24 +46,25 @@ pub struct QueueReport {
     pub waits: WaitCounts,
 }
 
-/// How a device asks for a poll, or waits for it. In the first three it isn't masked.
+/// How a queue asks for a poll, or waits for one. In the first three phases its interrupt isn't masked.
 #[derive(Clone, Copy, Debug, PartialEq, Eq)]
 pub enum Phase {
-    /// It asks for nothing.
+    /// It neither asks nor waits.
     Quiet,
-    /// The card waits for more frames until that time (`rx-usecs`).
+    /// The card delays its interrupt until this time, for more frames (`rx-usecs`).
     Coalescing(u64),
     /// The card asks for an interrupt.
     Raised,
-    /// It was interrupted: it is on the poll list, its thread is runnable, or it is polled (`NAPI_STATE_SCHED`).
+    /// The interrupt was handled: the queue is on the poll list, or its thread is runnable, or it is being polled
+    /// (`NAPI_STATE_SCHED`).
     Scheduled,
-    /// Its interrupt is deferred: it is polled again at that time (`napi_defer_hard_irqs`).
+    /// Its interrupt is deferred: the NAPI timer will schedule it at this time (`napi_defer_hard_irqs`).
     Deferred(u64),
-    /// That time has come (`napi_watchdog`).
+    /// The NAPI timer has expired (`napi_watchdog`).
     Fired,
 }
 
-/// A device.
+/// A receive queue with its NAPI instance.
 #[derive(Drop)]
 pub(crate) struct ReceiveQueue {
     ring: HeapCircularBuffer<u64>,
@@ -96,14 +97,14 @@ impl Model for ReceiveQueue {
 }
 
 impl Phase {
-    /// Returns whether the card doesn't notify of packets.
+    /// Returns whether its interrupt is masked, so that the card doesn't report packets.
     fn is_masked(self) -> bool
         ensures { result ≡ is_masked self }
     {
         matches!(self, Phase::Scheduled | Phase::Deferred(_) | Phase::Fired)
     }
 
-    /// Returns whether an interrupt has to be taken up.
+    /// Returns whether an interrupt has to be handled.
     fn asks(self) -> bool
         ensures { result ≡ asks self }
     {
@@ -133,7 +134,7 @@ impl Phase {
 }
 
 impl ReceiveQueue {
-    /// Returns a device with an empty ring of this capacity.
+    /// Returns a queue with an empty ring of this capacity.
     pub(crate) fn new(alloc: Global, capacity: u32) -> Result<ReceiveQueue, AllocError>
         ensures { IfOk result (λ d. d ≡ new_queue capacity) }
     {
@@ -150,14 +151,14 @@ impl ReceiveQueue {
         })
     }
 
-    /// Returns whether it asks for an interrupt, or its NAPI timer expired.
+    /// Returns whether its card asks for an interrupt, or its NAPI timer expired.
     pub(crate) fn asks(&self) -> bool
         ensures { result ≡ asks self.now.phase }
     {
         self.phase.asks()
     }
 
-    /// Returns whether its card doesn't notify of packets.
+    /// Returns whether its interrupt is masked, so that the card doesn't report packets.
     pub(crate) fn is_masked(&self) -> bool
         ensures { result ≡ is_masked self.now.phase }
     {
@@ -185,7 +186,7 @@ impl ReceiveQueue {
         self.phase = self.phase.expired();
     }
 
-    // Counts one more frame for the card, which asks for an interrupt now or some time later.
+    // Counts one more frame for the card, which asks for an interrupt now or later.
     #[tactic(auto, unfolding(crate::specs::Device::notified))]
     fn notify(&mut self, moment: u64, settings: &MachineSettings)
         ensures { self.new ≡ notified moment settings.now self.old }
@@ -199,8 +200,8 @@ impl ReceiveQueue {
         }
     }
 
-    /// Handles the arrival of a packet: a full ring drops it; otherwise a card that isn't masked notifies of it. Returns
-    /// whether the ring took it.
+    /// Handles the arrival of a packet: a full ring drops it. Otherwise the card reports it, unless its interrupt is masked.
+    /// Returns whether the ring had room.
     #[tactic(auto, unfolding(crate::specs::Device::after_packet))]
     pub(crate) fn arrive(&mut self, moment: u64, settings: &MachineSettings) -> bool
         ensures device { self.new ≡ after_packet moment settings.now self.old }
@@ -217,7 +218,7 @@ impl ReceiveQueue {
         true
     }
 
-    /// Takes up its interrupt, or that of its NAPI timer.
+    /// Handles its interrupt, or that of its NAPI timer.
     #[tactic(auto, unfolding(crate::specs::Device::interrupted))]
     pub(crate) fn interrupt(&mut self, polling: bool)
         ensures { self.new ≡ interrupted polling self.old }
@@ -244,8 +245,8 @@ impl ReceiveQueue {
         }
     }
 
-    /// Takes the next packet of a poll. With a backlog, the whole ring is taken at once when none of those taken before is left
-    /// (`process_backlog`).
+    /// Takes the next packet of a poll. With a backlog, the whole ring is moved to a second queue at once when that queue is
+    /// empty (`process_backlog`).
     pub(crate) fn take_next(&mut self, backlog: bool) -> Option<u64>
         ensures packet { result ≡ next_packet backlog self.old }
         ensures device { self.new ≡ without_next backlog self.old }
@@ -269,7 +270,7 @@ impl ReceiveQueue {
         Ok(())
     }
 
-    // Unmasks it, unless its interrupt is deferred (`napi_complete_done`).
+    // Unmasks its interrupt, unless that is deferred (`napi_complete_done`).
     #[tactic(auto, unfolding(crate::specs::Device::queue_completed))]
     fn complete(&mut self, now: u64, given: u32, settings: &MachineSettings)
         ensures { self.new ≡ queue_completed now given settings.now self.old }
@@ -287,7 +288,7 @@ impl ReceiveQueue {
         };
     }
 
-    /// Ends a poll that processed this many packets. After one of the whole weight the device is polled again; otherwise it
+    /// Ends a poll that processed this many packets. If it used its whole weight, the queue is polled again; otherwise it
     /// completes.
     #[tactic(auto, unfolding(crate::specs::Device::queue_polled))]
     pub(crate) fn end_poll(&mut self, now: u64, given: u32, settings: &MachineSettings)
@@ -299,7 +300,7 @@ impl ReceiveQueue {
         }
     }
 
-    /// What is reported of it.
+    /// Returns the report of this queue.
     pub(crate) fn report(&self) -> QueueReport
         ensures { result ≡ queue_report self.now }
     {

@@ -1,4 +1,4 @@
-//! The devices of a processor.
+//! The receive queues of a processor.
 
 ghost use Rattle.std.specs.Prelude.{◌≡◌, ◌≢◌, ◌≤◌, ◌<◌, ◌+◌, ◌-◌, ◌++◌, ◌==◌, ℕ, IfSome, OnOk, length, position, replicate, None, false, true};
 ghost use Rattle.std.specs.Int.{bit_at};
@@ -11,31 +11,32 @@ ghost use Rattle.machine_model.specs.Shown.{IsMask, IsPending, earlier, has_time
 ghost use Rattle.machine_model.specs.declared.devices.Pending.{Pending};
 
 use crate::device::{QueueReport, ReceiveQueue};
-use machine_words::MachineSettings;
+use crate::settings::MachineSettings;
 use std::alloc::{AllocError, Global};
 use std::marker::Model;
 
-/// A timer that is set: when it expires, and the number of its device.
+/// A timer that is set: when it expires, and the number of its queue.
 #[derive(Clone, Copy, Debug, PartialEq, Eq)]
 pub struct Timer {
     /// When it expires, in nanoseconds.
     pub at: u64,
-    /// The number of its device.
+    /// The number of its queue.
     pub device: u32,
 }
 
-/// What a processor reads of its devices at each step. It is kept as they change, because a search goes through all of them.
+/// What a processor needs to know of its queues at each step. It is kept up to date, because a search would go through all
+/// queues.
 #[derive(Clone, Copy)]
 pub(crate) struct Pending {
-    /// A bit for each device that asks for an interrupt.
+    /// A bit for each queue that asks for an interrupt.
     pub(crate) asking: u64,
-    /// A bit for each device whose timer is set.
+    /// A bit for each queue whose timer is set.
     pub(crate) timed: u64,
-    /// The soonest timer.
+    /// The timer that expires first.
     pub(crate) soonest: Option<Timer>,
 }
 
-/// The devices of a processor, each at its number there; each is made when its first packet arrives.
+/// The queues of a processor, by their numbers there. A queue is created when its first packet arrives.
 #[derive(Drop)]
 pub(crate) struct QueueTable {
     places: Vec<Option<ReceiveQueue>>,
@@ -55,7 +56,7 @@ impl Model for QueueTable {
         × IsPending d.places.items d.pending };
 }
 
-// Returns whether the device in this entry, if there is one, asks for an interrupt.
+// Returns whether the queue in this entry, if there is one, asks for an interrupt.
 fn asks(place: &Option<ReceiveQueue>) -> bool
     ensures { result ≡ asks_at place.now }
 {
@@ -65,7 +66,7 @@ fn asks(place: &Option<ReceiveQueue>) -> bool
     }
 }
 
-// Returns whether the timer of the device in this entry, if there is one, is set.
+// Returns whether the timer of the queue in this entry, if there is one, is set.
 fn has_timer(place: &Option<ReceiveQueue>) -> bool
     ensures { result ≡ has_timer place.now }
 {
@@ -75,7 +76,7 @@ fn has_timer(place: &Option<ReceiveQueue>) -> bool
     }
 }
 
-// Returns the timer of the device in this entry, if there is one and one is set.
+// Returns the timer of the queue in this entry, if there is one and it is set.
 fn timer_in(place: &Option<ReceiveQueue>, device: u32) -> Option<Timer>
     ensures { result ≡ timer_at device place.now }
 {
@@ -83,7 +84,7 @@ fn timer_in(place: &Option<ReceiveQueue>, device: u32) -> Option<Timer>
     Some(Timer { at, device })
 }
 
-// Returns the sooner of two timers, the first if they are equal.
+// Returns the timer that expires first of two, or the first argument if both expire at the same time.
 fn sooner(first: Option<Timer>, second: Option<Timer>) -> Option<Timer>
     ensures { result ≡ sooner first second }
 {
@@ -94,17 +95,14 @@ fn sooner(first: Option<Timer>, second: Option<Timer>) -> Option<Timer>
     }
 }
 
-// Returns the timer of a device, if there is one and one is set.
+// Returns the timer of a queue, if there is one and it is set.
 fn timer_of(places: &[Option<ReceiveQueue>], number: u32) -> Option<Timer>
     ensures { result ≡ timer_at number (at number places.now) }
 {
-    if number as usize >= places.len() {
-        return None;
-    }
-    timer_in(&places[number as usize], number)
+    timer_in(places.get(number as usize)?, number)
 }
 
-// Returns the soonest timer of the devices in these entries, of which `timed` has a bit for each whose timer is set.
+// Returns the timer that expires first, of the queues in these entries; `timed` has a bit for each queue whose timer is set.
 fn soonest_in(places: &[Option<ReceiveQueue>], timed: u64) -> Option<Timer>
     requires { length places.now ≤ 64 }
     ensures { IsMask has_timer places.now timed → result ≡ soonest_from 0 places.now }
@@ -119,7 +117,7 @@ fn soonest_in(places: &[Option<ReceiveQueue>], timed: u64) -> Option<Timer>
     best
 }
 
-// Returns the sooner of two timers, and of two at the same time that of the lower device.
+// Returns the timer that expires first of two, or that of the lower queue if both expire at the same time.
 fn earlier(first: Option<Timer>, second: Option<Timer>) -> Option<Timer>
     ensures { result ≡ earlier first second }
 {
@@ -133,7 +131,7 @@ fn earlier(first: Option<Timer>, second: Option<Timer>) -> Option<Timer>
     }
 }
 
-// Returns the lowest device that asks for an interrupt, of those that `asking` has a bit for.
+// Returns the lowest queue that asks for an interrupt; `asking` has a bit for each that does.
 fn lowest_in(asking: u64) -> Option<usize>
     ensures lowest { (devices : QueueViews) → length devices ≤ 64 → IsMask asks_at devices asking
         → result ≡ position asks_at devices }
@@ -145,7 +143,7 @@ fn lowest_in(asking: u64) -> Option<usize>
     Some(asking.trailing_zeros() as usize)
 }
 
-// Sets the bit of a device in a mask, or clears it.
+// Sets or clears the bit of a queue in a mask.
 fn with_bit(mask: u64, number: usize, is_set: bool) -> u64
     requires { number < 64 }
     ensures own { bit_at result number ≡ mask_bit is_set }
@@ -158,7 +156,7 @@ fn with_bit(mask: u64, number: usize, is_set: bool) -> u64
     }
 }
 
-// Returns whether a timer is that of this device.
+// Returns whether a timer is that of this queue.
 fn is_of(timer: Option<Timer>, number: usize) -> bool
     ensures { result ≡ option_map_or (λ t. t.device == number) timer false }
 {
@@ -178,7 +176,7 @@ fn is_same(first: Option<Timer>, second: Option<Timer>) -> bool
     }
 }
 
-// Returns the soonest timer, after this device changed; `timed` has a bit for each device whose timer is set.
+// Returns the timer that expires first, after this queue changed; `timed` has a bit for each queue whose timer is set.
 fn soonest_after(
     soonest: Option<Timer>,
     number: usize,
@@ -203,7 +201,7 @@ fn soonest_after(
     earlier(soonest, own)
 }
 
-// Returns what a processor reads, after this device changed.
+// Returns the cached values, after this queue changed.
 fn pending_after(pending: Pending, number: usize, places: &[Option<ReceiveQueue>]) -> Pending
     requires number { number < length places.now }
     requires few { length places.now ≤ 64 }
@@ -221,7 +219,7 @@ fn pending_after(pending: Pending, number: usize, places: &[Option<ReceiveQueue>
     }
 }
 
-// Adds empty entries up to a number.
+// Adds empty entries, up to this number.
 fn make_place(places: &mut Vec<Option<ReceiveQueue>>, number: usize) -> Result<(), AllocError>
     requires number { number < 64 }
     requires few { length places.old.items ≤ 64 }
@@ -261,7 +259,7 @@ impl QueueTable {
         }
     }
 
-    /// Returns the lowest device that asks for an interrupt.
+    /// Returns the lowest queue that asks for an interrupt.
     pub(crate) fn lowest_asking(&self) -> Option<usize>
         ensures lowest { result ≡ position asks_at self.now }
         ensures below { IfSome result (λ number. number < 64) }
@@ -269,14 +267,14 @@ impl QueueTable {
         lowest_in(self.pending.asking)
     }
 
-    /// The soonest timer, of those at one time that of the lowest device.
+    /// Returns the timer that expires first, or that of the lowest queue if several expire at the same time.
     pub(crate) fn soonest(&self) -> Option<Timer>
         ensures { result ≡ soonest_from 0 self.now }
     {
         self.pending.soonest
     }
 
-    /// Makes a device when its first packet arrives, with a ring of this capacity. Fails if the allocation fails.
+    /// Creates a queue when its first packet arrives, with a ring of this capacity. Fails if the allocation fails.
     #[tactic(auto, unfolding(crate::specs::Devices::with_device))]
     pub(crate) fn open(
         &mut self,
@@ -295,7 +293,7 @@ impl QueueTable {
         Ok(())
     }
 
-    /// Handles the arrival of a packet for a device. Returns whether its ring took it.
+    /// Handles the arrival of a packet for a queue. Returns whether its ring had room.
     pub(crate) fn arrive(&mut self, number: usize, moment: u64, settings: &MachineSettings) -> bool
         ensures devices { self.new ≡ changed (after_packet moment settings.now) number self.old }
         ensures room { result ≡ has_room_at (at number self.old) }
@@ -313,7 +311,7 @@ impl QueueTable {
         false
     }
 
-    /// Expires the timer of a device.
+    /// Expires the timer of a queue.
     pub(crate) fn expire(&mut self, number: usize)
         ensures { self.new ≡ changed expired number self.old }
     {
@@ -325,19 +323,14 @@ impl QueueTable {
         }
     }
 
-    /// Returns whether the NAPI timer of a device expired.
+    /// Returns whether the NAPI timer of a queue expired.
     pub(crate) fn is_fired(&self, number: usize) -> bool
         ensures { result ≡ is_fired_at (at number self.now) }
     {
-        if number < self.places.len() {
-            if let Some(device) = &self.places[number] {
-                return device.is_fired();
-            }
-        }
-        false
+        matches!(self.places.get(number), Some(Some(device)) if device.is_fired())
     }
 
-    /// Takes up the interrupt of a device.
+    /// Handles the interrupt of a queue.
     pub(crate) fn interrupt(&mut self, number: usize, polling: bool)
         ensures devices { self.new ≡ changed (interrupted polling) number self.old }
         ensures few { length self.new ≤ 64 }
@@ -350,7 +343,7 @@ impl QueueTable {
         }
     }
 
-    /// Ends an interrupt of a device that delivered a packet without polling.
+    /// Ends an interrupt of a queue that delivered a packet without polling.
     pub(crate) fn raise_again(&mut self, number: usize)
         ensures { self.new ≡ changed raised_again number self.old }
     {
@@ -362,7 +355,7 @@ impl QueueTable {
         }
     }
 
-    /// Takes the next packet of a device for a poll.
+    /// Takes the next packet of a queue for a poll.
     pub(crate) fn take_next(&mut self, number: usize, backlog: bool) -> Option<u64>
         ensures packet { result ≡ next_packet_at backlog (at number self.old) }
         ensures devices { self.new ≡ changed (without_next backlog) number self.old }
@@ -375,7 +368,7 @@ impl QueueTable {
         None
     }
 
-    /// Delivers a packet of a device that arrived at `came`. Fails if the allocation for counting its wait fails.
+    /// Delivers a packet of a queue; it arrived at `came`. Fails if the allocation for counting its wait fails.
     pub(crate) fn deliver(&mut self, number: usize, now: u64, came: u64) -> Result<(), AllocError>
         ensures devices { OnOk result (self.new
             ≡ changed (queue_delivered now came) number self.old) }
@@ -389,7 +382,7 @@ impl QueueTable {
         Ok(())
     }
 
-    /// Ends a poll of a device that processed this many packets.
+    /// Ends a poll of a queue that processed this many packets.
     pub(crate) fn end_poll(
         &mut self,
         number: usize,
@@ -407,15 +400,13 @@ impl QueueTable {
         }
     }
 
-    /// What is reported of a device, if there is one.
+    /// Returns the report of a queue, if there is one.
     pub(crate) fn report(&self, number: usize) -> Option<QueueReport>
         ensures { result ≡ option_map queue_report (at number self.now) }
     {
-        if number < self.places.len() {
-            if let Some(device) = &self.places[number] {
-                return Some(device.report());
-            }
+        match self.places.get(number) {
+            Some(Some(device)) => Some(device.report()),
+            _ => None,
         }
-        None
     }
 }

@@ -1,24 +1,33 @@
-//! Internal crate of the facade `machine`: a receiving machine over time, with polling runs of one thread.
+//! Internal crate of the facade `machine`: a machine that receives packets over simulated time, with polling runs of one
+//! thread, its settings, and the options that ask for them.
 //!
-//! `specs/` is its definition: `Waits` has how waits are counted, `Device`, `Devices`, `Softirq` and `Application` what happens
-//! to a device, a poll list and an application, `Processor` what a processor takes up and what happens as time passes,
-//! `Machine` the effect of arrivals on all. `Shown` and `Kept` relate the program to it. Crates that state laws of the
-//! definition name its types (`Phase`, `Work` and others), which are exported for that.
+//! `specs/` defines the machine: `Usual` the default settings; `Args` what options ask for; `Waits` how waits are counted;
+//! `Device` a receive queue, and `Devices` the queues of a processor; `Softirq` the poll list and its run; `Application` the
+//! application; `Processor` which work a processor begins and what happens as time passes; `Machine` the effect of arrivals on
+//! all processors. `Shown` and `Kept` say how the program's state represents a state of the definition. Types of the definition
+//! (`Phase`, `Work` and others) are exported, because the crates with its laws name them.
 #![tactic(auto)]
 
 mod application;
+mod args;
 mod device;
 mod devices;
 mod machine;
 mod processor;
+mod settings;
 mod softirq;
 mod tasks;
 mod waits;
 
 pub use application::{Activity, ApplicationReport};
+pub use args::parse_words;
 pub use device::{Phase, QueueCounts, QueueReport};
 pub use devices::Timer;
 pub use machine::Machine;
 pub use processor::{InHand, ProcessorCounts, ProcessorReport, Rest, Upcoming, Work};
+pub use settings::{
+    MOST_BUDGET, MOST_DEFERRALS, MOST_FRAMES, MOST_PLACES, MOST_PROCESSORS, MOST_QUEUES, MOST_TIME,
+    MOST_WEIGHT, MOST_WINDOW, MachineSettings,
+};
 pub use tasks::RunnableTask;
 pub use waits::{WaitCounts, Waits};

@@ -6,11 +6,11 @@ ghost use Rattle.machine_model.specs.Machine.{PacketArrives, Finishes, device_re
 
 use crate::device::QueueReport;
 use crate::processor::{Processor, ProcessorReport};
-use machine_words::MachineSettings;
+use crate::settings::MachineSettings;
 use std::alloc::{AllocError, Global};
 use std::marker::Model;
 
-/// A receiving machine over time: processors that are independent of each other.
+/// A machine that receives packets over simulated time. Its processors are independent of each other.
 #[derive(Drop)]
 pub struct Machine {
     processors: Vec<Processor>,
@@ -27,7 +27,7 @@ impl Model for Machine {
 impl Machine {
     ghost use Rattle.std.specs.Prelude.{◌≡◌, ◌≤◌, ◌<◌, ◌*◌, Some, IfOk, OnOk, length, slice_get};
 
-    /// Returns a machine at which no packet arrived yet. Fails if an allocation fails.
+    /// Returns a machine at which no packet has arrived yet. Fails if an allocation fails.
     pub fn new(alloc: Global, settings: &MachineSettings) -> Result<Machine, AllocError>
         ensures machine { IfOk result (λ m. m ≡ opened_machine settings.now) }
         ensures processors { IfOk result (λ m. length m ≡ settings.now.processors) }
@@ -39,8 +39,8 @@ impl Machine {
         Ok(Machine { processors })
     }
 
-    /// Handles the arrival of a packet for a device (1 to 64 for each processor) at a time in nanoseconds. Its processor first
-    /// advances to that time. Fails if an allocation for the device or for counting a wait fails; the machine can't be used
+    /// Handles the arrival of a packet for a queue (1 to 64 for each processor) at a time in nanoseconds. Its processor first
+    /// advances to that time. Fails if an allocation for the queue or for counting a wait fails; the machine can't be used
     /// after that.
     pub fn arrive(&mut self, alloc: Global, moment: u64, device: u32) -> Result<(), AllocError>
         requires { (1 ≤ device) × (device ≤ 64 * length self.old) }
@@ -53,8 +53,8 @@ impl Machine {
         Ok(())
     }
 
-    /// Ends the run after the last packet: each processor advances until nothing is left, and then its application advances
-    /// until it sleeps. Fails if an allocation for counting a wait fails; the machine can't be used after that.
+    /// Ends the run after the last packet: each processor advances until nothing is left, and then its application works until
+    /// it sleeps. Fails if an allocation for counting a wait fails; the machine can't be used after that.
     pub fn finish(&mut self) -> Result<(), AllocError>
         ensures finishes { OnOk result (Finishes self.old self.new) }
         ensures processors { length self.new ≡ length self.old }
@@ -65,7 +65,7 @@ impl Machine {
         Ok(())
     }
 
-    /// Returns what is reported of a device; `None` if no packet arrived for it.
+    /// Returns the report of a queue, or `None` if no packet arrived for it.
     pub fn device(&self, device: u32) -> Option<QueueReport>
         requires { (1 ≤ device) × (device ≤ 64 * length self.now) }
         ensures { result ≡ device_report device self.now }
@@ -75,7 +75,7 @@ impl Machine {
         self.processors[number % count].device(number / count)
     }
 
-    /// Returns what is reported of a processor, by its number from 0.
+    /// Returns the report of the processor with this number, counted from 0.
     pub fn processor(&self, number: usize) -> ProcessorReport
         requires { number < length self.now }
         ensures { Some result ≡ option_map processor_report (slice_get self.now number) }

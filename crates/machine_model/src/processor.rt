@@ -1,4 +1,4 @@
-//! One processor: what it takes up, and what happens as work ends, timers expire and packets arrive.
+//! One processor: which work it begins, and what happens when work ends, timers expire and packets arrive.
 
 ghost use Rattle.std.specs.Prelude.{◌≡◌, ◌≤◌, ◌<◌, ◌+◌, true, false, None, Some, IfOk, OnOk, if◌then◌else◌};
 ghost use Rattle.std.specs.Option.{option_map};
@@ -15,22 +15,22 @@ ghost use Rattle.machine_model.specs.declared.processor.Work.TheVariants.{Nothin
 use crate::application::{Application, ApplicationReport};
 use crate::device::QueueReport;
 use crate::devices::{QueueTable, Timer};
+use crate::settings::MachineSettings;
 use crate::softirq::Softirq;
 use crate::tasks::{RunQueue, RunnableTask};
 use crate::waits::WaitCounts;
-use machine_words::MachineSettings;
 use poll_runs::{Next, Once};
 use std::alloc::{AllocError, Global};
 use std::marker::Model;
 
-/// A packet that a poll took: its device, when it arrived, and how many packets the poll processed before it.
+/// A packet that a poll has taken and is processing.
 #[derive(Clone, Copy, Debug, PartialEq, Eq)]
 pub struct InHand {
-    /// The number of its device.
+    /// The number of its queue.
     pub device: u32,
     /// When it arrived, in nanoseconds.
     pub came: u64,
-    /// The packets that its poll processed before it.
+    /// How many packets its poll processed before it.
     pub given: u32,
 }
 
@@ -39,17 +39,17 @@ pub struct InHand {
 pub enum Work {
     /// No work is in progress.
     Nothing,
-    /// The interrupt of a device.
+    /// The interrupt of a queue.
     Interrupt(u32),
-    /// The poll of a device, before its first packet.
+    /// The poll of a queue, before its first packet.
     Poll(u32),
-    /// A packet of a poll.
+    /// A packet that a poll processes.
     Packet(InHand),
-    /// The application uses a packet that arrived at that time.
+    /// The application uses a packet that arrived at this time.
     Use(u64),
 }
 
-/// What is left of a use that was interrupted: when its packet arrived, and the remaining time.
+/// The rest of a use that was interrupted: when its packet arrived, and the remaining time.
 #[derive(Clone, Copy, Debug, PartialEq, Eq)]
 pub struct Rest {
     /// When its packet arrived, in nanoseconds.
@@ -58,7 +58,7 @@ pub struct Rest {
     pub left: u64,
 }
 
-/// What happens next if no packet arrives.
+/// The next event, if no packet arrives.
 #[derive(Clone, Copy, Debug, PartialEq, Eq)]
 pub enum Upcoming {
     /// Nothing.
@@ -72,9 +72,9 @@ pub enum Upcoming {
 /// The counts of a processor. Times are in nanoseconds.
 #[derive(Clone, Copy, Debug, PartialEq, Eq)]
 pub struct ProcessorCounts {
-    /// The interrupts of its devices.
+    /// The interrupts of its queues' cards.
     pub interrupts: u64,
-    /// The interrupts of its NAPI timers.
+    /// The interrupts of its queues' NAPI timers.
     pub timers: u64,
     /// The runs that ended.
     pub runs: u64,
@@ -84,7 +84,7 @@ pub struct ProcessorCounts {
     pub work: u64,
     /// The runs that ended before everything was polled (`time_squeeze`).
     pub squeezed: u64,
-    /// Runs among them that ended only by time.
+    /// The squeezed runs that only exceeded their time, not the budget or the window.
     pub late: u64,
     /// The packets that a full socket dropped.
     pub refused: u64,
@@ -92,11 +92,11 @@ pub struct ProcessorCounts {
     pub interrupt_time: u64,
     /// The time of polls.
     pub poll_time: u64,
-    /// The time of uses.
+    /// The time in which the application used packets.
     pub use_time: u64,
 }
 
-/// What is reported of a processor.
+/// The report of a processor.
 #[derive(Clone, Copy, Debug, PartialEq, Eq)]
 pub struct ProcessorReport {
     /// The counts.
@@ -125,7 +125,7 @@ impl ProcessorCounts {
         use_time: 0,
     };
 
-    // Counts the time of a piece of work.
+    // Adds the time that a piece of work took.
     fn spend(&mut self, work: Work, time: u64)
         ensures { self.new ≡ spent work time self.old }
     {
@@ -175,14 +175,14 @@ impl Model for Processor {
     ghost invariant = { λ p. ProcessorKept p.settings p.work p.devices p.softirq };
 }
 
-// Returns whether there is polling, and not only interrupts.
+// Returns whether the machine polls, instead of delivering a packet per interrupt.
 fn is_polling(settings: &MachineSettings) -> bool
     ensures { result ≡ is_polling settings.now }
 {
     settings.budget != 0
 }
 
-// Returns how a poll ends that used its whole weight, or less.
+// Returns how a poll ends; `full` says whether it used its whole weight.
 fn next_after(full: bool) -> Next
     ensures { result ≡ (if full then Repoll else Gone) }
 {
@@ -197,7 +197,7 @@ fn end_after(clock: u64, time: u32) -> u64
 }
 
 impl Processor {
-    // Schedules the instance of a device (`____napi_schedule`).
+    // Schedules the instance of a queue (`____napi_schedule`).
     fn schedule(&mut self, number: u32) -> Result<(), AllocError>
         requires work { self.old.work ≡ Nothing }
         requires polling { is_polling self.old.settings ≡ true }
@@ -213,7 +213,7 @@ impl Processor {
         }
     }
 
-    // Takes up an interrupt, of a card or of a NAPI timer.
+    // Handles an interrupt, of a card or of a NAPI timer.
     #[tactic(auto, unfolding(crate::specs::Processor::interrupts))]
     fn interrupt(&mut self, number: u32) -> Result<(), AllocError>
         requires work { self.old.work ≡ Nothing }
@@ -239,7 +239,7 @@ impl Processor {
         Ok(())
     }
 
-    // The application uses the oldest packet of its socket, if there is one.
+    // Lets the application use the oldest packet of its socket, if there is one.
     fn use_first(&mut self)
         requires { self.old.work ≡ Nothing }
         ensures { self.new ≡ uses self.old.application.socket.items self.old }
@@ -250,7 +250,7 @@ impl Processor {
         }
     }
 
-    // The first task makes a poll or uses a packet.
+    // Runs the first task: a thread makes a poll, or the application uses a packet.
     #[tactic(auto, unfolding(crate::specs::Processor::runs_first))]
     fn run_first(&mut self)
         requires work { self.old.work ≡ Nothing }
@@ -304,7 +304,7 @@ impl Processor {
         }
     }
 
-    // Without a run in progress: continues with the list, or with what follows softirqs.
+    // Without a run in progress: begins a run over the list, or continues with what comes after softirqs.
     #[tactic(auto, unfolding(crate::specs::Processor::rests))]
     fn rest(&mut self)
         requires work { self.old.work ≡ Nothing }
@@ -359,7 +359,7 @@ impl Processor {
         }
     }
 
-    // Takes up the first work that there is, unless some is in progress.
+    // Begins the first work that is possible, unless work is in progress.
     #[tactic(auto, unfolding(crate::specs::Processor::takes_up))]
     fn take_up(&mut self) -> Result<(), AllocError>
         ensures { OnOk result (self.new ≡ takes_up self.old) }
@@ -378,7 +378,7 @@ impl Processor {
         Ok(())
     }
 
-    // Delivers a packet of a device, and makes the application runnable if it took it.
+    // Delivers a packet of a queue. If the socket takes it, the application becomes runnable.
     #[tactic(auto, unfolding(crate::specs::Processor::delivers))]
     fn deliver(&mut self, number: u32, came: u64) -> Result<(), AllocError>
         ensures { OnOk result (self.new ≡ delivers number came self.old) }
@@ -397,7 +397,7 @@ impl Processor {
         Ok(())
     }
 
-    // Delivers the oldest packet by an interrupt without polling.
+    // Delivers the oldest packet of a queue, by an interrupt without polling.
     #[tactic(auto, unfolding(crate::specs::Processor::ends_interrupt))]
     fn end_interrupt(&mut self, number: u32) -> Result<(), AllocError>
         requires { is_polling self.old.settings ≡ false }
@@ -433,7 +433,7 @@ impl Processor {
         Ok(())
     }
 
-    // Takes the next packet for a poll that processed this many packets.
+    // Takes the next packet for a poll that processed this many packets; without one, ends the poll.
     #[tactic(auto, unfolding(crate::specs::Processor::poll_looks))]
     fn look(&mut self, number: u32, given: u32) -> Result<(), AllocError>
         requires polled { polled_by self.old.work ≡ Some number }
@@ -485,7 +485,7 @@ impl Processor {
         Ok(())
     }
 
-    // Interrupts a use, and sets aside what is left of it.
+    // Interrupts a use, and keeps the rest of it for later.
     fn set_aside(&mut self, moment: u64)
         ensures { self.new ≡ set_aside moment self.old.work self.old }
     {
@@ -499,7 +499,7 @@ impl Processor {
         }
     }
 
-    // Advances an idle processor to that time, or later if it is woken by an interrupt.
+    // Advances an idle processor to this time; if it is woken by an interrupt, waking takes some time more.
     fn wake(&mut self, moment: u64, asked: bool)
         ensures { self.new ≡ woken moment asked self.old }
     {
@@ -512,7 +512,7 @@ impl Processor {
         }
     }
 
-    // Disturbs an idle processor, and a use, if a device asks for an interrupt.
+    // Interrupts an idle time or a use, if a queue asks for an interrupt.
     #[tactic(auto, unfolding(crate::specs::Processor::disturbed))]
     fn disturb(&mut self, moment: u64) -> Result<(), AllocError>
         ensures { OnOk result (self.new ≡ disturbed moment self.old) }
@@ -526,7 +526,7 @@ impl Processor {
         self.take_up()
     }
 
-    // What happens next if no packet arrives.
+    // Returns the next event, if no packet arrives.
     fn upcoming(&self) -> Upcoming
         ensures upcoming { result ≡ upcoming self.now }
         ensures kept { IsProcessorKept self.now }
@@ -539,7 +539,7 @@ impl Processor {
         }
     }
 
-    // Makes what happens next.
+    // Makes the next event happen.
     #[tactic(auto, unfolding(crate::specs::Processor::step))]
     fn step(&mut self) -> Result<(), AllocError>
         ensures { OnOk result (self.new ≡ step self.old) }
@@ -557,7 +557,7 @@ impl Processor {
         }
     }
 
-    // Returns whether anything happens at or before that time if no packet arrives.
+    // Returns whether an event is due at or before this time, if no packet arrives.
     fn is_due(&self, moment: u64) -> bool
         ensures due { result ≡ is_due moment self.now }
         ensures kept { IsProcessorKept self.now }
@@ -571,7 +571,7 @@ impl Processor {
 }
 
 impl Processor {
-    /// Returns a processor at which nothing happened yet.
+    /// Returns a processor at which nothing has happened yet.
     pub(crate) fn new(alloc: Global, settings: &MachineSettings) -> Result<Processor, AllocError>
         ensures { IfOk result (λ p. p ≡ opened_processor settings.now) }
     {
@@ -590,7 +590,7 @@ impl Processor {
         })
     }
 
-    /// Advances to a time: everything happens that happens at or before it.
+    /// Advances to a time: everything that is due at or before it happens.
     pub(crate) fn advance(&mut self, moment: u64) -> Result<(), AllocError>
         ensures { OnOk result (Advances moment self.old self.new) }
     {
@@ -600,7 +600,7 @@ impl Processor {
         Ok(())
     }
 
-    /// Handles the arrival of a packet for a device of a processor that has advanced to that time.
+    /// Handles the arrival of a packet for a queue, on a processor that has advanced to that time.
     #[tactic(auto, unfolding(crate::specs::Processor::arrives))]
     fn come(&mut self, alloc: Global, moment: u64, number: u32) -> Result<(), AllocError>
         requires { number < 64 }
@@ -618,7 +618,7 @@ impl Processor {
         Ok(())
     }
 
-    /// Handles the arrival of a packet for a device; the processor first advances to that time.
+    /// Handles the arrival of a packet for a queue; the processor first advances to that time.
     pub(crate) fn arrive(
         &mut self,
         alloc: Global,
@@ -633,8 +633,8 @@ impl Processor {
         Ok(())
     }
 
-    /// Ends the run after the last packet: the processor advances until nothing is left, and then the application advances
-    /// until it sleeps.
+    /// Ends the run after the last packet: the processor advances until nothing is left, and then its application works until
+    /// it sleeps.
     pub(crate) fn finish(&mut self) -> Result<(), AllocError>
         ensures { OnOk result (FinishesAt self.old self.new) }
     {
@@ -644,14 +644,14 @@ impl Processor {
         Ok(())
     }
 
-    /// Returns what is reported of a device, if a packet arrived for it.
+    /// Returns the report of a queue, if a packet arrived for it.
     pub(crate) fn device(&self, number: usize) -> Option<QueueReport>
         ensures { result ≡ option_map queue_report (at number self.now.devices) }
     {
         self.devices.report(number)
     }
 
-    /// What is reported of the processor.
+    /// Returns the report of the processor.
     pub(crate) fn report(&self) -> ProcessorReport
         ensures { result ≡ processor_report self.now }
     {

@@ -5,6 +5,7 @@ ghost use Rattle.machine_model.specs.Shown.{listed, weight_in};
 ghost use Rattle.machine_model.specs.Softirq.{asked_in, begun, run_ended, is_run_spent, run_next, softirq_polled, pushed};
 ghost use Rattle.std.specs.Option.{option_map_or};
 ghost use Rattle.poll_runs.specs.Polls.{is_arrival};
+ghost use Rattle.poll_runs.specs.Ranges.{IsBudget, IsWeight, IsWindow};
 
 use poll_runs::{Next, Once, PlainList, PollList, PollingRun};
 use std::marker::Model;
@@ -83,9 +84,9 @@ impl Softirq {
     /// Begins a run, which takes the whole list (`net_rx_action`).
     pub(crate) fn begin(&mut self, moment: u64, budget: u32, weight: u32, window: u32)
         requires none { self.old.run ≡ None }
-        requires weight { (1 ≤ weight) × (weight ≤ 64) }
-        requires budget { (1 ≤ budget) × (budget ≤ 65535) }
-        requires window { (1 ≤ window) × (window ≤ 65535) }
+        requires weight { IsWeight weight }
+        requires budget { IsBudget budget }
+        requires window { IsWindow window }
         ensures { self.new ≡ begun moment budget weight window self.old }
     {
         self.run.restart(&mut self.list, budget, weight, window);
@@ -93,7 +94,7 @@ impl Softirq {
         self.began = moment;
     }
 
-    /// Returns the number that the run polls next; `None` if the run is over.
+    /// Returns the number to poll next; `None` if the run is over.
     #[tactic(auto, unfolding(crate::specs::Softirq::run_next))]
     pub(crate) fn next(&mut self) -> Option<u32>
         requires { asked_in self.old.run ≡ None }

@@ -1,4 +1,4 @@
-//! With threads: the tasks of a processor that are runnable.
+//! The runnable tasks of a processor, for a machine with threads.
 
 use std::alloc::{AllocError, Global};
 use std::collections::VecDeque;
@@ -9,11 +9,11 @@ use std::marker::Model;
 pub enum RunnableTask {
     /// The application.
     Application,
-    /// The thread that polls a device (`napi_threaded_poll`).
+    /// The thread that polls a queue (`napi_threaded_poll`).
     Thread(u32),
 }
 
-/// The runnable tasks, the first of which runs next. A thread that polls isn't among them.
+/// The runnable tasks; the first one runs next. A thread that is polling isn't among them.
 #[derive(Drop)]
 pub(crate) struct RunQueue {
     queue: VecDeque<RunnableTask>,
@@ -47,7 +47,7 @@ impl RunQueue {
         }
     }
 
-    /// Appends a device's thread. Fails if the allocation fails; then the tasks are unchanged.
+    /// Appends the thread of a queue. Fails if the allocation fails; then the tasks are unchanged.
     pub(crate) fn push_thread(&mut self, number: u32) -> Result<(), AllocError>
         ensures { OnOk result (self.new ≡ self.old ++ Thread number ∷ []) }
     {
@@ -55,7 +55,7 @@ impl RunQueue {
         Ok(())
     }
 
-    /// Adds a device's thread as the first. Fails if the allocation fails; then the tasks are unchanged.
+    /// Puts the thread of a queue first. Fails if the allocation fails; then the tasks are unchanged.
     pub(crate) fn push_first(&mut self, number: u32) -> Result<(), AllocError>
         ensures { OnOk result (self.new ≡ Thread number ∷ self.old) }
     {
@@ -75,8 +75,8 @@ impl RunQueue {
         Ok(())
     }
 
-    /// Returns the task that runs next. An idle application is removed if it is first; a thread is removed, and the application
-    /// isn't.
+    /// Returns the task that runs next. It removes an application that is first and idle, and a thread that it returns; an
+    /// application that it returns stays in the list.
     pub(crate) fn next(&mut self, idle: bool) -> Option<RunnableTask>
         ensures first { result ≡ slice_get (runnable idle self.old) 0 }
         ensures tasks { self.new ≡ after_first (runnable idle self.old) }

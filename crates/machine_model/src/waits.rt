@@ -1,4 +1,4 @@
-//! Waits of packets, counted in buckets.
+//! The waits of packets, counted in buckets.
 
 ghost use Rattle.std.specs.Prelude.{◌≡◌, ◌≤◌, ◌<◌, IfOk, OnOk, length, ◌-◌, ◌^◌};
 ghost use Rattle.machine_model.specs.Waits.{bucket_of, counted, first_with, least_of, no_waits, summary_of, up_to, wait_at};
@@ -6,17 +6,17 @@ ghost use Rattle.machine_model.specs.Waits.{bucket_of, counted, first_with, leas
 use std::alloc::{AllocError, Global};
 use std::marker::Model;
 
-/// The number of buckets.
+/// The greatest number of buckets, for all waits of 64 bits.
 const BUCKETS: usize = 28672;
 
-/// What the report shows of waits, in nanoseconds.
+/// What the report shows of waits. Times are in nanoseconds.
 #[derive(Clone, Copy, Debug, PartialEq, Eq)]
 pub struct WaitCounts {
-    /// How many there are.
+    /// The number of waits.
     pub count: u64,
     /// Their sum divided by their count, rounded down; 0 if there are none.
     pub mean: u64,
-    /// The median: the least wait of the first bucket that, with those below it, has half of them.
+    /// The median: the least wait of the bucket in which it is.
     pub wait50: u64,
     /// The 90th percentile.
     pub wait90: u64,
@@ -24,12 +24,12 @@ pub struct WaitCounts {
     pub wait99: u64,
     /// The 99.9th percentile.
     pub wait999: u64,
-    /// The longest.
+    /// The longest wait.
     pub most: u64,
 }
 
-/// Waits in nanoseconds: how many, their sum, the longest, and how many are in each bucket. It allocates the buckets up to that
-/// of the longest wait.
+/// The waits of packets in nanoseconds: their number, their sum, the longest one, and how many are in each bucket. Only the
+/// buckets up to that of the longest wait are allocated.
 #[derive(Drop)]
 pub struct Waits {
     count: u64,
@@ -58,7 +58,7 @@ fn bucket_of(wait: u64) -> usize
     512 * rest as usize + (wait >> rest) as usize
 }
 
-// Returns the first bucket that, with those before it, has this many waits; the first of all if there are fewer.
+// Returns the first bucket such that it and the buckets before it have at least this many waits; bucket 0 if there is none.
 fn first_with(buckets: &[u64], mut rank: u64) -> usize
     ensures bucket { result ≡ first_with rank 0 buckets.now }
     ensures below { 0 < length buckets.now → result < length buckets.now }
@@ -97,7 +97,7 @@ fn extend(buckets: &mut Vec<u64>, bucket: usize) -> Result<(), AllocError>
 }
 
 impl Waits {
-    /// Returns zero waits, which don't allocate.
+    /// Returns counts without a wait, which don't allocate.
     #[tactic(auto, unfolding(crate::specs::Waits::no_waits))]
     pub fn new(alloc: Global) -> Waits
         ensures { result ≡ no_waits }
@@ -110,8 +110,8 @@ impl Waits {
         }
     }
 
-    /// Returns the least wait of the first bucket that, with those below it, has this many of 1000 of the waits; 0 if there are
-    /// none.
+    /// Returns a percentile: the least wait of the first bucket such that it and those below it have at least this many of 1000
+    /// waits; 0 if there are no waits.
     pub fn wait_at(&self, share: u32) -> u64
         requires { share ≤ 1000 }
         ensures { result ≡ wait_at share self.now }
@@ -123,7 +123,7 @@ impl Waits {
         least_of(first_with(&self.buckets, rank as u64))
     }
 
-    /// What the report shows of them.
+    /// Returns what the report shows of these waits.
     pub fn summary(&self) -> WaitCounts
         ensures { result ≡ summary_of self.now }
     {
@@ -139,7 +139,7 @@ impl Waits {
         }
     }
 
-    /// Counts one more wait. Fails if the allocation of the buckets up to its own fails; then no wait is counted.
+    /// Counts one more wait. Fails if the allocation of the buckets up to its own fails; then the wait isn't counted.
     #[tactic(auto, unfolding(crate::specs::Waits::counted))]
     pub fn count(&mut self, wait: u64) -> Result<(), AllocError>
         ensures { OnOk result (self.new ≡ counted wait self.old) }

@@ -1,4 +1,4 @@
--- A failed output is never the error of bytes.
+-- A failed output is never an error of the input's bytes.
 use Rattle.std.proofs.Common.{◌≡◌, ℕ, Bool, true, false, List, [], ◌∷◌, ◌++◌, length}
 use Rattle.std.specs.Prelude.{Option, Some, None, Result, Ok, Err, if◌then◌else◌, nat_le, nat_lt, ◌&&◌, ◌^◌, ◌*◌, ◌+◌}
 use Rattle.device_rows.specs.{Record.{is_numeral, numeral}, Row.is_within}
@@ -7,7 +7,7 @@ use Rattle.machine_report.specs.Arrivals.{last_moment, arrival_of_fields, queue_
 use Rattle.machine_report.specs.Arrivals.{◌>>=◌}
 use Rattle.std.proofs.Common.{◌⊎◌, inl, inr}
 use Rattle.device_rows.specs.Trace.{records_of}
-use Rattle.machine_words.specs.declared.settings.MachineSettings.{MachineSettings}
+use Rattle.machine_model.specs.declared.settings.MachineSettings.{MachineSettings}
 use Rattle.machine_report.specs.{Answer.IsArrivalsFault, Fault.IsArrivalReadFailure}
 use Rattle.machine_report.specs.declared.arrival.{Arrival.Arrival, Numbers.Numbers}
 use Rattle.machine_report.specs.declared.fault.MachineFault.{MachineFault}
@@ -62,7 +62,7 @@ never-output s (header ∷ records) = by (is_arrivals_title s.queues (arrival_fi
     by true is = after-never s [] records is
     by false is = cc is
 
--- no reader and no allocation fails with it, and the bytes don't have it
+-- a reader and an allocation never fail with OutputFailed, and the bytes never have that error
 pub read-never : (s : MachineSettings) (bytes : List ℕ) (fault : MachineFault) → fault ≡ OutputFailed
     → IsArrivalReadFailure fault ⊎ IsArrivalsFault s bytes fault → ⊥
 read-never s bytes fault same (inl (inl read)) = cc (same, read.0)

@@ -1,4 +1,4 @@
--- How csv reads plain rows of arrivals.
+-- How csv reads plain rows of arrivals (numbers, commas, a line feed).
 use Rattle.std.proofs.Common.{◌≡◌, ℕ, true, false, List, [], ◌∷◌, ◌++◌, Some, refl}
 use Rattle.std.specs.Prelude.{◌==◌}
 use Rattle.csv.specs.{Machine.next_record, Reading.strip_bom, Records.field_at}
@@ -9,7 +9,7 @@ use Rattle.machine_report.specs.{Plain.{StartsWithHeader, StartsWithNumbers}}
 
 module _ (queues : ℕ) (text behind-m behind-d behind-b rest : List ℕ) (moment device bytes flow : ℕ)
     (m : StartsWithNumber text 44 moment behind-m) (d : StartsWithNumber behind-m 44 device behind-d) where
-  -- with one queue
+  -- a row of a machine with one queue per device has three numbers
   pub three-numbers : (queues == 1) ≡ true → StartsWithNumber behind-d 10 bytes rest
       → StartsWithNumbers queues text (record { moment = moment; device = device; bytes = bytes; flow = 0 }) rest
   unfolding arrival_fields arrival_of_fields field_at
@@ -22,7 +22,7 @@ module _ (queues : ℕ) (text behind-m behind-d behind-b rest : List ℕ) (momen
         tells = λ s n last. rw (one, m.is_one, d.is_one, b.is_one, m.value, d.value, b.value) refl;
       }
 
-  -- with several
+  -- a row of a machine with several queues per device has four numbers
   pub four-numbers : (queues == 1) ≡ false → StartsWithNumber behind-d 44 bytes behind-b → StartsWithNumber behind-b 10 flow rest
       → StartsWithNumbers queues text (record { moment = moment; device = device; bytes = bytes; flow = flow }) rest
   unfolding arrival_fields arrival_of_fields field_at
@@ -54,7 +54,7 @@ titles = moment-title ∷ device-title ∷ bytes-title ∷ []
 abbrev header-of : List ℕ → List ℕ
 header-of end = 109 ∷ 111 ∷ 109 ∷ 101 ∷ 110 ∷ 116 ∷ 44 ∷ 100 ∷ 101 ∷ 118 ∷ 105 ∷ 99 ∷ 101 ∷ 44 ∷ 98 ∷ 121 ∷ 116 ∷ 101 ∷ 115 ∷ end
 
--- `moment,device,bytes`
+-- the header of a machine with one queue per device, `moment,device,bytes`
 pub three-titles : (queues : ℕ) (text rest : List ℕ) → (queues == 1) ≡ true → text ≡ header-of (10 ∷ []) ++ rest
     → StartsWithHeader queues text rest
 unfolding next_record strip_bom arrival_fields field_at
@@ -70,7 +70,7 @@ three-titles queues text rest one splits = record {
     titled : is_arrivals_title queues (arrival_fields queues titles) ≡ true
     titled = rw (four, one) refl
 
--- `moment,device,bytes,flow`
+-- the header of a machine with several queues per device, `moment,device,bytes,flow`
 pub four-titles : (queues : ℕ) (text rest : List ℕ) → (queues == 1) ≡ false
     → text ≡ header-of (44 ∷ 102 ∷ 108 ∷ 111 ∷ 119 ∷ 10 ∷ []) ++ rest → StartsWithHeader queues text rest
 unfolding next_record strip_bom arrival_fields field_at

@@ -1,4 +1,4 @@
--- The arrivals of the remaining records, by the next record.
+-- The arrivals of the remaining records, from those after the next record.
 use Rattle.std.proofs.lemmas.Grind.{common_steps}
 use Rattle.std.proofs.Common.{◌≡◌, ◌∙◌, ℕ, ◌+◌, ◌-◌, ◌<◌, ◌≤◌, Bool, true, false, List, [], ◌∷◌, ◌++◌, drop, length, refl, sym, ap}
 use Rattle.std.{proofs.Common.{Vec, arith, length-append, Some, None, Option}, specs.Prelude.{Result, Ok, Err, fold}}
@@ -10,7 +10,7 @@ use Rattle.device_rows.{specs.Trace.records_of, proofs.{RecordsFacts.{next-end, 
 use Rattle.device_rows.specs.{Block.{Holds, left_remaining, unread}, declared.{block.Block.Block, fused.Fused.Fused}}
 use Rattle.device_rows.proofs.{BlockFacts.used-up, RowsFacts.records-none}
 use Rattle.machine_report.specs.Arrivals.{arrival_of, arrivals_after, arrivals_of, arrival_fields, is_arrivals_title, arrival_of_fields}
-use Rattle.machine_words.specs.declared.settings.MachineSettings.{MachineSettings}
+use Rattle.machine_model.specs.declared.settings.MachineSettings.{MachineSettings}
 use Rattle.machine_report.specs.{Plain.{StartsWithArrival, StartsWithHeader}, declared.arrival.Arrival.Arrival}
 use Rattle.machine_report.specs.Reading.{HasGiven, IsTitled, LeavesSame, LeftAt, TakesPlain, records_in}
 use Rattle.machine_report.specs.declared.{arrivals.{Arrivals.Arrivals, ArrivalRows.ArrivalRows}, fault.MachineFault.MachineFault}
@@ -18,7 +18,7 @@ use Rattle.machine_report.specs.declared.{arrivals.{Arrivals.Arrivals, ArrivalRo
 abbrev RecordsLeft : Type 0 → Type 0
 RecordsLeft R = Reader (Chain (Cursor (Vec ℕ Global)) (Fused R))
 
--- one record, and then those of the remaining bytes
+-- the next record, followed by those of the remaining bytes
 pub one-in : (state : State) (p : Read) (left : List ℕ) → ends_at_end state ≡ false
     → next_record default_config state [] [] left ≡ Some p
     → (ends_at_end p.1 ≡ false) × (records_in state left ≡ p.0 ∷ records_in p.1 p.2)
@@ -35,7 +35,7 @@ one-in state p left between reads =
     shorter [] e short = cc (sym (next-end state between) ∙ e)
     shorter (x ∷ xs) e short = omega arith
 
--- the same, after the reader has read a record
+-- the remaining records, after the reader has read one
 more-in : {R : Type 0} (remaining : R → Option (List ℕ)) (reader after : Reader R) (fields : List (List ℕ)) (left : List ℕ)
     → ends_at_end (reader_state reader) ≡ false
     → ReadsNext remaining (next_record default_config (reader_state reader) [] [] left) true fields after
@@ -58,7 +58,7 @@ none-in : {R : Type 0} (remaining : R → Option (List ℕ)) (reader after : Rea
 none-in remaining reader after fields left h =
     records-none remaining reader after fields (length left + 1) (length left) left (omega arith) h
 
--- an empty line at the start is no record
+-- an empty line at the start isn't a record
 pub empty-in : (left : List ℕ) → records_in State.StartRecord left ≡ records_in State.StartRecord (10 ∷ left)
 unfolding next_record
 empty-in left =
@@ -115,15 +115,15 @@ last-push first earlier arrival = grind (arith, common_steps)
 between-start : (state : State) → state ≡ State.StartRecord → ends_at_end state ≡ false
 between-start state e = ap ends_at_end e
 
--- what follows for the first record
+-- what the first record implies for the result
 module _ {R : Type 0} (remaining : R → Option (List ℕ)) (reader after : Reader R) (fields : List (List ℕ)) (s : MachineSettings)
     (bytes : List ℕ) (at : reader_state reader ≡ State.StartRecord) where
-  -- if there is none
+  -- there is no first record
   pub refused-start : ReadsNext remaining (next_record default_config (reader_state reader) [] [] bytes) false fields after
       → arrivals_of s (records_in State.StartRecord bytes) ≡ Err MachineFault.BadHeader
   refused-start h = arrivals-none s _ (sym (ap (λ t. records_in t bytes) at) ∙ none-in remaining reader after fields bytes h)
 
-  -- if it isn't the header
+  -- the first record isn't the header
   pub refused-title : ReadsNext remaining (next_record default_config (reader_state reader) [] [] bytes) true fields after
       → is_arrivals_title s.queues (arrival_fields s.queues fields) ≡ false
       → arrivals_of s (records_in State.StartRecord bytes) ≡ Err MachineFault.BadHeader
@@ -131,7 +131,7 @@ module _ {R : Type 0} (remaining : R → Option (List ℕ)) (reader after : Read
       let (rest, stands, between, one) = more-in remaining reader after fields bytes (between-start _ at) h in
       arrivals-other s _ _ fields (sym (ap (λ t. records_in t bytes) at) ∙ one) other
 
-  -- if it is the header
+  -- the first record is the header
   pub behind-title : ReadsNext remaining (next_record default_config (reader_state reader) [] [] bytes) true fields after
       → is_arrivals_title s.queues (arrival_fields s.queues fields) ≡ true
       → (rest : List ℕ) × StandsAt remaining after rest × (ends_at_end (reader_state after) ≡ false)
@@ -140,7 +140,7 @@ module _ {R : Type 0} (remaining : R → Option (List ℕ)) (reader after : Read
       let (rest, stands, between, one) = more-in remaining reader after fields bytes (between-start _ at) h in
       (rest, stands, between, arrivals-behind s _ _ fields (sym (ap (λ t. records_in t bytes) at) ∙ one) titled)
 
--- if the header is plain
+-- the header is plain
 pub behind-header : {R : Type 0} (remaining : R → Option (List ℕ)) (old new : Block R) (s : MachineSettings) (text rest bytes : List ℕ)
     (count : ℕ) → text ≡ unread old → StartsWithHeader s.queues text rest → count ≡ length text - length rest
     → unread new ≡ drop count (unread old) → new.source ≡ old.source → Holds remaining old bytes
@@ -161,7 +161,7 @@ behind-header remaining old new s text rest bytes count is header size behind sa
       gives = arrivals-behind s _ _ header.fields (all-in bytes ∙ one) header.tells;
     }
 
--- a plain row of a block was taken
+-- a plain row of a block was consumed
 pub plain-taken : {R : Type 0} (remaining : R → Option (List ℕ)) (old new : Block R) (s : MachineSettings) (row last : ℕ)
     (text rest bytes : List ℕ) (arrival : Arrival) (count : ℕ) → text ≡ unread old → StartsWithArrival s row last text arrival rest
     → count ≡ length text - length rest
@@ -184,7 +184,7 @@ module _ {R : Type 0} (remaining : R → Option (List ℕ)) (old : Arrivals R) (
       → arrival_of old.settings earlier fields ≡ arrival_of_fields old.settings row old.last (arrival_fields old.settings.queues fields)
   told-as row fields rows = grind (arith, common_steps, given.rows, given.last)
 
-  -- one more arrival: that of the next record
+  -- one more arrival was returned: that of the next record
   given-one : (new : Arrivals R) (fields : List (List ℕ)) (state : State) (rest : List ℕ) (arrival : Arrival)
       → LeftAt remaining new.source state rest → ends_at_end state ≡ false
       → records_in given.state given.left ≡ fields ∷ records_in state rest
@@ -203,7 +203,7 @@ module _ {R : Type 0} (remaining : R → Option (List ℕ)) (old : Arrivals R) (
         ∙ ap (λ n. arrivals_after n (earlier ++ arrival ∷ []) (records_in state rest)) (sym settings);
   }
 
-  -- one more arrival: that of a plain row
+  -- one more arrival was returned: that of a plain row
   pub given-plain : (new : Arrivals R) (before after : Block R) (row : ℕ) (arrival : Arrival)
       → old.source ≡ ArrivalRows.Plain before → new.source ≡ ArrivalRows.Plain after
       → ((bytes : List ℕ) → Holds remaining before bytes → TakesPlain remaining old.settings row old.last bytes arrival after)
@@ -236,7 +236,7 @@ module _ {R : Type 0} (remaining : R → Option (List ℕ)) (old : Arrivals R) (
             ∙ ap (λ n. arrivals_after n earlier (records_in same.state_after same.left)) (sym settings);
       }
 
-  -- what csv read
+  -- the result of a read by csv
   module _ (reader after : RecordsLeft R) (fields : List (List ℕ)) (was : old.source ≡ ArrivalRows.Records reader) where
     abbrev Takes : Bool → Type 0
     Takes found = (bytes : List ℕ) → StandsAt (left_remaining remaining) reader bytes
@@ -245,7 +245,7 @@ module _ {R : Type 0} (remaining : R → Option (List ℕ)) (old : Arrivals R) (
     at-reader : LeftAt remaining (ArrivalRows.Records reader) given.state given.left
     at-reader = rw was at given.stands
 
-    -- at the end of the text
+    -- the case of the end of the text
     pub given-end : Takes false → all ≡ Ok earlier
     given-end h =
         let (at, stands) = at-reader in
@@ -261,7 +261,7 @@ module _ {R : Type 0} (remaining : R → Option (List ℕ)) (old : Arrivals R) (
         let (rest, left, tidy, one) = more-in (left_remaining remaining) reader after fields given.left between (h given.left stands) in
         (rest, left, tidy, ap (λ s. records_in s given.left) at ∙ one)
 
-    -- at a row with an error
+    -- the case of a row with an error
     pub given-fault : (row : ℕ) (fault : MachineFault) → Takes true → row ≡ old.rows + 1
         → arrival_of_fields old.settings row old.last (arrival_fields old.settings.queues fields) ≡ Err fault → all ≡ Err fault
     given-fault row fault h rows told =
@@ -269,7 +269,7 @@ module _ {R : Type 0} (remaining : R → Option (List ℕ)) (old : Arrivals R) (
         given.gives ∙ ap (arrivals_after old.settings earlier) one
         ∙ after-bad old.settings earlier fields _ fault (told-as row fields rows ∙ told)
 
-    -- one more arrival
+    -- the case of one more arrival
     pub given-next : (new : Arrivals R) (row : ℕ) (arrival : Arrival) → Takes true → new.source ≡ ArrivalRows.Records after
         → new.settings ≡ old.settings → row ≡ old.rows + 1 → new.rows ≡ row → new.last ≡ arrival.moment
         → arrival_of_fields old.settings row old.last (arrival_fields old.settings.queues fields) ≡ Ok arrival

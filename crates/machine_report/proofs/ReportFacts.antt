@@ -1,9 +1,9 @@
--- One more device, and one more processor.
+-- One more queue or processor in the report.
 use Rattle.std.proofs.{Common.{arith, ◌≡◌, ◌∙◌, ℕ, ◌+◌, [], ◌++◌, Option, List, refl, add-one, append-nil, sym}, lemmas.Grind.common_steps}
 use Rattle.machine_model.specs.declared.{device.QueueReport.QueueReport, processor.ProcessorReport.ProcessorReport}
 use Rattle.machine_report.specs.{declared.report.MachineTotals.MachineTotals}
 use Rattle.machine_report.specs.{Report.{machine_device_lines, lines_of_devices, lines_of_processors, none_counted}}
-use Rattle.machine_words.specs.declared.settings.MachineSettings.{MachineSettings}
+use Rattle.machine_model.specs.declared.settings.MachineSettings.{MachineSettings}
 use Rattle.machine_report.specs.Report.{processor_lines, sums_of_devices, sums_of_processors, plus_device, with_processor}
 
 pub more-devices : (device : ℕ → Option QueueReport) (n : ℕ)

@@ -1,13 +1,13 @@
--- The moments of arrivals are small and don't decrease.
+-- The times of arrivals are below 2^62 and don't decrease.
 use Rattle.std.proofs.Common.{◌≡◌, ◌∙◌, ℕ, ◌+◌, ◌<◌, ◌≤◌, ◌^◌, List, [], ◌∷◌, ◌++◌, append_assoc, length, refl, sym, arith, Option}
-use Rattle.{machine_report.specs.Arrivals.◌>>=◌, machine_words.specs.declared.settings.MachineSettings.MachineSettings}
+use Rattle.{machine_report.specs.Arrivals.◌>>=◌, machine_model.specs.declared.settings.MachineSettings.MachineSettings}
 use Rattle.std.{specs.Prelude.{Result, Ok, Err}, proofs.lemmas.{Grind.common_steps, List.append-nil}}
 use Rattle.machine_report.specs.Arrivals.{ArrivalFields, arrival_of, arrivals_after, arrivals_of, arrival_fields, last_moment}
 use Rattle.machine_report.specs.Arrivals.{arrival_of_fields, arrival_in_range}
 use Rattle.machine_report.specs.declared.{fault.MachineFault.MachineFault, arrival.{Arrival.Arrival, Numbers.Numbers}}
 use Rattle.machine_report.proofs.ReadingFacts.{last-push}
 
--- small moments that don't decrease from this one on
+-- the times of these arrivals are below 2^62, and don't decrease from this one on
 abbrev pub Rises : ℕ → List Arrival → Type 0
 Rises last [] = Unit {0}
 Rises last (arrival ∷ arrivals) = (last ≤ arrival.moment) × (arrival.moment < 2 ^ 62) × Rises arrival.moment arrivals

@@ -2,7 +2,7 @@
 use Rattle.std.specs.Prelude.{◌≡◌, ℕ, List, [], ◌∷◌, Ok, Err}
 use Rattle.{device_rows.specs.Trace.records_of, machine_model.specs.Machine.PacketArrives}
 use Rattle.{machine_model.specs.Machine.{Finishes, Machine, opened_machine}}
-use Rattle.{machine_words.specs.declared.settings.MachineSettings.MachineSettings}
+use Rattle.{machine_model.specs.declared.settings.MachineSettings.MachineSettings}
 use Rattle.machine_report.specs.{Arrivals.arrivals_of, Report.machine_text}
 use Rattle.machine_report.specs.{declared.{arrival.Arrival.Arrival, fault.MachineFault.MachineFault}}
 
@@ -12,8 +12,8 @@ TakesArrivals [] before after = after ≡ before
 TakesArrivals (arrival ∷ arrivals) before after =
     (next : Machine) × PacketArrives arrival.moment arrival.device before next × TakesArrivals arrivals next after
 
--- the text is the report: the bytes are arrivals, the machine took them all and advanced until nothing was left, and the text
--- shows its final state
+-- The text is the report: the bytes are arrivals, the machine received them all and advanced until nothing was left, and the
+-- text shows its final state.
 pub record IsReportOf (s : MachineSettings) (bytes text : List ℕ) : Type 0 where
   pub arrivals : List Arrival
   pub read : arrivals_of s (records_of bytes) ≡ Ok arrivals
@@ -23,6 +23,6 @@ pub record IsReportOf (s : MachineSettings) (bytes text : List ℕ) : Type 0 whe
   pub finishes : Finishes behind finished
   pub told : text ≡ machine_text s finished
 
--- the error is the first one of the bytes
+-- the error is the first one in the bytes
 abbrev pub IsArrivalsFault : MachineSettings → List ℕ → MachineFault → Type 0
 IsArrivalsFault s bytes fault = arrivals_of s (records_of bytes) ≡ Err fault

@@ -3,7 +3,7 @@ use Rattle.std.specs.Prelude.{ℕ, ◌+◌, ◌-◌, ◌*◌, ◌%◌, ◌^◌, 
 use Rattle.std.specs.{Prelude.{length, fold, Option, Some, None, if◌then◌else◌, Result, Ok, Err, codes}, Str.bytes_eq}
 use Rattle.csv.specs.Records.{field_at}
 use Rattle.{device_rows.specs.{Record.{is_numeral, numeral}, Row.is_within}}
-use Rattle.{machine_words.specs.declared.settings.MachineSettings.MachineSettings}
+use Rattle.{machine_model.specs.declared.settings.MachineSettings.MachineSettings}
 use Rattle.machine_report.specs.declared.arrival.{Arrival.Arrival, Numbers.Numbers}
 use Rattle.machine_report.specs.declared.fault.MachineFault.{MachineFault, TheVariants.{BadHeader, BadFields, BadNumber, OutOfRange, Falls}}
 
@@ -13,15 +13,15 @@ abbrev pub ◌>>=◌ : {A B : Type 0} → Result A MachineFault → (A → Resul
 (Ok x) >>= next = next x
 (Err fault) >>= next = Err fault
 
--- how many fields a record has: with several queues it also has a flow
+-- how many fields a record has: with several queues per device it also has a flow
 abbrev pub width : ℕ → ℕ
 width queues = if queues == 1 then 3 else 4
 
--- the flow of a record, which is 0 with one queue
+-- the flow of a record; 0 with one queue per device
 abbrev pub flow_of : ℕ → List (List ℕ) → Option (List ℕ)
 flow_of queues fields = if queues == 1 then Some (codes "0") else field_at fields 3
 
--- moment, device, bytes and flow
+-- the four fields: moment, device, bytes and flow
 abbrev pub ArrivalFields : Type 0
 ArrivalFields = List ℕ × List ℕ × List ℕ × List ℕ
 
@@ -35,19 +35,19 @@ arrival_fields queues fields =
     then four_from (field_at fields 0) (field_at fields 1) (field_at fields 2) (flow_of queues fields)
     else None
 
--- the header `moment,device,bytes`, and with several queues `moment,device,bytes,flow`
+-- the header is `moment,device,bytes`; with several queues per device it is `moment,device,bytes,flow`
 abbrev pub is_arrivals_title : ℕ → Option ArrivalFields → Bool
 is_arrivals_title queues None = false
 is_arrivals_title queues (Some four) =
     bytes_eq four.0 (codes "moment")
     && (bytes_eq four.1 (codes "device") && (bytes_eq four.2 (codes "bytes") && (queues == 1 || bytes_eq four.3 (codes "flow"))))
 
--- the queue that receives a flow of a device: each device has this many queues
+-- the number of the queue that receives a flow of a device, if each device has this many queues
 abbrev pub queue_of : ℕ → ℕ → ℕ → ℕ
 queue_of queues device flow = (device - 1) * queues + flow % queues + 1
 
--- the arrival of row n with these numbers, after a row at `last`: a moment below 2^62 that doesn't decrease, a device and a
--- queue of the processors, which have 64 each, and 1 to 65535 bytes
+-- The arrival of row n with these numbers, if they are in their ranges: the moment is below 2^62 and not before `last`, the
+-- moment of the previous row; the device has a queue of one of the processors, which have 64 queues each; and 1 to 65535 bytes.
 unfoldable pub arrival_in_range : MachineSettings → ℕ → ℕ → Numbers → Result Arrival MachineFault
 arrival_in_range s n last row =
     let most = 64 * s.processors in
@@ -56,7 +56,7 @@ arrival_in_range s n last row =
     then (if nat_le last row.moment then Ok (record { moment = row.moment; device = queue }) else Err (Falls n))
     else Err (OutOfRange n)
 
--- if its fields are numbers
+-- the arrival of row n from the bytes of its fields, which have to be numbers
 unfoldable pub arrival_of_fields : MachineSettings → ℕ → ℕ → Option ArrivalFields → Result Arrival MachineFault
 arrival_of_fields s n last None = Err (BadFields n)
 arrival_of_fields s n last (Some four) =
@@ -89,7 +89,7 @@ arrivals_of s [] = Err BadHeader
 arrivals_of s (header ∷ records) = if is_arrivals_title s.queues (arrival_fields s.queues header) then arrivals_after s [] records else Err
     BadHeader
 
--- its queue is one of the processors', and its moment is small
+-- the queue of an arrival is one of the processors', and its moment is below 2^62
 pub record IsInRange (processors : ℕ) (arrival : Arrival) : Type 0 where
   pub device_from : 1 ≤ arrival.device
   pub device_to : arrival.device ≤ 64 * processors

@@ -1,4 +1,4 @@
--- That there were too many rows to count, which a function learns from how many were read.
+-- The fact that there were too many rows to count, which a function concludes from how many it has read.
 use Rattle.std.specs.Prelude.{◌≤◌, ◌-◌, ◌^◌, ℕ}
 
 pub IsEndless : Type 0

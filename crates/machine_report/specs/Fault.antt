@@ -33,22 +33,22 @@ machine_fault_status OutOfMemory = 4
 machine_fault_status OutputFailed = 4
 machine_fault_status _ = 2
 
--- out of memory
+-- the error is an allocation that failed
 abbrev pub IsMachineOutOfMemory : MachineFault → Type 0
 IsMachineOutOfMemory fault = (fault ≡ OutOfMemory) × IsTraceOutOfMemory
 
--- the reader or an allocation failed, or there were more rows than can be counted
+-- the error isn't in the arrivals: the reader or an allocation failed, or there were more rows than can be counted
 abbrev pub IsArrivalReadFailure : MachineFault → Type 0
 IsArrivalReadFailure fault = ((fault ≡ ReadFailed) × (HasFailed ⊎ IsEndless)) ⊎ IsMachineOutOfMemory fault
 
--- or the writer
+-- the error isn't in the arrivals: the reader, an allocation or the writer failed, or there were more rows than can be counted
 abbrev pub IsMachineOutside : MachineFault → Type 0
 IsMachineOutside fault = IsArrivalReadFailure fault ⊎ ((fault ≡ OutputFailed) × HasStopped)
 
--- an error is one of the bytes read, or doesn't come from them
+-- an error is the first one in the bytes read, or it isn't in them
 abbrev pub IsMachineFaultBy : (MachineFault → Type 0) → (List ℕ → MachineFault → Type 0) → Option (List ℕ) → MachineFault → Type 0
 IsMachineFaultBy IsOutside IsFault input fault = (bytes : List ℕ) → input ≡ Some bytes → IsOutside fault ⊎ IsFault bytes fault
 
--- after each error but a failed output nothing was written
+-- nothing was written, unless the output failed
 abbrev pub LeavesAsItWas : Option (List ℕ) → Option (List ℕ) → MachineFault → Type 0
 LeavesAsItWas old new fault = fault ≢ OutputFailed → Keeps old new

@@ -1,7 +1,7 @@
--- Plain rows of arrivals.
+-- Plain rows of arrivals: numbers, commas, a line feed.
 use Rattle.std.specs.Prelude.{◌≡◌, ℕ, true, List, Ok}
 use Rattle.{device_rows.specs.Plain.{StartsWithRecord, StartsWithTitle}}
-use Rattle.{machine_words.specs.declared.settings.MachineSettings.MachineSettings}
+use Rattle.{machine_model.specs.declared.settings.MachineSettings.MachineSettings}
 use Rattle.machine_report.specs.Arrivals.{arrival_fields, is_arrivals_title, arrival_of_fields, arrival_in_range}
 use Rattle.machine_report.specs.declared.arrival.{Arrival.Arrival, Numbers.Numbers}
 

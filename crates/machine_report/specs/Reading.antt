@@ -5,9 +5,9 @@ use Rattle.device_rows.specs.{Block.{Holds, left_remaining}, Source.{IsOpen, Sta
 use Rattle.machine_report.specs.Arrivals.{arrivals_after, arrival_fields, last_moment, arrival_of_fields}
 use Rattle.machine_report.specs.declared.arrivals.{Arrivals.Arrivals, ArrivalRows.{ArrivalRows, TheVariants.{Plain, Records, Failed}}}
 use Rattle.machine_report.specs.declared.{arrival.Arrival.Arrival, fault.MachineFault.MachineFault}
-use Rattle.{device_rows.specs.declared.block.Block.Block, machine_words.specs.declared.settings.MachineSettings.MachineSettings}
+use Rattle.{device_rows.specs.declared.block.Block.Block, machine_model.specs.declared.settings.MachineSettings.MachineSettings}
 
--- all records of these bytes, from a state between two records
+-- all records of these bytes; the state of csv is one between two records
 abbrev pub records_in : State → List ℕ → List (List (List ℕ))
 records_in state bytes = records_from default_config (length bytes + 1) state bytes
 
@@ -23,13 +23,13 @@ IsByRecords (Plain block) = ⊥
 IsByRecords (Records reader) = IsOpen reader
 IsByRecords Failed = ⊥
 
--- these bytes remain, in this state of csv
+-- these bytes remain to be read, in this state of csv
 abbrev pub LeftAt : {R : Type 0} → (R → Option (List ℕ)) → ArrivalRows R → State → List ℕ → Type 0
 LeftAt remaining (Plain block) state bytes = (state ≡ State.StartRecord) × Holds remaining block bytes
 LeftAt remaining (Records reader) state bytes = (state ≡ reader_state reader) × StandsAt (left_remaining remaining) reader bytes
 LeftAt remaining Failed state bytes = ⊥
 
--- after the header: all arrivals are those of the remaining bytes
+-- the header was read: the arrivals of the text are those of the remaining bytes
 pub record IsTitled {R : Type 0} (remaining : R → Option (List ℕ)) (s : MachineSettings) (rows : ArrivalRows R)
     (all : Result (List Arrival) MachineFault) : Type 0 where
   pub state : State
@@ -56,7 +56,7 @@ pub record LeavesSame {R : Type 0} (remaining : R → Option (List ℕ)) (after 
   pub between : ends_at_end state_after ≡ false
   pub same : records_in state bytes ≡ records_in state_after left
 
--- these arrivals were returned, and with the remaining ones they are all
+-- these arrivals were returned; together with the remaining ones they are all arrivals of the text
 pub record HasGiven {R : Type 0} (remaining : R → Option (List ℕ)) (arrivals : Arrivals R) (earlier : List Arrival)
     (all : Result (List Arrival) MachineFault) : Type 0 where
   pub state : State
@@ -67,7 +67,7 @@ pub record HasGiven {R : Type 0} (remaining : R → Option (List ℕ)) (arrivals
   pub last : arrivals.last ≡ last_moment earlier
   pub gives : all ≡ arrivals_after arrivals.settings earlier (records_in state left)
 
--- the next one, or the end
+-- the next arrival is returned, or there is none left
 abbrev pub GivesNextArrival : {R : Type 0} → (R → Option (List ℕ)) → Arrivals R → List Arrival → Result (List Arrival) MachineFault
     → Option Arrival → Type 0
 GivesNextArrival remaining after earlier all None = all ≡ Ok earlier

@@ -1,17 +1,17 @@
--- The report's text, word by word. See docs/FORMATS.md, "The machine's report".
+-- The text of the report. See docs/FORMATS.md, "The machine's report".
 use Rattle.std.specs.Prelude.{ℕ, zero, suc, ◌+◌, ◌-◌, ◌*◌, List, [], ◌∷◌, ◌++◌, Option, Some, None, codes, decimal, option_map, slice_get}
 use Rattle.machine_model.specs.declared.{application.ApplicationReport.ApplicationReport, device.QueueReport.QueueReport}
-use Rattle.{machine_model.specs.declared.waits.WaitCounts.WaitCounts, machine_words.specs.declared.settings.MachineSettings.MachineSettings}
+use Rattle.machine_model.specs.declared.{waits.WaitCounts.WaitCounts, settings.MachineSettings.MachineSettings}
 use Rattle.machine_model.specs.{declared.processor.ProcessorReport.ProcessorReport, Machine.{Machine, device_report, processor_report}}
 use Rattle.{machine_model.specs.Waits.saturated, replay_text.specs.Lines.{with_newline, words}}
 use Rattle.machine_report.specs.declared.report.{ApplicationLine.ApplicationLine, MachineTotals.MachineTotals}
 
--- what is shown of waits
+-- what the report shows of waits
 unfoldable pub waits_text : WaitCounts → List ℕ
 waits_text w = words (codes "mean" ∷ decimal w.mean ∷ codes "wait50" ∷ decimal w.wait50 ∷ codes "wait90" ∷ decimal w.wait90
     ∷ codes "wait99" ∷ decimal w.wait99 ∷ codes "wait999" ∷ decimal w.wait999 ∷ codes "most" ∷ decimal w.most ∷ [])
 
--- ---- a device
+-- ---- a queue (a line `device`)
 
 unfoldable pub polls_text : QueueReport → List ℕ
 polls_text d =
@@ -24,7 +24,7 @@ machine_device_line number d =
     words (codes "device" ∷ decimal number ∷ codes "arrived" ∷ decimal d.counts.arrived
     ∷ codes "dropped" ∷ decimal d.counts.dropped ∷ polls_text d ∷ [])
 
--- only if a packet arrived for it
+-- the lines of a queue; none if no packet arrived for it
 abbrev pub machine_device_lines : ℕ → Option QueueReport → List ℕ
 machine_device_lines number None = []
 machine_device_lines number (Some d) = with_newline (machine_device_line number d)
@@ -39,7 +39,7 @@ processor_line number p =
     ∷ codes "refused" ∷ decimal p.counts.refused
     ∷ codes "used" ∷ decimal p.waits.count ∷ waits_text p.waits ∷ [])
 
--- what is left of its clock
+-- the idle time: the rest of the processor's time
 abbrev pub idle_of : ProcessorReport → ℕ
 idle_of p = p.end - p.counts.interrupt_time - p.counts.poll_time - p.counts.use_time
 
@@ -51,7 +51,7 @@ time_line number p =
 
 -- ---- the application on its own processor
 
--- the time of its uses, and the rest of the time up to its last end, without waking and uses
+-- the time of its uses, and the rest of its time up to its last end: without waking and uses, it was idle
 unfoldable pub application_of : MachineSettings → ℕ → ProcessorReport → ApplicationReport → ApplicationLine
 application_of s number p a =
     let used = saturated (p.waits.count * s.use_time) in
@@ -107,7 +107,7 @@ unfoldable pub sums_of_devices : (ℕ → Option QueueReport) → ℕ → Machin
 sums_of_devices device zero = none_counted
 sums_of_devices device (suc n) = plus_device (device (suc n)) (sums_of_devices device n)
 
--- the lines of processors 0 to n - 1, and the sums with theirs
+-- the lines of processors 0 to n - 1, and the sums with their numbers added
 unfoldable pub lines_of_processors : MachineSettings → (ℕ → Option ProcessorReport) → ℕ → List ℕ
 lines_of_processors s processor zero = []
 lines_of_processors s processor (suc n) = lines_of_processors s processor n ++ processor_lines s n (processor n)
@@ -116,11 +116,11 @@ unfoldable pub sums_of_processors : (ℕ → Option ProcessorReport) → Machine
 sums_of_processors processor t zero = t
 sums_of_processors processor t (suc n) = with_processor (processor n) (sums_of_processors processor t n)
 
--- what is shown of a processor
+-- the report of a processor, if there is one
 abbrev pub processor_in : Machine → ℕ → Option ProcessorReport
 processor_in machine number = option_map processor_report (slice_get machine number)
 
--- the lines of the devices for which a packet arrived, by increasing number, those of the processors, and the total
+-- the lines of the queues for which a packet arrived, by increasing number, then those of the processors, and then the total
 abbrev pub machine_text : MachineSettings → Machine → List ℕ
 machine_text s machine =
     let device : ℕ → Option QueueReport = λ n. device_report n machine in

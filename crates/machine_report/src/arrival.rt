@@ -7,18 +7,18 @@ ghost use Rattle.machine_report.specs.Arrivals.{IsInRange, flow_of, arrival_fiel
 use crate::fault::MachineFault;
 use csv::ByteRecord;
 use device_rows::number_below_21;
-use machine_words::MachineSettings;
+use machine_model::MachineSettings;
 
 /// A packet arrives for a queue.
 #[derive(Clone, Copy, Debug, PartialEq, Eq)]
 pub struct Arrival {
-    /// When, in nanoseconds, below 2^62.
+    /// The arrival time in nanoseconds, below 2^62.
     pub moment: u64,
-    /// The number of the queue, 1 to 64 for each processor. With one queue it is the device's number.
+    /// The number of the queue, 1 to 64 for each processor. With one queue per device it is the device's number.
     pub device: u32,
 }
 
-/// The numbers of a row. With one queue `flow` is 0.
+/// The numbers in a row. With one queue per device `flow` is 0.
 #[derive(Clone, Copy)]
 pub(crate) struct Numbers {
     pub(crate) moment: u128,
@@ -27,14 +27,14 @@ pub(crate) struct Numbers {
     pub(crate) flow: u128,
 }
 
-// How many fields a record has.
+// Returns how many fields a record has.
 fn width(queues: u32) -> usize
     ensures { result ≡ width queues }
 {
     if queues == 1 { 3 } else { 4 }
 }
 
-// The flow of a record: its fourth field, and 0 with one queue.
+// Returns the flow of a record: its fourth field, or 0 with one queue per device.
 fn flow_of(queues: u32, fields: &ByteRecord) -> Option<&[u8]>
     ensures { option_map (λ flow. flow.now) result ≡ flow_of queues (fields_of fields.now) }
 {
@@ -61,7 +61,7 @@ fn four_of(queues: u32, fields: &ByteRecord) -> Option<(&[u8], &[u8], &[u8], &[u
     Some((moment, device, bytes, flow))
 }
 
-/// Returns whether a record is the header: `moment,device,bytes`, and `flow` with several queues.
+/// Returns whether a record is the header: `moment,device,bytes`, and `flow` with several queues per device.
 pub(crate) fn is_title(queues: u32, fields: &ByteRecord) -> bool
     ensures { result ≡ is_arrivals_title queues (arrival_fields queues (fields_of fields.now)) }
 {
@@ -74,7 +74,7 @@ pub(crate) fn is_title(queues: u32, fields: &ByteRecord) -> bool
         && (queues == 1 || flow == b"flow".as_slice())
 }
 
-// Returns the remainder of a flow divided by the number of queues. A division of 128 bits is a call, and few flows need it.
+// Returns `flow` modulo `queues`. The common case of a flow below 2^64 is computed without the slow division of 128 bits.
 fn remainder(flow: u128, queues: u32) -> u32
     requires { (1 ≤ queues) × (queues ≤ 64) }
     ensures { result ≡ flow % queues }
@@ -94,7 +94,7 @@ fn queue_of(queues: u32, device: u32, flow: u128) -> u32
     (device - 1) * queues + remainder(flow, queues) + 1
 }
 
-/// Returns the arrival of row `row` with these numbers, after a row at `last`.
+/// Returns the arrival of row `row` with these numbers, after a row at the time `last`.
 #[tactic(auto, unfolding(crate::specs::Arrivals::arrival_in_range))]
 #[inline]
 pub(crate) fn ranged(
@@ -124,7 +124,7 @@ pub(crate) fn ranged(
     })
 }
 
-/// Returns the arrival of a record in row `row`, after a row at `last`, or its first error.
+/// Returns the arrival of a record in row `row`, after a row at the time `last`, or the first error of the record.
 #[tactic(auto, unfolding(crate::specs::Arrivals::arrival_of_fields))]
 pub(crate) fn arrival_of(
     settings: &MachineSettings,

@@ -17,7 +17,7 @@ use crate::fault::MachineFault;
 use crate::plain::{after_header, plain_arrival};
 use csv::ByteRecord;
 use device_rows::{Block, NextRecord, ReadError, RecordsLeft, next_record};
-use machine_words::MachineSettings;
+use machine_model::MachineSettings;
 use std::alloc::{AllocError, Global};
 use std::io::Read;
 use std::mem;
@@ -25,14 +25,14 @@ use std::mem;
 // Room for any row with four numbers of at most twenty digits, so that the record never grows for a valid row.
 const RECORD_BYTES: usize = 96;
 
-// Where the next rows are read from.
+// The source of the next rows.
 #[derive(Drop)]
 enum ArrivalRows<R> {
     // A block of bytes that were read ahead: all rows so far were plain.
     Plain(Block<R>),
-    // `csv`, from the first row that isn't plain or has an error.
+    // `csv`, from the first row on that isn't plain or has an error.
     Records(RecordsLeft<R>),
-    // Nothing: memory ran out.
+    // None, because an allocation failed.
     Failed,
 }
 
@@ -120,7 +120,7 @@ fn take_plain<R: Read>(
     Some(arrival)
 }
 
-// Returns the next row of a block, if it is plain. Reads on if the block holds no whole line.
+// Returns the next row of a block, if it is plain. Reads more bytes if the block has no whole line.
 #[inline(always)]
 fn next_plain<R: Read>(
     alloc: Global,
@@ -144,7 +144,7 @@ fn next_plain<R: Read>(
     Ok(take_plain(block, settings, row, last))
 }
 
-// Returns the same rows, read by `csv`.
+// Returns a reader of the same rows by `csv`.
 fn by_records<R: Read + Drop>(
     alloc: Global,
     rows: ArrivalRows<R>,
@@ -174,8 +174,8 @@ impl<R: Read + Drop> Arrivals<R> {
     ///
     /// # Errors
     ///
-    /// `BadHeader` if the first record isn't `moment,device,bytes`, or with several queues `moment,device,bytes,flow`;
-    /// `ReadFailed`, `OutOfMemory`.
+    /// `BadHeader` if the first record isn't `moment,device,bytes`, or `moment,device,bytes,flow` with several queues per
+    /// device; `ReadFailed`, `OutOfMemory`.
     pub fn new(
         alloc: Global,
         source: R,
@@ -209,7 +209,8 @@ impl<R: Read + Drop> Arrivals<R> {
         self.last = arrival.moment;
     }
 
-    // Reads by `csv` from here on. It is a function of its own because the reader takes some KB of stack, cleared at each call.
+    // Uses `csv` from here on. It is a function of its own because the reader takes some KB of stack, which are cleared at each
+    // call.
     #[inline(never)]
     fn leave_plain(&mut self) -> Result<(), AllocError>
         requires { IsOpenAt self.old.source }
@@ -225,7 +226,7 @@ impl<R: Read + Drop> Arrivals<R> {
         Ok(())
     }
 
-    // Returns the next arrival, if its row is plain; otherwise `csv` reads from here on.
+    // Returns the next arrival if its row is plain. Otherwise `csv` reads from here on.
     #[inline(always)]
     fn plain(&mut self, row: u64) -> Result<Option<Arrival>, MachineFault>
         requires opened { IsOpenAt self.old.source }
@@ -301,7 +302,7 @@ impl<R: Read + Drop> Arrivals<R> {
             (all : Result (List Arrival) MachineFault) → HasGiven R.remaining self.old earlier all
             → IsArrivalReadFailure fault ⊎ (all ≡ Err fault)) }
     {
-        // No text has this many rows.
+        // no text has this many rows
         let Some(row) = self.rows.checked_add(1) else {
             return Err(MachineFault::ReadFailed);
         };

@@ -9,8 +9,8 @@ use std::alloc::{AllocError, Global};
 use std::fmt;
 use thiserror::Error;
 
-/// Why arrivals have no report. Nothing was written, except as `OutputFailed` says. Errors 2 to 8 name the first row that has
-/// one, and of its errors the one with the lowest number; the numbers are those of a replay's errors. Rows count from 1.
+/// Why arrivals have no report. Nothing was written, unless the error is `OutputFailed`. Errors 2 to 8 name the first row that
+/// has one, and of its errors the one with the lowest number; the numbers are those of a replay's errors. Rows count from 1.
 #[derive(Clone, Copy, Debug, PartialEq, Eq, Error)]
 pub enum MachineFault {
     /// 1: the text has no first record, or it isn't `moment,device,bytes`.
@@ -124,10 +124,13 @@ pub fn status(fault: &MachineFault) -> u8
 
 impl Fault for MachineFault {
     ghost use Rattle.machine_report.specs.Fault.{machine_fault_line, machine_fault_status};
+    ghost use Rattle.machine_report.specs.declared.fault.MachineFault.TheVariants.{OutputFailed};
 
     ghost line = { machine_fault_line };
 
     ghost status = { machine_fault_status };
+
+    ghost output_failed = { OutputFailed };
 
     fn line(&self, alloc: Global) -> Result<String, AllocError> {
         fault_line(alloc, self)

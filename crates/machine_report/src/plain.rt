@@ -6,7 +6,7 @@ ghost use Rattle.machine_report.specs.Plain.{StartsWithArrival, StartsWithHeader
 
 use crate::arrival::{Arrival, Numbers, ranged};
 use device_rows::number;
-use machine_words::MachineSettings;
+use machine_model::MachineSettings;
 
 // Returns the numbers of the row at the start of a text, and the text after it.
 #[inline(always)]

@@ -5,15 +5,16 @@ ghost use Rattle.machine_model.specs.Machine.{device_report};
 ghost use Rattle.machine_report.specs.Report.{application_line, application_of, machine_device_line, machine_device_lines, lines_of_devices, lines_of_processors, processor_in, processor_line, processor_lines, sums_of_devices, sums_of_processors, machine_text, time_line, machine_total_line, plus_device};
 ghost use Rattle.replay_text.specs.Lines.{with_newline};
 
-use machine_model::{ApplicationReport, Machine, ProcessorReport, QueueReport, WaitCounts};
-use machine_words::MachineSettings;
+use machine_model::{
+    ApplicationReport, Machine, MachineSettings, ProcessorReport, QueueReport, WaitCounts,
+};
 use std::alloc::{AllocError, Global};
 use std::fmt;
 
-/// The sums of the last line.
+/// The sums in the last line.
 #[derive(Clone, Copy, Debug, PartialEq, Eq)]
 pub(crate) struct MachineTotals {
-    /// Devices for which a packet arrived.
+    /// The queues for which a packet arrived.
     pub devices: u64,
     /// Their packets.
     pub arrived: u64,
@@ -67,7 +68,7 @@ impl fmt::Display for ApplicationLine {
     }
 }
 
-// What is shown of waits.
+// What the report shows of waits.
 #[derive(Drop)]
 struct WaitsText<'a>(&'a WaitCounts);
 
@@ -87,7 +88,7 @@ impl fmt::Display for WaitsText<'_> {
     }
 }
 
-// What is shown of a device's polls.
+// What the report shows of a queue's polls.
 #[derive(Drop)]
 struct PollsText<'a>(&'a QueueReport);
 
@@ -111,7 +112,7 @@ impl fmt::Display for PollsText<'_> {
     }
 }
 
-// Appends the line of a device.
+// Appends the line of a queue.
 fn add_device(text: &mut String, number: u32, device: &QueueReport) -> Result<(), AllocError>
     ensures { OnOk result (string_bytes text.new
         ≡ string_bytes text.old ++ with_newline (machine_device_line number device.now)) }
@@ -173,7 +174,7 @@ fn add_time(text: &mut String, number: u32, processor: &ProcessorReport) -> Resu
     Ok(())
 }
 
-// The numbers in the line of an application on its own processor.
+// Returns the numbers in the line of an application on its own processor.
 #[tactic(auto, unfolding(crate::specs::Report::application_of))]
 fn application_of(
     settings: &MachineSettings,
@@ -255,7 +256,7 @@ impl MachineTotals {
         }
     }
 
-    // Adds one more device.
+    // Adds the numbers of one more queue.
     fn count_device(&mut self, device: &QueueReport)
         ensures { self.new ≡ plus_device (Some device.now) self.old }
     {
@@ -265,7 +266,7 @@ impl MachineTotals {
         self.polled = self.polled.saturating_add(device.counts.polled);
     }
 
-    // Adds one more processor.
+    // Adds the numbers of one more processor.
     fn count_processor(&mut self, processor: &ProcessorReport)
         ensures { self.new ≡ with_processor (Some processor.now) self.old }
     {
@@ -274,7 +275,7 @@ impl MachineTotals {
     }
 }
 
-// Appends the line of a device, and adds its numbers to the sums, if a packet arrived for it.
+// Appends the line of a queue, and adds its numbers to the sums, if a packet arrived for it.
 fn add_place(
     text: &mut String,
     totals: &mut MachineTotals,
@@ -292,7 +293,7 @@ fn add_place(
     Ok(())
 }
 
-// Appends the lines of devices 1 to `devices`, and returns their sums.
+// Appends the lines of queues 1 to `devices`, and returns their sums.
 fn add_devices(
     text: &mut String,
     machine: &Machine,

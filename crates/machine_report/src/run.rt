@@ -12,8 +12,7 @@ ghost use Rattle.replay_text.specs.Written.{Writes, WritesPart};
 use crate::arrivals::Arrivals;
 use crate::fault::MachineFault;
 use crate::report::report_of;
-use machine_model::Machine;
-use machine_words::MachineSettings;
+use machine_model::{Machine, MachineSettings};
 use replay_text::write_text;
 use std::alloc::Global;
 use std::io::{Read, Write};
@@ -41,7 +40,7 @@ fn take_all<R: Read + Drop>(
             None => return Ok(()),
         }
     }
-    // No text has this many rows.
+    // no text has this many rows
     Err(MachineFault::ReadFailed)
 }
 
@@ -67,20 +66,20 @@ fn text_of_all<R: Read + Drop>(
 
 /// Runs the machine with these settings on the arrivals of the reader, and writes its report.
 ///
-/// The arrivals are read one row at a time, and the memory used doesn't grow with them. It writes nothing before all are read
-/// and nothing is left to do. So after every error but `OutputFailed` nothing was written; after that one, a proper prefix of
-/// the report. `OutOfMemory` may take precedence over any other error.
+/// The arrivals are read one row at a time, and the memory used doesn't grow with their number. Nothing is written before all
+/// are read and nothing is left to do. So nothing was written after any error but `OutputFailed`; after that one, only a part
+/// of the report was. `OutOfMemory` may be returned instead of any other error.
 pub fn run_machine<R: Read + Drop, W: Write>(
     alloc: Global,
     reader: R,
     writer: &mut W,
     settings: &MachineSettings,
 ) -> Result<(), MachineFault>
-    // What is written is the report of the bytes read, and nothing else.
+    // The bytes written are the report of the bytes read.
     ensures written { OnOk result (Writes (IsReportOf settings.now)
         (R.remaining reader) (W.contents writer.old) (W.contents writer.new)) }
 
-    // If the output failed, the bytes read have a report, of which less than the whole was written.
+    // If the output failed, the bytes read have a report, of which only a part was written.
     ensures cut { result ≡ Err OutputFailed → WritesPart (IsReportOf settings.now)
         (R.remaining reader) (W.contents writer.old) (W.contents writer.new) }
 

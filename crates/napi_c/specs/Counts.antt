@@ -1,4 +1,4 @@
--- The counts of a ring, as C has them: the same numbers.
+-- The counts of a ring, in the structs for C: the same numbers.
 use Rattle.rx_ring.specs.declared.packet.RxCounts.{RxCounts}
 use Rattle.rx_ring.specs.declared.packet.Totals.{Totals}
 use Rattle.napi_c.specs.declared.counts.FqCounts.{FqCounts}

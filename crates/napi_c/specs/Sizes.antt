@@ -1,4 +1,4 @@
--- The size of each struct of the header in bytes, by its number there.
+-- The size of each struct of the header in bytes, by its number (`enum fq_struct`).
 use Rattle.std.specs.Prelude.{ℕ, ◌==◌, if◌then◌else◌}
 
 abbrev pub size_in : ℕ → ℕ

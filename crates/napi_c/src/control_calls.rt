@@ -14,7 +14,7 @@ fn step_in(at: &mut Object, call: ControlCall) -> u32
     }
 }
 
-// Makes a call on a handle's controller.
+// Makes a call on the controller of a handle.
 fn on_control(alloc: Global, handle: &mut FqHandle, call: ControlCall) -> u32
     ensures { ControlMakes call handle.old result handle.new }
 {
@@ -26,7 +26,7 @@ fn on_control(alloc: Global, handle: &mut FqHandle, call: ControlCall) -> u32
     status
 }
 
-/// Like `Control::try_enable`: returns ok or changed; not allowed if the instance isn't disabled.
+/// Like `Control::try_enable`: returns OK or CHANGED; NOT_ALLOWED if the instance isn't disabled.
 #[unsafe(no_mangle)]
 pub extern "C" fn fq_control_enable(alloc: Global, handle: &mut FqHandle, threaded: bool) -> u32
     ensures { ControlMakes (control_call.Enable threaded) handle.old result handle.new }
@@ -34,7 +34,7 @@ pub extern "C" fn fq_control_enable(alloc: Global, handle: &mut FqHandle, thread
     on_control(alloc, handle, ControlCall::Enable(threaded))
 }
 
-/// Like `Control::mark`: returns ok; not allowed if the instance isn't enabled, or is marked already.
+/// Like `Control::mark`: returns OK; NOT_ALLOWED if the instance isn't enabled, or is marked already.
 #[unsafe(no_mangle)]
 pub extern "C" fn fq_control_mark(alloc: Global, handle: &mut FqHandle) -> u32
     ensures { ControlMakes control_call.Mark handle.old result handle.new }
@@ -42,7 +42,7 @@ pub extern "C" fn fq_control_mark(alloc: Global, handle: &mut FqHandle) -> u32
     on_control(alloc, handle, ControlCall::Mark)
 }
 
-/// Like `Control::try_take`: returns taken, busy or changed; not allowed if no disable is pending.
+/// Like `Control::try_take`: returns TAKEN, BUSY or CHANGED; NOT_ALLOWED if no disable is pending.
 #[unsafe(no_mangle)]
 pub extern "C" fn fq_control_try_take(alloc: Global, handle: &mut FqHandle) -> u32
     ensures { ControlMakes control_call.TryTake handle.old result handle.new }

@@ -1,4 +1,4 @@
-//! Counts, as C has them.
+//! Counts, as structs for C.
 ghost use Rattle.std.specs.Prelude.{◌≡◌};
 ghost use Rattle.napi_c.specs.Counts.{counts_for_c, totalled};
 
@@ -12,12 +12,12 @@ pub struct FqCounts {
     pub polls: u64,
     /// The packets that they returned.
     pub packets: u64,
-    /// The bytes of these.
+    /// The bytes of these packets.
     pub bytes: u64,
 }
 
 impl FqCounts {
-    /// Returns the counts for C.
+    /// Returns the same counts as a struct for C.
     pub(crate) fn of(counts: RxCounts) -> FqCounts
         ensures { result ≡ counts_for_c counts }
     {
@@ -44,7 +44,7 @@ pub struct FqTotals {
 }
 
 impl FqTotals {
-    /// Returns the counts for C.
+    /// Returns the same counts as a struct for C.
     pub(crate) fn of(totals: Totals) -> FqTotals
         ensures { result ≡ totalled totals }
     {

@@ -8,7 +8,7 @@ use c_handles::{FqDeviceShown, FqHandle, FqTodo, Object, drive, status};
 use driver_core::{Driver, Limits};
 use std::alloc::{AllocError, Global};
 
-// A driver as the object of a handle.
+// Returns a new driver, boxed as the object of a handle.
 fn boxed(alloc: Global, devices: u32, limits: Limits) -> Result<Box<Object, Global>, AllocError>
     requires { devices ≤ 64 }
     ensures { IfOk result (λ b. IsDriverWith
@@ -20,7 +20,7 @@ fn boxed(alloc: Global, devices: u32, limits: Limits) -> Result<Box<Object, Glob
     Ok(body)
 }
 
-/// Makes a driver of so many devices, all closed.
+/// Makes a driver of this many devices, all closed.
 #[unsafe(no_mangle)]
 pub extern "C" fn fq_driver_new(
     alloc: Global,
@@ -129,7 +129,7 @@ pub extern "C" fn fq_driver_interrupt(alloc: Global, handle: &mut FqHandle, devi
     status
 }
 
-// Without a driver there is nothing to be done.
+// Sets `todo` to sleep, for a handle without a driver: there is nothing to do.
 fn sleeps(todo: &mut FqTodo) -> u32
     ensures status { result ≡ BAD_HANDLE }
     ensures sleeps { todo.new ≡ record todo.old { number = 0; what = 0 } }
@@ -149,7 +149,7 @@ fn next_in(at: &mut Object, todo: &mut FqTodo) -> u32
     }
 }
 
-/// Sets what is to be done next, like `Driver::next`.
+/// Sets `todo` to the next action, like `Driver::next`.
 #[unsafe(no_mangle)]
 pub extern "C" fn fq_driver_next(alloc: Global, handle: &mut FqHandle, todo: &mut FqTodo) -> u32
     ensures makes { DriverMakes (IsDriverNext todo.old todo.new) handle.old result handle.new }
@@ -172,7 +172,7 @@ fn done_in(at: &mut Object, todo: &FqTodo) -> u32
     }
 }
 
-/// Reports what was done, like `Driver::done`.
+/// Reports that an action was done, like `Driver::done`.
 #[unsafe(no_mangle)]
 pub extern "C" fn fq_driver_done(alloc: Global, handle: &mut FqHandle, todo: &FqTodo) -> u32
     ensures { DriverMakes (IsDriverDone todo.now) handle.old result handle.new }

@@ -17,7 +17,7 @@ use rx_ring::{RxCounts, finish};
 use std::alloc::Global;
 use std::mem;
 
-/// Moves a ring's poll end to a second handle; `ring` keeps its input. Returns in use if the second handle is set.
+/// Moves a ring's poll end to a second handle; `ring` keeps the input end. Returns IN_USE if the second handle has an object.
 #[unsafe(no_mangle)]
 pub extern "C" fn fq_ring_split(alloc: Global, ring: &mut FqHandle, ctx: &mut FqHandle) -> u32
     ensures split { (r : Ring) → LeadsTo ring.old r → result ≡ OK
@@ -35,7 +35,7 @@ pub extern "C" fn fq_ring_split(alloc: Global, ring: &mut FqHandle, ctx: &mut Fq
     let Some(mut first) = ring.take(alloc) else {
         return status::BAD_HANDLE;
     };
-    // before it allocates
+    // checked before anything is allocated
     if !matches!(&*first, Object::Ring(_)) {
         ring.put(first);
         return status::BAD_HANDLE;
@@ -55,7 +55,7 @@ pub extern "C" fn fq_ring_split(alloc: Global, ring: &mut FqHandle, ctx: &mut Fq
     status::OK
 }
 
-/// Finishes a ring with both ends, like `rx_ring::finish`: sets its totals; the handle has no object then.
+/// Finishes a ring with both ends, like `rx_ring::finish`: sets its totals; after that the handle has no object.
 #[unsafe(no_mangle)]
 pub extern "C" fn fq_ring_finish(alloc: Global, ring: &mut FqHandle, totals: &mut FqTotals) -> u32
     ensures totals { (r : Ring) → LeadsTo ring.old r → (result ≡ OK)
@@ -94,8 +94,8 @@ fn counts_of(at: &Object) -> Option<RxCounts>
     }
 }
 
-/// Sets the counts of a ring's polls, for an object that has its poll end: a ring, a seat that polls, the controller of a
-/// disabled instance. Not allowed for any other.
+/// Sets the counts of a ring's polls. Allowed for an object that has the ring's poll end: a ring, a caller (`fq_seat_..`) that
+/// polls, the controller of a disabled instance.
 #[unsafe(no_mangle)]
 pub extern "C" fn fq_count(alloc: Global, handle: &mut FqHandle, counts: &mut FqCounts) -> u32
     ensures counts { (c : RxCounts) → CountsAre c handle.old.held.body → (result ≡ OK)
@@ -132,7 +132,7 @@ fn shown_in(at: &Object, shown: &mut FqRingShown) -> u32
     status::OK
 }
 
-/// Sets the state of a ring's input, for a ring or its input: its capacity, and how many packets were put.
+/// Sets the state of a ring's input: its capacity, and how many packets were put. Allowed for a ring, and for the input of one.
 #[unsafe(no_mangle)]
 pub extern "C" fn fq_ring_show(alloc: Global, handle: &mut FqHandle, shown: &mut FqRingShown) -> u32
     ensures shown { (i : RingInput) → LeadsToItsInput i handle.old.held.body → (result ≡ OK)

@@ -6,7 +6,7 @@ ghost use Rattle.c_handles.specs.Status.{OK};
 use c_handles::{CallerState, ControlState, FqHandle, Object, status};
 use std::alloc::Global;
 
-// Returns whether no other object depends on it.
+// Returns whether an object may be freed, because no other object depends on it.
 fn is_freeable(body: &Object) -> bool
     ensures { result ≡ is_freeable body.now }
 {
@@ -18,8 +18,9 @@ fn is_freeable(body: &Object) -> bool
     }
 }
 
-/// Frees a handle's object: returns ok, and the handle has none then; not allowed, without an effect, for a seat that owns
-/// something, for a controller of an enabled instance, and for a list in a run; bad handle if there is no object.
+/// Frees a handle's object: returns OK, after which the handle has none; NOT_ALLOWED, without an effect, for a caller
+/// (`fq_seat_..`) that owns something, for a controller of an enabled instance, and for a list in a run; BAD_HANDLE if there is
+/// no object.
 #[unsafe(no_mangle)]
 pub extern "C" fn fq_free(alloc: Global, handle: &mut FqHandle) -> u32
     ensures status { result ≡ free_status handle.old.held.body }
@@ -36,7 +37,7 @@ pub extern "C" fn fq_free(alloc: Global, handle: &mut FqHandle) -> u32
     status::OK
 }
 
-/// Frees a handle's object, whatever its state is: returns ok, or bad handle if there is none.
+/// Frees a handle's object, in any state: returns OK, or BAD_HANDLE if there is none.
 #[unsafe(no_mangle)]
 pub extern "C" fn fq_abandon(alloc: Global, handle: &mut FqHandle) -> u32
     ensures status { result ≡ abandon_status handle.old.held.body }
@@ -48,7 +49,7 @@ pub extern "C" fn fq_abandon(alloc: Global, handle: &mut FqHandle) -> u32
     }
 }
 
-/// Moves a handle's object to another handle: returns ok; bad handle if there is none; in use if the other handle has one.
+/// Moves a handle's object to another handle: returns OK; BAD_HANDLE if there is none; IN_USE if the other handle has one.
 #[unsafe(no_mangle)]
 pub extern "C" fn fq_move(alloc: Global, from: &mut FqHandle, to: &mut FqHandle) -> u32
     ensures moved { result ≡ OK → (to.new.held.body ≡ from.old.held.body)

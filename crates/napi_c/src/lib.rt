@@ -1,4 +1,5 @@
-//! The packet polling core for C: exports that check the preconditions of the calls that they make.
+//! The packet polling core for C: exported functions that check the preconditions of the calls that they make. Comments name
+//! the statuses of `enum fq_status` without their prefix `FQ_`. A seat is a caller of a shared instance (`fq_seat_..`).
 #![tactic(auto)]
 
 mod control_calls;

@@ -11,7 +11,7 @@ ghost use Rattle.c_handles.specs.Status.{OK, dql_status};
 use c_handles::status;
 use dql_core::Dql;
 
-/// A byte queue limit in the caller's memory: `struct fq_dql`. C never writes its fields.
+/// A byte queue limit in the caller's memory: `struct fq_dql`. C programs never write its fields.
 #[repr(C)]
 #[derive(Drop)]
 pub struct FqDql {
@@ -23,9 +23,9 @@ pub struct FqDql {
 #[repr(C)]
 #[derive(Drop)]
 pub struct FqDqlNew {
-    /// The limit; zeros if the call failed.
+    /// The limit; all zero if the call failed.
     pub dql: FqDql,
-    /// Ok, or bad bounds.
+    /// OK, or BAD_BOUNDS.
     pub status: u32,
 }
 
@@ -54,7 +54,7 @@ pub extern "C" fn fq_dql_new(min: u32, max: u32, hold: u64, now: u64) -> FqDqlNe
     }
 }
 
-/// The same, in place of an existing limit, which is unchanged if the call fails.
+/// Like [`fq_dql_new`], in place of an existing limit, which is unchanged if the call fails.
 #[unsafe(no_mangle)]
 pub extern "C" fn fq_dql_renew(dql: &mut FqDql, min: u32, max: u32, hold: u64, now: u64) -> u32
     ensures ok { result ≡ OK → Shows dql.new.dql (new_limit min max hold now) }

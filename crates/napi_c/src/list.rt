@@ -39,7 +39,7 @@ fn push_in(at: &mut Object, id: u32) -> u32
     }
 }
 
-/// Appends a number to the list: returns ok, in use if list or run has it already, full if they hold 64.
+/// Appends a number to the list: returns OK; IN_USE if the list or its run has it already; FULL if they hold 64.
 #[unsafe(no_mangle)]
 pub extern "C" fn fq_list_push(alloc: Global, handle: &mut FqHandle, id: u32) -> u32
     ensures { ListMakes (IsPush id) handle.old result handle.new }
@@ -65,7 +65,7 @@ fn len_in(at: &Object, len: &mut u32) -> u32
     }
 }
 
-/// How many numbers list and run hold together.
+/// Returns how many numbers the list and its run hold together.
 #[unsafe(no_mangle)]
 pub extern "C" fn fq_list_len(alloc: Global, handle: &mut FqHandle, len: &mut u32) -> u32
     ensures makes { ListMakes (IsLength len.old len.new) handle.old result handle.new }
@@ -117,7 +117,7 @@ fn next_in(at: &mut Object, id: &mut u32) -> u32
     }
 }
 
-/// Sets the number to poll next: returns ok, or done if the run is over, like `PollingRun::next`.
+/// Sets `id` to the number to poll next, and returns OK; returns DONE if the run is over (`PollingRun::next`).
 #[unsafe(no_mangle)]
 pub extern "C" fn fq_run_next(alloc: Global, handle: &mut FqHandle, id: &mut u32) -> u32
     ensures makes { ListMakes (IsNext id.old id.new) handle.old result handle.new }
@@ -140,7 +140,7 @@ fn polled_in(at: &mut Object, work: u32, next: u32) -> u32
     }
 }
 
-/// Reports what the poll did, like `PollingRun::polled`. Returns in use if its number would return to a list that has it
+/// Reports the outcome of the poll, like `PollingRun::polled`. Returns IN_USE if its number would go back to a list that has it
 /// already.
 #[unsafe(no_mangle)]
 pub extern "C" fn fq_run_polled(alloc: Global, handle: &mut FqHandle, work: u32, next: u32) -> u32

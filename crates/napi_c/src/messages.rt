@@ -1,10 +1,10 @@
-//! What the statuses say, in words for people.
+//! The messages of the statuses, for people.
 ghost use Rattle.std.specs.Prelude.{◌≡◌, ◌≤◌, length};
 
 use crate::names::write;
 
-/// Writes the message of a status into an array, "?" for an unknown number, and returns its length. If there is no room for it and a 0
-/// after it, the array is unchanged.
+/// Writes the message of a status to an array, "?" for an unknown number, and returns its length. If there is no room for it
+/// and a terminating 0, the array is unchanged.
 #[unsafe(no_mangle)]
 pub extern "C" fn fq_status_message(status: u32, to: &mut [u8]) -> usize
     ensures kept { length to.new ≤ result → to.new ≡ to.old }

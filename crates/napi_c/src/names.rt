@@ -1,7 +1,7 @@
-//! The version and the names of numbers, for callers that can't use the inline functions of C's header.
+//! The version, and the names of statuses and errors, for callers that can't use the inline functions of C's header.
 ghost use Rattle.std.specs.Prelude.{◌≡◌, ◌≤◌, length};
 
-/// Writes a text and a 0 after it, if there is room for both, and returns the text's length.
+/// Writes a text and a terminating 0, if there is room for both, and returns the text's length.
 pub fn write(text: &[u8], to: &mut [u8]) -> usize
     ensures length { result ≡ length text.now }
     ensures kept { length to.new ≤ result → to.new ≡ to.old }
@@ -13,7 +13,7 @@ pub fn write(text: &[u8], to: &mut [u8]) -> usize
     text.len()
 }
 
-/// Writes the library's version into an array, and returns its length. If there is no room for it and a 0 after it, the array
+/// Writes the library's version to an array, and returns its length. If there is no room for it and a terminating 0, the array
 /// is unchanged.
 #[unsafe(no_mangle)]
 pub extern "C" fn fq_version(to: &mut [u8]) -> usize
@@ -22,7 +22,7 @@ pub extern "C" fn fq_version(to: &mut [u8]) -> usize
     write(b"1.1.0", to)
 }
 
-/// The name of a status, in the same way; "?" for a number that isn't one.
+/// Writes the name of a status in the same way; "?" for an unknown number.
 #[unsafe(no_mangle)]
 pub extern "C" fn fq_status_text(status: u32, to: &mut [u8]) -> usize
     ensures kept { length to.new ≤ result → to.new ≡ to.old }
@@ -30,7 +30,7 @@ pub extern "C" fn fq_status_text(status: u32, to: &mut [u8]) -> usize
     write(status_name(status), to)
 }
 
-/// The name of a trace's error, in the same way; "?" for a number that isn't one.
+/// Writes the name of a trace's error in the same way; "?" for an unknown number.
 #[unsafe(no_mangle)]
 pub extern "C" fn fq_fault_text(fault: u32, to: &mut [u8]) -> usize
     ensures kept { length to.new ≤ result → to.new ≡ to.old }

@@ -1,4 +1,4 @@
-//! Receive rings for C, both ends in one handle.
+//! Receive rings for C, with both ends in one handle.
 ghost use Rattle.std.specs.Prelude.{◌≡◌, ◌≢◌, ◌<◌, ◌≤◌, ◌-◌, ◌⊎◌, ◌↔◌, [], ◌∷◌, length, take, min, Some, IsNone, IsSome};
 ghost use Rattle.rx_ring.specs.ReceiveRing.{most_rx_places};
 ghost use Rattle.rx_ring.specs.Ends.{put_list, capacity_of, GivesNext};
@@ -84,7 +84,7 @@ fn put_into(body: &mut Object, packet: Packet) -> u32
     }
 }
 
-/// Like `RxIn::put_all`: the first `count` of these packets were put.
+/// Like `RxIn::put_all`: sets `count` to how many of the packets were put, the first ones.
 #[unsafe(no_mangle)]
 pub extern "C" fn fq_ring_put_all(
     alloc: Global,
@@ -138,7 +138,7 @@ fn put_all_into(body: &mut Object, packets: &[Packet], count: &mut usize) -> u32
     }
 }
 
-/// Like `RxCtx::poll`, into an array: the packets are its first `count` elements.
+/// Like `RxCtx::poll`, into an array: sets `count`; the packets are the first `count` elements.
 #[unsafe(no_mangle)]
 pub extern "C" fn fq_ring_poll(
     alloc: Global,

@@ -1,4 +1,5 @@
-//! The calls of the callers of a shared instance. Each makes one attempt, and returns changed if another thread interfered.
+//! The calls of the callers of a shared instance (`fq_seat_..`). Each makes one attempt, and returns CHANGED if another thread
+//! interfered.
 ghost use Rattle.rx_ring.specs.declared.packet.Packet.{Packet};
 ghost use Rattle.std.specs.Prelude.{◌≡◌, ◌≢◌, ◌<◌, ◌≤◌, ◌⊎◌, List, true, false, length, take, Some, None};
 ghost use Rattle.napi_model.specs.declared.state.Kind.{Kind};
@@ -27,7 +28,7 @@ fn step_in(at: &mut Object, call: SeatCall) -> u32
     }
 }
 
-// Makes a call on a handle's caller. It is inlined into each export, where the call is known.
+// Makes a call on the caller of a handle. It is inlined into each exported function, where the call is a constant.
 #[inline(always)]
 fn on_seat(alloc: Global, handle: &mut FqHandle, call: SeatCall) -> u32
     ensures { SeatMakes call handle.old result handle.new }
@@ -56,7 +57,7 @@ fn look_in(at: &mut Object, word: &mut u64) -> u32
     }
 }
 
-/// Sets the state word, as a sum of bits, in every state of the caller.
+/// Sets `word` to the state word, a sum of bits. Allowed in every state of the caller.
 #[unsafe(no_mangle)]
 pub extern "C" fn fq_seat_look(alloc: Global, handle: &mut FqHandle, word: &mut u64) -> u32
     ensures shows { SeatShows word.old word.new handle.old result handle.new }
@@ -70,7 +71,7 @@ pub extern "C" fn fq_seat_look(alloc: Global, handle: &mut FqHandle, word: &mut 
     status
 }
 
-/// Like `Caller::try_schedule`: returns granted, missed, disabled or changed; not allowed if the caller owns the instance.
+/// Like `Caller::try_schedule`: returns GRANTED, MISSED, DISABLED or CHANGED; NOT_ALLOWED if the caller owns the instance.
 #[unsafe(no_mangle)]
 pub extern "C" fn fq_seat_schedule(alloc: Global, handle: &mut FqHandle) -> u32
     ensures { SeatMakes seat_call.Schedule handle.old result handle.new }
@@ -78,7 +79,7 @@ pub extern "C" fn fq_seat_schedule(alloc: Global, handle: &mut FqHandle) -> u32
     on_seat(alloc, handle, SeatCall::Schedule)
 }
 
-/// Like `Granted::hand`: returns ok; bad kind; not allowed if the caller wasn't granted the instance.
+/// Like `Granted::hand`: returns OK; BAD_KIND; NOT_ALLOWED if the caller wasn't granted the instance.
 #[unsafe(no_mangle)]
 pub extern "C" fn fq_seat_hand(alloc: Global, handle: &mut FqHandle, kind: u32) -> u32
     ensures made { (k : Kind) → kind_in kind ≡ Some k
@@ -91,7 +92,7 @@ pub extern "C" fn fq_seat_hand(alloc: Global, handle: &mut FqHandle, kind: u32) 
     on_seat(alloc, handle, SeatCall::Hand(kind))
 }
 
-/// Like `Caller::take`: returns taken or not there; bad kind; not allowed if the caller owns the instance.
+/// Like `Caller::take`: returns TAKEN or NOT_THERE; BAD_KIND; NOT_ALLOWED if the caller owns the instance.
 #[unsafe(no_mangle)]
 pub extern "C" fn fq_seat_take(alloc: Global, handle: &mut FqHandle, kind: u32) -> u32
     ensures made { (k : Kind) → kind_in kind ≡ Some k
@@ -104,7 +105,7 @@ pub extern "C" fn fq_seat_take(alloc: Global, handle: &mut FqHandle, kind: u32) 
     on_seat(alloc, handle, SeatCall::Take(kind))
 }
 
-/// Like `Polling::requeue`: returns ok; not allowed if the caller doesn't poll.
+/// Like `Polling::requeue`: returns OK; NOT_ALLOWED if the caller doesn't poll.
 #[unsafe(no_mangle)]
 pub extern "C" fn fq_seat_requeue(alloc: Global, handle: &mut FqHandle) -> u32
     ensures { SeatMakes seat_call.Requeue handle.old result handle.new }
@@ -112,8 +113,8 @@ pub extern "C" fn fq_seat_requeue(alloc: Global, handle: &mut FqHandle) -> u32
     on_seat(alloc, handle, SeatCall::Requeue)
 }
 
-/// Like `Polling::try_complete`: returns released, again or changed; held if it busy polls (`Busy::complete_held`); not allowed
-/// if it doesn't poll.
+/// Like `Polling::try_complete`: returns RELEASED, AGAIN or CHANGED; HELD if the caller busy polls (`Busy::complete_held`);
+/// NOT_ALLOWED if it doesn't poll.
 #[unsafe(no_mangle)]
 pub extern "C" fn fq_seat_complete(alloc: Global, handle: &mut FqHandle) -> u32
     ensures makes { SeatMakes seat_call.Complete handle.old result handle.new }
@@ -127,7 +128,7 @@ pub extern "C" fn fq_seat_complete(alloc: Global, handle: &mut FqHandle) -> u32
     on_seat(alloc, handle, SeatCall::Complete)
 }
 
-/// Like `Caller::try_busy`: returns taken, busy or changed; not allowed if the caller owns the instance.
+/// Like `Caller::try_busy`: returns TAKEN, BUSY or CHANGED; NOT_ALLOWED if the caller owns the instance.
 #[unsafe(no_mangle)]
 pub extern "C" fn fq_seat_busy_take(alloc: Global, handle: &mut FqHandle) -> u32
     ensures { SeatMakes seat_call.BusyTake handle.old result handle.new }
@@ -135,7 +136,7 @@ pub extern "C" fn fq_seat_busy_take(alloc: Global, handle: &mut FqHandle) -> u32
     on_seat(alloc, handle, SeatCall::BusyTake)
 }
 
-/// Like `Busy::try_stop`: returns ok, after which the caller polls once more, or changed; not allowed if it doesn't busy poll.
+/// Like `Busy::try_stop`: returns OK, after which the caller polls once more, or CHANGED; NOT_ALLOWED if it doesn't busy poll.
 #[unsafe(no_mangle)]
 pub extern "C" fn fq_seat_busy_stop(alloc: Global, handle: &mut FqHandle) -> u32
     ensures { SeatMakes seat_call.BusyStop handle.old result handle.new }
@@ -143,7 +144,7 @@ pub extern "C" fn fq_seat_busy_stop(alloc: Global, handle: &mut FqHandle) -> u32
     on_seat(alloc, handle, SeatCall::BusyStop)
 }
 
-/// Like `Caller::set_threaded`: returns ok; not allowed if the caller owns the instance.
+/// Like `Caller::set_threaded`: returns OK; NOT_ALLOWED if the caller owns the instance.
 #[unsafe(no_mangle)]
 pub extern "C" fn fq_seat_set_threaded(alloc: Global, handle: &mut FqHandle, threaded: bool) -> u32
     ensures { SeatMakes (seat_call.SetThreaded threaded) handle.old result handle.new }
@@ -162,8 +163,9 @@ fn poll_in(at: &mut Object, weight: usize, batch: &mut Batch) -> u32
     }
 }
 
-/// Like `Polling::poll`, into an array: the packets are its first `count` elements. Returns bad weight if the weight isn't 1 to
-/// 64, no room if the array is shorter than the weight, and not allowed if the caller doesn't poll; these poll nothing.
+/// Like `Polling::poll`, into an array: sets `count`; the packets are the first `count` elements. Returns OK; BAD_WEIGHT if the
+/// weight isn't 1 to 64; NO_ROOM if the array is shorter than the weight; NOT_ALLOWED if the caller doesn't poll. After an
+/// error nothing was polled.
 #[unsafe(no_mangle)]
 pub extern "C" fn fq_seat_poll(
     alloc: Global,
@@ -216,7 +218,7 @@ fn answers_in(at: &Object, answers: &mut FqAnswers) -> u32
     }
 }
 
-/// Sets the counts of the results of a seat's calls.
+/// Sets `answers` to the counts of the results of a caller's calls.
 #[unsafe(no_mangle)]
 pub extern "C" fn fq_seat_count(
     alloc: Global,

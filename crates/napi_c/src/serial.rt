@@ -6,7 +6,7 @@ ghost use Rattle.napi_c.specs.Serial.{is_set, fq_place, fq_state, FqSteps};
 
 use napi_model::{Call, Event, Flags, Operation, Place, State, encode};
 
-/// An instance: `struct fq_napi`. All bytes are valid: a flag is set unless its byte is 0.
+/// An instance: `struct fq_napi`. Any bytes are a valid instance: a flag is set unless its byte is 0.
 #[repr(C)]
 #[derive(Clone, Copy)]
 pub struct FqNapi {
@@ -20,11 +20,11 @@ pub struct FqNapi {
     pub npsvc: u8,
     /// IN_BUSY_POLL.
     pub in_busy_poll: u8,
-    /// THREADED: it is scheduled on its own thread.
+    /// THREADED: the instance is scheduled on its own thread.
     pub threaded: u8,
-    /// SCHED_THREADED: it was scheduled on its own thread.
+    /// SCHED_THREADED: the instance was scheduled on its own thread, which hasn't completed it since.
     pub sched_threaded: u8,
-    /// 0 no owner, 1 granted, 2 on the list, 3 waits for its thread, 4 polled, otherwise disabled.
+    /// The place: 0 no owner, 1 granted, 2 on the list, 3 waits for its thread, 4 polled, any other number disabled.
     pub place: u8,
     /// The number of its owner.
     pub owner: u32,
@@ -59,7 +59,7 @@ fn numbers_of(place: Place) -> (u8, u32)
     }
 }
 
-/// The state that the struct's bytes are.
+/// Returns the state that the struct represents.
 pub fn state_of(napi: &FqNapi) -> State
     ensures { result ≡ fq_state napi.now }
 {
@@ -128,7 +128,7 @@ pub extern "C" fn fq_napi_new(controller: u32) -> FqNapi
     napi_of(State::opening(controller), controller)
 }
 
-/// The same, in the caller's memory, which may hold anything.
+/// Like [`fq_napi_new`], in the caller's memory, which may have any content.
 #[unsafe(no_mangle)]
 pub extern "C" fn fq_napi_init(napi: &mut FqNapi, controller: u32)
     ensures state { fq_state napi.new ≡ opening controller }
@@ -137,7 +137,7 @@ pub extern "C" fn fq_napi_init(napi: &mut FqNapi, controller: u32)
     *napi = fq_napi_new(controller);
 }
 
-/// The state word, like `encode`.
+/// Returns the state word, like `encode`.
 #[unsafe(no_mangle)]
 pub extern "C" fn fq_napi_word(napi: &FqNapi) -> u64
     ensures { result ≡ word_of (seen_of (fq_state napi.now)) }

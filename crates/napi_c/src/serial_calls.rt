@@ -1,4 +1,4 @@
-//! The calls on the instance of one thread, by any caller.
+//! The calls on the instance of one thread that any caller may make.
 ghost use Rattle.std.specs.Prelude.{◌≡◌, ◌≢◌, ◌↔◌, ◌⊎◌, true, false, None, Some};
 ghost use Rattle.napi_model.specs.declared.event.Operation.TheVariants as operation;
 ghost use Rattle.napi_model.specs.declared.event.Prep.TheVariants as prep;
@@ -14,7 +14,7 @@ use crate::serial::{FqNapi, step};
 use c_handles::{kind_of, status};
 use napi_model::{Call, Done, Operation, Prep};
 
-/// Like `SerialNapi::schedule`: returns granted, missed or disabled.
+/// Like `SerialNapi::schedule`: returns GRANTED, MISSED or DISABLED.
 #[unsafe(no_mangle)]
 pub extern "C" fn fq_napi_schedule(napi: &mut FqNapi, who: u32) -> u32
     ensures granted { result ≡ GRANTED
@@ -35,7 +35,7 @@ pub extern "C" fn fq_napi_schedule(napi: &mut FqNapi, who: u32) -> u32
     }
 }
 
-/// Like `SerialNapi::hand`: returns ok, not allowed if the caller doesn't own it, or bad kind.
+/// Like `SerialNapi::hand`: returns OK; NOT_ALLOWED if the caller doesn't own the instance; BAD_KIND.
 #[unsafe(no_mangle)]
 pub extern "C" fn fq_napi_hand(napi: &mut FqNapi, who: u32, kind: u32) -> u32
     ensures made { result ≡ OK → (k : Kind) → kind_in kind ≡ Some k
@@ -55,7 +55,7 @@ pub extern "C" fn fq_napi_hand(napi: &mut FqNapi, who: u32, kind: u32) -> u32
     }
 }
 
-/// Like `SerialNapi::take`: returns taken, not there, or bad kind.
+/// Like `SerialNapi::take`: returns TAKEN, NOT_THERE or BAD_KIND.
 #[unsafe(no_mangle)]
 pub extern "C" fn fq_napi_take(napi: &mut FqNapi, who: u32, kind: u32) -> u32
     ensures taken { result ≡ TAKEN → (k : Kind) → kind_in kind ≡ Some k
@@ -79,7 +79,7 @@ pub extern "C" fn fq_napi_take(napi: &mut FqNapi, who: u32, kind: u32) -> u32
     }
 }
 
-/// Like `SerialNapi::complete`: returns released, again, held, or not allowed if the caller doesn't poll it.
+/// Like `SerialNapi::complete`: returns RELEASED, AGAIN or HELD; NOT_ALLOWED if the caller doesn't poll the instance.
 #[unsafe(no_mangle)]
 pub extern "C" fn fq_napi_complete(napi: &mut FqNapi, who: u32) -> u32
     ensures released { result ≡ RELEASED
@@ -100,7 +100,7 @@ pub extern "C" fn fq_napi_complete(napi: &mut FqNapi, who: u32) -> u32
     }
 }
 
-/// Like `SerialNapi::busy_take`: returns taken, or busy if the instance isn't idle.
+/// Like `SerialNapi::busy_take`: returns TAKEN, or BUSY if the instance isn't idle.
 #[unsafe(no_mangle)]
 pub extern "C" fn fq_napi_busy_take(napi: &mut FqNapi, who: u32) -> u32
     ensures taken { result ≡ TAKEN → FqSteps napi.old who operation.BusyTake napi.new }
@@ -114,7 +114,7 @@ pub extern "C" fn fq_napi_busy_take(napi: &mut FqNapi, who: u32) -> u32
     }
 }
 
-/// Like `SerialNapi::busy_stop`: returns ok, or not allowed if the caller doesn't busy poll it.
+/// Like `SerialNapi::busy_stop`: returns OK, or NOT_ALLOWED if the caller doesn't busy poll the instance.
 #[unsafe(no_mangle)]
 pub extern "C" fn fq_napi_busy_stop(napi: &mut FqNapi, who: u32) -> u32
     ensures made { result ≡ OK → FqSteps napi.old who operation.BusyStop napi.new }
@@ -128,7 +128,7 @@ pub extern "C" fn fq_napi_busy_stop(napi: &mut FqNapi, who: u32) -> u32
     }
 }
 
-/// Like `SerialNapi::set_threaded`, by any caller.
+/// Like `SerialNapi::set_threaded`; any caller may call it.
 #[unsafe(no_mangle)]
 pub extern "C" fn fq_napi_set_threaded(napi: &mut FqNapi, who: u32, threaded: bool)
     ensures { FqSteps napi.old who (operation.SetThreaded threaded) napi.new }

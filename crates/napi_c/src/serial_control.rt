@@ -10,7 +10,7 @@ use crate::serial::{FqNapi, step};
 use c_handles::status;
 use napi_model::{Call, Operation};
 
-// Makes a call of the controller.
+// Makes a call of the controller, if it is allowed.
 fn control(napi: &mut FqNapi, who: u32, call: Call) -> Option<Operation>
     ensures refused { IsNone result
         ↔ ¬ ((who ≡ napi.old.controller) × MayCall who call (fq_state napi.old)) }
@@ -24,7 +24,7 @@ fn control(napi: &mut FqNapi, who: u32, call: Call) -> Option<Operation>
     step(napi, who, call)
 }
 
-/// Like `SerialNapi::mark_disable`: returns ok, or not allowed.
+/// Like `SerialNapi::mark_disable`: returns OK or NOT_ALLOWED.
 #[unsafe(no_mangle)]
 pub extern "C" fn fq_napi_mark_disable(napi: &mut FqNapi, who: u32) -> u32
     ensures made { result ≡ OK → FqSteps napi.old who operation.MarkDisable napi.new }
@@ -39,7 +39,7 @@ pub extern "C" fn fq_napi_mark_disable(napi: &mut FqNapi, who: u32) -> u32
     }
 }
 
-/// Like `SerialNapi::take_disable`: returns taken, busy, or not allowed.
+/// Like `SerialNapi::take_disable`: returns TAKEN, BUSY or NOT_ALLOWED.
 #[unsafe(no_mangle)]
 pub extern "C" fn fq_napi_take_disable(napi: &mut FqNapi, who: u32) -> u32
     ensures taken { result ≡ TAKEN → FqSteps napi.old who (operation.TakeDisable true) napi.new }
@@ -56,7 +56,7 @@ pub extern "C" fn fq_napi_take_disable(napi: &mut FqNapi, who: u32) -> u32
     }
 }
 
-/// Like `SerialNapi::unmark`: returns ok, or not allowed.
+/// Like `SerialNapi::unmark`: returns OK or NOT_ALLOWED.
 #[unsafe(no_mangle)]
 pub extern "C" fn fq_napi_unmark(napi: &mut FqNapi, who: u32) -> u32
     ensures made { result ≡ OK → FqSteps napi.old who operation.Unmark napi.new }
@@ -71,7 +71,7 @@ pub extern "C" fn fq_napi_unmark(napi: &mut FqNapi, who: u32) -> u32
     }
 }
 
-/// Like `SerialNapi::enable`: returns ok, or not allowed.
+/// Like `SerialNapi::enable`: returns OK or NOT_ALLOWED.
 #[unsafe(no_mangle)]
 pub extern "C" fn fq_napi_enable(napi: &mut FqNapi, who: u32, threaded: bool) -> u32
     ensures made { result ≡ OK → FqSteps napi.old who (operation.Enable threaded) napi.new }

@@ -19,8 +19,9 @@ const AGAIN_THREAD: u32 = 2;
 
 const REPOLL: u32 = 3;
 
-/// The end of a poll, full or not, as `__napi_poll` and its callers end it: a full one goes to the list again, or stays with its thread,
-/// unless a disable is pending; any other is completed, and handed over again where a request was missed.
+/// Ends a poll, full or not, as `__napi_poll` and its callers do. After a full poll the instance goes to the list again, or
+/// stays with its thread, unless a disable is pending. After any other poll it is completed, and queued again if a request was
+/// missed.
 #[unsafe(no_mangle)]
 pub extern "C" fn fq_napi_end(napi: &mut FqNapi, who: u32, full: bool, next: &mut u32) -> u32
     ensures list { MayCall who call.Complete (fq_state napi.old)
@@ -58,7 +59,7 @@ pub extern "C" fn fq_napi_end(napi: &mut FqNapi, who: u32, full: bool, next: &mu
     status::OK
 }
 
-// Completes, and hands over again what was granted again.
+// Completes the instance, and queues it again if a request was missed.
 fn completed(napi: &mut FqNapi, who: u32, next: &mut u32) -> u32
     requires polls { MayCall who call.Complete (fq_state napi.old) }
     requires gone { next.old ≡ NEXT_GONE }

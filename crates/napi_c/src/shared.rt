@@ -35,7 +35,7 @@ struct Opened {
     ghost control_is: { IsSeatOf (arc_value napi).napi off.pass },
 }
 
-// Makes an instance with the ring's context. Returns the ring if an allocation fails.
+// Makes an instance over the poll context of a ring. Returns the ring if an allocation fails.
 fn open(alloc: Global, ring: Ring, callers: u32) -> Result<(RingInput, Opened), Ring>
     requires { (2 ≤ callers) × (callers ≤ 8) }
     ensures input { IfOk result (λ r. r.0 ≡ ring.input) }
@@ -51,7 +51,7 @@ fn open(alloc: Global, ring: Ring, callers: u32) -> Result<(RingInput, Opened), 
     match Arc::new(alloc, Shared { napi }) {
         Ok(napi) => Ok((input, Opened { napi, callers, off })),
         Err(refused) => {
-            // this shows that the context belongs to the ring
+            // this proves that the context belongs to the ring
             names_tell_rings();
             match close(refused.value.into_napi(), callers, off) {
                 Ok(ctx) => Err(Ring { input, ctx }),
@@ -72,7 +72,7 @@ fn reserve(alloc: Global, handle: &mut FqHandle) -> bool {
     }
 }
 
-// Allocates it for all handles, or for none.
+// Allocates the memory for all handles, or for none.
 fn reserve_all(alloc: Global, control: &mut FqHandle, seats: &mut [FqHandle]) -> bool
     ensures { result ≡ false → IsFree control.new × AreFree seats.new }
 {
@@ -86,7 +86,7 @@ fn reserve_all(alloc: Global, control: &mut FqHandle, seats: &mut [FqHandle]) ->
     is_there
 }
 
-// Removes the objects of these handles.
+// Frees the objects of these handles.
 fn clear(alloc: Global, control: &mut FqHandle, seats: &mut [FqHandle])
     ensures control { IsFree control.new }
     ensures seats { AreFree seats.new }
@@ -97,7 +97,7 @@ fn clear(alloc: Global, control: &mut FqHandle, seats: &mut [FqHandle])
     }
 }
 
-// Sets the object of a handle, in the memory that it has.
+// Sets the object of a handle whose memory is allocated.
 fn fill(alloc: Global, handle: &mut FqHandle, body: Object) -> bool
     ensures { result ≡ true → handle.new.held.body ≡ Some body }
 {
@@ -178,7 +178,7 @@ fn give(alloc: Global, opened: Opened, control: &mut FqHandle, seats: &mut [FqHa
     status::OUT_OF_MEMORY
 }
 
-// Makes an instance over a handle's ring, whose input stays in the handle.
+// Makes an instance over the ring of a handle; the handle keeps the ring's input.
 fn share(alloc: Global, body: &mut Object, control: &mut FqHandle, seats: &mut [FqHandle]) -> u32
     requires { (2 ≤ length seats.old) × (length seats.old ≤ 8) }
     ensures made { result ≡ OK → AreOfOne control.new seats.new }
@@ -191,7 +191,7 @@ fn share(alloc: Global, body: &mut Object, control: &mut FqHandle, seats: &mut [
     ensures kept { result ≢ OK → result ≢ OUT_OF_MEMORY → (control.new ≡ control.old)
         × (seats.new ≡ seats.old) × (body.new ≡ body.old) }
 {
-    // before it allocates
+    // checked before anything is allocated
     if !matches!(&*body, Object::Ring(_)) {
         return status::BAD_HANDLE;
     }
@@ -214,8 +214,8 @@ fn share(alloc: Global, body: &mut Object, control: &mut FqHandle, seats: &mut [
     }
 }
 
-/// Like `Napi::new`, with the context of a ring: `input` then has only its input end, and `control` and `seats`, 2 to 8, the
-/// controller and the callers. If an allocation fails, nothing changes.
+/// Like `Napi::new`, with the context of a ring. After it, `input` has only the ring's input end, `control` has the controller,
+/// and `seats` (2 to 8 handles) have the callers. If an allocation fails, nothing changes.
 #[unsafe(no_mangle)]
 pub extern "C" fn fq_shared_new(
     alloc: Global,
@@ -252,8 +252,8 @@ pub extern "C" fn fq_shared_new(
     status
 }
 
-/// Like `Napi::new`, without a ring, for a card that polls its own: `fq_seat_poll` returns no packets. `control` and `seats` as
-/// in [`fq_shared_new`].
+/// Like `Napi::new`, but without a ring, for a card that the driver polls itself: `fq_seat_poll` returns no packets. `control`
+/// and `seats` are as in [`fq_shared_new`].
 #[unsafe(no_mangle)]
 pub extern "C" fn fq_shared_bare(
     alloc: Global,

@@ -1,4 +1,4 @@
-//! The sizes of the structs that calls read and write, for bindings to check theirs.
+//! The sizes of the structs that calls read and write, so that bindings can check theirs.
 ghost use Rattle.std.specs.Prelude.{◌≡◌};
 ghost use Rattle.napi_c.specs.Sizes.{size_in};
 

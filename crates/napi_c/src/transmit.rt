@@ -1,4 +1,4 @@
-//! Transmit rings for C, under a byte queue limit each.
+//! Transmit rings for C, each under a byte queue limit.
 ghost use Rattle.std.specs.Prelude.{◌≡◌, ◌≢◌, ◌<◌, ◌≤◌, ◌⊎◌, ◌↔◌, None, Some, IsNone, IsSome};
 ghost use Rattle.dql_core.specs.Bounds.{DQL_MAX_LIMIT};
 ghost use Rattle.dql_core.specs.Limit.{new_limit};
@@ -28,7 +28,7 @@ fn status_of(fault: TxFault) -> u32
     }
 }
 
-/// Like `Dql::new`, and `TxRing::new` with that limit.
+/// Makes a limit like `Dql::new`, and a ring with that limit like `TxRing::new`.
 #[unsafe(no_mangle)]
 pub extern "C" fn fq_tx_new(
     alloc: Global,
@@ -136,7 +136,7 @@ fn done_in(body: &mut Object, count: u32, now: u64) -> u32
     }
 }
 
-/// Like `TxRing::state`, into the caller's struct.
+/// Sets the caller's struct to the ring's state, like `TxRing::state`.
 #[unsafe(no_mangle)]
 pub extern "C" fn fq_tx_state(alloc: Global, handle: &mut FqHandle, state: &mut TxState) -> u32
     ensures shown { (t : TransmitQueue) → TxShows handle.old t → (result ≡ OK)

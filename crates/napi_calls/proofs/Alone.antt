@@ -1,4 +1,4 @@
--- Between two surveys only one caller made calls: the history grew by its operations.
+-- Between two surveys only one caller makes calls: the history grows by exactly its operations.
 use Rattle.std.proofs.Common.{◌≡◌, ◌≢◌, ◌∙◌, ◌≤◌, MatchBool, nat_eq, ℕ, zero, suc, ◌<◌, Bool, true, false, List, [], ◌∷◌, ◌++◌, refl, sym}
 use Rattle.std.proofs.Common.{ap, subst, arith, append-nil, append_assoc, eqb, eqb-true, eq-eqb, ne_eqb, true≢false}
 use Rattle.{std.proofs.lemmas.List.append_cancel_left, napi_model.specs.declared.event.{Event.Event, Operation.Operation}}
@@ -26,7 +26,7 @@ own_nil : (c : ℕ) → own c [] ≡ []
 unfolding own
 own_nil c = refl
 
--- if only c has events, all events are its own
+-- if only caller c has events, all events are c's
 all_own : (c : ℕ) (es : List Event) → ((n : ℕ) → n ≢ c → own n es ≡ []) → own c es ≡ es
 all_own c [] none = own_nil c
 all_own c (e ∷ es) none = by (eqb e.caller c) refl (λ is. all_own c es (behind is))
@@ -50,7 +50,7 @@ grown_by c h h' es p others mine =
     let is : own c p.0 ≡ es = append_cancel_left (own c h) (own c p.0) es (sym (joined c) ∙ mine) in
     sym p.1 ∙ ap (λ (l : List Event). h ++ l) (sym (all_own c p.0 none) ∙ is)
 
--- a seat made these operations, or none
+-- the pass made these operations, which may be none
 pub record Grows (p : Pass) (os : List Operation) (q : Pass) : Type 0 where
   pub number : pass_number q ≡ pass_number p
   pub controller : controller_of q ≡ controller_of p
@@ -82,7 +82,7 @@ module _ (h h' : List Event) (ds : List Delivery) (c : ℕ) (p q r : Pass) (os :
     delivers = u.view.delivered;
   }
 
--- ---- deliveries, likewise
+-- ---- the same for deliveries
 
 dealt_at_one : (c : ℕ) (d : Delivery) (es : List Delivery) → d.by ≡ c → own_deliveries c (d ∷ es) ≡ d ∷ own_deliveries c es
 unfolding own_deliveries
@@ -110,7 +110,7 @@ packets_joined [] h = refl
 packets_joined (d ∷ g) h =
     ap (λ (l : List Packet). d.packets ++ l) (packets_joined g h) ∙ sym (append_assoc d.packets (packets_of g) (packets_of h))
 
--- the deliveries grew by those of one number, which have these packets
+-- the list of deliveries grew by those of caller c, which contain these packets
 gave_by : (c : ℕ) (old ds : List Delivery) (packets : List Packet) → IsPrefix old ds
     → ((n : ℕ) → n ≢ c → own_deliveries n ds ≡ own_deliveries n old)
     → packets_of (own_deliveries c ds) ≡ packets_of (own_deliveries c old) ++ packets → packets_of ds ≡ packets_of old ++ packets
@@ -138,9 +138,9 @@ none_dealt c h h' a0 a1 a2 a3 few few' (suc (suc (suc zero))) = a3
 none_dealt c h h' a0 a1 a2 a3 few few' (suc (suc (suc (suc n)))) =
     λ apart. few' (suc (suc (suc (suc n)))) (omega arith) ∙ sym (few (suc (suc (suc (suc n)))) (omega arith))
 
--- ---- the four seats
+-- ---- the passes of the four callers
 
--- four numbers and those after them
+-- only caller c's events changed, if those of the other three didn't and no number above 3 has any
 pub none_but : (c : ℕ) (h h' : List Event) → (0 ≢ c → own 0 h' ≡ own 0 h) → (1 ≢ c → own 1 h' ≡ own 1 h) → (2 ≢ c → own 2 h' ≡ own 2 h)
     → (3 ≢ c → own 3 h' ≡ own 3 h)
     → ((n : ℕ) → 3 < n → own n h ≡ []) → ((n : ℕ) → 3 < n → own n h' ≡ []) → (n : ℕ) → n ≢ c → own n h' ≡ own n h
@@ -166,7 +166,7 @@ module _ (c : ℕ) (os : List Operation) (packets : List Packet) (h h' : List Ev
       let v : IsSurveyed h' look ds p r = subst (λ (x : Pass). IsSurveyed h' look ds x r) e u in
       ap (λ (k : ℕ). own_deliveries k ds) (sym s.number) ∙ v.view.delivered_exact ∙ (λ i. own_deliveries (s.number i) (s.delivers i))
 
-  -- the caller that made the calls
+  -- the packets that caller c delivered grew by these
   dealt_then : (n : ℕ) (p q r : Pass) → ShowsAlone h old n p → Made p os q × Delivers p packets q → IsSurveyed h' look ds q r
       → packets_of (own_deliveries n ds) ≡ packets_of (own_deliveries n old) ++ packets
   dealt_then n p q r s m u =
@@ -229,7 +229,8 @@ module _ (os : List Operation) (packets : List Packet) (h : List Event) (old : L
       dealt_then 3 os packets h s.found by old s.deliveries 3 p3 q3 r3 all.three (made_by 3 3 p3 q3 refl m3) u3
   dealt_at (suc (suc (suc (suc n)))) low m0 m1 m2 m3 = absurd (omega (arith, low))
 
-  -- a caller that made no call had seen all deliveries
+  -- the deliveries shown before are the first of those that the survey shows, because the survey includes a caller that made no
+  -- call
   seen_by : (n : ℕ) (p q r : Pass) → ShowsAlone h old n p → q ≡ p → IsSurveyed s.found by s.deliveries q r → IsPrefix old s.deliveries
   seen_by n p q r sh e u = subst (λ (l : List Delivery). IsPrefix l s.deliveries) (ap delivered e ∙ sh.delivers) u.view.delivered_begins
 
@@ -276,7 +277,7 @@ pub one_alone : OneActsAlone
 one_alone c os packets h old p0 p1 p2 p3 q0 q1 q2 q3 r0 r1 r2 r3 looker seen low all m0 m1 m2 m3 s =
     grew os packets h old p0 p1 p2 p3 q0 q1 q2 q3 r0 r1 r2 r3 all looker seen s c low m0 m1 m2 m3
 
--- ---- attempts
+-- ---- attempts fail only if another caller comes between
 
 legal_now : (k : ℕ) (s : State) (e : Event) (es : List Event) → LegalHistory k s (e ∷ es) → IsLegal s e
 unfolding LegalHistory
@@ -286,7 +287,7 @@ legal_then : (k : ℕ) (s : State) (e : Event) (es : List Event) → LegalHistor
 unfolding LegalHistory
 legal_then k s e es l = l.1
 
--- two consecutive looks show the same
+-- two consecutive looks of the same caller show the same state
 same_looks : (k c : ℕ) (s : State) (x y : Seen) (es : List Event) → LegalHistory k s (event c (Look x) ∷ event c (Look y) ∷ es) → y ≡ x
 same_looks k c s x y es l =
     let first : x ≡ seen_of s = legal_now k s (event c (Look x)) (event c (Look y) ∷ es) l in

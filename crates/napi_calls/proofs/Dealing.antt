@@ -1,4 +1,4 @@
--- What callers delivered, over a sequence of calls.
+-- The packets that callers delivered, over a sequence of calls.
 use Rattle.std.proofs.Common.{◌≡◌, ℕ, zero, suc, ◌<◌, List, [], ◌∷◌, ◌++◌, length, drop, sym, ap, ◌∙◌, subst, append-nil, arith}
 use Rattle.rx_ring.specs.declared.{packet.Packet.Packet, ends.{RxCtx.RxCtx, RxIn.RxIn}}
 use Rattle.rx_ring.specs.Ends.{RingName, ring_name, received_list, IsOneRing, SameIn}
@@ -10,7 +10,7 @@ use Rattle.napi_calls.specs.{Packets.{delivered, own_delivered, received_before,
 pub delivers_none : (p q : Pass) → Quiet p q → Delivers p [] q
 delivers_none p q h = ap packets_of h ∙ sym (append-nil (packets_of (own_delivered p)))
 
--- a caller that delivers nothing before or after
+-- a call without a delivery, before or after a call with one, doesn't change the packets delivered
 pub delivers_behind : (a : List Packet) (p q r : Pass) → Quiet p q → Delivers q a r → Delivers p a r
 delivers_behind a p q r h k = k ∙ ap (λ (l : List Delivery). packets_of l ++ a) h
 
@@ -26,13 +26,13 @@ delivers_back p q x g num =
     ∙ ap (λ (l : List Delivery). own_delivered p ++ l) (own_one_yes n (polled p x) g.stored))
     ∙ packets_snoc (own_delivered p) d
 
--- a context that has received exactly what was delivered wasn't polled since
+-- if a context has received exactly what was delivered, it wasn't polled since it was taken
 pub polled_none : (p : Pass) (x : RxCtx) → received_list x ≡ received_before p → polled p x ≡ []
 polled_none p x e =
     let all : received_list x ≡ received_before p ++ [] = e ∙ sym (append-nil (received_before p)) in
     ap (drop (length (received_before p))) all ∙ drop_front (received_before p) []
 
--- the deliveries of a seat that was new
+-- the deliveries of a pass that was new at the start
 pub delivered_all : (n : Napi) (c : ℕ) (p q : Pass) (a : List Packet) (ds : List Delivery) → IsNewSeat n c p → pass_number q ≡ pass_number p
     → Delivers p a q → own_deliveries (pass_number q) ds ≡ own_delivered q → packets_of (own_deliveries c ds) ≡ a
 delivered_all n c p q a ds new num h exact =
@@ -43,7 +43,7 @@ delivered_all n c p q a ds new num h exact =
 pub delivers_last : (a : List Packet) (p q r : Pass) → Delivers p a q → Delivers q [] r → Delivers p a r
 delivers_last a p q r h k = k ∙ append-nil (packets_of (own_delivered q)) ∙ h
 
--- the context was taken, polled once, and given back
+-- the context was taken, polled once, and put back into the slot
 pub turn_delivers : (p r s t : Pass) (x y : RxCtx) (batch : List Packet) → Quiet p r → received_list x ≡ received_before r → s ≡ r
     → polled s y ≡ polled r x ++ batch → GivesBack s y t → pass_number t ≡ pass_number s → Delivers p batch t
 turn_delivers p r s t x y batch quiet fresh same more g num =
@@ -51,7 +51,7 @@ turn_delivers p r s t x y batch quiet fresh same more g num =
     (subst (λ (l : List Packet). Delivers s l t) (more ∙ ap (λ (l : List Packet). l ++ batch) (polled_none r x fresh))
     (delivers_back s t y g num))
 
--- given back without a poll
+-- the context was put back into the slot without a poll
 pub back_unpolled : (p q : Pass) (x : RxCtx) → received_list x ≡ received_before p → GivesBack p x q → pass_number q ≡ pass_number p
     → Delivers p [] q
 back_unpolled p q x fresh g num = subst (λ (l : List Packet). Delivers p l q) (polled_none p x fresh) (delivers_back p q x g num)

@@ -1,4 +1,4 @@
--- The list of all seats at the end, and the one history.
+-- The list of all passes at the end, and the history of the instance.
 use Rattle.napi_model.specs.{Step.{opening, IsControl}, declared.event.Event.Event, History.{LegalHistory, state_after}, Laws.is_owner}
 use Rattle.std.proofs.Common.{◌≡◌, ◌≢◌, ℕ, zero}
 use Rattle.rx_ring.specs.{declared.ends.RxCtx.RxCtx, Ends.{RingName, ring_name, received_list}}
@@ -16,7 +16,7 @@ pub seats_length : (cs : List Caller) → length (seats_of cs) ≡ length cs
 seats_length [] = refl
 seats_length (x ∷ xs) = ap suc (seats_length xs)
 
--- the k-th caller's seat is the k-th
+-- the k-th caller has the pass at index k
 pub seat_at : (cs : List Caller) (k : ℕ) (c : Caller) → slice_get cs k ≡ Some c → slice_get (seats_of cs) k ≡ Some c.pass
 seat_at [] k c e = absurd (cc)
 seat_at (x ∷ xs) zero c e = ap (λ (o : Option Caller). Some (unwrap_or o x).pass) e
@@ -26,7 +26,7 @@ pub seats_more : (cs : List Caller) (c : Caller) → seats_of (cs ++ c ∷ []) �
 seats_more [] c = refl
 seats_more (x ∷ xs) c = ap (λ (l : List Pass). x.pass ∷ l) (seats_more xs c)
 
--- the seats of the callers made so far, one more, and the remaining ones
+-- the list of passes: those of the callers made so far, the next one, and the remaining ones
 pub next_seat : (cs : List Caller) (all rest : List Pass) (p : Pass) (n : ℕ) → all ≡ seats_of cs ++ p ∷ rest → n ≡ length cs
     → (n < length all) × (slice_get all n ≡ Some p)
 next_seat cs all rest p n e is =

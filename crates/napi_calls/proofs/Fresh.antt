@@ -1,4 +1,4 @@
--- New seats.
+-- New passes.
 use Rattle.std.proofs.Common.{Option, unwrap_or, append-nil, ◌≡◌, ℕ, zero, suc, ◌<◌, List, [], ◌∷◌, ◌++◌, slice_get, length, Some, Bool}
 use Rattle.std.proofs.Common.{cond, false, ne_eqb, refl, sym, ap, ◌∙◌, subst, arith}
 use Rattle.rx_ring.specs.declared.ends.RxCtx.{RxCtx}
@@ -45,7 +45,7 @@ new_controls {t} {last} {of} p new =
       flag = ap view.disable_in new.view ∙ unflagged last of last;
     }
 
--- the controller's seat has the first context of the instance
+-- the controller's new pass has the context with which the instance was made
 pub new_exact : {t : StateTable} {last : ℕ} {of : RxCtx} (p q : Pass) (x : RxCtx) → IsNewPass t last of last p → ctx_of p ≡ Some x
     → view_of q ≡ view_of p → received_list x ≡ view.received_in (view_of q)
 new_exact {t} {last} {of} p q x new is same =
@@ -53,7 +53,7 @@ new_exact {t} {last} {of} p q x new is same =
     let one : x ≡ l.stored = ap (λ (o : Option RxCtx). unwrap_or o x) (sym is ∙ l.within) in
     ap received_list one ∙ l.received ∙ sym (append-nil (received_list of)) ∙ sym (ap view.received_in (same ∙ new.view))
 
--- a seat that shows what it showed when it was made
+-- a pass that still shows what it showed when it was made is a new pass
 pub new_seat : (n : Napi) {last : ℕ} {of : RxCtx} {c : ℕ} (p : Pass) → IsPassOf n.table p → view_of p ≡ new_history last of c ∷ []
     → last ≡ n.callers → ring_of_table n.table ≡ ring_name of → IsNewSeat n c p
 new_seat n {last} {of} {c} p table e count ring = record {

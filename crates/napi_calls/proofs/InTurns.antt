@@ -6,7 +6,7 @@ use Rattle.{napi_model.specs.{declared.event.Operation.Operation, History.own}, 
 use Rattle.napi_calls.proofs.Alone.{own_at, own_off}
 use Rattle.napi_calls.specs.{declared.types.Napi.Napi, Seats.{pass_number, own_list}, Instance.IsNewSeat, Made.{Made, events}}
 
--- the events of a number whose seat was new, and which then made these
+-- the own list of a pass that was new and then made these operations
 pub own_of : (n : Napi) (c : ℕ) (p q : Pass) (os : List Operation) (h : List Event) → IsNewSeat n c p → Made p os q
     → own (pass_number q) h ≡ own_list q → own c h ≡ events c os
 own_of n c p q os h new m exact =
@@ -27,7 +27,7 @@ own_nothing : length {A = Event} [] ≡ length (own 0 []) + length (own 1 []) + 
 unfolding own
 own_nothing = refl
 
--- with three numbers, each event belongs to one of them
+-- if only the numbers 0 to 2 have events, each event is in one of their three lists
 pub three_lists : (h : List Event) → Few h → length h ≡ length (own 0 h) + length (own 1 h) + length (own 2 h)
 three_lists [] few = own_nothing
 three_lists (e ∷ es) few = by e.caller refl (three_lists es (few_behind e es few))

@@ -54,7 +54,7 @@ still {p} {q} {r} {os} m k =
       };
     }
 
--- one more step
+-- one more step of the same call
 pub step : {p q r : Pass} {os : List Operation} {o : Operation} {moves : Moves} → Made p os q → Makes q o moves r → Made p (os ++ o ∷ []) r
 step {p} {q} {r} {os} {o} {moves} m s =
     let c = pass_number p in
@@ -105,7 +105,7 @@ more_lost {p} {q} {r} {c} ts m w =
           (more (Look t.first) (Look t.second ∷ []) m w.1),
     )
 
--- the mark, and then the attempts that decided nothing
+-- the mark of a disable, followed by attempts that failed
 abbrev pub Waited : Pass → Pass → Type 0
 Waited p q = (ts : List (Option (Lost Call.TakeDisable))) × Made p (MarkDisable ∷ flat_map take_attempt ts) q
 

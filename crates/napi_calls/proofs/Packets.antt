@@ -12,7 +12,7 @@ use Rattle.napi_calls.proofs.Standing.{fresh}
 use Rattle.napi_word.specs.Knowledge as view
 use Rattle.napi_word.specs.Slot as slot
 
--- ---- the same context
+-- ---- a context that wasn't polled
 
 pub same_self : (x : RxCtx) → IsSame x x
 same_self x = record { ring = ((refl, refl, refl, refl), refl); received = refl; known = refl; polls = refl }
@@ -89,7 +89,7 @@ fresh_held p q r x f h num = record {
 
 -- ---- giving the context back
 
--- p has the context out of the slot; q has it in the slot, which its step gives back
+-- p has the context out of the slot, q has put it into the slot, and q's step returns the slot
 pub gives_back : (p q r : Pass) (x : RxCtx) → HoldsOn p q → pass_number q ≡ pass_number p → IsStored x q → owns_slot (view_of q) ≡ true
     → SlotDelivers slot.given q.seat.me r.seat.me → GivesBack p x r
 gives_back p q r x h num l has g =
@@ -103,7 +103,7 @@ gives_back p q r x h num l has g =
       deliveries = e.4 ∙ (λ i. before i ++ delivery (num i) (packets i) e.0 ∷ []);
     }
 
--- the exchange failed, and the context was taken out again
+-- the compare-exchange failed, and the context was taken out of the slot again
 pub got_back : (p q r s : Pass) (x y : RxCtx) → HoldsOn p q → IsStored x q → owns_slot (view_of q) ≡ true
     → SlotDelivers slot.stays q.seat.me r.seat.me → view_of s ≡ view_of r → ctx_of r ≡ Some y → HoldsOn p s × IsSame x y
 got_back p q r s x y h l has g same is =

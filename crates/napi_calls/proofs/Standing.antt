@@ -1,4 +1,4 @@
--- What a value knows after a step.
+-- What a caller's value (`Caller`, `Polling` and others) implies after a step.
 use Rattle.std.proofs.Common.{◌≡◌, ℕ, Bool, true, false, cond, List, Option, Some, None, unwrap_or, true≢false, eq-eqb, refl, sym, ap, ◌∙◌}
 use Rattle.{std.proofs.Common.subst, napi_model.specs.declared.state.Place.{TheVariants.{Nobody, Granted, Polling, Control}, Place}}
 use Rattle.napi_model.specs.declared.{state.{Kind.Kind, Seen.Seen, State.State}, event.Operation.{Operation, TheVariants.{Look, Hand}}}
@@ -30,7 +30,7 @@ free_by : (c : ℕ) (p : Place) (b : Bool) → is_owner c p ≡ b → own_place 
 free_by c p true is e = ap (is_owner c) (sym (ap (λ (b : Bool). cond b p Nobody) is) ∙ e)
 free_by c p false is e = is
 
--- an owner has its place
+-- an owner's own place is the place itself
 pub own_self : (c : ℕ) → own_place c (Control c) ≡ Control c
 own_self c = ap (λ (b : Bool). cond b (Control c) Nobody) (eq-eqb c c refl)
 
@@ -44,7 +44,7 @@ pub hand_free : (k : Kind) (c : ℕ) (s : State) → own_place c (after_by c (Ha
 hand_free Kind.List c s = refl
 hand_free Kind.Thread c s = refl
 
--- ---- what the types imply
+-- ---- what the types of the values imply
 
 pub shows_of : {r : ℕ → Place} {c : ℕ} {p : Pass} → Stands r c p → ShowsLegal p
 shows_of {r} {c} {p} st = record {
@@ -77,7 +77,7 @@ is_control {c} {p} st =
 
 -- ---- steps
 
--- only the place after the event has to be given; the rest follows from the step
+-- to prove a role after a step, it is enough to prove the place; the rest follows from the step
 standing : (r : ℕ → Place) (c : ℕ) (p : Pass) (o : Operation) (q : Pass) → (g : Steps (view_of p) o (view_of q)) → pass_number p ≡ c
     → own_place c (after_by c o (found p o q g)).place ≡ r c → Stands r c q
 standing r c p o q g num is = record {
@@ -88,12 +88,12 @@ standing r c p o q g num is = record {
       ∙ ap (λ (n : ℕ). own_place c (after_by n o (found p o q g)).place) num ∙ is;
 }
 
--- an event that makes the role
+-- an event that gives its caller a new role
 pub made : {s : ℕ → Place} {c : ℕ} {p : Pass} {o : Operation} (r : ℕ → Place) (q : Pass) → Stands s c p → Steps (view_of p) o (view_of q)
     → ((n : State) → own_place c (after_by c o n).place ≡ r c) → Stands r c q
 made {s} {c} {p} {o} r q st g is = standing r c p o q g st.number (is (found p o q g))
 
--- an event that keeps the place keeps the role, whatever others did before it
+-- an event that keeps its caller's place also keeps its role, whatever other callers did before
 pub kept : {r : ℕ → Place} {c : ℕ} {p : Pass} {o : Operation} (q : Pass) → Stands r c p → Steps (view_of p) o (view_of q)
     → ((n : State) → (after_by c o n).place ≡ n.place) → Stands r c q
 kept {r} {c} {p} {o} q st g leaves =
@@ -107,7 +107,7 @@ kept {r} {c} {p} {o} q st g leaves =
 pub looked : {r : ℕ → Place} {c : ℕ} {p : Pass} {x : Seen} (q : Pass) → Stands r c p → Steps (view_of p) (Look x) (view_of q) → Stands r c q
 looked q st g = kept q st g (λ s. refl)
 
--- moving the context changes nothing that is shown
+-- moving the context into or out of the slot changes no role
 pub moved : {r : ℕ → Place} {c : ℕ} {p : Pass} (q : Pass) → Stands r c p → view_of q ≡ view_of p → Stands r c q
 moved {r} {c} {p} q st e = record {
   number = ap view.view_number e ∙ st.number;
@@ -118,7 +118,7 @@ moved {r} {c} {p} q st e = record {
   place = ap (λ (v : Knowledge). own_place c (view.state_in v).place) e ∙ st.place;
 }
 
--- a look returns the flags of the state that it leaves
+-- a look returns the flags of the state after it, which is the state before it
 pub looked_flags : {x : Seen} (p q : Pass) → Steps (view_of p) (Look x) (view_of q) → x.flags ≡ (state_shown q).flags
 looked_flags {x} p q g = ap (λ (y : Seen). y.flags) (step_of (view_of p) (Look x) (view_of q) g).0
     ∙ ap (λ (s : State). s.flags) (sym (state_stepped p (Look x) q g))
@@ -133,7 +133,7 @@ pub busy_taken : {c : ℕ} {p : Pass} {k : Kind} (q : Pass) → Stands Free c p 
     → KnowsBusyPoll false q
 busy_taken {c} {p} {k} q st g = (take_polls (view_of p) (view_of q) k g).1
 
--- an event that sets whether the caller busy polls, and one that changes nothing
+-- whether the caller busy polls, after an event that sets it and after one that changes nothing
 pub busy_made : {b : Bool} {r : ℕ → Place} {c : ℕ} {p : Pass} {o : Operation} (q : Pass) → Stands r c p → Steps (view_of p) o (view_of q)
     → ((c : ℕ) (s : State) → (after_by c o s).flags.in_busy_poll ≡ b) → KnowsBusyPoll b q
 busy_made {b} {r} {c} {p} {o} q st g is =
@@ -153,7 +153,7 @@ pub busy_moved : {b : Bool} {c : ℕ} {p : Pass} (q : Pass) → Stands Polling c
     → KnowsBusyPoll b q
 busy_moved {b} q st busy e = ap (λ (v : Knowledge). (view.state_in v).flags.in_busy_poll) e ∙ busy
 
--- the context is taken out of the slot as the pass has it there
+-- the context is taken out of the slot: what it has received is what the pass knew of it
 pub outside : (p q : Pass) (x : RxCtx) → q.holds ≡ Out → view_of q ≡ view_of p → instance_ring p ≡ Some (ring_name x)
     → received_list x ≡ received_of p → Has q (Some x)
 outside p q x out same ring is = record {
@@ -164,7 +164,7 @@ outside p q x out same ring is = record {
       (subst (λ (l : List Packet). view.Continues (view.received_in (view_of p)) l) (sym is) p.received);
 }
 
--- a step that leaves the slot keeps what the context has received since
+-- a step that keeps the slot keeps the packets that the context has received since it was taken
 pub stays_has : (p q : Pass) (x : RxCtx) → Has p (Some x) → q.holds ≡ p.holds → instance_ring q ≡ instance_ring p
     → SlotDelivers slot.stays p.seat.me q.seat.me → Has q (Some x)
 stays_has p q x h holds ring g = record {
@@ -187,7 +187,7 @@ controls_moved {r} {b} {p} q k e = record {
   flag = ap (λ (v : Knowledge). (view.state_in v).flags.disable) e ∙ k.flag;
 }
 
--- the flag after an event that sets it, and after one that keeps it
+-- the disable flag after an event that sets it, and after one that keeps it
 flag_made : (b : Bool) (p : Pass) (o : Operation) (q : Pass) → Steps (view_of p) o (view_of q)
     → ((c : ℕ) (s : State) → (after_by c o s).flags.disable ≡ b) → (state_shown q).flags.disable ≡ b
 flag_made b p o q g is = ap (λ (s : State). s.flags.disable) (state_stepped p o q g) ∙ is (pass_number p) (found p o q g)
@@ -248,7 +248,7 @@ one_ring {p} {ctx} input has fed =
       sym (ap (λ (n : RingName). n.3) same) ∙ fed.2.3,
     )
 
--- a context that was taken has received exactly what was delivered
+-- a context just taken from the slot has received exactly what was delivered
 pub fresh : (p q r : Pass) (x : RxCtx) → SlotDelivers slot.taken p.seat.me q.seat.me → received_list x ≡ received_of q
     → view_of r ≡ view_of q
     → received_list x ≡ view.received_in (view_of r)

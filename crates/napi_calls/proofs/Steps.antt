@@ -1,4 +1,4 @@
--- What one step says about the seat that made it.
+-- What one step says about the pass that made it.
 use Rattle.std.proofs.Common.{◌≡◌, ℕ, Bool, true, false, List, [], ◌∷◌, ◌++◌, refl, sym, ap, ◌∙◌, subst, append_assoc}
 use Rattle.napi_model.specs.{declared.{event.{Event.Event, Operation.Operation}, state.State.State}, Step.{event, opening, after_by}}
 use Rattle.napi_model.specs.History.{LegalHistory, own}

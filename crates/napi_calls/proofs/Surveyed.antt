@@ -1,4 +1,4 @@
--- What a value knows after a survey.
+-- What a caller's value implies after a survey.
 use Rattle.std.proofs.Common.{◌≡◌, ℕ, Bool, true, List, [], ◌∷◌, ◌++◌, Option, Some, None, refl, sym, ap, ◌∙◌, subst, eq-eqb}
 use Rattle.{rx_ring.specs.{declared.{ends.RxCtx.RxCtx, packet.Packet.Packet}, Ends.received_list}, napi_word.proofs.Deliveries.ring_as}
 use Rattle.napi_word.{proofs.{Deliveries.{of_prefix, prefix_self, received_as}, Syncing.state_looked}, specs.declared.table.Pass.Pass}
@@ -37,7 +37,7 @@ module _ (k : ℕ) (h : List Event) (looker : ℕ) (seen : Seen) (ds : List Deli
         place = ap (λ (t : State). own_place c t.place) state_is ∙ is_kept c had now (is_owner c had) refl owner place ∙ st.place;
       }
 
-  -- a caller that polls, or busy polls, still does
+  -- a caller that polls or busy polls before a survey still does after it
   pub busy_up : {b : Bool} {c : ℕ} → Stands place.Polling c p → KnowsBusyPoll b p → KnowsBusyPoll b q
   busy_up {b} {c} st busy = ap (λ (t : State). t.flags.in_busy_poll) state_is
       ∙ u.busy (ap (is_owner (pass_number p)) (is_polling st) ∙ eq-eqb (pass_number p) (pass_number p) refl) ∙ busy

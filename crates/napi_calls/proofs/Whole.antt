@@ -1,5 +1,5 @@
--- A history that is known to be legal for some choice is legal: the choice that the table of legal steps leaves open is
--- determined by the flags.
+-- The table of legal steps leaves one choice open, which the flags determine. So a history that is legal for some choice is
+-- legal.
 use Rattle.std.proofs.Common.{◌≡◌, ◌⊎◌, ◌||◌, ℕ, Bool, true, false, List, [], ◌∷◌, inl, inr, refl, sym, ap, ◌∙◌, true≢false}
 use Rattle.{std.proofs.{lemmas.Bool.or_cases, Math.Logic.∥∥₁_elim, Props.props}, napi_model.specs.Step.{after, IsLegalBy}}
 use Rattle.napi_model.specs.declared.{state.{Kind.Kind, State.State}, event.{Event.Event, Prep.Prep, Done.TheVariants.Again}}
@@ -12,7 +12,7 @@ one_or_other a b apart (inl x) (inr y) = absurd (apart x y)
 one_or_other a b apart (inr x) (inl y) = absurd (apart y x)
 one_or_other a b apart (inr x) (inr y) = ap inr (b x y)
 
--- the table of legal steps, without that choice
+-- the table of legal steps, except that an attempt to take the instance may fail for any reason
 abbrev pub Told : ℕ → Operation → State → Type 0
 Told c (TakeDisable false) s = (s.flags.disable ≡ true) × ((s.flags.sched || s.flags.npsvc) ≡ true)
 Told c o s = IsLegalBy c o s

@@ -1,4 +1,4 @@
--- The events of each result.
+-- The events that each result of a call stands for.
 use Rattle.std.specs.Prelude.{Bool, true, false, List, [], ◌∷◌, ◌++◌, flat_map, Option, Result, Ok, Err}
 use Rattle.napi_model.specs.declared.{state.{Seen.Seen, Kind.Kind}, event.Operation.TheVariants.{Look, Schedule, Take, Complete, BusyTake}}
 use Rattle.napi_model.specs.{declared.event.Operation.TheVariants.{BusyStop, MarkDisable, TakeDisable, Unmark, Enable}, Step.MayBusyTake}
@@ -16,7 +16,7 @@ use Rattle.napi_calls.specs.declared.answers.TryBusy.TheVariants as try_busy
 use Rattle.napi_calls.specs.declared.answers.TryStop.TheVariants as try_stop
 use Rattle.napi_calls.specs.declared.answers.TryTake.TheVariants as try_take
 
--- the seat that the caller has afterwards
+-- the pass that the caller has after this result
 abbrev pub seat_of : TryPrep → Pass
 seat_of (try_prep.Granted g) = g.pass
 seat_of (try_prep.Missed c) = c.pass
@@ -32,7 +32,7 @@ Prepares p (try_prep.Missed c) = (x : Seen) × Made p (Look x ∷ Schedule prep.
 Prepares p (try_prep.Disabled c) = Made p (Schedule prep.Disabled ∷ []) c.pass
 Prepares p (try_prep.Changed c) = WasLost call.Schedule p c.pass
 
--- something is run between the two steps, if there are two: otherwise it is unchanged
+-- something runs between the two steps of a call, unless the first step decides it: then it doesn't run
 abbrev pub RunsUnlessDisabled : TryPrep → Type 0 → Type 0 → Type 0
 RunsUnlessDisabled (try_prep.Disabled c) same ran = same
 RunsUnlessDisabled (try_prep.Granted g) same ran = ran
@@ -81,7 +81,7 @@ TriesToTake p (try_take.Changed c) = WasLost call.TakeDisable p c.pass
 abbrev pub EnablesAt : Bool → Pass → Pass → Type 0
 EnablesAt threaded p q = (x : Seen) × Made p (Look x ∷ Enable threaded ∷ []) q
 
--- ---- repeated attempts: those that failed, and the one that decided
+-- ---- repeated attempts: those that failed, and then the one that succeeded
 
 abbrev pub Schedules : Pass → Sched → Type 0
 Schedules p (sched.Granted g) =
@@ -105,7 +105,7 @@ BusyPolling p (Err c) =
 abbrev pub Stops : Pass → Pass → Type 0
 Stops p q = (ts : List (Lost call.BusyStop)) × (x : Seen) × Made p (flat_map looks ts ++ Look x ∷ BusyStop ∷ []) q
 
--- the mark, and then the attempts
+-- the mark of a disable, and then the attempts to take the instance
 abbrev pub Disables : Pass → Pass → Type 0
 Disables p q = (ts : List (Option (Lost call.TakeDisable))) × (x : Seen)
     × Made p ((MarkDisable ∷ flat_map take_attempt ts) ++ Look x ∷ TakeDisable true ∷ Unmark ∷ []) q

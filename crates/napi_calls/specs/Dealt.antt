@@ -4,12 +4,12 @@ use Rattle.rx_ring.specs.declared.packet.Packet.{Packet}
 use Rattle.napi_word.specs.{declared.{table.Pass.Pass, history.Delivery.Delivery}, Knowledge.{own_deliveries, packets_of}}
 use Rattle.napi_calls.specs.Packets.{own_delivered}
 
--- between p and q its caller delivered these packets
+-- between p and q, the caller of the pass delivered these packets
 abbrev pub Delivers : Pass → List Packet → Pass → Type 0
 Delivers p packets q = packets_of (own_delivered q) ≡ packets_of (own_delivered p) ++ packets
 
--- all packets put are those of some deliveries, concatenated, and then those that are left; each poller's packets are those of
--- its own deliveries, and no other caller has a delivery
+-- All packets that were put are those of some deliveries, in order, followed by those that are left in the ring. Each poller's
+-- packets are those of its own deliveries, and no other caller has a delivery.
 pub record IsDealt (put first second left : List Packet) : Type 0 where
   pub deliveries : List Delivery
   pub whole : put ≡ packets_of deliveries ++ left

@@ -1,4 +1,4 @@
--- An instance and its new seats, as contracts see them.
+-- An instance and its new passes, as contracts see them.
 use Rattle.std.specs.Prelude.{◌≡◌, ℕ, Some, []}
 use Rattle.rx_ring.specs.{declared.ends.RxCtx.RxCtx, Ends.RingName}
 use Rattle.napi_word.specs.{declared.table.Pass.Pass, Passes.{IsPassOf, ring_of_table, first_of_table}}
@@ -17,11 +17,11 @@ ring_of_instance n = ring_of_table n.table
 abbrev pub first_of_instance : Napi → RxCtx
 first_of_instance n = first_of_table n.table
 
--- the seat belongs to this instance
+-- the pass belongs to this instance
 abbrev pub IsSeatOf : Napi → Pass → Type 0
 IsSeatOf n p = IsPassOf n.table p
 
--- a new seat: it has seen nothing, and its own list is empty
+-- a new pass: it has seen no events, and made none
 pub record IsNewSeat (n : Napi) (number : ℕ) (p : Pass) : Type 0 where
   pub instance : IsSeatOf n p
   pub number_is : pass_number p ≡ number

@@ -1,4 +1,4 @@
--- What the type of a value says about its seat.
+-- What the type of a caller's value implies about its pass.
 use Rattle.std.specs.Prelude.{◌≡◌, ℕ, Bool, cond, List, Option, Some, None}
 use Rattle.rx_ring.specs.declared.ends.RxCtx.{RxCtx}
 use Rattle.rx_ring.specs.{declared.packet.Packet.Packet, Ends.{RingName, ring_name, received_list}}
@@ -8,7 +8,7 @@ use Rattle.{napi_word.specs.declared.history.Holds.TheVariants.{Nothing, Out}, n
 use Rattle.napi_calls.specs.Seats.{own_list, state_shown, instance_ring}
 use Rattle.napi_model.specs.declared.state.Place.TheVariants as place
 
--- the place as number c sees it, which doesn't distinguish other owners from none
+-- the place as caller c sees it: it sees itself as an owner, and any other owner as Nobody
 abbrev pub own_place : ℕ → Place → Place
 own_place c p = cond (is_owner c p) p place.Nobody
 
@@ -16,7 +16,7 @@ own_place c p = cond (is_owner c p) p place.Nobody
 abbrev pub Free : ℕ → Place
 Free c = place.Nobody
 
--- number c shows a legal history and its exact own list, and has this place in the state after the history
+-- the pass of number c shows a legal history with exactly c's events in its own list, and c has this place after that history
 pub record Stands (role : ℕ → Place) (c : ℕ) (p : Pass) : Type 0 where
   pub number : pass_number p ≡ c
   pub legal : ∥ LegalHistory (controller_of p) (opening (controller_of p)) (shown p) ∥₁
@@ -27,7 +27,7 @@ pub record Stands (role : ℕ → Place) (c : ℕ) (p : Pass) : Type 0 where
 abbrev pub KnowsBusyPoll : Bool → Pass → Type 0
 KnowsBusyPoll busy p = (state_shown p).flags.in_busy_poll ≡ busy
 
--- the same for the controller, which also knows the disable flag
+-- what the controller knows: its role, and the disable flag
 pub record ControllerKnows (role : ℕ → Place) (disable : Bool) (p : Pass) : Type 0 where
   pub stands : Stands role (controller_of p) p
   pub flag : (state_shown p).flags.disable ≡ disable
@@ -44,9 +44,9 @@ abbrev pub received_held : Option RxCtx → List Packet → List Packet
 received_held (Some x) known = received_list x
 received_held None known = known
 
--- the value has the context, out of the instance's slot, and it is that of the instance's ring; or the value has none
+-- the value has the poll context, out of the slot, and it belongs to the instance's ring; or the value has no context
 pub record Has (p : Pass) (ctx : Option RxCtx) : Type 0 where
   pub holds : p.holds ≡ held_slot ctx
   pub ring : instance_ring p ≡ ring_held ctx (instance_ring p)
-  -- it has received all packets delivered, and maybe more since
+  -- the context has received all packets delivered, and maybe more since
   pub received : Continues (received_in (view_of p)) (received_held ctx (received_in (view_of p)))

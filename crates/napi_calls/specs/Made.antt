@@ -11,28 +11,27 @@ use Rattle.napi_model.specs.declared.event.Call.TheVariants as call
 abbrev pub events : ℕ → List Operation → List Event
 events c os = map (event c) os
 
--- the history ends with the last of these
+-- the history ends with these events
 abbrev pub EndsWith : List Event → List Event → Type 0
 EndsWith [] h = Unit {0}
 EndsWith (e ∷ []) h = (before : List Event) × (h ≡ before ++ e ∷ [])
 EndsWith (e ∷ f ∷ es) h = EndsWith (f ∷ es) h
 
--- a call of p made these events, in this order, each after all that p had seen, and q is p afterwards
+-- a call of pass p made these events in this order, each after all events that p had seen; q is the pass after the call
 pub record Made (p : Pass) (os : List Operation) (q : Pass) : Type 0 where
   pub seat : SameSeat p q
-  -- what was shown before is a prefix of what is shown now
+  -- the history shown before the call is a prefix of the one shown after it
   pub begins : IsPrefix (shown p) (shown q)
-  -- what is known of the ring only grows: its first context is the same, and the deliveries that p knew are a prefix of those
-  -- that q knows
+  -- the ring's first context is the same, and the deliveries that p knew are a prefix of those that q knows
   pub first : first_in (view_of q) ≡ first_in (view_of p)
   pub dealt : IsPrefix (view_delivered (view_of p)) (view_delivered (view_of q))
-  -- the own list grew by exactly these
+  -- the own list grew by exactly these events
   pub grown : own_list q ≡ own_list p ++ events (pass_number p) os
-  -- the last of them is the last that is shown
+  -- the last of these events is the last event of the history shown
   pub ends : EndsWith (events (pass_number p) os) (shown q)
   pub shows : ShowsLegal q
 
--- with these flags, a call continues with its exchange
+-- with these flags in its look, a call goes on to its compare-exchange
 abbrev pub ContinuesCall : Call → Flags → Type 0
 ContinuesCall call.Schedule f = f.disable ≡ false
 ContinuesCall call.Complete f = f.in_busy_poll ≡ false
@@ -42,7 +41,7 @@ ContinuesCall call.TakeDisable f = (f.disable ≡ true) × (f.sched ≡ false) �
 ContinuesCall (call.Enable threaded) f = f.disable ≡ false
 ContinuesCall _ f = Unit {0}
 
--- a look after which the call continues, and then one that shows another state: the attempt failed
+-- a look after which the call goes on, and then one that shows another state: the attempt failed
 pub record Lost (c : Call) : Type 0 where
   pub first : Seen
   pub goes_on : ContinuesCall c first.flags
@@ -57,6 +56,6 @@ abbrev pub take_attempt : Option (Lost call.TakeDisable) → List Operation
 take_attempt (Some t) = looks t
 take_attempt None = TakeDisable false ∷ []
 
--- the attempt failed: its two looks are all that it made
+-- the attempt failed: it made only its two looks
 abbrev pub WasLost : Call → Pass → Pass → Type 0
 WasLost c p q = (t : Lost c) × Made p (looks t) q

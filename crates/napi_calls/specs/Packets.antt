@@ -1,5 +1,5 @@
--- The effect of a call on the packets of its instance's ring: a caller that takes the context has all that was delivered; one
--- that gives it back delivers what it polled since.
+-- The effect of a call on the packets of its instance's ring: a caller that takes the context has everything that was
+-- delivered; one that puts it back delivers what it polled since.
 use Rattle.std.specs.Prelude.{◌≡◌, ℕ, false, List, [], ◌∷◌, ◌++◌, length, drop, Result, Ok, Err}
 use Rattle.rx_ring.specs.{declared.{packet.Packet.Packet, ends.RxCtx.RxCtx}, Ends.{SameCtx, received_list, known_list, polls_of, is_beside}}
 use Rattle.napi_word.specs.{declared.{table.Pass.Pass, history.Delivery.Delivery}, Passes.view_of}
@@ -14,18 +14,18 @@ use Rattle.napi_calls.specs.declared.answers.TryBusy.TheVariants as try_busy
 use Rattle.napi_calls.specs.declared.answers.TryStop.TheVariants as try_stop
 use Rattle.napi_calls.specs.declared.answers.TryTake.TheVariants as try_take
 
--- the deliveries that a seat has seen, and its own ones among them
+-- the deliveries that a pass has seen
 abbrev pub delivered : Pass → List Delivery
 delivered p = view.view_delivered (view_of p)
 
 abbrev pub own_delivered : Pass → List Delivery
 own_delivered p = view.own_deliveries (pass_number p) (delivered p)
 
--- the packets that the context has received by these
+-- the packets that the context had received before the pass took it
 abbrev pub received_before : Pass → List Packet
 received_before p = view.received_in (view_of p)
 
--- the packets that the context has received since its owner took it
+-- the packets that the context has received since the pass took it
 abbrev pub polled : Pass → RxCtx → List Packet
 polled p ctx = drop (length (received_before p)) (received_list ctx)
 
@@ -36,30 +36,31 @@ pub record IsSame (before after : RxCtx) : Type 0 where
   pub known : known_list after ≡ known_list before
   pub polls : polls_of after ≡ polls_of before
 
--- ---- the effect of a call, with the seat p before and q after it
+-- ---- the effect of a call, with the pass p before it and q after it
 
--- its caller delivered nothing; others may have
+-- the caller delivered nothing; other callers may have
 abbrev pub Quiet : Pass → Pass → Type 0
 Quiet p q = own_delivered q ≡ own_delivered p
 
--- its caller has the context throughout, so no caller delivers
+-- the caller has the context during the whole call, so no caller delivers
 pub record HoldsOn (p q : Pass) : Type 0 where
   pub deliveries : delivered q ≡ delivered p
   pub received : received_before q ≡ received_before p
 
--- it took the context, which has received exactly what was delivered, and whose next poll reads the ring
+-- the caller took the context, which has received exactly what was delivered; the mark of `beside` is clear, so its next poll
+-- reads the ring
 pub record IsFresh (p q : Pass) (ctx : RxCtx) : Type 0 where
   pub quiet : Quiet p q
   pub received : received_list ctx ≡ received_before q
   pub unmarked : is_beside ctx ≡ false
 
--- it gave the context back as it was: one more delivery, of what was polled since it was taken
+-- the caller put the context back as it was: one more delivery, of what was polled since it was taken
 pub record GivesBack (p : Pass) (ctx : RxCtx) (q : Pass) : Type 0 where
   pub stored : RxCtx
   pub same : IsSame ctx stored
   pub deliveries : delivered q ≡ delivered p ++ view.delivery (pass_number p) (polled p ctx) stored ∷ []
 
--- ---- by each result
+-- ---- the effect by the result of the call
 
 abbrev pub PreparesQuietly : Pass → TryPrep → Type 0
 PreparesQuietly p answer = Quiet p (seat_of answer)

@@ -7,13 +7,13 @@ abbrev pub Either : Bool → Type 0 → Type 0 → Type 0
 Either true a b = a
 Either false a b = b
 
--- by whether a poll has started, and the operation: what remains to be shown if it starts a poll, and otherwise
+-- one step of the definition below: what is still required, if the operation starts a poll and if it doesn't
 abbrev pub ServedAt : Bool → Operation → Type 0 → Type 0 → Type 0
 ServedAt true (Complete Released) started rest = Unit {0}
 ServedAt false (Complete Released) started rest = ⊥
 ServedAt b o started rest = Either (starts_poll o) started rest
 
--- a Released follows, and a poll starts before the first one, unless one has started
+-- a Released follows in these events, and a poll starts before it, unless one has started already (the first argument)
 unfoldable pub IsPolledBeforeRelease : Bool → List Event → Type 0
 IsPolledBeforeRelease b [] = ⊥
 IsPolledBeforeRelease b (e ∷ es) = ServedAt b e.operation (IsPolledBeforeRelease true es) (IsPolledBeforeRelease b es)

@@ -1,6 +1,6 @@
--- Two callers that alternate, each of whose calls is decided in one attempt: all their events. Number 0 is granted the
--- instance, queues it on the list, doesn't find it there, and asks again while number 1 polls it; number 1 queues it again, and
--- number 0 polls it.
+-- Two callers that alternate, each of whose calls succeeds in one attempt, and all their events. Caller 0 is granted the
+-- instance, queues it on the list, doesn't find it there, and requests another poll while caller 1 polls it; caller 1 queues it
+-- again, and caller 0 polls it.
 use Rattle.std.specs.Prelude.{◌≡◌, true, false, List, [], ◌∷◌, length}
 use Rattle.napi_model.specs.declared.state.Seen.{Seen}
 use Rattle.napi_model.specs.declared.{state.Place.TheVariants.Control, event.{Event.Event, Operation.{Operation, TheVariants.Look}}}
@@ -10,7 +10,7 @@ use Rattle.napi_model.specs.declared.state.Kind.TheVariants as kind
 use Rattle.napi_model.specs.declared.event.Prep.TheVariants as prep
 use Rattle.napi_model.specs.declared.event.Done.TheVariants as done
 
--- the results of their looks are left open
+-- the states that their looks show are arguments
 abbrev pub by_first : Seen → Seen → Seen → Seen → List Operation
 by_first w x y z =
     Look w ∷ Look x ∷ Schedule prep.Granted ∷ Hand kind.List ∷ Take kind.List false ∷ Look y ∷ Schedule prep.Missed ∷ Take kind.List true
@@ -22,7 +22,7 @@ by_second x y = Look x ∷ Take kind.List true ∷ Look y ∷ Complete done.Agai
 abbrev pub by_controller : Seen → Seen → List Operation
 by_controller x y = Look x ∷ Enable false ∷ MarkDisable ∷ Look y ∷ TakeDisable true ∷ Unmark ∷ []
 
--- the one history of the instance: 21 events, of which 10, 5 and 6 are theirs and the controller's
+-- the history of the instance: 21 events, of which caller 0 made 10, caller 1 5 and the controller 6
 pub record IsHistoryInTurns (h : List Event) : Type 0 where
   pub legal : LegalHistory 2 (opening 2) h
   pub ends : (state_after (opening 2) h).place ≡ Control 2

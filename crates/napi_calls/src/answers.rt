@@ -1,4 +1,4 @@
-//! The results of the calls, each with the value for the next call.
+//! The results of the calls. Each contains the value for the next call.
 use crate::types::{Busy, Caller, Control, Granted, Marked, Off, Polling};
 
 /// The result of one attempt to schedule.
@@ -9,7 +9,7 @@ pub enum TryPrep {
     Missed(Caller),
     /// The instance is disabled, or a disable is pending: no poll was requested.
     Disabled(Caller),
-    /// The state changed between the look and the exchange: nothing is decided.
+    /// The state word changed between the read and the compare-exchange: nothing is decided.
     Changed(Caller),
 }
 
@@ -29,7 +29,7 @@ pub enum TryDone {
     Released(Caller),
     /// A poll was requested meanwhile: the caller still owns the instance, and has to queue it again.
     Again(Granted),
-    /// The state changed between the look and the exchange: nothing is decided.
+    /// The state word changed between the read and the compare-exchange: nothing is decided.
     Changed(Polling),
 }
 
@@ -47,7 +47,7 @@ pub enum TryBusy {
     Taken(Busy),
     /// A poll is requested or in progress, or the instance is disabled, or a disable is pending.
     Refused(Caller),
-    /// The state changed between the look and the exchange: nothing is decided.
+    /// The state word changed between the read and the compare-exchange: nothing is decided.
     Changed(Caller),
 }
 
@@ -55,7 +55,7 @@ pub enum TryBusy {
 pub enum TryStop {
     /// The caller polls the instance once more.
     Stopped(Polling),
-    /// The state changed between the look and the exchange: nothing is decided.
+    /// The state word changed between the read and the compare-exchange: nothing is decided.
     Changed(Busy),
 }
 
@@ -65,6 +65,6 @@ pub enum TryTake {
     Taken(Control<Off>),
     /// A poll is requested or in progress: nothing is decided.
     Busy(Control<Marked>),
-    /// The state changed between the look and the exchange: nothing is decided.
+    /// The state word changed between the read and the compare-exchange: nothing is decided.
     Changed(Control<Marked>),
 }

@@ -1,16 +1,17 @@
-//! Code that runs between the two steps of a call.
+//! Code that runs between the two atomic steps of a call, for tests and simulators.
 
-/// Acts between the look and the exchange of one call, as another thread may. A call runs it once, if it gets that far.
+/// An action between a call's read of the state word and its compare-exchange, as another thread might take it. A call runs it
+/// once, if it gets that far.
 pub trait Between {
-    // How a run changes the value. An `impl` that states nothing about it has only `run`.
+    // How `run` changes the value. An `impl` that states nothing about this has only `run`.
     ghost ran: { Self → Self → Type 0 } = { λ _ _. Unit {0} };
 
-    /// Runs once, between the look and the exchange.
+    /// Runs once, between the read and the compare-exchange.
     fn run(&mut self)
         ensures { ran self.old self.new };
 }
 
-/// Does nothing: the `try_` forms are the `_between` forms with it.
+/// Does nothing. The `try_` forms of the calls are the `_between` forms with this action.
 #[derive(Drop)]
 pub struct Nothing;
 

@@ -1,4 +1,4 @@
-//! Busy polling: the call of a caller that starts it, and the calls of one that busy polls.
+//! Busy polling: the call by which a caller starts it, and the calls of a caller that busy polls.
 ghost use Rattle.std.specs.Prelude.{◌≡◌, ◌≤◌, [], ◌∷◌, ◌++◌, length, Some, true};
 ghost use Rattle.napi_model.specs.declared.state.Place.TheVariants as place;
 ghost use Rattle.napi_model.specs.declared.event.Done.TheVariants.{Held};
@@ -81,7 +81,7 @@ impl Busy {
         self.number
     }
 
-    /// States what is known of any caller that busy polls, and that its context belongs to the instance's ring.
+    /// States what holds for every caller that busy polls, and that its context belongs to the instance's ring.
     pub fn knows(&self)
         ensures shows { ShowsLegal self.now.pass }
         ensures place { (state_shown self.now.pass).place

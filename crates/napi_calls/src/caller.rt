@@ -17,14 +17,14 @@ use napi_model::{Kind, Prep, Seen};
 use std::sync::Wait;
 
 impl Caller {
-    /// The caller's number, from 0 on, in the order of the callers of [`Napi::new`].
+    /// Returns the caller's number: 0, 1 and so on, in the order of the callers of [`Napi::new`].
     pub fn number(&self) -> u32
         ensures { result ≡ pass_number self.now.pass }
     {
         self.number
     }
 
-    /// States what is known of any caller, wherever it comes from.
+    /// States what holds for every caller, however it was obtained.
     pub fn knows(&self)
         ensures shows { ShowsLegal self.now.pass }
         ensures place { ¬ IsOwnedBy (pass_number self.now.pass) (state_shown self.now.pass).place }
@@ -117,7 +117,8 @@ impl Caller {
     }
 }
 
-/// Makes a look with each. All that the first has seen is then a prefix of what the second has seen.
+/// Reads the state word as `first` and then as `second`. After that, the history that `second` has seen contains all that
+/// `first` has seen.
 pub fn meet(napi: &Napi, first: &mut Caller, second: &mut Caller)
     requires first { IsSeatOf napi.now first.old.pass }
     requires second { IsSeatOf napi.now second.old.pass }

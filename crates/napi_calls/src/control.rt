@@ -19,7 +19,7 @@ use rx_ring::{RxCounts, RxIn};
 use std::sync::Wait;
 
 impl Control<On> {
-    /// States what is known of the controller of an enabled instance.
+    /// States what holds for the controller of an enabled instance.
     pub fn knows(&self)
         ensures shows { ShowsLegal self.now.pass }
         ensures number { pass_number self.now.pass ≡ controller_of self.now.pass }
@@ -81,7 +81,7 @@ impl Control<On> {
 }
 
 impl Control<Marked> {
-    /// States what is known of the controller of an instance that it marked.
+    /// States what holds for the controller of an instance that it marked.
     pub fn knows(&self)
         ensures shows { ShowsLegal self.now.pass }
         ensures number { pass_number self.now.pass ≡ controller_of self.now.pass }
@@ -136,8 +136,8 @@ impl Control<Marked> {
 }
 
 impl Control<Off> {
-    /// States what is known of the controller of a disabled instance, and that its context belongs to the instance's ring and
-    /// has received exactly what was delivered.
+    /// States what holds for the controller of a disabled instance, and that its context belongs to the instance's ring and has
+    /// received exactly what was delivered.
     pub fn knows(&self)
         ensures shows { ShowsLegal self.now.pass }
         ensures number { pass_number self.now.pass ≡ controller_of self.now.pass }
@@ -156,7 +156,7 @@ impl Control<Off> {
         self.state.ctx.counts()
     }
 
-    /// Lets the ends of the ring meet.
+    /// Lets the two ends of the ring meet (see `rx_ring::beside`): the context learns of all packets in the ring.
     pub fn beside(&mut self, input: &mut RxIn)
         requires { PutsIntoRingOf input.old self.old.pass }
         ensures meets { Meets input.old self.old.state.ctx input.new self.new.state.ctx }

@@ -18,7 +18,7 @@ impl Granted {
         self.number
     }
 
-    /// States what is known of any caller that was granted the instance.
+    /// States what holds for every caller that was granted the instance.
     pub fn knows(&self)
         ensures shows { ShowsLegal self.now.pass }
         ensures place { (state_shown self.now.pass).place

@@ -82,7 +82,7 @@ fn is_bad(callers: u32) -> bool
     callers < 2 || 8 < callers
 }
 
-// Returns the callers of new passes, in order.
+// Returns the callers of these new passes, in order.
 fn seat_callers(passes: Vec<Pass>, mut callers: Vec<Caller>) -> Vec<Caller>
     requires new { (t : StateTable) × (last : ℕ) × (ctx : RxCtx) × (length passes.items ≤ last)
         × (last ≤ 8)
@@ -157,7 +157,7 @@ impl Napi {
 /// Closes a disabled instance (`netif_napi_del`) and returns its poll context. Fails with [`NotAll`](CloseFault::NotAll) if
 /// callers are missing, and returns all three arguments unchanged.
 ///
-/// Its contract states the one history.
+/// Its contract states the complete history of the instance.
 pub fn close(
     napi: Napi,
     mut callers: Vec<Caller>,

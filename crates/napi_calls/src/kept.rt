@@ -1,4 +1,5 @@
-//! A seat of an instance is linear, but a thread's closure holds only values that can be dropped: `DropBomb` carries a seat there.
+//! The values on which calls are made are linear, but a thread's closure holds only values that can be dropped: `DropBomb`
+//! carries a linear value there.
 ghost use Rattle.std.specs.Prelude.{◌≡◌};
 
 use std::sync::Wait;

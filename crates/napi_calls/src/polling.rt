@@ -26,7 +26,7 @@ impl Polling {
         self.number
     }
 
-    /// States what is known of any poller, and that its context belongs to the instance's ring.
+    /// States what holds for every poller, and that its context belongs to the instance's ring.
     pub fn knows(&self)
         ensures shows { ShowsLegal self.now.pass }
         ensures place { (state_shown self.now.pass).place

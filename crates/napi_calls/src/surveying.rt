@@ -1,4 +1,4 @@
-//! All seats of an instance meet at once.
+//! Surveys: all callers of an instance meet at once, so that each learns the complete history.
 ghost use Rattle.std.specs.Prelude.{◌≡◌, [], ◌∷◌, None};
 ghost use Rattle.napi_word.specs.Passes.{Makes};
 ghost use Rattle.napi_word.specs.Slot.{stays};
@@ -140,7 +140,7 @@ pub fn survey_busy<S: Mode>(
     (first, second, control, busy, seen)
 }
 
-// Lets two callers and a controller that don't own the instance meet with the pass of the poller, which looks.
+// Lets two callers and a controller that don't own the instance meet with the pass of the poller, which makes the look.
 fn survey_beside<S: Mode>(
     napi: &Napi,
     first: Caller,

@@ -1,4 +1,5 @@
-//! The values on which calls are made. Each has a seat of the instance, with what its type says about it, and is linear.
+//! The values on which calls are made. Each has one pass of the instance's state table, its type says what the caller may do,
+//! and it is linear.
 ghost use Rattle.std.specs.Prelude.{◌≡◌, Some, true, false};
 ghost use Rattle.napi_model.specs.declared.state.Place.TheVariants as place;
 ghost use Rattle.napi_word.specs.Knowledge.{received_in};
@@ -57,7 +58,7 @@ pub trait Mode {
     ghost use Rattle.rx_ring.specs.declared.ends.RxCtx.{RxCtx};
     ghost use Rattle.napi_model.specs.declared.state.Place.{Place};
 
-    // The place as the controller sees it, the disable flag, and the context that the controller has.
+    // What the controller knows in this mode: the place as it sees it, the disable flag, and whether it has the context.
     ghost role: { ℕ → Place };
 
     ghost disable: { Bool };

@@ -1,29 +1,24 @@
-//! `napi_machine` is a receiving machine over time: processors on which an interrupt, a poll, a packet and its use take the
-//! times that the options name. It reads arrivals from standard input and writes its report to standard output.
+//! `napi_machine` is a machine that receives packets over simulated time: its options name how long an interrupt, a poll, a
+//! packet and its use take on its processors. It reads arrivals from standard input and writes its report to standard output.
 #![tactic(auto)]
 
 mod program;
 
 use crate::program::run_program;
-use machine_report::MachineFault;
-use replay_text::{ProgramFault, end_by, given_words};
+use replay_text::given_args;
 use std::io;
 use std::process::ExitCode;
 
 // Runs the program with the real standard input and outputs.
 fn main(rt: HostRuntime) -> ExitCode {
-    let mut errors = rt.stderr();
-    match given_words(&rt) {
+    match given_args(&rt) {
         Ok(words) => run_program(
             rt.alloc(),
             words.as_slice(),
             rt.reader(),
             &mut io::writer(&rt),
-            &mut errors,
+            &mut rt.stderr(),
         ),
-        Err(fault) => {
-            let fault = ProgramFault::<MachineFault>::Words(fault);
-            end_by(rt.alloc(), &fault, &mut errors)
-        }
+        Err(status) => status,
     }
 }

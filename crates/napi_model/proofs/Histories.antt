@@ -46,7 +46,7 @@ own_first c e h none = ⊎_elim
 
 -- ---- the first i events, and one more
 
--- what a read past the end of a slice of events stands for
+-- the event that a read past the end of a slice returns, for a total function
 abbrev pub no_event : Event
 no_event = event 0 (Look (seen_of idle))
 

@@ -20,7 +20,7 @@ is_owner c (Control owner) = nat_eq owner c
 abbrev pub IsOwnedBy : ℕ → Place → Type 0
 IsOwnedBy c p = is_owner c p ≡ true
 
--- what concerns an owner: the place, and whether the instance is busy polled
+-- the part of a state that an owner relies on: the place, and whether the instance is busy polled
 abbrev pub stand_of : State → Place × Bool
 stand_of s = (s.place, s.flags.in_busy_poll)
 

@@ -1,58 +1,45 @@
--- The whole program: what it writes and its exit status, by its arguments and the bytes of its input.
-use Rattle.std.specs.Prelude.{◌≡◌, ℕ, List, Option, Some, None, Ok, Err}
+-- The whole program: which settings its arguments ask for, and its result for the bytes of its input.
+use Rattle.std.specs.Prelude.{◌≡◌, ℕ, List, Option, Some, Result, option_map}
 use Rattle.replay_threads.specs.Answer.{RanBy, threads_of}
 use Rattle.replay_threads.specs.Answer.{IsThreadsOutside as IsOutsideThreads}
 use Rattle.replay_threads.specs.SharedRun.{RanShared}
 use Rattle.replay_text.specs.Outside.{IsOutside}
-use Rattle.replay_text.specs.Program.{IsFaultOf, IsTextBy}
-use Rattle.replay_text.specs.Written.{IsFaultBy}
+use Rattle.replay_text.specs.Program.{AnswersBy}
 use Rattle.replay_rows.specs.Answer.{replay_of}
 use Rattle.replay_text.specs.declared.fault.ReplayFault.{ReplayFault}
-use Rattle.replay_text.specs.declared.program.ProgramFault.{ProgramFault}
-use Rattle.replay_words.specs.Words.{Text, replay_asked_for, replay_args_of}
-use Rattle.replay_words.specs.declared.mode.ReplayMode.{ReplayMode}
-use Rattle.replay_words.specs.declared.mode.ReplayMode.TheVariants.{Serial, Shared, Threads}
-use Rattle.replay_words.specs.declared.settings.ReplaySettings.{ReplaySettings}
+use Rattle.replay_args.specs.Args.{Text, replay_asked_for, replay_args_of}
+use Rattle.replay_args.specs.declared.mode.ReplayMode.{ReplayMode}
+use Rattle.replay_args.specs.declared.mode.ReplayMode.TheVariants.{Serial, Shared, Threads}
+use Rattle.replay_args.specs.declared.settings.ReplaySettings.{ReplaySettings}
 
--- the arguments ask for this mode and these settings
-abbrev pub AskForReplay : List Text → ReplayMode × ReplaySettings → Type 0
-AskForReplay words asked = replay_asked_for words ≡ Some (replay_args_of asked)
+-- the arguments ask for this mode and these settings; for None if they are an error
+abbrev pub AskForReplay : List Text → Option (ReplayMode × ReplaySettings) → Type 0
+AskForReplay words asked = replay_asked_for words ≡ option_map replay_args_of asked
 
--- the text is a mode's report of these bytes; shared mode's is serial mode's
-abbrev pub IsReportIn : ReplayMode → ReplaySettings → List ℕ → List ℕ → Type 0
-IsReportIn Serial s bytes text = replay_of s bytes ≡ Ok text
-IsReportIn Shared s bytes text = replay_of s bytes ≡ Ok text
-IsReportIn Threads s bytes text = threads_of bytes ≡ Ok text
+-- a mode's report of these bytes, or their error; shared mode's is serial mode's
+abbrev pub answer_in : ReplayMode → ReplaySettings → List ℕ → Result (List ℕ) ReplayFault
+answer_in Serial s bytes = replay_of s bytes
+answer_in Shared s bytes = replay_of s bytes
+answer_in Threads s bytes = threads_of bytes
 
--- an error of these bytes in this mode
-abbrev pub IsFaultIn : ReplayMode → ReplaySettings → List ℕ → ReplayFault → Type 0
-IsFaultIn Serial s bytes fault = replay_of s bytes ≡ Err fault
-IsFaultIn Shared s bytes fault = replay_of s bytes ≡ Err fault
-IsFaultIn Threads s bytes fault = threads_of bytes ≡ Err fault
-
--- an error that doesn't come from the bytes: the reader, an allocation or the writer failed, or in threads mode a thread; no
--- gate ever stops the run
+-- an error that isn't in the input: the reader, an allocation or the writer failed, or in threads mode a thread; a gate never
+-- stops a run here
 abbrev pub IsOutsideIn : ReplayMode → ReplayFault → Type 0
 IsOutsideIn Serial fault = IsOutside fault
 IsOutsideIn Shared fault = IsOutside fault
 IsOutsideIn Threads fault = IsOutsideThreads ⊥ fault
 
--- the text is the report of these bytes in the mode and with the settings that the arguments ask for
-abbrev pub IsNapiReplayReport : List Text → List ℕ → List ℕ → Type 0
-IsNapiReplayReport words = IsTextBy (AskForReplay words) (λ asked. IsReportIn asked.0 asked.1)
+-- the report or the error in this mode with these settings
+abbrev pub AnswersReplay : ReplayMode × ReplaySettings → List ℕ → Result (List ℕ) ReplayFault → Type 0
+AnswersReplay asked bytes = AnswersBy (IsOutsideIn asked.0) (answer_in asked.0 asked.1 bytes)
 
--- the error is that of the arguments or of the bytes; otherwise the reader, an allocation, a writer or a thread failed
-abbrev pub IsNapiReplayFault : List Text → Option (List ℕ) → ProgramFault ReplayFault → Type 0
-IsNapiReplayFault words input = IsFaultOf (replay_asked_for words ≡ None) (AskForReplay words)
-    (λ asked. IsFaultBy (IsOutsideIn asked.0) (IsFaultIn asked.0 asked.1) input)
-
--- In shared mode, the rows of the bytes read were processed on instances that threads could share; in threads mode, they were
--- polled with these settings and a gate that is always open.
+-- In shared mode, the rows of the input were processed on instances that threads could share. In threads mode, they were polled
+-- with these settings and with a gate that always returns true.
 abbrev pub RanIn : Type 0 → ReplayMode → ReplaySettings → Option (List ℕ) → Type 0
 RanIn R Serial s input = Unit
 RanIn R Shared s input = RanShared s input
 RanIn R Threads s input = RanBy R (λ by. Unit {0}) s input
 
--- in the mode and with the settings that the arguments ask for
+-- the rows were processed in the mode and with the settings that the arguments ask for
 abbrev pub Ran : Type 0 → List Text → Option (List ℕ) → Type 0
-Ran R words input = (asked : ReplayMode × ReplaySettings) × AskForReplay words asked × RanIn R asked.0 asked.1 input
+Ran R words input = (asked : ReplayMode × ReplaySettings) × AskForReplay words (Some asked) × RanIn R asked.0 asked.1 input

@@ -1,31 +1,28 @@
-//! `napi_replay` plays a trace of network events through the packet polling core, and reports what it did.
+//! `napi_replay` replays a trace of network events through the packet polling core, and reports what it did.
 //!
-//! It reads the trace from standard input, and writes the report to standard output, or the message of an error, one line, to
-//! standard error. The exit status is 0, or that of the error. The arguments select a mode and the settings of a run.
+//! It reads the trace from standard input, and writes the report to standard output. After an error it writes one line, the
+//! message, to standard error, and its exit status is that of the error; otherwise it is 0. The arguments select a mode and the
+//! settings of a run.
 #![tactic(auto)]
 
 mod program;
 
 use crate::program::run_program;
-use replay_text::{ProgramFault, ReplayFault, end_by, given_words};
+use replay_text::given_args;
 use std::io;
 use std::process::ExitCode;
 
 // Runs the program with the real standard input and outputs.
 fn main(rt: HostRuntime) -> ExitCode {
-    let mut errors = rt.stderr();
-    match given_words(&rt) {
+    match given_args(&rt) {
         Ok(words) => run_program(
             &rt,
             rt.alloc(),
             words.as_slice(),
             rt.reader(),
             &mut io::writer(&rt),
-            &mut errors,
+            &mut rt.stderr(),
         ),
-        Err(fault) => {
-            let fault = ProgramFault::<ReplayFault>::Words(fault);
-            end_by(rt.alloc(), &fault, &mut errors)
-        }
+        Err(status) => status,
     }
 }

@@ -1,88 +1,82 @@
 //! The whole program as a function of its arguments, its input and its two outputs.
 
-ghost use Rattle.std.specs.Prelude.{◌≡◌, ◌≢◌, IfErr, OnOk, map, string_bytes};
+ghost use Rattle.std.specs.Prelude.{◌≡◌, ◌≢◌, map, string_bytes};
 ghost use Rattle.std.specs.Io.KnownBytes.{Keeps};
 ghost use Rattle.std.specs.Process.{exit_status};
 ghost use Rattle.std.specs.Borrow.{Bor};
-ghost use Rattle.napi_replay.specs.Program.{IsNapiReplayFault, IsFaultIn, IsOutsideIn, IsNapiReplayReport, IsReportIn, Ran, RanIn};
+ghost use Rattle.napi_replay.specs.Program.{AnswersReplay, AskForReplay, Ran};
 ghost use Rattle.replay_text.specs.Fault.{replay_fault_line, replay_fault_status};
-ghost use Rattle.replay_text.specs.Program.{FailedBy, LeavesOutput};
-ghost use Rattle.replay_text.specs.Written.{IsFaultBy, LeavesText, Writes};
+ghost use Rattle.replay_text.specs.Program.{FailedBy, IsTextBy};
+ghost use Rattle.replay_text.specs.Written.{Writes};
+ghost use Rattle.replay_text.specs.declared.fault.ReplayFault.TheVariants.{OutputFailed};
 
 use poll_workers::OpenGate;
+use replay_args::{ReplayMode, ReplaySettings, WordFault, parse_words};
 use replay_rows::replay_serial;
-use replay_text::{ProgramFault, ReplayFault, end_by};
+use replay_text::{Program, ReplayFault, run_asked};
 use replay_threads::{replay_shared, replay_threads};
-use replay_words::{ReplayMode, ReplaySettings, parse_words};
 use std::alloc::Global;
 use std::io::{Read, Write};
 use std::process::ExitCode;
 use std::sync::Wait;
 use std::thread::Threads;
 
-// Replays the input in a mode.
-fn replay_in<H, R, W>(
-    rt: &H,
-    alloc: Global,
-    mode: ReplayMode,
-    input: R,
-    output: &mut W,
-    settings: &ReplaySettings,
-) -> Result<(), ReplayFault>
-where
-    H: Threads + Wait + Sync,
-    R: Read + Drop,
-    W: Write,
-    ensures written { OnOk result (Writes (IsReportIn mode settings.now)
-        (R.remaining input) (W.contents output.old) (W.contents output.new)) }
-    ensures fault { IfErr result
-        (IsFaultBy (IsOutsideIn mode) (IsFaultIn mode settings.now) (R.remaining input)) }
-    ensures run { OnOk result (RanIn (Bor H) mode settings.now (R.remaining input)) }
-    ensures output { IfErr result (LeavesText (IsReportIn mode settings.now)
-        (R.remaining input) (W.contents output.old) (W.contents output.new)) }
-{
-    match mode {
-        ReplayMode::Serial => replay_serial(alloc, input, output, settings),
-        ReplayMode::Shared => match replay_shared(rt, alloc, input, output, settings) {
-            Ok(_) => Ok(()),
-            Err(fault) => Err(fault),
-        },
-        ReplayMode::Threads => match replay_threads(rt, alloc, input, output, settings, &OpenGate) {
-            Ok(_) => Ok(()),
-            Err(fault) => Err(fault),
-        },
-    }
+// A replay in each mode, with what starts its threads.
+#[derive(Drop)]
+struct ReplayProgram<'a, H> {
+    rt: &'a H,
 }
 
-// Replays the input as the arguments ask for, and writes the report.
-fn replay_asked<H: Threads + Wait + Sync, R: Read + Drop, W: Write>(
-    rt: &H,
-    alloc: Global,
-    words: &[String],
-    input: R,
-    output: &mut W,
-) -> Result<(), ProgramFault<ReplayFault>>
-    ensures written { OnOk result (Writes (IsNapiReplayReport (map string_bytes words.now))
-        (R.remaining input) (W.contents output.old) (W.contents output.new)) }
-    ensures fault { IfErr result (IsNapiReplayFault (map string_bytes words.now)
-        (R.remaining input)) }
-    ensures run { OnOk result (Ran (Bor H) (map string_bytes words.now) (R.remaining input)) }
-    ensures output { IfErr result (LeavesOutput (IsNapiReplayReport (map string_bytes words.now))
-        (R.remaining input) (W.contents output.old) (W.contents output.new)) }
-{
-    match parse_words(alloc, words) {
-        Ok((mode, settings)) => match replay_in(rt, alloc, mode, input, output, &settings) {
-            Ok(()) => Ok(()),
-            Err(fault) => Err(ProgramFault::Run(fault)),
-        },
-        Err(fault) => Err(ProgramFault::Words(fault)),
+impl<H: Threads + Wait + Sync> Program for ReplayProgram<'_, H> {
+    ghost use Rattle.std.specs.Borrow.{Bor};
+    ghost use Rattle.napi_replay.specs.Program.{AnswersReplay, AskForReplay, RanIn};
+
+    type Settings = (ReplayMode, ReplaySettings);
+
+    type Fault = ReplayFault;
+
+    ghost asks = { AskForReplay };
+
+    ghost answers = { AnswersReplay };
+
+    ghost ran = { λ asked. RanIn (Bor H) asked.0 asked.1 };
+
+    fn parse(
+        &self,
+        alloc: Global,
+        words: &[String],
+    ) -> Result<(ReplayMode, ReplaySettings), WordFault> {
+        parse_words(alloc, words)
+    }
+
+    fn run<R: Read + Drop, W: Write>(
+        &self,
+        alloc: Global,
+        asked: &(ReplayMode, ReplaySettings),
+        input: R,
+        output: &mut W,
+    ) -> Result<(), ReplayFault> {
+        let (mode, settings) = *asked;
+        match mode {
+            ReplayMode::Serial => replay_serial(alloc, input, output, &settings),
+            ReplayMode::Shared => match replay_shared(self.rt, alloc, input, output, &settings) {
+                Ok(_) => Ok(()),
+                Err(fault) => Err(fault),
+            },
+            ReplayMode::Threads => {
+                match replay_threads(self.rt, alloc, input, output, &settings, &OpenGate) {
+                    Ok(_) => Ok(()),
+                    Err(fault) => Err(fault),
+                }
+            }
+        }
     }
 }
 
 /// Runs the program: replays `input` as its arguments ask for, writes the report to `output` or the message of an error to
 /// `errors`, and returns the exit status.
 ///
-/// The status is 0 exactly if the report was written. In threads mode, the gate is always open.
+/// The status is 0 exactly if the report was written. In threads mode, the gate always returns true.
 pub fn run_program<H: Threads + Wait + Sync, R: Read + Drop, W: Write, E: Write>(
     rt: &H,
     alloc: Global,
@@ -91,10 +85,9 @@ pub fn run_program<H: Threads + Wait + Sync, R: Read + Drop, W: Write, E: Write>
     output: &mut W,
     errors: &mut E,
 ) -> ExitCode
-    // What is written is the report of the bytes read, in the mode and with the settings that the arguments ask for, and
-    // nothing else.
+    // The bytes written are the report of the bytes read, in the mode and with the settings that the arguments ask for.
     ensures written { exit_status result ≡ 0
-        → Writes (IsNapiReplayReport (map string_bytes words.now))
+        → Writes (IsTextBy (AskForReplay (map string_bytes words.now)) AnswersReplay)
         (R.remaining input) (W.contents output.old) (W.contents output.new) }
     // In shared mode its rows were processed on shared instances; in threads mode they were polled with the settings that the
     // arguments ask for.
@@ -102,14 +95,10 @@ pub fn run_program<H: Threads + Wait + Sync, R: Read + Drop, W: Write, E: Write>
         → Ran (Bor H) (map string_bytes words.now) (R.remaining input) }
     ensures quiet { exit_status result ≡ 0 → Keeps (E.contents errors.old) (E.contents errors.new) }
     ensures failed { exit_status result ≢ 0
-        → FailedBy replay_fault_line replay_fault_status
-        (IsNapiReplayFault (map string_bytes words.now) (R.remaining input))
-        (LeavesOutput (IsNapiReplayReport (map string_bytes words.now)) (R.remaining input)
-        (W.contents output.old) (W.contents output.new))
+        → FailedBy replay_fault_line replay_fault_status OutputFailed
+        (AskForReplay (map string_bytes words.now)) AnswersReplay
+        (R.remaining input) (W.contents output.old) (W.contents output.new)
         (E.contents errors.old) (E.contents errors.new) (exit_status result) }
 {
-    match replay_asked(rt, alloc, words, input, output) {
-        Ok(()) => ExitCode::SUCCESS,
-        Err(fault) => end_by(alloc, &fault, errors),
-    }
+    run_asked(&ReplayProgram { rt }, alloc, words, input, output, errors)
 }

@@ -5,24 +5,20 @@
 mod program;
 
 use crate::program::run_program;
-use replay_text::{ProgramFault, ReplayFault, end_by, given_words};
+use replay_text::given_args;
 use std::io;
 use std::process::ExitCode;
 
 // Runs the program with the real standard input and outputs.
 fn main(rt: HostRuntime) -> ExitCode {
-    let mut errors = rt.stderr();
-    match given_words(&rt) {
+    match given_args(&rt) {
         Ok(words) => run_program(
             rt.alloc(),
             words.as_slice(),
             rt.reader(),
             &mut io::writer(&rt),
-            &mut errors,
+            &mut rt.stderr(),
         ),
-        Err(fault) => {
-            let fault = ProgramFault::<ReplayFault>::Words(fault);
-            end_by(rt.alloc(), &fault, &mut errors)
-        }
+        Err(status) => status,
     }
 }

@@ -1,3 +1,3 @@
 pub mod Program
 pub mod Series
-pub mod Words
+pub mod Args

@@ -1,25 +1,16 @@
--- The whole program: what it writes and its exit status, by its arguments and the bytes of its input.
-use Rattle.std.specs.Prelude.{◌≡◌, ℕ, List, Option, Some, None, Ok, Err}
+-- The whole program: which settings its arguments ask for, and its result for the bytes of its input.
+use Rattle.std.specs.Prelude.{◌≡◌, ℕ, List, Option, Result, option_map}
 use Rattle.napi_series.specs.Series.{series_by}
-use Rattle.napi_series.specs.Words.{series_asked_for}
-use Rattle.replay_text.specs.Outside.{IsOutside}
-use Rattle.replay_text.specs.Program.{IsFaultOf, IsTextBy}
-use Rattle.replay_text.specs.Written.{IsFaultBy}
-use Rattle.replay_text.specs.declared.fault.ReplayFault.{ReplayFault}
-use Rattle.replay_text.specs.declared.program.ProgramFault.{ProgramFault}
-use Rattle.replay_words.specs.Words.{Text, replay_args_of}
-use Rattle.replay_words.specs.declared.mode.ReplayMode.TheVariants.{Serial}
-use Rattle.replay_words.specs.declared.settings.ReplaySettings.{ReplaySettings}
+use Rattle.napi_series.specs.Args.{series_asked_for}
+use Rattle.napi_series.specs.declared.settings.SeriesSettings.{SeriesSettings}
+use Rattle.replay_text.specs.{Outside.IsOutside, Program.AnswersBy, declared.fault.ReplayFault.ReplayFault}
+use Rattle.replay_args.specs.Args.{Text, replay_args_of}
+use Rattle.replay_args.specs.declared.mode.ReplayMode.TheVariants.{Serial}
 
--- the arguments ask for a line for every so many rows, with these settings
-abbrev pub AskForSeries : List Text → ℕ × ReplaySettings → Type 0
-AskForSeries words asked = series_asked_for words ≡ Some (asked.0, replay_args_of (Serial, asked.1))
+-- the arguments ask for a line every N rows, and for these settings; for None if they are an error
+abbrev pub AskForSeries : List Text → Option SeriesSettings → Type 0
+AskForSeries words asked = series_asked_for words ≡ option_map (λ s. (s.every, replay_args_of (Serial, s.replay))) asked
 
--- the text is the series of these bytes
-abbrev pub IsSeries : List Text → List ℕ → List ℕ → Type 0
-IsSeries words = IsTextBy (AskForSeries words) (λ asked bytes text. series_by asked.1 asked.0 bytes ≡ Ok text)
-
--- the error is that of the arguments or of the bytes; otherwise the reader, an allocation or the writer failed
-abbrev pub IsNapiSeriesFault : List Text → Option (List ℕ) → ProgramFault ReplayFault → Type 0
-IsNapiSeriesFault words input = IsFaultOf (series_asked_for words ≡ None) (AskForSeries words)
-    (λ asked. IsFaultBy IsOutside (λ bytes fault. series_by asked.1 asked.0 bytes ≡ Err fault) input)
+-- the series of these bytes, or their error; otherwise the reader, an allocation or the writer failed
+abbrev pub AnswersSeries : SeriesSettings → List ℕ → Result (List ℕ) ReplayFault → Type 0
+AnswersSeries s bytes = AnswersBy IsOutside (series_by s.replay s.every bytes)

@@ -4,8 +4,8 @@ ghost use Rattle.std.specs.Prelude.{◌≡◌, ◌+◌, ◌++◌, ℕ, List, OnO
 ghost use Rattle.device_rows.specs.declared.row.Row.{Row};
 ghost use Rattle.replay_rows.specs.After.{IsAfter};
 ghost use Rattle.replay_rows.specs.Report.{lines_below};
-ghost use Rattle.replay_words.specs.declared.settings.ReplaySettings.{ReplaySettings};
-ghost use Rattle.napi_series.specs.Series.{device_fields, gave, gave_in, list_fields, queue_fields, row_fields, run_fields, told_fields, word_field};
+ghost use Rattle.replay_args.specs.declared.settings.ReplaySettings.{ReplaySettings};
+ghost use Rattle.napi_series.specs.Series.{device_fields, gave, gave_in, list_fields, queue_fields, row_fields, run_fields, poll_fields, word_field};
 
 use device_bench::DeviceCounts;
 use device_places::TABLE_LEN;
@@ -92,9 +92,9 @@ fn add_word(text: &mut String, counts: Option<DeviceCounts>) -> Result<(), Alloc
     Ok(())
 }
 
-/// Appends the fields of a row: the row, its device, the device's transmit side if it had a row, what a row that polled did,
-/// and the device's state word.
-pub(crate) fn add_told(
+/// Appends the fields after the row's own: those of its device, of the device's transmit side if it had a tx or done row, what
+/// the row polled, and the device's state word.
+pub(crate) fn add_poll(
     text: &mut String,
     number: u32,
     row: &Row,
@@ -103,7 +103,7 @@ pub(crate) fn add_told(
     polled: Option<PollRecord>,
 ) -> Result<(), AllocError>
     ensures { OnOk result (string_bytes text.new
-        ≡ string_bytes text.old ++ told_fields number row.now used counts polled) }
+        ≡ string_bytes text.old ++ poll_fields number row.now used counts polled) }
 {
     add_row(text, number, row)?;
     add_device(text, counts)?;
@@ -131,7 +131,7 @@ fn add_gave(
     Ok(())
 }
 
-// Appends how many packets each device processed in the row between.
+// Appends how many packets each device processed in a row, from a replay before the row and one after it.
 fn add_given(
     text: &mut String,
     before: &SerialReplay,

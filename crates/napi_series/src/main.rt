@@ -1,34 +1,31 @@
-//! `napi_series` plays a trace like `napi_replay`, and writes a CSV line after each row: what the report of the rows so far
+//! `napi_series` replays a trace like `napi_replay`, and writes a CSV line after each row: what the report of the rows so far
 //! would show of the row's device, and what the row polled.
 //!
-//! Its arguments are those of `napi_replay`; before them, `--every N` asks for only every Nth row. Errors, their messages and
-//! their exit statuses are those of `napi_replay`.
+//! Its arguments are those of `napi_replay`; `--every N` before them asks for a line after every Nth row only. Errors, their
+//! messages and their exit statuses are those of `napi_replay`.
 #![tactic(auto)]
 
+mod args;
 mod line;
 mod program;
 mod series;
-mod words;
+mod settings;
 
 use crate::program::run_program;
-use replay_text::{ProgramFault, ReplayFault, end_by, given_words};
+use replay_text::given_args;
 use std::io;
 use std::process::ExitCode;
 
 // Runs the program with the real standard input and outputs.
 fn main(rt: HostRuntime) -> ExitCode {
-    let mut errors = rt.stderr();
-    match given_words(&rt) {
+    match given_args(&rt) {
         Ok(words) => run_program(
             rt.alloc(),
             words.as_slice(),
             rt.reader(),
             &mut io::writer(&rt),
-            &mut errors,
+            &mut rt.stderr(),
         ),
-        Err(fault) => {
-            let fault = ProgramFault::<ReplayFault>::Words(fault);
-            end_by(rt.alloc(), &fault, &mut errors)
-        }
+        Err(status) => status,
     }
 }

@@ -1,40 +1,49 @@
 //! The whole program as a function of its arguments, its input and its two outputs.
 
-ghost use Rattle.std.specs.Prelude.{◌≡◌, ◌≢◌, IfErr, OnOk, map, string_bytes};
+ghost use Rattle.std.specs.Prelude.{◌≡◌, ◌≢◌, map, string_bytes};
 ghost use Rattle.std.specs.Io.KnownBytes.{Keeps};
 ghost use Rattle.std.specs.Process.{exit_status};
-ghost use Rattle.napi_series.specs.Program.{IsNapiSeriesFault, IsSeries};
+ghost use Rattle.napi_series.specs.Program.{AnswersSeries, AskForSeries};
 ghost use Rattle.replay_text.specs.Fault.{replay_fault_line, replay_fault_status};
-ghost use Rattle.replay_text.specs.Program.{FailedBy, LeavesOutput};
+ghost use Rattle.replay_text.specs.Program.{FailedBy, IsTextBy};
 ghost use Rattle.replay_text.specs.Written.{Writes};
+ghost use Rattle.replay_text.specs.declared.fault.ReplayFault.TheVariants.{OutputFailed};
 
+use crate::args::parse_series_words;
 use crate::series::write_series;
-use crate::words::parse_series_words;
-use replay_text::{ProgramFault, ReplayFault, end_by};
+use crate::settings::SeriesSettings;
+use replay_args::WordFault;
+use replay_text::{Program, ReplayFault, run_asked};
 use std::alloc::Global;
 use std::io::{Read, Write};
 use std::process::ExitCode;
 
-// Replays the input as the arguments ask for, and writes its series.
-fn write_asked<R: Read + Drop, W: Write>(
-    alloc: Global,
-    words: &[String],
-    input: R,
-    output: &mut W,
-) -> Result<(), ProgramFault<ReplayFault>>
-    ensures written { OnOk result (Writes (IsSeries (map string_bytes words.now))
-        (R.remaining input) (W.contents output.old) (W.contents output.new)) }
-    ensures fault { IfErr result (IsNapiSeriesFault (map string_bytes words.now)
-        (R.remaining input)) }
-    ensures output { IfErr result (LeavesOutput (IsSeries (map string_bytes words.now))
-        (R.remaining input) (W.contents output.old) (W.contents output.new)) }
-{
-    match parse_series_words(alloc, words) {
-        Ok((every, settings)) => match write_series(alloc, input, output, &settings, every) {
-            Ok(()) => Ok(()),
-            Err(fault) => Err(ProgramFault::Run(fault)),
-        },
-        Err(fault) => Err(ProgramFault::Words(fault)),
+// A replay that writes its series.
+struct SeriesProgram;
+
+impl Program for SeriesProgram {
+    ghost use Rattle.napi_series.specs.Program.{AnswersSeries, AskForSeries};
+
+    type Settings = SeriesSettings;
+
+    type Fault = ReplayFault;
+
+    ghost asks = { AskForSeries };
+
+    ghost answers = { AnswersSeries };
+
+    fn parse(&self, alloc: Global, words: &[String]) -> Result<SeriesSettings, WordFault> {
+        parse_series_words(alloc, words)
+    }
+
+    fn run<R: Read + Drop, W: Write>(
+        &self,
+        alloc: Global,
+        settings: &SeriesSettings,
+        input: R,
+        output: &mut W,
+    ) -> Result<(), ReplayFault> {
+        write_series(alloc, input, output, &settings.replay, settings.every)
     }
 }
 
@@ -49,19 +58,16 @@ pub(crate) fn run_program<R: Read + Drop, W: Write, E: Write>(
     output: &mut W,
     errors: &mut E,
 ) -> ExitCode
-    // What is written is the series of the bytes read that the arguments ask for, and nothing else.
-    ensures written { exit_status result ≡ 0 → Writes (IsSeries (map string_bytes words.now))
+    // The bytes written are the series of the bytes read, as the arguments ask for it.
+    ensures written { exit_status result ≡ 0
+        → Writes (IsTextBy (AskForSeries (map string_bytes words.now)) AnswersSeries)
         (R.remaining input) (W.contents output.old) (W.contents output.new) }
     ensures quiet { exit_status result ≡ 0 → Keeps (E.contents errors.old) (E.contents errors.new) }
     ensures failed { exit_status result ≢ 0
-        → FailedBy replay_fault_line replay_fault_status
-        (IsNapiSeriesFault (map string_bytes words.now) (R.remaining input))
-        (LeavesOutput (IsSeries (map string_bytes words.now)) (R.remaining input)
-        (W.contents output.old) (W.contents output.new))
+        → FailedBy replay_fault_line replay_fault_status OutputFailed
+        (AskForSeries (map string_bytes words.now)) AnswersSeries
+        (R.remaining input) (W.contents output.old) (W.contents output.new)
         (E.contents errors.old) (E.contents errors.new) (exit_status result) }
 {
-    match write_asked(alloc, words, input, output) {
-        Ok(()) => ExitCode::SUCCESS,
-        Err(fault) => end_by(alloc, &fault, errors),
-    }
+    run_asked(&SeriesProgram, alloc, words, input, output, errors)
 }

@@ -8,18 +8,18 @@ ghost use Rattle.replay_text.specs.Written.{IsFaultBy, LeavesText, Writes};
 ghost use Rattle.replay_rows.specs.After.{IsAfter};
 ghost use Rattle.replay_rows.specs.Replay.{after_all_rows};
 
-use crate::line::{add_list, add_told};
+use crate::line::{add_list, add_poll};
 use device_rows::{Row, read_trace};
+use replay_args::ReplaySettings;
 use replay_rows::SerialReplay;
 use replay_text::{ReplayFault, write_text};
-use replay_words::ReplaySettings;
 use std::alloc::{AllocError, Global};
 use std::io::{Read, Write};
 
 const HEADER: &str =
     "row,moment,device,state,waiting,arrived,dropped,polled,in_flight,limit,avail,stopped,polls,work,squeezed,word,list,gave\n";
 
-// A replay before a row, and one after it.
+// Two replays of the same trace: one before a row, and one after it.
 #[derive(Drop)]
 struct Steps {
     before: SerialReplay,
@@ -49,7 +49,7 @@ fn add_part(
         return Ok(());
     }
     let row = &rows[index];
-    add_told(
+    add_poll(
         text,
         number,
         row,
@@ -92,8 +92,8 @@ fn series_of(
 
 /// Replays a trace on one thread, and writes its series: a line after each row whose number is a multiple of `every`.
 ///
-/// It writes nothing before the whole trace is read and processed. So after every error but `OutputFailed` nothing was written;
-/// after that one, a proper prefix of the series. `OutOfMemory` may take precedence over any other error.
+/// Nothing is written before the whole trace is read and processed. So nothing was written after any error but `OutputFailed`;
+/// after that one, only a part of the series was. `OutOfMemory` may be returned instead of any other error.
 pub(crate) fn write_series<R: Read + Drop, W: Write>(
     alloc: Global,
     reader: R,
@@ -102,7 +102,7 @@ pub(crate) fn write_series<R: Read + Drop, W: Write>(
     every: u32,
 ) -> Result<(), ReplayFault>
     requires every { 0 < every }
-    // What is written is the series of the rows of the bytes read, and nothing else.
+    // The bytes written are the series of the rows of the bytes read.
     ensures written { OnOk result
         (Writes (λ bytes text. series_by settings.now every bytes ≡ Ok text)
         (R.remaining reader) (W.contents writer.old) (W.contents writer.new)) }
@@ -110,7 +110,7 @@ pub(crate) fn write_series<R: Read + Drop, W: Write>(
     // An error is that of the bytes read, unless the reader, an allocation or the writer failed.
     ensures fault { IfErr result (IsFaultBy IsOutside
         (λ bytes fault. series_by settings.now every bytes ≡ Err fault) (R.remaining reader)) }
-    // If the output failed, less than the whole series was written, and after each other error nothing.
+    // If the output failed, only a part of the series was written; after any other error, nothing was.
     ensures output { IfErr result
         (LeavesText (λ bytes text. series_by settings.now every bytes ≡ Ok text)
         (R.remaining reader) (W.contents writer.old) (W.contents writer.new)) }

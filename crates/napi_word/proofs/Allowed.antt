@@ -1,4 +1,5 @@
--- A step is allowed if, in each state that the view allows, it is legal and writes the right word.
+-- A step is allowed if it is legal in each state that is consistent with the view of its pass, and if it writes the word of the
+-- state after it.
 use Rattle.napi_word.specs.{Operations.{makes_as_seen, slot_returned}}
 use Rattle.napi_word.specs.{Knowledge.{Knowledge, is_pass, view_number, place_in, view_ring, delivery, own_deliveries, view_delivered}}
 use Rattle.napi_word.specs.Knowledge.{received_by, received_in, first_in, last_of, Continues}
@@ -22,7 +23,7 @@ use Rattle.atomic_table.specs.Table.{rest, put_back, homes_after, carried_after,
 use mathlib.Core.{Option.{Option as Maybe, some-ne-none}, List.IsPrefix}
 use lib.ListN.{get_elem?}
 
--- ---- marks
+-- ---- the marks of the queue in the state word
 
 pub hold_nothing : (l : Carried) → hold_of l ≡ Some Nothing → l ≡ []
 hold_nothing [] e = refl
@@ -64,7 +65,7 @@ set_one homes a e = absurd (omega arith)
 
 -- ---- the obligations of a step
 
--- how the step may move the slot, between two places
+-- how a step may move the slot of the context, if it leads from one place to another
 abbrev pub Fitting : Moves → ℕ → Place → Place → Type 0
 Fitting stays c p q = (is_out q ≡ is_out p) × (has_at c q ≡ has_at c p)
 Fitting taken c p q = (is_out p ≡ false) × (has_at c q ≡ true)
@@ -106,7 +107,7 @@ module _ (key : Key) (id : ℕ) (me : Me Content Knowledge) (h : Holds) (tie : T
   shown_now : view_delivered me.0 ≡ o.first.delivered
   shown_now = ap view_delivered o.is
 
-  -- the owner of the slot knows all deliveries
+  -- the owner of the slot has seen all deliveries
   all_known : has_at c now.place ≡ true → o.first.delivered ≡ r.deliveries
   all_known = owned_now.has
 
@@ -144,7 +145,7 @@ module _ (key : Key) (id : ℕ) (me : Me Content Knowledge) (h : Holds) (tie : T
     received_then : (ds : List Delivery) → received_in (w ds) ≡ received_by ring ds
     received_then ds = ap (λ (x : RxCtx). received_by x ds) fits_now.ring
 
-    -- a context that its owner keeps has still received all packets delivered
+    -- a context that stays with its owner has received all packets delivered
     received_kept : (l : Carried) → hold_of l ≡ Some h → IsPrefix (received_in me.0) (carried_received l me.0)
         → IsPrefix (received_in (w r.deliveries)) (carried_received l (w r.deliveries))
     received_kept [] e p = prefix_self (received_in (w r.deliveries))
@@ -276,7 +277,7 @@ module _ (key : Key) (slots id : ℕ) (me : Me Content Knowledge) (one : slots �
         ),
       )
 
-  -- an empty slot is returned, if the view says that the pass owns it
+  -- a pass may return an empty slot if its view says that it owns the slot
   pub returns_slot : h ≡ Out → Allows (Holding key) slots id me 0 (λ n. n) (slot_returned me)
   returns_slot out s holding len at fits =
       let r = running key s holding id me.0 at p in

@@ -1,4 +1,4 @@
--- The end of a table: what its passes held, and the local histories of their views.
+-- A table at its end: what its passes held, and the local histories that their views contain.
 use Rattle.napi_word.proofs.{Keeps.{St, Open, opened, running, owner_since, place_since}, Deliveries.some_is, Places.{has_owner, has_same}}
 use Rattle.napi_word.proofs.{Places.is_false, Whole.whole, Counting.{numbers_of, numbers_length, find_number, every_number, no_more}}
 use Rattle.napi_word.specs.{Rule.{Fits, Kept, Holding}, declared.history.{Key.Key, Holds.{Holds, TheVariants.{Nothing, Within, Out}}}}
@@ -19,7 +19,7 @@ use mathlib.Core.{Logic.dite, List.IsPrefix, Option.{Option as Maybe, some-injec
 use native.Mathlib.Decide.{dec_le}
 use lib.ListN.{get_elem?}
 
--- ---- local histories of one view in another
+-- ---- the local histories of one view inside another one
 abbrev pub Stands : Knowledge → Knowledge → Type 0
 Stands xs ys = (k : ℕ) (x : LocalHistory) → get_elem? xs k ≡ Maybe.some x → (j : ℕ) × (get_elem? ys j ≡ Maybe.some x)
 
@@ -116,13 +116,13 @@ module _ (t : StateTable) (passes : List Pass) (v : Knowledge) (id : ℕ) (f : F
   abbrev front : (q : Pass) → Open (view_of q)
   front q = opened (view_of q) q.is_pass
 
-  -- the rule for a pass's own local history
+  -- the rule of the table, for a pass's own local history
   stood : (k : ℕ) (q : Pass) → slice_get passes k ≡ Some q → (j : ℕ) × Fits key h r.deliveries r.seat (id, j) (front q).first
   stood k q e =
       let o = front q in
       let y = stands_in passes k q e 0 o.first (ap (λ (l : Knowledge). get_elem? l 0) o.is) in
       (y.0, r.histories id v at y.0 o.first (ap (λ (l : Knowledge). get_elem? l y.0) g.views ∙ y.1))
-      -- ---- no number occurs twice, so all occur
+      -- ---- no number occurs twice among the passes, so every number occurs
 
   abbrev place_of : ℕ → ℕ
   place_of n = (r.seat n).1
@@ -267,7 +267,7 @@ module _ (t : StateTable) (passes : List Pass) (v : Knowledge) (id : ℕ) (f : F
   pub rings : (k : ℕ) (q : Pass) → slice_get passes k ≡ Some q → view_ring (view_of q) ≡ Some (ring_name key.ring.value)
   rings k q e = ap view_ring (front q).is ∙ ap (λ (x : RxCtx). Some (ring_name x)) (stood k q e).1.ring
 
-  -- the owner of the slot by the history has it by its mark
+  -- if no pass's mark says that it holds the slot, no caller owns the slot by the history
   has_nothing : (c : ℕ) → ((k : ℕ) (q : Pass) → slice_get passes k ≡ Some q → q.holds ≡ Nothing) → has_at c now.place ≡ false
   has_nothing c empty = dite (dec_le c key.controller)
       (λ low.
@@ -314,7 +314,7 @@ module _ (t : StateTable) (passes : List Pass) (v : Knowledge) (id : ℕ) (f : F
 
   module _ (slots : List Content) (each : (k : ℕ) (y : Content) → get_elem? s.homes k ≡ Maybe.some (Maybe.some y)
       → get_elem? slots k ≡ Maybe.some y) (slot : Content) (there : get_elem? slots 0 ≡ Maybe.some slot) where
-    -- no pass held the context: it is in the slot
+    -- if no pass has taken the context out of the slot, it is in the slot
     in_slot : f.out ≡ false → f.ctx ≡ None → (x : RxCtx) × (slot ≡ Some x) × (ring_name x ≡ ring_name key.ring.value)
     in_slot out none =
         let home = r.slot (at_home (λ k q e. third q.holds (g.none_out out k q e) (g.none_within none k q e))) in

@@ -1,4 +1,4 @@
--- If there are as many distinct numbers as numbers up to the last, they are all of them.
+-- If a list has as many distinct numbers as there are numbers from 0 to the last, it has all of them.
 use Rattle.std.proofs.Common.{◌≡◌, ℕ, suc, ◌+◌, ◌<◌, ◌≤◌, ◌||◌, List, [], ◌∷◌, length, slice_get, Some, Bool, true, false, eqb, refl, sym}
 use Rattle.std.{proofs.Common.{ap, ◌∙◌, arith, true≢false}, specs.List.{AllByRecursion, IsDistinct, list_any}}
 use Rattle.std.proofs.lemmas.{Bool.{eqb-true, or_parts}, Map.Steps.length-le_from_distinct_below}
@@ -42,6 +42,6 @@ every_number last c xs distinct below count low = by (list_any (eqb c) xs) refl
         let many = length-le_from_distinct_below (c ∷ xs) (last + 1) (absent c xs e, distinct) (λ q h. within q (eqb q c) refl h) in
         absurd (omega (arith, many, count))
 
--- and there aren't more of them
+-- a list of distinct numbers up to the last has at most that many
 pub no_more : (last : ℕ) (xs : List ℕ) → IsDistinct eqb xs → ((q : ℕ) → list_any (eqb q) xs ≡ true → q ≤ last) → length xs ≤ last + 1
 no_more last xs distinct below = length-le_from_distinct_below xs (last + 1) distinct (λ q h. let few = below q h in omega (arith, few))

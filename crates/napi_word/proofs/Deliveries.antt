@@ -1,4 +1,4 @@
--- Appending to the deliveries, and who may do so.
+-- Appending to the deliveries: which caller may do so, and what stays true.
 use Rattle.std.proofs.Common.{◌≡◌, ◌≢◌, ℕ, List, [], ◌∷◌, ◌++◌, Bool, true, false, not, ◌&&◌, nat_eq, eq-eqb, ne_eqb, refl, sym, ap, ◌∙◌}
 use Rattle.std.proofs.{Common.{append_assoc, length, drop, subst, Option, Some, unwrap_or, true≢false}, lemmas.List.append-nil}
 use Rattle.{std.proofs.lemmas.{List.Elements.filter-append, Bool.eqb-true}, atomic_table.specs.Table.Me}
@@ -65,7 +65,7 @@ has_one a b (Polling c) x y = sym (eqb-true c a x) ∙ eqb-true c b y
 has_one a b (Control c) x y = sym (eqb-true c a x) ∙ eqb-true c b y
 has_one a b p x y = absurd (true≢false (sym x))
 
--- events of others don't change who has the slot
+-- another caller's events don't change whether k has the slot
 pub has_others : (k n : ℕ) (s : Napi) (e : Event) → IsSound s → IsLegalFor k s e → e.caller ≢ n
     → has_at n (after s e).place ≡ has_at n s.place
 unfolding LegalHistory state_after
@@ -88,7 +88,7 @@ pub givers_none : (s : Napi) → givers s [] ≡ []
 unfolding givers
 givers_none s = refl
 
--- if the slot keeps its owner, it isn't given back
+-- if the owner of the slot stays the same, the slot isn't returned
 pub not_given : (c : ℕ) (p q : Place) → is_out q ≡ is_out p → (has_at c p && not (is_out q)) ≡ false
 not_given c p q same = by (has_at c p) refl
   where
@@ -126,9 +126,9 @@ pub own_deliveries_none : (c : ℕ) → own_deliveries c [] ≡ []
 unfolding own_deliveries
 own_deliveries_none c = refl
 
--- ---- what a view shows once its deliveries are known
+-- ---- what a view determines once its deliveries are known
 
--- the same context and deliveries: the same ring, and the same packets received
+-- two views with the same first context and the same deliveries have the same ring and received the same packets
 pub ring_as : (v w : Knowledge) → first_in w ≡ first_in v → view_ring w ≡ view_ring v
 ring_as [] [] e = refl
 ring_as (x ∷ xs) (y ∷ ys) e = ap (λ (r : Option RxCtx). Some (ring_name (unwrap_or r x.ring))) e
@@ -139,7 +139,7 @@ received_as [] [] e d = refl
 received_as (x ∷ xs) (y ∷ ys) e d = λ i. received_by (unwrap_or (e i) x.ring) (d i)
 received_as v w e d = absurd (cc)
 
--- a step that leaves the slot with its owner keeps what was received before it
+-- a step that leaves the slot with its owner keeps the packets that were received before it
 pub received_stays : (me me' : Me Content Knowledge) → SlotDelivers stays me me' → owns_slot me.0 ≡ true
     → received_in me'.0 ≡ received_in me.0
 received_stays me me' g owns = received_as me.0 me'.0 g.first (g.shifts.0 ∙ g.held owns)

@@ -1,4 +1,4 @@
--- One more event preserves the rule.
+-- One more event preserves the rule of the table (`specs/Rule.antt`).
 use Rattle.napi_word.proofs.{Owns.{own_mine, own_other, own_rest, begins_self, begins_more}, Deliveries.{prefix_self, has_others}}
 use Rattle.napi_word.{proofs.Deliveries.{givers_snoc, More, some_is}, specs.{Events.Steps, Slot.{Content, has_at, is_out, is_given}}}
 use Rattle.napi_word.specs.{Slot.one_if}
@@ -20,7 +20,7 @@ use mathlib.Core.Option as maybe
 abbrev pub St : Type 0
 St = State Content Knowledge
 
--- ---- the first local history of a pass's view
+-- ---- a pass's own local history, which is the first of its view
 pub record Open (v : Knowledge) : Type 0 where
   pub first : LocalHistory
   pub extra : Knowledge
@@ -35,11 +35,11 @@ pub opened : (v : Knowledge) → is_pass v ≡ true → Open v
 opened [] p = absurd (true≢false (sym p))
 opened (x ∷ xs) p = record { first = x; extra = xs; is = refl; numbered = numbered_of x.number p }
 
--- the local history after the event, which follows the history h
+-- the pass's local history after its event, which follows the history h
 abbrev pub grown : LocalHistory → ℕ → List Event → Operation → List Delivery → LocalHistory
 grown x c h o ds = record x { seen = h ++ event c o ∷ []; mine = x.mine ++ event c o ∷ []; delivered = ds }
 
--- a pass is made after the start
+-- a pass exists only after the table was made
 pub running : (key : Key) (s : St) → Holding key s → (id : ℕ) (v : Knowledge) → get_elem? s.views id ≡ maybe.some v → is_pass v ≡ true
     → Kept key s
 running key s h id v at p = ⊎_elim
@@ -51,7 +51,7 @@ running key s h id v at p = ⊎_elim
     none zero e = true≢false (sym p ∙ ap is_pass (sym (maybe.some-injective _ _ e)))
     none (suc j) e = maybe.some-ne-none v (sym e)
 
--- what a pass's view determines of the state
+-- what a pass's view implies about the current state
 pub record Knows (k : ℕ) (v : Knowledge) (c : ℕ) (now : Napi) : Type 0 where
   pub number : view_number v ≡ c
   pub controller : view_controller v ≡ k
@@ -63,7 +63,7 @@ pub record Knows (k : ℕ) (v : Knowledge) (c : ℕ) (now : Napi) : Type 0 where
   pub busy : is_owner c (place_in v) ≡ true → now.flags.in_busy_poll ≡ busy_in v
   pub disable : c ≡ k → now.flags.disable ≡ disable_in v
 
--- ---- the rule for a local history with a number: since the list that it has seen, only others made events
+-- ---- the rule for a local history with a number: since it was updated, only other callers made events
 module _ (key : Key) (s : St) (r : Kept key s) (p : ℕ × ℕ) (x : LocalHistory) (f : Fits key r.history r.deliveries r.seat p x) (c : ℕ)
     (numbered : x.number ≡ Some c) where
   abbrev state_first : Napi
@@ -108,7 +108,7 @@ module _ (key : Key) (s : St) (r : Kept key s) (p : ℕ × ℕ) (x : LocalHistor
   disable_since y = ap (λ (u : Napi). u.flags.disable) parts
       ∙ disable_kept key.controller state_seen later back (subst (λ (d : ℕ). own d later ≡ []) y none)
 
--- ---- one more event, which other local histories of the seat may have seen
+-- ---- one more event; other local histories of the same seat may have seen less
 module _ (key : Key) (s : St) (r : Kept key s) (id : ℕ) (v : Knowledge) (at : get_elem? s.views id ≡ maybe.some v) (o : Open v) where
   abbrev c : ℕ
   c = view_number v
@@ -156,7 +156,7 @@ module _ (key : Key) (s : St) (r : Kept key s) (id : ℕ) (v : Knowledge) (at : 
   pub found : get_or s.words 0 0 ≡ word_of (seen_of now)
   found = ap (λ (ws : List ℕ). get_or ws 0 0) r.word
 
-  -- ---- one event more, beside which other local histories of the seat may have seen it
+  -- ---- one more event, while other local histories of the same seat may have seen it
   module _ (d : Operation) (ds : List Delivery) (tail : Knowledge) where
     abbrev e : Event
     e = event c d
@@ -235,7 +235,7 @@ module _ (key : Key) (s : St) (r : Kept key s) (id : ℕ) (v : Knowledge) (at : 
       few_deliver = λ n above. more.others n (λ (same : c ≡ n). let low = owned.few in absurd (omega arith)) ∙ r.few_deliver n above;
     }
 
-    -- the word becomes f of the old one, which encodes the state after the event
+    -- the step replaces the word by f of it, and f of the word before encodes the state after the event
     pub steps : TailFits → (f : ℕ → ℕ) → f (word_of (seen_of now)) ≡ word_of (seen_of (after now e)) → IsLegalFor key.controller now e
         → More now e r.deliveries ds
         → (homes : Homes) → (is_out (after now e).place ≡ false → Home key.ring.value ds homes)

@@ -1,4 +1,4 @@
--- What a pass knows from its last event.
+-- What a pass knows from its last event on.
 use Rattle.std.proofs.Common.{eq-eqb, ◌≡◌, ℕ, List, [], ◌∷◌, Bool, true, false, refl, sym, ap, ◌∙◌, subst}
 use Rattle.napi_model.specs.declared.state.{State.State as Napi, Seen.Seen, Kind.Kind, Place.TheVariants.{Granted, Polling}}
 use Rattle.napi_model.specs.declared.event.{Done.TheVariants.{Again, Held}, Event.Event, Operation.{Operation, TheVariants.Look}}
@@ -17,7 +17,7 @@ unbusy k h legal none =
     (λ e. none (busy_after k (opening k) h (opens_sound k) (opens_unbusy k) legal e))
 
 module _ (v : Knowledge) (o : Operation) (w : Knowledge) (g : Steps v o w) where
-  -- the state in which the event took place
+  -- the state in which the event took place; other callers may have changed it since the view was updated
   abbrev pub found_state : Napi
   found_state = state_at v g.before
 
@@ -37,7 +37,7 @@ module _ (v : Knowledge) (o : Operation) (w : Knowledge) (g : Steps v o w) where
       let whole = subst (LegalHistory k (opening k)) g.ends g.legal in
       unbusy k g.before (legal_front k (opening k) g.before (event (view_number v) o ∷ []) whole)
 
-  -- the state that the view shows after the event
+  -- the state after the event, as the view shows it
   pub state_then : state_in w ≡ after_by (view_number v) o found_state
   state_then = (λ i. state_after (opening (g.controller i)) (g.ends i))
       ∙ state_after-snoc (opening (view_controller v)) g.before (event (view_number v) o)
@@ -50,7 +50,7 @@ not_polled : (k : Kind) → ¬ IsPollingPlace (place_of k)
 not_polled Kind.List is = is
 not_polled Kind.Thread is = is
 
--- a pass that was granted the instance, or polls it
+-- a schedule that was granted makes its caller the owner
 pub schedule_grants : (v w : Knowledge) → Steps v (Schedule Prep.Granted) w → place_in w ≡ Granted (view_number w)
 schedule_grants v w g = place_then v (Schedule Prep.Granted) w g ∙ ap Granted (sym g.number)
 
@@ -65,7 +65,7 @@ take_polls v w k g =
           ∙ off,
     )
 
--- an exchange that completes is never held
+-- a completion by a compare-exchange never returns Held
 pub never_held : (missed : Bool) → Held ≡ done_of missed → ⊥
 never_held true e = cc
 never_held false e = cc
@@ -81,7 +81,7 @@ module _ (v : Knowledge) (o : Operation) (w : Knowledge) (g : Steps v o w)
         ap (λ (s : Napi). s.flags.in_busy_poll) (state_then v o w g ∙ quiet) ∙ g.busy owner ∙ is.1,
       )
 
--- looks: of the poller, and of the controller
+-- what the poller and the controller learn from a look
 module _ (v : Knowledge) (x : Seen) (w : Knowledge) (g : Steps v (Look x) w) where
   pub look_polls : {b : Bool} → HasPoll b v → HasPoll b w
   look_polls = quiet_polls v (Look x) w g refl

@@ -1,4 +1,4 @@
--- What a pass that joined a copy shows after its next step.
+-- What a pass that joined a copy of another pass's history shows after its next step.
 use Rattle.std.proofs.Common.{◌≡◌, List, [], ◌∷◌, length, true, refl, sym, subst, true≢false}
 use Rattle.atomic_table.proofs.Lists.{at_longer}
 use Rattle.{atomic_table.{proofs.Lists.at_last, specs.Table.Me}, napi_model.specs.declared.event.{Event.Event, Operation.Operation}}
@@ -27,7 +27,7 @@ steps_joined (x ∷ xs) w o u p g = record {
   disable = g.disable;
 }
 
--- and what a look shows of the deliveries
+-- the deliveries that a look shows, for such a pass
 pub delivers_joined : (v w : Knowledge) (l : Carried) (y : Me Content Knowledge) → is_pass v ≡ true → SlotDelivers stays (joined v w, l) y
     → SlotDelivers stays (v, l) y
 delivers_joined [] w l y p g = absurd (true≢false (sym p))

@@ -21,7 +21,7 @@ no_more : {A : Type 0} (xs ys : List A) → xs ++ ys ≡ xs → ys ≡ []
 no_more [] ys e = e
 no_more (x ∷ xs) ys e = no_more xs ys (ap (λ l. drop 1 l) e)
 
--- a list that follows one with all of c's events has none of them
+-- if the first list has all of c's events, the list after it has none of them
 pub own_rest : (c : ℕ) (g h mine : List Event) → own c g ≡ mine → own c (g ++ h) ≡ mine → own c h ≡ []
 own_rest c g h mine front whole =
     no_more mine (own c h) (ap (λ (l : List Event). l ++ own c h) (sym front) ∙ sym (own-append c g h) ∙ whole)

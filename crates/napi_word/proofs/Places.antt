@@ -1,4 +1,4 @@
--- The owner of the slot, by the place.
+-- The owner of the slot, determined by the place.
 use Rattle.std.proofs.Common.{◌≡◌, ℕ, Bool, true, false, refl, sym, ap, ◌∙◌, true≢false}
 use Rattle.napi_model.specs.{declared.state.Place.{Place, TheVariants.{Granted, Polling, Control}}, Laws.is_owner}
 use Rattle.napi_word.specs.Slot.{has_at, is_out}
@@ -19,7 +19,7 @@ is_false false h = refl
 pub in_no_hand : (c : ℕ) (p : Place) → is_out p ≡ false → has_at c p ≡ false
 in_no_hand c p e = is_false (has_at c p) (λ h. true≢false (sym (has_out c p h) ∙ e))
 
--- if an owner stays and no caller becomes one, the slot keeps its owner
+-- if a step neither makes a caller an owner nor ends its ownership, the slot keeps its owner
 pub has_same : (c : ℕ) (p q : Place) → is_owner c p ≡ is_owner c q → (is_owner c q ≡ true → p ≡ q) → has_at c p ≡ has_at c q
 has_same c p q same stays = by (is_owner c q) refl
   where

@@ -1,4 +1,4 @@
--- The operation of a seat, by the decoded word that it found.
+-- The operation of a pass, determined by the word that it found.
 use Rattle.std.proofs.Common.{◌<◌, sym, subst, arith}
 use Rattle.napi_word.specs.declared.table.StateTable.{StateTable}
 

@@ -1,4 +1,4 @@
--- Seats are split and joined.
+-- Seats of the table are split and joined. A seat is what `atomic_table` gives a thread for its steps; a `Pass` contains one.
 use Rattle.std.proofs.Common.{◌≡◌, ◌≢◌, ◌⊎◌, ℕ, zero, suc, ◌+◌, ◌<◌, List, [], ◌∷◌, ◌++◌, length, set, Bool, true, cond, eqb, eq-eqb}
 use Rattle.std.proofs.Common.{ne_eqb, refl, sym, ap, ◌∙◌, subst, inl, inr, ⊎_elim, arith}
 use Rattle.atomic_table.specs.Table.{Splits, Joins}
@@ -22,14 +22,14 @@ within_length [] b j e = absurd (maybe.some-ne-none b (sym e))
 within_length (x ∷ xs) b zero e = omega arith
 within_length (x ∷ xs) b (suc j) e = let low = within_length xs b j e in omega (arith, low)
 
--- an element of two concatenated lists, by the list that it is from
+-- an element of two concatenated lists is an element of one of them
 pub at_join : {A : Type 0} (l m : List A) (b : A) (j : ℕ) → get_elem? (l ++ m) j ≡ maybe.some b
     → (get_elem? l j ≡ maybe.some b) ⊎ ((i : ℕ) × (length l + i ≡ j) × (get_elem? m i ≡ maybe.some b))
 at_join [] m b j e = inr (j, omega arith, e)
 at_join (x ∷ xs) m b zero e = inl e
 at_join (x ∷ xs) m b (suc j) e = ⊎_elim (λ t. inl t) (λ t. let h = t.1 in inr (t.0, omega (arith, h), t.2)) (at_join xs m b j e)
 
--- a local history moves to another position
+-- a local history stays valid at another position
 refit : (key : Key) (h : List Event) (ds : List Delivery) (seat seat' : ℕ → ℕ × ℕ) (p q : ℕ × ℕ) (x : LocalHistory)
     → ((c : ℕ) → seat c ≡ p → seat' c ≡ q) → Fits key h ds seat p x → Fits key h ds seat' q x
 refit key h ds seat seat' p q x goes f = record {
@@ -42,7 +42,7 @@ refit key h ds seat seat' p q x goes f = record {
   begun = f.begun;
 }
 
--- other views of the same history, whose local histories fit their positions
+-- other views of the same history are valid if each of their local histories is valid at its position
 other_views : {key : Key} {s : St} (r : Kept key s) (seat : ℕ → ℕ × ℕ) (views : List Knowledge)
     → ((j : ℕ) (u : Knowledge) → get_elem? views j ≡ maybe.some u → (k : ℕ) (z : LocalHistory) → get_elem? u k ≡ maybe.some z
     → Fits key r.history r.deliveries seat (j, k) z)
@@ -61,7 +61,7 @@ other_views r seat views histories =
       few_deliver = r.few_deliver;
     }
 
--- ---- the second local history becomes a seat of its own
+-- ---- the second local history is split off into a seat of its own
 module _ (key : Key) (id : ℕ) (x y : LocalHistory) (ys : Knowledge) (s : St) (r : Kept key s)
     (at : get_elem? s.views id ≡ maybe.some (x ∷ y ∷ ys)) where
   abbrev N : ℕ
@@ -113,7 +113,7 @@ pub gives_number : (key : Key) (id : ℕ) (x y : LocalHistory) (ys v : Knowledge
 gives_number key id x y ys v is p = subst (λ (u : Knowledge). Splits (Holding key) id u (left_of u) (right_of u)) (sym is)
     (λ s holding at. inr (divided key id x y ys s (running key s holding id (x ∷ y ∷ ys) at (ap is_pass (sym is) ∙ p)) at))
 
--- ---- a copy
+-- ---- a copy of a pass's history for another pass
 pub copies : (key : Key) (id : ℕ) (v : Knowledge) → is_pass v ≡ true → Splits (Holding key) id v v (copy_of v)
 copies key id v p s holding at =
     let r = running key s holding id v at p in
@@ -140,7 +140,7 @@ copies key id v p s holding at =
         }
     one r x f j (suc k) z e = absurd (maybe.some-ne-none z (sym e))
 
--- ---- a seat is joined, or its first local history
+-- ---- one seat joins another, or only the other's own local history
 module _ (key : Key) (id : ℕ) (v : Knowledge) (other : ℕ) (w u : Knowledge)
     (from : (i : ℕ) (z : LocalHistory) → get_elem? u i ≡ maybe.some z → get_elem? w i ≡ maybe.some z) (s : St) (r : Kept key s)
     (at : get_elem? s.views id ≡ maybe.some v) (apart : other ≢ id)
@@ -196,7 +196,7 @@ pub joins_front : (key : Key) (id : ℕ) (v : Knowledge) (other : ℕ) (w : Know
 joins_front key id v other w p s holding at apart beside =
     inr (merged key id v other w (front w) (front_from w) s (running key s holding id v at p) at apart beside)
 
--- ---- the last local history becomes a seat of its own
+-- ---- the last local history is split off into a seat of its own
 module _ (key : Key) (id : ℕ) (xs : Knowledge) (y : LocalHistory) (s : St) (r : Kept key s)
     (at : get_elem? s.views id ≡ maybe.some (xs ++ y ∷ [])) where
   abbrev M : ℕ

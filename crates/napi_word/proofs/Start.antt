@@ -1,4 +1,4 @@
--- The table is made, and its first seat takes the slot.
+-- A table is made, and its first seat takes the slot. A seat is what `atomic_table` gives a thread for its steps.
 use Rattle.std.proofs.Common.{◌≡◌, ◌⊎◌, ℕ, zero, suc, ◌+◌, ◌-◌, ◌<◌, ◌≤◌, List, [], ◌∷◌, ◌++◌, length, get_or, set, slice_get, Some, None}
 use Rattle.std.proofs.Common.{Bool, true, false, cond, eqb, eq-eqb, ne_eqb, unwrap_or, refl, sym, ap, ◌∙◌, subst, inl, inr, ⊎_elim, arith}
 use Rattle.{std.proofs.Common.true≢false, atomic_table.specs.Table.{Me, opening, takes, Allows}, rx_ring.specs.declared.ends.RxCtx.RxCtx}
@@ -34,7 +34,7 @@ pub owns_at_start : (last : ℕ) (of : RxCtx) (n : ℕ) → owns_slot (maker_at 
 unfolding state_after
 owns_at_start last of n = eq-eqb last last refl
 
--- the k-th local history from n on
+-- the k-th of the local histories from number n on
 at_from : (last : ℕ) (of : RxCtx) (n count k : ℕ) (x : LocalHistory) → get_elem? (new_histories_from last of n count) k ≡ maybe.some x
     → (new_history last of (n + k) ≡ x) × (k < count)
 at_from last of n zero k x e = absurd (maybe.some-ne-none x (sym e))
@@ -48,7 +48,7 @@ pub owns_nothing : (last : ℕ) (of : RxCtx) (c : ℕ) → c < last → owns_slo
 unfolding state_after
 owns_nothing last of c low = ne_eqb last c (λ e. omega (arith, low, e))
 
--- the local history of the next number is the second
+-- the local history of the next number is the second one in the maker's view
 pub maker_more : (last : ℕ) (of : RxCtx) (n : ℕ) → n < last
     → maker_at last of n ≡ new_history last of last ∷ new_history last of n ∷ new_histories_from last of (n + 1) (last - (n + 1))
 maker_more last of n low = let e : last - n ≡ suc (last - (n + 1)) = omega (arith, low) in
@@ -65,7 +65,7 @@ module _ (key : Key) where
   abbrev of : RxCtx
   of = key.ring.value
 
-  -- the position of each number's local history
+  -- where each number's local history is: the seat, and the index in its view
   abbrev seat : ℕ → ℕ × ℕ
   seat c = (0, cond (eqb c last) 0 (suc c))
 
@@ -158,7 +158,7 @@ pub new_as : {t : StateTable} (k l : ℕ) (x y : RxCtx) (i j : ℕ) (p q : Pass)
     → IsNewPass t l y j q
 new_as {t} k l x y i j p q a b d e new = subst (λ (z : ℕ × RxCtx × ℕ × Pass). IsNewPass t z.0 z.1 z.2 z.3) (λ f. (a f, b f, d f, e f)) new
 
--- the slot still has the same content
+-- after a step that doesn't touch it, the slot has the same context
 pub still_stored : {x : RxCtx} (p q : Pass) → ctx_of q ≡ ctx_of p → IsStored x p → IsStored x q
 still_stored p q same l = record {
   stored = l.stored;

@@ -1,4 +1,5 @@
--- By a look, all local histories of one seat learn the whole history.
+-- A survey's look: all local histories of one seat learn the complete history. A seat is what `atomic_table` gives a thread for
+-- its steps; a `Pass` contains one.
 use Rattle.std.proofs.Common.{◌≡◌, ◌≢◌, ℕ, zero, suc, List, [], ◌∷◌, ◌++◌, length, slice_get, Some, None, Bool, true, unwrap_or, is_some}
 use Rattle.std.proofs.Common.{refl, sym, ap, ◌∙◌, subst, inr, arith, true≢false}
 use Rattle.atomic_table.specs.Table.{Me, keeps, Allows}
@@ -39,7 +40,7 @@ module _ (key : Key) (s : St) (r : Kept key s) (id : ℕ) (v : Knowledge) (at : 
   abbrev all_made : List Event
   all_made = r.history ++ look_made ∷ []
 
-  -- among the local histories, only the first has the number of the caller that looks
+  -- of the local histories of a seat, only the first has the number of the caller that looks
   front_alone : (k : ℕ) (x : LocalHistory) → get_elem? v k ≡ maybe.some x → x.number ≡ Some (view_number v) → k ≡ 0
   front_alone k x is n =
       ap (λ (p : ℕ × ℕ). p.1) (sym ((r.histories id v at k x is).owned (view_number v) n).here ∙ (owned key s r id v at o).here)
@@ -134,7 +135,7 @@ surveys key slots id me p s holding len at fits =
 
 -- ---- what a view shows of the history
 
--- a local history that shows all, with this own list
+-- a local history that shows the complete history and all deliveries, with this own list
 abbrev pub shows_all : List Event → List Delivery → List Event → LocalHistory → LocalHistory
 shows_all h ds own x = record x { seen = h; mine = own; delivered = ds }
 
@@ -232,7 +233,7 @@ made_step h x ds p q whole u grows begins delivered_begins table holds slot = re
     k : ℕ
     k = view_controller (view_of p)
 
--- a slot that the pass owns stays with it
+-- a pass that owns the slot keeps it
 received_synced : (l : Carried) (hold : Holds) (v w : Knowledge) → hold_of l ≡ Some hold
     → (has_slot hold ≡ true → received_in w ≡ received_in v)
     → Continues (received_in v) (carried_received l v) → Continues (received_in w) (carried_received l w)
@@ -273,7 +274,7 @@ looked_more : (h : List Event) (e : Event) (ds : List Delivery) (l : Knowledge) 
 looked_more h e ds [] y p = absurd (true≢false (sym p))
 looked_more h e ds (x ∷ l) y p = ap (λ (m : Knowledge). looked h e ds x ∷ m) (synced_more (h ++ e ∷ []) ds l y)
 
--- the local history after a pass's own ones isn't the first
+-- in the joined view, the local histories after a pass's own ones are not the first
 not_front : (l : Knowledge) → is_pass l ≡ true → length l ≢ 0
 not_front [] p e = true≢false (sym p)
 not_front (x ∷ xs) p e = absurd (omega (arith, e))
@@ -378,7 +379,7 @@ module _ (v0 v1 v2 v3 : Knowledge) (o0 : Open v0) (o1 : Open v1) (o2 : Open v2) 
               → Knew (view_controller v3) h ds z c
           knows_at k z c there n = subst (λ (m : ℕ). Knew m h ds z c) led_by (knows k z c there n)
 
-          -- a local history that isn't the first has another number
+          -- a local history that isn't the first has another number than the first
           apart : (k : ℕ) (v : Knowledge) (o : Open v) → get_elem? j k ≡ maybe.some o.first → k ≢ 0 → view_number v3 ≢ view_number v
           apart k v o there behind same = behind (once k o.first there (o.numbered ∙ ap Some (sym same ∙ sym looked_by)))
 
@@ -441,7 +442,7 @@ of_both_four P a b c d a' b' c' d' x y z w (suc (suc (suc zero))) p q e f =
     subst (λ (r : Pass). P r q) (some_is e) (subst (P d) (some_is f) w)
 of_both_four P a b c d a' b' c' d' x y z w (suc (suc (suc (suc i)))) p q e f = absurd (cc)
 
--- ---- what was seen is what the call returns
+-- ---- the state that the call returns
 pub answers_step : {p q : Pass} {x y : Seen} → y ≡ x → Makes p (Look x) stays q → Makes p (Look y) stays q
 answers_step {p} {q} e m = subst (λ (s : Seen). Makes p (Look s) stays q) (sym e) m
 
@@ -608,7 +609,7 @@ module _ (p0 p1 p2 p3 : Pass) (m1 m2 m3 : Me Content Knowledge) (e1 : m1 ≡ (wi
         (third_named (view_of p0) (view_of p1) (view_of p2) (view_of p3) q0 q1 q2 q3 p3.is_pass m3.0 all_in t.first t.firsts)
         (last_named (view_of p0) (view_of p1) (view_of p2) (view_of p3) q0 q1 q2 q3 p3.is_pass m3.0 all_in t.first t.firsts)
 
-    -- the word encodes the state after the whole history
+    -- the word encodes the state after the complete history
     pub state_is : t.seen ≡ seen_of (state_after (opening (view_controller (view_of p3))) whole_now)
     state_is = t.state ∙ ap (λ (k : ℕ). seen_of (state_after (opening k) hs)) led
         ∙ ap seen_of (sym (state_looked (opening (view_controller (view_of p3))) hs (view_number (view_of p3)) t.seen))

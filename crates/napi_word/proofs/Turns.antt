@@ -1,4 +1,4 @@
--- Each kind of step, in each state that the view of its pass allows.
+-- Each kind of step, in each state that is consistent with the view of its pass.
 use Rattle.napi_model.specs.{Step.{event, seen_of, seen_after, after_by, handed_at, place_of, MayHand, IsControl}, Laws.is_owner}
 use Rattle.napi_model.specs.{Laws.IsHandedOrPolled, History.IsLegalFor, Word.word_of, declared.event.Operation.Operation}
 use Rattle.napi_model.specs.declared.event.Operation.TheVariants.{Look, Schedule, Hand, Take, Complete, BusyTake, BusyStop, MarkDisable}
@@ -32,7 +32,7 @@ place_marked : (k : Kind) → is_marked k (handed_at (place_of k)) ≡ true
 place_marked Kind.List = refl
 place_marked Kind.Thread = refl
 
--- the state after a take, by whether the mark was set
+-- the state after a take succeeds if the mark of its queue was set, and fails otherwise
 take_said : (k : Kind) (now : Napi) (b : Bool) → is_marked k (handed_at now.place) ≡ b
     → bit_and (word_of (seen_of now)) (take_mask k) ≡ word_of (seen_after (Take k b) (seen_of now))
 take_said k now b is = take_word k (seen_of now) ∙ ap (λ (v : Bool). word_of (seen_after (Take k v) (seen_of now))) is
@@ -66,7 +66,7 @@ is_control k v c now kn is = owned_place k v c now kn (Control c) (is ∙ ap Con
 is_last : (k : ℕ) (v : Knowledge) (c : ℕ) (now : Napi) → Knows k v c now → view_number v ≡ view_controller v → c ≡ k
 is_last k v c now kn top = sym kn.number ∙ top ∙ kn.controller
 
--- an exchange is its operation if it succeeds, otherwise a look
+-- a compare-exchange counts as its operation if it succeeds, and as a look otherwise
 exchange_turn : (k : ℕ) (now : Napi) (c : ℕ) (seen : Seen) (next : ℕ) (o : Operation) (m : Moves)
     → (seen_of now ≡ seen → Turn k now c o m (λ n. next)) → (b : Bool) → eqb (word_of (seen_of now)) (word_of seen) ≡ b
     → Turn k now c (either_op b o (seen_of now)) (when b m) (λ n. either (eqb n (word_of seen)) next n)
@@ -81,14 +81,14 @@ module _ (t : StateTable) (p : Pass) where
   abbrev last : ℕ
   last = t.table.shared.key.controller
 
-  -- a step is allowed if it is legal in every place that the pass may be in
+  -- a step is allowed if it is legal in every place that the pass may have
   makes : (g : ℕ → ℕ) (f : Seen → Operation) (m : Seen → Moves) → ((x : Seen) → m x ≡ given → IsSlotFilled p)
       → ((now : Napi) (c : ℕ) → Knows last me.0 c now → Turn last now c (f (seen_of now)) (m (seen_of now)) g)
       → MayMake t p.seat g f m
   makes g f m ready turn =
       allowed t.table.shared.key t.table.shared.table_id.slots p.seat.id me t.one_slot p.is_pass p.holds (tie_of p) g f m ready turn
 
-  -- the word that a legal step finds determines the word that it leaves
+  -- if a step is legal, the word before it determines the word after it
   turn : (now : Napi) (c : ℕ) (o : Operation) (m : Moves) (g : ℕ → ℕ) → Knows last me.0 c now → IsLegalFor last now (event c o)
       → g (word_of (seen_of now)) ≡ word_of (seen_after o (seen_of now)) → Fitting m c now.place (after_by c o now).place
       → Turn last now c o m g
@@ -120,7 +120,7 @@ module _ (t : StateTable) (p : Pass) where
 
   -- ---- exchanges
 
-  -- the operation is legal, and moves the slot accordingly
+  -- the operation of a compare-exchange that succeeds: it is legal, and moves the slot as the rules say
   abbrev Hit : Napi → ℕ → Operation → Moves → Type 0
   Hit now c o m = IsLegalFor last now (event c o) × Fitting m c now.place (after_by c o now).place
 
@@ -201,7 +201,7 @@ module _ (t : StateTable) (p : Pass) where
       → Turn last now c (Hand k) stays (added (hand_bits k))
   granted_turn Kind.List now c kn is = list_turn stays now c kn (inl is) (ap handed_at is) (sym (ap is_out is), sym (ap (has_at c) is))
   granted_turn Kind.Thread now c kn is =
-      -- a granted instance isn't its thread's
+      -- a granted instance doesn't have SCHED_THREADED set
       let unthreaded = is_false now.flags.sched_threaded (λ e. subst IsHandedOrPolled is (kn.threads e)) in
       turn now c (Hand Kind.Thread) stays (added (hand_bits Kind.Thread)) kn (is, tt)
       (hand_thread (seen_of now) (ap handed_at is) unthreaded) (sym (ap is_out is), sym (ap (has_at c) is))
@@ -216,7 +216,7 @@ module _ (t : StateTable) (p : Pass) where
     shifts = subst (λ (b : Bool). GivesSlotBack b g.before x y) (sym none) g.shifts;
   }
 
-  -- a caller that was granted the instance doesn't have the slot, so it doesn't give it back
+  -- a caller that was granted the instance doesn't own the slot, so it doesn't return it
   nothing_given : (o : Operation) (me' : Me Content Knowledge) → place_in me.0 ≡ Granted (view_number me.0) → Did o stays me me'
       → Did o given me me'
   nothing_given o me' is d =

@@ -1,4 +1,4 @@
--- A prefix of the history that has each number's events is the whole history.
+-- A prefix of the history that contains every number's events is the complete history.
 use Rattle.std.proofs.Common.{◌≡◌, ℕ, ◌<◌, ◌≤◌, List, [], ◌∷◌, ◌++◌, length, drop, refl, sym, ap, ◌∙◌, arith, append_assoc, lt_of_not-le}
 use Rattle.{std.proofs.lemmas.List.append-nil, napi_model.specs.{declared.event.Event.Event, History.own}}
 use Rattle.{napi_model.proofs.Histories.{own_first, own-append}, napi_word.proofs.Owns.own_rest}
@@ -30,7 +30,7 @@ behind_none : {A : Type 0} (us vs : List A) → us ++ vs ≡ [] → vs ≡ []
 behind_none [] vs e = e
 behind_none (u ∷ us) vs e = absurd (cc)
 
--- a list between one that has all of c's events and the history has them too
+-- a list that extends one with all of c's events, and is a prefix of the history, has all of c's events too
 between : (c : ℕ) (xs ys h mine : List Event) → IsPrefix xs ys → IsPrefix ys h → own c xs ≡ mine → own c h ≡ mine → own c ys ≡ mine
 between c xs ys h mine a b first last =
     let far : own c (xs ++ (a.0 ++ b.0)) ≡ mine =
@@ -39,7 +39,7 @@ between c xs ys h mine a b first last =
     let front : own c a.0 ≡ [] = front_none (own c a.0) (own c b.0) (sym (own-append c a.0 b.0) ∙ none) in
     ap (λ (l : List Event). own c l) (sym a.1) ∙ own-append c xs a.0 ∙ (λ i. first i ++ front i) ∙ append-nil mine
 
--- a prefix l that is at least as long as what each number up to the last has seen
+-- the condition: l is a prefix, and at least as long as what each number has seen
 pub whole : (last : ℕ) (h l : List Event) → IsPrefix l h
     → ((c : ℕ) → c ≤ last
     → (seen : List Event) × (mine : List Event) × IsPrefix seen h × (own c seen ≡ mine) × (own c h ≡ mine) × (length seen ≤ length l))

@@ -1,5 +1,6 @@
--- When an atomic step may be made: in every state of the table that the seat's view allows, it is a legal step, and the word
--- that it writes encodes the state after it.
+-- When an atomic step may be made: in every state of the table that is consistent with the view of the seat that makes it, it
+-- is a legal step, and the word that it writes encodes the state after it. A seat is what `atomic_table` gives a thread for its
+-- steps; a `Pass` contains one.
 use Rattle.std.specs.Prelude.{ℕ, ◌==◌}
 use Rattle.atomic_table.specs.{Table.Allows, declared.shared.Seat.Seat}
 use Rattle.napi_model.specs.{declared.{state.Seen.Seen, event.Operation.Operation}, Step.seen_after, Word.word_of}
@@ -7,11 +8,11 @@ use Rattle.napi_word.specs.{declared.table.StateTable.StateTable, Knowledge.Know
 use Rattle.napi_word.specs.{Operations.{makes_as_seen, exchanged}}
 use prog.Atomic.{either}
 
--- a step that replaces the word by g of it
+-- the seat may make a step that replaces the word n by g n
 abbrev pub MayMake : StateTable → Seat Content Knowledge → (ℕ → ℕ) → (Seen → Operation) → (Seen → Moves) → Type 0
 MayMake t seat g f m = Allows (Holding t.table.shared.key) t.table.shared.table_id.slots seat.id seat.me 0 g (makes_as_seen f m seat.me)
 
--- a compare-exchange from the word that encodes this to the one after its operation
+-- the seat may make a compare-exchange from the word that encodes `seen` to the word after the operation
 abbrev pub MayExchange : StateTable → Seat Content Knowledge → Seen → (Seen → Operation) → (Seen → Moves) → Type 0
 MayExchange t seat seen f m =
     Allows (Holding t.table.shared.key) t.table.shared.table_id.slots seat.id seat.me 0

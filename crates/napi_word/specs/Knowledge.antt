@@ -5,7 +5,7 @@ use Rattle.{rx_ring.specs.Ends.received_list, napi_model.specs.declared.{state.{
 use Rattle.napi_model.specs.{Step.opening, History.state_after}
 use Rattle.napi_word.specs.declared.history.{LocalHistory.LocalHistory, Delivery.Delivery}
 
--- the first local history is the pass's own; the others are from the seats that it joined
+-- the first local history is the pass's own; the others are from the passes that it joined
 abbrev pub Knowledge : Type 0
 Knowledge = List LocalHistory
 
@@ -14,7 +14,7 @@ abbrev pub is_pass : Knowledge → Bool
 is_pass [] = false
 is_pass (x ∷ xs) = is_some x.number
 
--- the list that a pass shows: a prefix of the one history
+-- the history that a pass shows: a prefix of the table's history
 abbrev pub view_shown : Knowledge → List Event
 view_shown [] = []
 view_shown (x ∷ xs) = x.seen
@@ -43,7 +43,7 @@ view_ring (x ∷ xs) = Some (ring_name x.ring)
 abbrev pub delivery : ℕ → List Packet → RxCtx → Delivery
 delivery c packets ctx = record { by = c; packets = packets; ctx = ctx }
 
--- who delivered, in order
+-- the numbers of the callers that delivered, in order
 abbrev pub deliverers : List Delivery → List ℕ
 deliverers [] = []
 deliverers (d ∷ ds) = d.by ∷ deliverers ds
@@ -53,7 +53,7 @@ abbrev pub packets_of : List Delivery → List Packet
 packets_of [] = []
 packets_of (d ∷ ds) = d.packets ++ packets_of ds
 
--- the context as it was given back last, or the first one if it never was
+-- the context as it was last returned to the slot, or the first context if it never was
 abbrev pub last_of : RxCtx → List Delivery → RxCtx
 last_of ring [] = ring
 last_of ring (d ∷ ds) = last_of d.ctx ds
@@ -62,7 +62,7 @@ last_of ring (d ∷ ds) = last_of d.ctx ds
 unfoldable pub own_deliveries : ℕ → List Delivery → List Delivery
 own_deliveries c ds = filter (λ (d : Delivery). nat_eq d.by c) ds
 
--- the packets that a context has received that was this one at first, after these deliveries
+-- the packets that a context has received after these deliveries, if it was this one at first
 abbrev pub received_by : RxCtx → List Delivery → List Packet
 received_by ring ds = received_list ring ++ packets_of ds
 
@@ -70,12 +70,12 @@ received_by ring ds = received_list ring ++ packets_of ds
 abbrev pub Continues : List Packet → List Packet → Type 0
 Continues before after = after ≡ before ++ drop (length before) after
 
--- the deliveries that a pass shows: a prefix of all
+-- the deliveries that a pass has seen: a prefix of all deliveries
 abbrev pub view_delivered : Knowledge → List Delivery
 view_delivered [] = []
 view_delivered (x ∷ xs) = x.delivered
 
--- the packets that the context has received by these
+-- the packets that the context has received by these deliveries
 abbrev pub received_in : Knowledge → List Packet
 received_in [] = []
 received_in (x ∷ xs) = received_by x.ring x.delivered
@@ -85,7 +85,7 @@ abbrev pub first_in : Knowledge → Option RxCtx
 first_in [] = None
 first_in (x ∷ xs) = Some x.ring
 
--- the context that was given back last
+-- the context that was last returned to the slot
 abbrev pub last_in : Knowledge → Option RxCtx
 last_in [] = None
 last_in (x ∷ xs) = Some (last_of x.ring x.delivered)
@@ -94,7 +94,7 @@ last_in (x ∷ xs) = Some (last_of x.ring x.delivered)
 abbrev pub state_at : Knowledge → List Event → State
 state_at v h = state_after (opening (view_controller v)) h
 
--- the state after the list shown
+-- the state after the history that the pass shows
 abbrev pub state_in : Knowledge → State
 state_in v = state_at v (view_shown v)
 

@@ -28,8 +28,8 @@ pub record IsStored (ctx : RxCtx) (p : Pass) : Type 0 where
   pub polls : polls_of stored ≡ polls_of ctx
   pub unmarked : is_beside stored ≡ false
 
--- the packets that the context in the slot has received, if the pass owns it; otherwise those delivered, as far as the pass has
--- seen
+-- the packets that the context in the slot has received, if the pass owns the slot; otherwise the packets delivered, as far as
+-- the pass has seen
 abbrev pub received_of : Pass → List Packet
 received_of p = carried_received p.seat.me.1 (view_of p)
 
@@ -72,7 +72,7 @@ IsSlotFilled p = p.holds ≢ Out
 abbrev pub PassMayHand : Kind → Pass → Type 0
 PassMayHand kind p = step.MayHand (view_number (view_of p)) kind (state_in (view_of p))
 
--- by the list that it shows, a pass polls the instance, and busy polls it or not
+-- by the history that it shows, the pass polls the instance; the first argument says whether it busy polls
 abbrev pub HasPoll : Bool → Knowledge → Type 0
 HasPoll busy v = step.CallerPolls (view_number v) busy (state_in v)
 
@@ -98,18 +98,18 @@ IsNoOwner p = is_owner (view_number (view_of p)) (place_in (view_of p)) ≡ fals
 abbrev pub Disable : Bool → Pass → Type 0
 Disable on p = disable_in (view_of p) ≡ on
 
--- the context belongs to the ring that the pass names
+-- the context belongs to the ring that the pass knows
 abbrev pub OfItsRing : Pass → RxCtx → Type 0
 OfItsRing p ctx = view_ring (view_of p) ≡ Some (ring_name ctx)
 
 abbrev pub tie_of : (p : Pass) → Tied p.holds p.seat.me
 tie_of p = record { marked = p.marked; right = p.right; ring = p.ring; unmarked = p.unmarked; received = p.received }
 
--- the pass of number c, which has seen and done nothing; the controller's has the slot, with the context in it
+-- the new pass of number c, which has seen and done nothing; the controller's new pass owns the slot, with the context in it
 pub record IsNewPass (t : StateTable) (controller : ℕ) (ctx : RxCtx) (c : ℕ) (p : Pass) : Type 0 where
   pub table : IsPassOf t p
   pub view : view_of p ≡ new_history controller ctx c ∷ []
   pub others : c < controller → p.holds ≡ Nothing
   pub own : c ≡ controller → p.holds ≡ Within
-  -- the controller's has the context that the table was made with, except for the mark of `beside`
+  -- the controller's pass has the context with which the table was made, with the mark of `beside` cleared
   pub stored : c ≡ controller → IsStored ctx p

@@ -1,5 +1,6 @@
--- The one rule of a table: there is one legal history, whose state the word encodes; each number's events in it are one seat's
--- own list, and every list shown is a prefix of it.
+-- The invariant of a table: there is one legal history, and the word encodes the state after it. Each number's events in it are
+-- the own list of one seat (a seat is what `atomic_table` gives a thread for its steps), and every list that a seat shows is a
+-- prefix of it.
 use Rattle.std.specs.Prelude.{◌≡◌, ◌⊎◌, ℕ, zero, suc, ◌+◌, ◌-◌, ◌<◌, ◌≤◌, true, false, List, [], ◌∷◌, ◌++◌, Some, None}
 use Rattle.{atomic_table.specs.Table.State, rx_ring.specs.{declared.ends.RxCtx.RxCtx, Ends.{ring_name, is_beside, received_list}}}
 use Rattle.napi_model.specs.{declared.event.Event.Event, Step.{opening, seen_of}, History.{LegalHistory, state_after, own}, Word.word_of}
@@ -14,18 +15,18 @@ use mathlib.Core.Option as maybe
 abbrev pub Homes : Type 0
 Homes = List (maybe.Option Content)
 
--- the slot contains the context of that ring as it was given back last, which has received all packets delivered, without the
--- mark of `beside`: its next owner's poll reads the ring
+-- the slot contains the context of that ring as it was last returned; it has received all packets delivered, and its mark of
+-- `beside` is clear, so the next owner's poll reads the ring
 abbrev pub Home : RxCtx → List Delivery → Homes → Type 0
 Home ring ds homes = (x : RxCtx) × (homes ≡ maybe.some (Some x) ∷ []) × (ring_name x ≡ ring_name ring) × (is_beside x ≡ false)
     × (received_list x ≡ received_by ring ds) × (x ≡ last_of ring ds)
 
--- a local history of number c, at its position among the seats' local histories: the only one of c, whose own list is c's events in the
--- history, and which has seen all of them
+-- the local history of number c, at its position among the seats: no other one has number c, its own list is c's events in the
+-- history, and it has seen all of them
 pub record Owned (key : Key) (h : List Event) (ds : List Delivery) (seat : ℕ → ℕ × ℕ) (at : ℕ × ℕ) (x : LocalHistory) (c : ℕ) : Type 0 where
   pub whole : own c h ≡ x.mine
   pub shown : own c x.seen ≡ x.mine
-  -- its own deliveries are those that it has seen; while it has the slot it has seen all deliveries
+  -- c's deliveries are those that it has seen; while c owns the slot, it has seen all deliveries
   pub delivers : own_deliveries c ds ≡ own_deliveries c x.delivered
   pub has : has_at c (state_after (opening key.controller) h).place ≡ true → x.delivered ≡ ds
   pub here : seat c ≡ at
@@ -39,38 +40,38 @@ pub record Fits (key : Key) (h : List Event) (ds : List Delivery) (seat : ℕ �
   pub ring : x.ring ≡ key.ring.value
   pub begun : x.begun ≡ true
 
--- the rule, for the words, the content of the slot and all views
+-- the invariant, for the word, the content of the slot and all views
 pub record Kept (key : Key) (s : State Content Knowledge) : Type 0 where
   pub history : List Event
-  -- what each owner of the slot received, in the order in which it gave the slot back
+  -- the packets that each owner of the slot received, in the order in which the owners returned the slot
   pub deliveries : List Delivery
-  -- the seat of each number, and which of its local histories is the number's
+  -- where each number's local history is: the seat, and the index in its view
   pub seat : ℕ → ℕ × ℕ
   pub legal : LegalHistory key.controller (opening key.controller) history
   pub word : s.words ≡ word_of (seen_of (state_after (opening key.controller) history)) ∷ []
-  -- while a caller polls or controls, that caller knows the content of the slot
+  -- while no caller polls or controls the instance, the context is in the slot; otherwise its owner has it
   pub slot : is_out (state_after (opening key.controller) history).place ≡ false → Home key.ring.value deliveries s.homes
   pub histories : (id : ℕ) (v : Knowledge) → get_elem? s.views id ≡ maybe.some v → (k : ℕ) (x : LocalHistory) → get_elem? v k ≡ maybe.some x
       → Fits key history deliveries seat (id, k) x
-  -- only numbers up to the controller's have events
+  -- only numbers from 0 to the controller's have events
   pub few : (c : ℕ) → key.controller < c → own c history ≡ []
-  -- there is one for each event that gave the slot back
+  -- there is one delivery for each event that returned the slot
   pub order : deliverers deliveries ≡ givers (opening key.controller) history
   pub few_deliver : (c : ℕ) → key.controller < c → own_deliveries c deliveries ≡ []
 
--- ---- how a table is made: the first seat takes the slot for the controller, and gives each other number to a seat of its own
+-- ---- how a table is made: the first seat takes the slot for the controller, and splits off a seat for each other number
 
--- number c, which has seen and done nothing
+-- the local history of number c, which has seen and done nothing
 abbrev pub new_history : ℕ → RxCtx → ℕ → LocalHistory
 new_history controller ring c =
     record { begun = true; number = Some c; seen = []; mine = []; delivered = []; controller = controller; ring = ring }
 
--- this many of them, from n on
+-- the new local histories of this many numbers, from n on
 abbrev pub new_histories_from : ℕ → RxCtx → ℕ → ℕ → Knowledge
 new_histories_from controller ring n zero = []
 new_histories_from controller ring n (suc k) = new_history controller ring n ∷ new_histories_from controller ring (n + 1) k
 
--- the controller's, and those from n on, which are still to be given to seats of their own
+-- the local histories of the controller, and of the numbers from n on, which aren't split off yet
 abbrev pub maker_at : ℕ → RxCtx → ℕ → Knowledge
 maker_at controller ring n = new_history controller ring controller ∷ new_histories_from controller ring n (controller - n)
 
@@ -86,7 +87,7 @@ abbrev pub begun_view : Knowledge → Knowledge
 begun_view [] = []
 begun_view (x ∷ xs) = maker_at x.controller x.ring 0
 
--- before the first seat has the slot: it contains the context with which the table is made
+-- before the first seat takes the slot: the slot contains the context with which the table is made
 pub record Starts (key : Key) (s : State Content Knowledge) : Type 0 where
   pub word : s.words ≡ 9 ∷ []
   pub home : s.homes ≡ maybe.some (Some key.ring.value) ∷ []
@@ -97,7 +98,7 @@ Holding key s = Starts key s ⊎ Kept key s
 
 -- ---- how seats are split and joined
 
--- the view after its second local history was split off
+-- the view without its second local history, which was split off
 abbrev pub left_of : Knowledge → Knowledge
 left_of [] = []
 left_of (x ∷ []) = x ∷ []
@@ -108,7 +109,7 @@ right_of [] = []
 right_of (x ∷ []) = []
 right_of (x ∷ y ∷ ys) = y ∷ []
 
--- a copy: the list that a pass shows, without a number
+-- a copy: the history that a pass shows, without a number
 abbrev pub copy : LocalHistory → LocalHistory
 copy x = record x { number = None; mine = [] }
 

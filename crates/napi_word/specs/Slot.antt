@@ -1,4 +1,5 @@
--- The slot of the poll context: who owns it, and what a seat holds of it.
+-- The slot of the poll context: which caller owns it, and what a seat holds of it (a seat is what `atomic_table` gives a thread
+-- for its steps).
 use Rattle.std.specs.Prelude.{◌≡◌, ℕ, zero, Bool, true, false, not, ◌&&◌, nat_eq, List, [], ◌∷◌, ◌++◌, Option, Some, None}
 use Rattle.{atomic_table.specs.Table.Me, rx_ring.specs.{declared.{packet.Packet.Packet, ends.RxCtx.RxCtx}, Ends.{RingName, ring_name}}}
 use Rattle.{rx_ring.specs.Ends.{is_beside, received_list}, napi_model.specs.declared.state.Place.{Place, TheVariants.{Nobody, Granted}}}
@@ -30,7 +31,7 @@ is_out ToThread = false
 is_out (Polling owner) = true
 is_out (Control owner) = true
 
--- an event gives the slot back: its caller owned it, and then no caller does
+-- an event returns the slot: its caller owned it before, and no caller owns it after
 abbrev pub is_given : State → Event → Bool
 is_given s e = has_at e.caller s.place && not (is_out (after s e).place)
 
@@ -38,16 +39,16 @@ abbrev pub one_if : Bool → ℕ → List ℕ
 one_if true c = c ∷ []
 one_if false c = []
 
--- the callers that gave it back, in the order of a history
+-- the callers that returned the slot, in the order of a history
 unfoldable pub givers : State → List Event → List ℕ
 givers s [] = []
 givers s (e ∷ es) = one_if (is_given s e) e.caller ++ givers (after s e) es
 
--- by the list that it shows, a pass owns the slot
+-- by the history that it shows, the pass owns the slot
 abbrev pub owns_slot : Knowledge → Bool
 owns_slot v = has_at (view_number v) (place_in v)
 
--- ---- what a seat holds, and the mark that says so
+-- ---- what a seat holds of the slot, and the pass's mark for it
 
 abbrev pub Content : Type 0
 Content = Option RxCtx
@@ -66,36 +67,37 @@ has_slot Nothing = false
 has_slot Within = true
 has_slot Out = true
 
--- the ring of the context in the slot that is held, otherwise the view's
+-- the ring of the context in the slot, if the seat holds the slot; otherwise the view's ring
 abbrev pub ring_in : Carried → Knowledge → Option RingName
 ring_in ((k, Some x) ∷ l) v = Some (ring_name x)
 ring_in ((k, None) ∷ l) v = view_ring v
 ring_in [] v = view_ring v
 
--- the context in the slot that is held
+-- the context in the slot, if the seat holds the slot
 abbrev pub ctx_in : Carried → Option RxCtx
 ctx_in ((k, x) ∷ l) = x
 ctx_in [] = None
 
--- whether the mark of `beside` is set on the context in the slot that is held
+-- whether the mark of `beside` is set on that context
 abbrev pub beside_in : Carried → Bool
 beside_in ((k, Some x) ∷ l) = is_beside x
 beside_in ((k, None) ∷ l) = false
 beside_in [] = false
 
--- what the context in the slot that is held has received, otherwise what the view shows
+-- the packets that the context in the slot has received, if the seat holds the slot; otherwise those that the view shows
 abbrev pub carried_received : Carried → Knowledge → List Packet
 carried_received ((k, Some x) ∷ l) v = received_list x
 carried_received ((k, None) ∷ l) v = received_in v
 carried_received [] v = received_in v
 
--- the mark says what the seat holds: the slot exactly if the view says so, with the context of that ring in it or with none
+-- the pass's mark agrees with what the seat holds: it holds the slot exactly if the view says so, with a context of that ring
+-- in it or with none
 pub record Tied (h : Holds) (me : Knowledge × Carried) : Type 0 where
   pub marked : hold_of me.1 ≡ Some h
   pub right : owns_slot me.0 ≡ has_slot h
   pub ring : ring_in me.1 me.0 ≡ view_ring me.0
   pub unmarked : beside_in me.1 ≡ false
-  -- the context in it has received all packets delivered, and maybe more since
+  -- the context in the slot has received all packets delivered, and maybe more since
   pub received : Continues (received_in me.0) (carried_received me.1 me.0)
 
 -- ---- how a step changes it
@@ -110,9 +112,9 @@ moved stays h = h
 moved taken h = Within
 moved given h = Nothing
 
--- ---- what a step shows of the deliveries: all until then, which the caller knows from then on
+-- ---- what a step shows of the deliveries: all that were made before it, and the caller knows them from then on
 
--- a slot with its context in it is given back: one more delivery, of what was received since it was taken
+-- a slot with its context in it is returned: one more delivery, of what was received since the slot was taken
 abbrev pub GivesSlotBack : Bool → List Delivery → Me Content Knowledge → Me Content Knowledge → Type 0
 GivesSlotBack true before me me' =
     (x : RxCtx) × (packets : List Packet) × (me.1 ≡ (0, Some x) ∷ []) × (received_list x ≡ received_in me.0 ++ packets)
@@ -121,20 +123,20 @@ GivesSlotBack false before me me' = (view_delivered me'.0 ≡ before) × (me'.1 
 
 abbrev pub Shifts : Moves → List Delivery → Me Content Knowledge → Me Content Knowledge → Type 0
 Shifts stays before me me' = (view_delivered me'.0 ≡ before) × (me'.1 ≡ me.1)
--- the context that is taken is the one that was given back last, and has received all packets delivered
+-- the context that is taken is the one that was returned last, and has received all packets delivered
 Shifts taken before me me' = (view_delivered me'.0 ≡ before)
     × ((x : RxCtx) × (me'.1 ≡ (0, Some x) ∷ []) × (received_list x ≡ received_in me'.0) × (last_in me'.0 ≡ Some x))
 Shifts given before me me' = GivesSlotBack (owns_slot me.0) before me me'
 
 pub record SlotDelivers (m : Moves) (me : Me Content Knowledge) (me' : Me Content Knowledge) : Type 0 where
-  -- all deliveries, just before
+  -- all deliveries before the step
   pub before : List Delivery
-  -- they begin with all that the pass had seen, by itself or from passes that it met
+  -- they begin with all that the pass had seen, itself or from passes that it met
   pub begins : (k : ℕ) (x : LocalHistory) → get_elem? me.0 k ≡ maybe.some x → IsPrefix x.delivered before
-  -- the caller's own ones are those that it knew
+  -- the caller's own deliveries are those that it knew
   pub exact : own_deliveries (view_number me.0) before ≡ own_deliveries (view_number me.0) (view_delivered me.0)
-  -- while the caller has the slot, no other caller delivers
+  -- while the caller owns the slot, no other caller delivers
   pub held : owns_slot me.0 ≡ true → before ≡ view_delivered me.0
-  -- the first context is known as before
+  -- the first context stays the same
   pub first : first_in me'.0 ≡ first_in me.0
   pub shifts : Shifts m before me me'

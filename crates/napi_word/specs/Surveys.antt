@@ -1,4 +1,5 @@
--- A survey: all passes of a table meet at once, and one of them looks. Then each shows the whole history and all deliveries.
+-- A survey: all passes of a table meet at once, and one of them makes a look. Then each shows the complete history and all
+-- deliveries.
 use Rattle.std.specs.Prelude.{◌≡◌, ℕ, ◌<◌, true, List, [], ◌∷◌, ◌++◌, slice_get, Some}
 use Rattle.atomic_table.specs.Table.{Me}
 use Rattle.{rx_ring.specs.declared.ends.RxCtx.RxCtx, napi_model.specs.declared.{state.Seen.Seen, event.Event.Event}}
@@ -14,17 +15,17 @@ use lib.ListN.{get_elem?}
 use mathlib.Core.Option as maybe
 use Rattle.napi_word.specs.Knowledge as view
 
--- the whole history and all deliveries, for a controller with this number
+-- this is a complete history with all its deliveries, for a controller with number k
 pub record IsWhole (k : ℕ) (h : List Event) (ds : List Delivery) : Type 0 where
   pub legal : LegalHistory k (opening k) h
   -- numbers after the controller's have no events and no deliveries
   pub others : (c : ℕ) → k < c → own c h ≡ []
   pub few : (c : ℕ) → k < c → own_deliveries c ds ≡ []
-  -- there is one delivery for each event that gave the context back
+  -- there is one delivery for each event that returned the context to the slot
   pub order : deliverers ds ≡ givers (opening k) h
 
--- a view before and after a survey: it then shows the whole, which is the history that the look e found and the look itself;
--- that history had no own events beyond those that the pass knew
+-- A view before and after a survey. Afterwards it shows the complete history: the one that the look e found, and then the look.
+-- That history has no events of this pass beyond those that the pass knew.
 pub record Syncs (found : List Event) (e : Event) (ds : List Delivery) (v w : Knowledge) : Type 0 where
   pub shown : view.view_shown w ≡ found ++ e ∷ []
   pub begins : IsPrefix (view.view_shown v) found
@@ -35,41 +36,41 @@ pub record Syncs (found : List Event) (e : Event) (ds : List Delivery) (v w : Kn
   pub delivered_exact : own_deliveries (view_number v) ds ≡ own_deliveries (view_number v) (view.view_delivered v)
   -- the owner of the slot had seen all deliveries
   pub held : owns_slot v ≡ true → view.view_delivered v ≡ ds
-  -- number, controller and ring don't change
+  -- the number, the controller and the ring of the pass don't change
   pub pass : is_pass w ≡ true
   pub number : view_number w ≡ view_number v
   pub controller : view_controller w ≡ view_controller v
   pub ring : first_in w ≡ first_in v
-  -- nor does what others can't change
+  -- what other callers can't change doesn't change either
   pub owner : is_owner (view_number v) (state_at v found).place ≡ is_owner (view_number v) (place_in v)
   pub place : is_owner (view_number v) (place_in v) ≡ true → (state_at v found).place ≡ place_in v
   pub busy : is_owner (view_number v) (place_in v) ≡ true → (state_at v found).flags.in_busy_poll ≡ busy_in v
   pub disable : view_number v ≡ view_controller v → (state_at v found).flags.disable ≡ disable_in v
 
--- a pass before and after a survey: it is the same pass, and its hold is the same
+-- a pass before and after a survey: the same pass, with the same hold on the slot
 pub record IsSurveyed (found : List Event) (e : Event) (ds : List Delivery) (p q : Pass) : Type 0 where
   pub table : SameTable p q
   pub holds : q.holds ≡ p.holds
   pub slot : q.seat.me.1 ≡ p.seat.me.1
   pub view : Syncs found e ds (view_of p) (view_of q)
 
--- these passes of the table whose controller has number k were surveyed, by a look of number c that returned x
+-- these passes of a table were surveyed, by a look of number c that returned x; k is the number of the table's controller
 pub record Surveys (k c : ℕ) (x : Seen) (before after : List Pass) : Type 0 where
-  -- the whole history, as the look found it
+  -- the complete history before the look
   pub found : List Event
   pub deliveries : List Delivery
   -- the look is the next event
   pub whole : IsWhole k (found ++ event c (Look x) ∷ []) deliveries
   pub controllers : (i : ℕ) (p : Pass) → slice_get before i ≡ Some p → view_controller (view_of p) ≡ k
-  -- all name the first context of the table
+  -- all passes know the same first context
   pub first : RxCtx
   pub firsts : (i : ℕ) (p : Pass) → slice_get before i ≡ Some p → first_in (view_of p) ≡ Some first
   pub each : (i : ℕ) (p q : Pass) → slice_get before i ≡ Some p → slice_get after i ≡ Some q
       → IsSurveyed found (event c (Look x)) deliveries p q
 
--- ---- how it is made: the local histories are joined, learn the whole by one look, and are split again
+-- ---- how a survey is made: the local histories are joined in one seat, one look updates all of them, and they are split again
 
--- only a pass's own local history
+-- a view with only the pass's own local history
 abbrev pub front : Knowledge → Knowledge
 front [] = []
 front (x ∷ xs) = x ∷ []
@@ -94,7 +95,7 @@ abbrev pub all_synced : List Event → List Delivery → Knowledge → Knowledge
 all_synced h ds [] = []
 all_synced h ds (x ∷ xs) = synced h ds x ∷ all_synced h ds xs
 
--- how the whole relates to a local history with this number
+-- how the complete history relates to the local history of number c
 pub record Knew (k : ℕ) (h : List Event) (ds : List Delivery) (x : LocalHistory) (c : ℕ) : Type 0 where
   pub controller : x.controller ≡ k
   pub begins : IsPrefix x.seen h
@@ -109,31 +110,31 @@ pub record Knew (k : ℕ) (h : List Event) (ds : List Delivery) (x : LocalHistor
       → (state_after (opening k) h).flags.in_busy_poll ≡ (state_after (opening k) x.seen).flags.in_busy_poll
   pub disable : c ≡ k → (state_after (opening k) h).flags.disable ≡ (state_after (opening k) x.seen).flags.disable
 
--- a seat's own local history after the look e
+-- a caller's own local history after its look e
 abbrev pub looked : List Event → Event → List Delivery → LocalHistory → LocalHistory
 looked found e ds x = record x { seen = found ++ e ∷ []; mine = x.mine ++ e ∷ []; delivered = ds }
 
--- and its other local histories, which have learned the whole
+-- a view after the look of its first local history: the others show the complete history too
 abbrev pub all_looked : List Event → Event → List Delivery → Knowledge → Knowledge
 all_looked found e ds [] = []
 all_looked found e ds (x ∷ xs) = looked found e ds x ∷ all_synced (found ++ e ∷ []) ds xs
 
--- a look under the seat's own number, by which all local histories of the seat learn the whole
+-- a look by a seat's first local history, which brings all local histories of the seat up to date
 pub record Surveyed (me : Me Content Knowledge) (n : ℕ) (me' : Me Content Knowledge) : Type 0 where
   pub seen : Seen
   pub word : n ≡ word_of seen
   pub found : List Event
   pub deliveries : List Delivery
-  -- what was seen is the state then
+  -- the look returns what the state shows at that time
   pub state : seen ≡ seen_of (state_after (opening (view_controller me.0)) found)
   pub whole : IsWhole (view_controller me.0) (found ++ event (view_number me.0) (Look seen) ∷ []) deliveries
   pub view : me'.0 ≡ all_looked found (event (view_number me.0) (Look seen)) deliveries me.0
   pub slot : me'.1 ≡ me.1
   pub knew : (k : ℕ) (x : LocalHistory) (c : ℕ) → get_elem? me.0 k ≡ maybe.some x → x.number ≡ Some c
       → Knew (view_controller me.0) found deliveries x c
-  -- the number that looks occurs once
+  -- only the first local history has the number of the caller that looks
   pub once : (k : ℕ) (x : LocalHistory) → get_elem? me.0 k ≡ maybe.some x → x.number ≡ Some (view_number me.0) → k ≡ 0
-  -- all local histories, with a number or not, had seen a prefix, and name the same context
+  -- each local history, with a number or without, had seen a prefix of the history, and all know the same first context
   pub seen_begins : (k : ℕ) (x : LocalHistory) → get_elem? me.0 k ≡ maybe.some x → IsPrefix x.seen found
   pub delivered_begins : (k : ℕ) (x : LocalHistory) → get_elem? me.0 k ≡ maybe.some x → IsPrefix x.delivered deliveries
   pub first : RxCtx

@@ -15,8 +15,8 @@ use napi_model::bits::{MISSED, SCHED, SCHED_THREADED};
 use napi_model::{Done, Operation, Prep, Seen, decode_known, encode};
 use rx_ring::RxCtx;
 
-// Returns the word after an operation, from the word before it. If few bits change, only those are set or cleared, and the
-// flags needn't be encoded again.
+// Returns the word after an operation, computed from the word before it. If few bits change, only those are set or cleared, and
+// the flags needn't be encoded again.
 #[inline(always)]
 #[tactic(auto, using(crate::proofs::Bits::granted_word, crate::proofs::Bits::missed_word, crate::proofs::Bits::again_word, crate::proofs::Bits::released_word))]
 fn word_after(seen: Seen, word: u64, operation: Operation) -> u64
@@ -57,7 +57,7 @@ impl StateTable {
         decode_known(word)
     }
 
-    // Sets these bits, which are clear, and returns what the word showed before: an addition, which is one instruction.
+    // Sets these bits, which must be clear, by an addition (one instruction), and returns what the word showed before.
     #[inline]
     pub(crate) fn add<K: Step>(&self, seat: &mut Seat<Option<RxCtx>, Knowledge>, bits: u64) -> Seen
         requires table { seat.old.table_id ≡ self.now.table.shared.table_id }
@@ -69,7 +69,7 @@ impl StateTable {
         decode_known(word)
     }
 
-    // Clears these bits, which are set, and returns what the word showed before.
+    // Clears these bits, which must be set, and returns what the word showed before.
     #[inline]
     pub(crate) fn subtract<K: Step>(
         &self,
@@ -86,7 +86,7 @@ impl StateTable {
         decode_known(word)
     }
 
-    // Clears all other bits, and returns what the word showed before.
+    // Clears all bits except these, and returns what the word showed before.
     #[inline]
     pub(crate) fn keep<K: Step>(&self, seat: &mut Seat<Option<RxCtx>, Knowledge>, bits: u64) -> Seen
         requires table { seat.old.table_id ≡ self.now.table.shared.table_id }
@@ -98,8 +98,8 @@ impl StateTable {
         decode_known(word)
     }
 
-    // Makes the operation if the word still shows what was seen, and succeeds. Otherwise it writes nothing, and returns what
-    // the word shows. Mostly the instance isn't queued, and the word has only flags; so the two cases are separate.
+    // Makes the operation and succeeds, if the word still shows what was seen. Otherwise it writes nothing, and returns what
+    // the word shows now. Most instances aren't queued, and their words have only flags, so that case has its own branch.
     #[inline(always)]
     pub(crate) fn exchange<K: Step>(
         &self,
@@ -134,7 +134,7 @@ impl StateTable {
         }
     }
 
-    // The same, for an instance that is queued or not.
+    // The same compare-exchange, for both cases.
     #[inline(always)]
     fn exchange_seen<K: Step>(
         &self,

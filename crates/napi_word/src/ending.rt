@@ -1,4 +1,4 @@
-//! Closing a table, after all its passes are joined.
+//! Closing a table, after all its passes were joined.
 ghost use Rattle.std.specs.Prelude.{◌≡◌, ℕ, ◌+◌, ◌≤◌, List, [], ◌∷◌, length, Some, slice_get};
 ghost use Rattle.napi_word.specs.declared.history.Holds.TheVariants as holds;
 ghost use Rattle.napi_word.specs.Knowledge.{view_ring};
@@ -12,14 +12,14 @@ use crate::table::{Pass, StateTable};
 use atomic_table::Seat;
 use rx_ring::RxCtx;
 
-/// What is left of a closed table.
+/// What is left after a table was closed.
 #[derive(Drop)]
 pub struct Ended {
-    /// The context; `None` exactly if a pass has it out of the slot.
+    /// The context, or `None` if a pass has taken it out of the slot.
     pub ctx: Option<RxCtx>,
 }
 
-// Returns a context that a pass had in the slot, otherwise the one in the slot itself. If a pass has it out, there is none.
+// Returns a context that a pass had in the slot, otherwise the one in the slot itself; `None` if a pass has taken it out.
 fn pick(found: Found, slot: Option<RxCtx>) -> Option<RxCtx>
     ensures { result ≡ picked found.out found.ctx slot }
 {
@@ -34,7 +34,8 @@ fn pick(found: Found, slot: Option<RxCtx>) -> Option<RxCtx>
 }
 
 impl StateTable {
-    // Returns the seat of a pass that owns the slot and has the context out of it: the slot goes back empty.
+    // Returns the seat of a pass that owns the slot and has taken the context out of it: the slot is returned empty. A seat is
+    // what `atomic_table` gives a thread for its steps.
     fn return_slot(&self, pass: Pass) -> Seat<Option<RxCtx>, Knowledge>
         requires table { IsPassOf self.now pass }
         requires out { pass.holds ≡ holds.Out }
@@ -46,7 +47,7 @@ impl StateTable {
         seat
     }
 
-    // Returns the seat of a pass, which holds nothing any more. What it held is added to `found`.
+    // Returns the seat of a pass, which holds nothing afterwards. What it held is added to `found`.
     fn give_up(&self, pass: Pass, found: &mut Found) -> Seat<Option<RxCtx>, Knowledge>
         requires table { IsPassOf self.now pass }
         ensures table { result.table_id ≡ self.now.table.shared.table_id }
@@ -71,7 +72,8 @@ impl StateTable {
         }
     }
 
-    /// Starts a gathering with the first pass. A caller that doesn't allocate joins the others to it one by one, and finishes.
+    /// Starts to gather the passes of a table, with the first one. This is for callers that must not allocate: they add the
+    /// other passes by [`join`](StateTable::join), and then call [`finish`](StateTable::finish).
     pub fn gather(&self, first: Pass) -> Gathering
         requires table { IsPassOf self.now first }
         ensures table { IsGatheredOf self.now result }
@@ -85,7 +87,7 @@ impl StateTable {
         Gathering { seat, found }
     }
 
-    /// Adds one more pass.
+    /// Adds one more pass to those gathered.
     pub fn join(&self, gathering: &mut Gathering, pass: Pass)
         requires table { IsGatheredOf self.now gathering.old }
         requires pass { IsPassOf self.now pass }
@@ -100,7 +102,7 @@ impl StateTable {
             .join_seat::<JoinsPass>(&mut gathering.seat, seat);
     }
 
-    /// Closes the table. If all its passes were gathered, this yields its one history.
+    /// Closes the table. If all its passes were gathered, the contract states its complete history.
     pub fn finish(self, gathering: Gathering) -> Ended
         requires table { IsGatheredOf self gathering }
         ensures { (taken : List Pass) → Gathered taken gathering.seat.me.0 gathering.found
@@ -117,8 +119,9 @@ impl StateTable {
     }
 }
 
-/// Closes the table with all its passes. This yields its one history: it is legal, each pass's own list is exactly its number's
-/// events in it, and the longest list shown is all of it. A pass that has the context out of the slot may be given too.
+/// Closes the table with all its passes. The contract states its complete history: it is legal, each pass's own list is exactly
+/// its number's events in it, and the longest list shown is the history itself. A pass that has taken the context out of the
+/// slot is allowed too.
 pub fn end(table: StateTable, mut passes: Vec<Pass>) -> Ended
     requires passes { (k : ℕ) (p : Pass) → slice_get passes.items k ≡ Some p → IsPassOf table p }
     requires count { length passes.items ≡ controller_of_table table + 1 }

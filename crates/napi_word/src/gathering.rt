@@ -9,13 +9,13 @@ use rx_ring::RxCtx;
 /// What the gathered passes held.
 #[derive(Drop)]
 pub struct Found {
-    /// A context that a pass had in the slot.
+    /// The context, if a pass had it in the slot.
     pub(crate) ctx: Option<RxCtx>,
     /// Whether a pass had the context out of the slot.
     pub(crate) out: bool,
 }
 
-/// One seat that has joined those of other passes, to close their table.
+/// The passes gathered so far, as one seat (what `atomic_table` gives a thread for its steps) that has joined theirs.
 pub struct Gathering {
     pub(crate) seat: Seat<Option<RxCtx>, Knowledge>,
     pub(crate) found: Found,

@@ -47,8 +47,8 @@ fn back(mut slots: Vec<Option<RxCtx>>) -> TableBack
     TableBack { ctx }
 }
 
-// Takes the slot for the controller, by the first seat, and clears a mark of `beside` on the context. The seat has the local histories
-// of all numbers, the controller's first.
+// Takes the slot for the controller with the table's first seat (what `atomic_table` gives a thread for its steps), and clears
+// the mark of `beside` on the context. The seat has the local histories of all numbers, the controller's first.
 fn begin(table: &StateTable, mut seat: Seat<Option<RxCtx>, Knowledge>) -> Pass
     requires table { seat.table_id ≡ table.now.table.shared.table_id }
     requires first { seat.me ≡ (first_view table.now.table.shared.key, []) }
@@ -72,7 +72,7 @@ fn begin(table: &StateTable, mut seat: Seat<Option<RxCtx>, Knowledge>) -> Pass
     }
 }
 
-// Splits off the local history of the next number, as a pass of its own.
+// Splits off the local history of the next number, into a pass of its own.
 fn next_pass(table: &StateTable, maker: &mut Pass, number: u32) -> Pass
     requires table { IsPassOf table.now maker.old }
     requires number { number < table.now.table.shared.key.controller }

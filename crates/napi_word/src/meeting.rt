@@ -1,4 +1,4 @@
-//! One pass learns what another one has seen.
+//! One pass learns the events that another one has seen.
 ghost use Rattle.std.specs.Prelude.{◌≡◌};
 ghost use mathlib.Core.List.{IsPrefix};
 ghost use Rattle.napi_model.specs.declared.event.Operation.TheVariants.{Look};
@@ -11,8 +11,8 @@ use crate::table::{Pass, StateTable};
 use napi_model::Seen;
 
 impl StateTable {
-    /// Makes a look with each pass, and returns both. The list that the first shows is then a prefix of the second's: later
-    /// calls of the second come after all that the first had done.
+    /// Reads the word with `first` and then with `second`, and returns both results. Afterwards `second` has seen all events
+    /// that `first` has seen: its later calls come after all that `first` had done.
     pub fn meet(&self, first: &mut Pass, second: &mut Pass) -> (Seen, Seen)
         requires first { IsPassOf self.now first.old }
         requires second { IsPassOf self.now second.old }

@@ -1,4 +1,4 @@
-//! Moving the context out of the slot and back into it. These steps are no events.
+//! Moving the context out of the slot and back into it. These steps aren't events of the history.
 ghost use Rattle.std.specs.Prelude.{◌≡◌, false, Some};
 ghost use mathlib.Core.List.{IsPrefix};
 ghost use Rattle.rx_ring.specs.Ends.{is_beside, received_list};

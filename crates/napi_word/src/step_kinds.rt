@@ -1,4 +1,4 @@
-//! The kinds of steps: for each, its operation and its move of the slot, by the word that it finds.
+//! The kinds of steps. Each determines its operation, and how it moves the slot, from the word that it finds.
 ghost use Rattle.napi_word.specs.Rule.{left_of, right_of, copy_of, joined, spent_view};
 ghost use Rattle.napi_word.specs.Operations.{makes_as_seen, exchanged, table_begun, slot_returned};
 ghost use Rattle.napi_word.specs.Surveys.{Surveyed, with_front, but_last, last_alone};
@@ -19,7 +19,7 @@ pub(crate) trait Step {
     ghost moves: { Seen → Moves };
 }
 
-/// A load, an or, or an and that makes a step.
+/// A step by a load, an or, or an and.
 pub(crate) struct ByWord<K: Step> {
     marker: PhantomData<K>,
 }
@@ -28,7 +28,7 @@ impl<K: Step> Play<Option<RxCtx>, Knowledge> for ByWord<K> {
     ghost then = { λ s. makes_as_seen K.operation K.moves };
 }
 
-/// A compare-exchange that makes a step if it succeeds, otherwise a look.
+/// A step by a compare-exchange: its operation if it succeeds, otherwise a look.
 pub(crate) struct Exchanged<K: Step> {
     marker: PhantomData<K>,
 }
@@ -257,21 +257,22 @@ impl Step for EnablesThreaded {
     ghost moves = { λ x. given };
 }
 
-/// The first seat takes the slot for the controller, and has the local histories of all numbers. It is no event.
+/// The first seat of a table (what `atomic_table` gives a thread for its steps) takes the slot for the controller. It gets a
+/// local history for each number. This is no event.
 pub(crate) struct TakesFirstSlot;
 
 impl Play<Option<RxCtx>, Knowledge> for TakesFirstSlot {
     ghost then = { λ s. table_begun };
 }
 
-/// A pass whose context is out of the slot returns the empty slot, when its table is closed. It is no event.
+/// A pass that has taken the context out of the slot returns the empty slot, when its table is closed. This is no event.
 pub(crate) struct ReturnsSlot;
 
 impl Play<Option<RxCtx>, Knowledge> for ReturnsSlot {
     ghost then = { λ s. slot_returned };
 }
 
-/// The first seat gives a number to a new seat.
+/// The first seat splits off a seat for one of the numbers.
 pub(crate) struct GivesNumber;
 
 impl Split<Knowledge> for GivesNumber {
@@ -280,7 +281,7 @@ impl Split<Knowledge> for GivesNumber {
     ghost right = { right_of };
 }
 
-/// A pass makes a copy, for another pass, of the list that it has seen.
+/// A pass makes a copy of the history that it has seen, for another pass.
 pub(crate) struct CopiesHistory;
 
 impl Split<Knowledge> for CopiesHistory {
@@ -289,7 +290,7 @@ impl Split<Knowledge> for CopiesHistory {
     ghost right = { copy_of };
 }
 
-/// One pass joins another.
+/// One pass joins another one, with all its local histories.
 pub(crate) struct JoinsPass;
 
 impl Join<Knowledge> for JoinsPass {
@@ -298,7 +299,7 @@ impl Join<Knowledge> for JoinsPass {
     ghost spent = { spent_view };
 }
 
-/// One pass joins the own local history of another.
+/// One pass joins only the other's own local history.
 pub(crate) struct JoinsOwn;
 
 impl Join<Knowledge> for JoinsOwn {
@@ -307,7 +308,7 @@ impl Join<Knowledge> for JoinsOwn {
     ghost spent = { spent_view };
 }
 
-/// The local history that was joined last becomes a seat of its own again.
+/// The local history that was joined last is split off into a seat of its own.
 pub(crate) struct PartsLast;
 
 impl Split<Knowledge> for PartsLast {
@@ -316,7 +317,7 @@ impl Split<Knowledge> for PartsLast {
     ghost right = { last_alone };
 }
 
-/// A look of the seat's own local history, by which its other local histories learn the whole history.
+/// A look of the seat's own local history, which brings its other local histories up to date.
 pub(crate) struct Surveying;
 
 impl Play<Option<RxCtx>, Knowledge> for Surveying {

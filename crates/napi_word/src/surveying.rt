@@ -1,4 +1,4 @@
-//! All passes of a table meet at once.
+//! Surveys: all passes of a table meet at once.
 ghost use Rattle.std.specs.Prelude.{◌≡◌, [], ◌∷◌};
 ghost use Rattle.napi_model.specs.declared.event.Operation.TheVariants.{Look};
 ghost use Rattle.napi_model.specs.Step.{seen_of};
@@ -14,9 +14,9 @@ use crate::table::{Pass, StateTable};
 use napi_model::{Seen, decode_known};
 
 impl StateTable {
-    /// Lets four passes of a table meet at once, three callers that own nothing and `last`, which makes a look; returns them in
-    /// order, and what was seen. Then each shows the whole history, which ends in that look and in which its own list is exact,
-    /// and all deliveries. Nothing is written.
+    /// Lets four passes of a table meet at once: three callers that own nothing, and `last`, which makes a look. Returns them
+    /// in order, with what the look saw. Then each shows the complete history, which ends in that look and has exactly the
+    /// pass's own events in it, and all deliveries. Nothing is written.
     #[inline]
     pub fn survey(
         &self,

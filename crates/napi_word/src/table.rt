@@ -18,7 +18,8 @@ pub struct StateTable {
 }
 
 /// One caller's access to a table: its number, the list of events that it has seen, and a mark that says what it holds of the
-/// slot. It can be sent to another thread. It is linear in effect: if one is dropped, its table can't be closed any more.
+/// slot. It can be sent to another thread. Dropping one is allowed, but has a cost: if one is dropped, its table can't be
+/// closed any more.
 #[derive(Drop)]
 pub struct Pass {
     pub(crate) seat: Seat<Option<RxCtx>, Knowledge>,

@@ -5,6 +5,7 @@ pub use Rattle.poll_runs.specs.Laws
 pub use Rattle.poll_runs.specs.Plain
 pub use Rattle.poll_runs.specs.Polling
 pub use Rattle.poll_runs.specs.Polls
+pub use Rattle.poll_runs.specs.Ranges
 pub use Rattle.poll_runs.specs.Run
 pub use Rattle.poll_runs.specs.Thread
 pub use Rattle.poll_runs.specs.declared.bench.BusyReport

@@ -1,4 +1,4 @@
--- One more act.
+-- The effect of one more act.
 use Rattle.std.proofs.{lemmas.Grind.common_steps, Common.{◌≡◌, ℕ, ◌+◌, ◌≤◌, length, List, ◌++◌, sym, arith, add-one, ap, subst, Bool}}
 use Rattle.{rx_ring.specs.{declared.{packet.Packet.Packet, ends.RxIn.RxIn}, Ends.SameIn}, poll_interrupts.specs.declared.acts.Act.Act}
 use Rattle.poll_interrupts.specs.{declared.worker.WorkerHandles.WorkerHandles, Acts.{after_acts, arrivals, brings}, Calls.{Acts, AllActs}}

@@ -1,4 +1,4 @@
--- What follows from a closed instance for the calls made on it.
+-- What a closed instance implies for the calls made on it.
 use Rattle.napi_word.specs.{Knowledge.{deliverers, own_deliveries, packets_of}, Slot.givers}
 use Rattle.poll_interrupts.specs.{Closings.{IsClosedAs, seats_in}, Runs.IsEnded}
 use Rattle.napi_calls.specs.{Closed.IsHistoryOf, Instance.{callers_of, first_of_instance}}

@@ -1,4 +1,4 @@
--- What the calls by a worker's handles add to its ledger.
+-- What the calls by a worker's handles add to its ledger (`Ledger` of `specs/Runs.antt`).
 use Rattle.std.proofs.Common.{arith, rules, ◌≡◌, ℕ, zero, suc, ◌≤◌, Bool, true, false, List, [], ◌∷◌, ◌++◌, length, inl, inr, ⊎_elim, refl}
 use Rattle.std.{proofs.{Common.{sym, ap, ◌∙◌, subst, append_assoc}, lemmas.Grind.common_steps}, specs.Prelude.{flat_map, if◌then◌else◌}}
 use Rattle.rx_ring.specs.{declared.{ends.RxIn.RxIn, packet.Packet.Packet}, Ends.{capacity_of, put_list}}
@@ -16,21 +16,21 @@ use Rattle.napi_model.specs.declared.event.Operation.TheVariants as operation
 use Rattle.napi_calls.specs.declared.answers.Sched.TheVariants as sched
 use Rattle.poll_interrupts.specs.declared.acts.Act.TheVariants as act
 
--- ---- calls at one seat
+-- ---- calls of one caller
 
--- between p and q the seat's own events grew by these operations
+-- between the passes p and q, the caller's own events grew by these operations
 abbrev Grew : Pass → List Operation → Pass → Type 0
 Grew p os q = (own_list q ≡ own_list p ++ events (pass_number p) os) × (pass_number q ≡ pass_number p)
 
 made_grew : (p : Pass) (os : List Operation) (q : Pass) → Made p os q → Grew p os q
 made_grew p os q m = (m.grown, m.seat.number)
 
--- one call, and then another
+-- two calls, one after the other
 grew_both : (p : Pass) (os : List Operation) (q : Pass) (rest : List Operation) (r : Pass) → Grew p os q → Grew q rest r
     → Grew p (os ++ rest) r
 grew_both p os q rest r a b = grind (arith, common_steps)
 
--- a call of one of some kind made these operations
+-- a call made some operations of this kind
 abbrev Grows : (List Operation → Type 0) → Pass → Pass → Type 0
 Grows Is p q = (os : List Operation) × Is os × Grew p os q
 
@@ -71,18 +71,18 @@ enables threaded p q h = (flat_map looks h.0 ++ operation.Look h.1 ∷ operation
 disables : (p q : Pass) → Disables p q → Grows IsDisabling p q
 disables p q h = (_, (h.0, h.1, refl), made_grew p _ q h.2)
 
--- ---- a worker's handles as its ledger
+-- ---- a worker's handles, and the ledger that they amount to
 
 abbrev handles_of : Caller → ControllerState → Bool → WorkerHandles
 handles_of caller control threaded = record { caller = caller; control = control; threaded = threaded }
 
--- whose handles they are
+-- the owner of the handles (`Whose`)
 pub record IsOf (w : Whose) (handles : WorkerHandles) (rx : RxIn) : Type 0 where
   pub caller : pass_number handles.caller.pass ≡ w.caller
   pub controller : pass_number (pass_of handles.control) ≡ w.controller
   pub places : capacity_of rx ≡ w.places
 
--- what was done with the handles
+-- the calls by these handles changed the ledger by this relation
 abbrev pub Did : Whose → (Ledger → Ledger → Type 0) → WorkerHandles → RxIn → WorkerHandles → RxIn → Type 0
 Did w Is a before b after = Is (ledger_of a before) (ledger_of b after) × IsOf w b after
 
@@ -139,7 +139,7 @@ still_of : (w : Whose) (a b : WorkerHandles) (before after : RxIn)
     → capacity_of after ≡ capacity_of before → IsOf w a before → IsOf w b after
 still_of w a b before after caller controller places of = grind (arith, common_steps)
 
--- the controller's own events grew, and it is on now or isn't
+-- the controller's own events grew, and the instance is now on or off
 switched : (w : Whose) (a b : WorkerHandles) (before after : RxIn) (os : List Operation) (on : Bool)
     → own_list (pass_of b.control) ≡ own_list (pass_of a.control) ++ events (pass_number (pass_of a.control)) os → is_on b.control ≡ on
     → b.caller ≡ a.caller → b.threaded ≡ a.threaded → put_list after ≡ put_list before → IsOf w a before
@@ -189,7 +189,7 @@ all_add w answer after d (suc n) a b first last h of = let before = all_add w an
 of_itself : (a : WorkerHandles) (rx : RxIn) (thread : Bool) → IsOf (whose a rx thread) a rx
 of_itself a rx thread = record { caller = refl; controller = refl; places = refl }
 
--- the seats stay the same
+-- an act doesn't change which callers the handles have
 pub all_same : {D : Type 0} (thread : Bool) (answer : D → ℕ → Act) (after : D → ℕ → D) (d : D) (n : ℕ) (a b : WorkerHandles)
     (first last : RxIn)
     → AllActs thread answer after d n a b first last → AreSameHandles a b
@@ -199,7 +199,7 @@ all_same thread answer after d n a b first last h =
 
 -- ---- a worker's whole run
 
--- turned on or off, the seat stays the same
+-- enabling or disabling doesn't change the controller's pass
 on_same : (set : Bool) (before after : ControllerState) → TurnsOn set before after
     → pass_number (pass_of after) ≡ pass_number (pass_of before)
 on_same set (On control) after h = ap (λ c. pass_number (pass_of c)) h
@@ -213,7 +213,7 @@ pub off_is : (before after : ControllerState) → TurnsOff before after → is_o
 off_is (On control) after h = h.0
 off_is (Off control) after h = ap (λ c. is_on c) h
 
--- the instance is turned on, acts are made, and it is turned off
+-- the instance is enabled, acts are made, and it is disabled
 module _ (a acted : WorkerHandles) (on off : ControllerState) (turned : TurnsOn a.threaded a.control on)
     (left : TurnsOff acted.control off) where
   pub same_handles : AreSameHandles (record a { control = on }) acted → AreSameHandles a (record acted { control = off })

@@ -3,7 +3,7 @@ use Rattle.std.specs.Prelude.{ℕ, zero, suc, List, [], ◌∷◌, ◌++◌}
 use Rattle.rx_ring.specs.declared.packet.Packet.{Packet}
 use Rattle.poll_interrupts.specs.declared.acts.Act.{Act, TheVariants.Arrive}
 
--- the device after its first n acts, each once and in order
+-- the device after it was asked for its first n acts, each once and in order
 abbrev pub after_acts : {D : Type 0} → (D → ℕ → D) → D → ℕ → D
 after_acts after d zero = d
 after_acts after d (suc n) = after (after_acts after d n) n
@@ -12,7 +12,7 @@ abbrev pub brings : Act → List Packet
 brings (Arrive p) = p ∷ []
 brings _ = []
 
--- the packets that its first n acts bring
+-- the packets that arrive by its first n acts
 abbrev pub arrivals : {D : Type 0} → (D → ℕ → Act) → (D → ℕ → D) → D → ℕ → List Packet
 arrivals answer after d zero = []
 arrivals answer after d (suc n) = arrivals answer after d n ++ brings (answer (after_acts after d n) n)

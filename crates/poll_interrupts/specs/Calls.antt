@@ -12,8 +12,8 @@ use Rattle.napi_model.specs.declared.event.Operation.TheVariants as operation
 use Rattle.napi_calls.specs.declared.answers.Sched.TheVariants as sched
 use Rattle.poll_list.specs.SharedList as list
 
--- If granted, the instance is handed over: to its own thread if it has one and the state says so when read, otherwise to the
--- list.
+-- An instance that was granted is queued: for its own thread if it has one and the state word then shows THREADED, otherwise on
+-- the list.
 abbrev pub HandsOver : Bool → Pass → Pass → Type 0
 HandsOver false p q = Made p (operation.Hand kind.List ∷ []) q
 HandsOver true p q =
@@ -25,48 +25,49 @@ GoesOn thread (sched.Granted granted) q = HandsOver thread granted.pass q
 GoesOn thread (sched.Missed caller) q = q ≡ caller.pass
 GoesOn thread (sched.Disabled caller) q = q ≡ caller.pass
 
--- an interrupt: requests a poll, and if it is granted, hands the instance over
+-- an interrupt: requests a poll, and queues the instance if the request is granted
 abbrev pub Interrupts : Bool → Pass → Pass → Type 0
 Interrupts thread p q = (s : Sched) × Schedules p s × GoesOn thread s q
 
--- the instance is handed to the list
+-- the operation queues the instance on the list
 abbrev pub is_listing : Operation → Bool
 is_listing (operation.Hand kind.List) = true
 is_listing _ = false
 
--- what is pushed for these events: the number, once for each hand-over to the list
+-- what is pushed for these events: the instance's number, once for each time that it was queued on the list
 abbrev pub listings : ℕ → List Event → List ℕ
 listings number [] = []
 listings number (e ∷ es) = (if is_listing e.operation then number ∷ [] else []) ++ listings number es
 
--- Between p and q the seat handed its instance to the list as many times as its number was pushed there, and nothing else was.
+-- Between the passes p and q, the caller queued its instance on the list as many times as its number was pushed there, and
+-- nothing else was pushed.
 pub record Lists {R : Type 0} (number : ℕ) (p q : Pass) (before after : ListIn R) : Type 0 where
   pub same : list.SameListIn before after
   pub did : List Event
   pub grown : own_list q ≡ own_list p ++ did
   pub pushed : pushed_by after ≡ pushed_by before ++ listings number did
 
--- the packet was put last
+-- the packet is the last one that was put
 abbrev pub IsPutLast : Packet → RxIn → Type 0
 IsPutLast packet rx = (earlier : List Packet) × (put_list rx ≡ earlier ++ packet ∷ [])
 
--- a packet is put, and then interrupts; a full ring drops it, and no poll is requested
+-- A packet is put, and its interrupt requests a poll. A full ring drops the packet, and no poll is requested.
 abbrev pub Arrives : Bool → Packet → Pass → Pass → RxIn → RxIn → Type 0
 Arrives thread packet p q before after =
     ((put_list after ≡ put_list before ++ packet ∷ []) × Interrupts thread p q)
     ⊎ ((capacity_of before ≤ length (put_list before)) × (put_list after ≡ put_list before) × (q ≡ p))
 
--- enabled with this threaded setting, unless it is on
+-- the instance is enabled with this threaded setting, unless it is enabled already
 abbrev pub TurnsOn : Bool → ControllerState → ControllerState → Type 0
 TurnsOn threaded (On control) after = after ≡ On control
 TurnsOn threaded (Off control) after = (is_on after ≡ true) × Enables threaded control.pass (pass_of after)
 
--- disabled, unless it is off
+-- the instance is disabled, unless it is disabled already
 abbrev pub TurnsOff : ControllerState → ControllerState → Type 0
 TurnsOff (On control) after = (is_on after ≡ false) × Disables control.pass (pass_of after)
 TurnsOff (Off control) after = after ≡ Off control
 
--- one act: its effect on the seats and on the threaded setting
+-- one act: its effect on the instance's callers and on the threaded setting
 abbrev pub Acts : Bool → Act → WorkerHandles → WorkerHandles → RxIn → RxIn → Type 0
 Acts thread (Arrive packet) a b before after =
     Arrives thread packet a.caller.pass b.caller.pass before after × (b.control ≡ a.control) × (b.threaded ≡ a.threaded)
@@ -79,7 +80,7 @@ Acts thread (SetThreaded set) a b before after =
     × (put_list after ≡ put_list before)
 Acts thread Nothing a b before after = (b ≡ a) × (put_list after ≡ put_list before)
 
--- the first n acts, each once and in order
+-- the effect of the first n acts, each made once and in order
 abbrev pub AllActs : {D : Type 0} → Bool → (D → ℕ → Act) → (D → ℕ → D) → D → ℕ → WorkerHandles → WorkerHandles → RxIn → RxIn → Type 0
 AllActs thread answer after d zero a b first last = (b ≡ a) × (last ≡ first)
 AllActs thread answer after d (suc n) a b first last =

@@ -1,8 +1,8 @@
--- Which poller polls what, of several.
+-- Which poller polls which station.
 use Rattle.std.specs.Prelude.{ℕ, ◌-◌, ◌%◌, ◌==◌, Bool}
 use Rattle.poll_interrupts.specs.declared.station.Station.{Station}
 
--- the poller of the station with this number: the number minus 1, modulo the count of pollers, is the poller's number
+-- the number of the poller that polls station n: n - 1, modulo the count of pollers
 abbrev pub poller_by : ℕ → ℕ → ℕ
 poller_by pollers number = (number - 1) % pollers
 

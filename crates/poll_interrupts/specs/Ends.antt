@@ -1,11 +1,11 @@
--- The end of a station.
+-- The end of a station's run.
 use Rattle.std.specs.Prelude.{◌≡◌, ◌+◌, ◌<◌, ◌^◌, length}
 use Rattle.rx_ring.specs.{Ends.put_list, ReceiveRing.{bytes_of, capped}}
 use Rattle.napi_calls.specs.declared.kept.DropBomb.{DropBomb}
 use Rattle.poll_interrupts.specs.{declared.{opening.Loose.Loose, station.Finished.Finished}, Closings.IsCallersOf, Runs.IsEnded}
 
 module _ {D : Type 0} where
-  -- the totals are those of the ring, and the instance was closed with its callers
+  -- the totals are those of the station's ring, and the instance was closed with its callers
   pub record IsFinishOf (loose : Loose D) (end : Finished D) : Type 0 where
     pub same_number : end.number ≡ loose.number
     pub same_device : end.device ≡ loose.device

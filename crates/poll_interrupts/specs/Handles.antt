@@ -1,4 +1,4 @@
--- Whose instance a worker's handles are on.
+-- The instance to which a worker's handles belong.
 use Rattle.std.specs.Prelude.{◌≡◌, ℕ, Bool, true, false, []}
 use Rattle.napi_calls.specs.{declared.types.{Caller.Caller, Napi.Napi}, Instance.IsSeatOf, Seats.{pass_number, own_list}}
 use Rattle.{napi_word.specs.declared.table.Pass.Pass, poll_interrupts.specs.Runs.{controller_number, worker_number}}
@@ -15,21 +15,21 @@ is_on (Off control) = false
 abbrev pub AreHandlesOf : Napi → WorkerHandles → Type 0
 AreHandlesOf napi handles = IsSeatOf napi handles.caller.pass × IsSeatOf napi (pass_of handles.control)
 
--- and the instance is off
+-- the handles belong to this instance, and it is disabled
 abbrev pub AreAtRest : Napi → WorkerHandles → Type 0
 AreAtRest napi handles = AreHandlesOf napi handles × (is_on handles.control ≡ false)
 
--- the same seats, by their numbers
+-- the handles of the same caller and the same controller
 abbrev pub AreSameHandles : WorkerHandles → WorkerHandles → Type 0
 AreSameHandles a b = (pass_number b.caller.pass ≡ pass_number a.caller.pass)
     × (pass_number (pass_of b.control) ≡ pass_number (pass_of a.control))
 
--- a new caller: it has this number, and made no call
+-- a new caller with this number, which has made no call
 pub record IsUnused (number : ℕ) (caller : Caller) : Type 0 where
   pub number_is : pass_number caller.pass ≡ number
   pub nothing_done : own_list caller.pass ≡ []
 
--- a worker's new handles on an instance with three callers: no call was made by them
+-- a worker's new handles on an instance with three callers: no call was made with them
 pub record AreUnused (handles : WorkerHandles) : Type 0 where
   pub caller : IsUnused worker_number handles.caller
   pub control : own_list (pass_of handles.control) ≡ []

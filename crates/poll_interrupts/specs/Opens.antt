@@ -7,7 +7,7 @@ use Rattle.napi_calls.specs.declared.{types.Napi.Napi, kept.DropBomb.DropBomb}
 use Rattle.napi_calls.specs.{Seats.pass_number, Instance.{IsSeatOf, callers_of, first_of_instance, ring_of_instance}}
 use Rattle.rx_ring.specs.{Ends.{IsOneRing, capacity_of, put_list, received_list, ring_name}, declared.ends.{RxCtx.RxCtx, RxIn.RxIn}}
 
--- its number is 1 to 16, and its ring has 1 to 65536 places
+-- a station's number is 1 to 16, and its ring holds 1 to 65536 packets
 pub record IsStation {D : Type 0} (station : Station D) : Type 0 where
   pub number : (1 ≤ station.number) × (station.number ≤ 16)
   pub capacity : (1 ≤ station.capacity) × (station.capacity ≤ 65536)
@@ -16,7 +16,7 @@ pub record IsStation {D : Type 0} (station : Station D) : Type 0 where
 abbrev pub IsInputOf : RxIn → Napi → Type 0
 IsInputOf rx napi = (ctx : RxCtx) × (ring_name ctx ≡ ring_of_instance napi) × IsOneRing rx ctx
 
--- the instance has three callers, and there is room for them; nothing of its ring had been received when it was made
+-- the instance has three callers, and room for them is reserved; its ring had received nothing when the instance was made
 pub record IsHome (placed : Placed) : Type 0 where
   pub callers : callers_of placed.napi ≡ 3
   pub nothing_received : received_list (first_of_instance placed.napi) ≡ []
@@ -24,7 +24,7 @@ pub record IsHome (placed : Placed) : Type 0 where
   pub room : 3 ≤ vec_capacity placed.room
 
 module _ {D : Type 0} where
-  -- what goes to the threads of a station
+  -- the parts of a station that go to its threads
   pub record IsLoose (station : Station D) (loose : Loose D) : Type 0 where
     pub same_number : loose.number ≡ station.number
     pub same_device : loose.device ≡ station.device
@@ -35,7 +35,8 @@ module _ {D : Type 0} where
     pub poller : IsUnused poller_number loose.poller
     pub own : IsUnused thread_number loose.thread
 
-  -- what goes to the threads, or came back from them, and what stays with the caller belong to one instance, and to one ring
+  -- the parts that go to the threads (or came back from them) and the part that stays with the caller belong to one instance
+  -- and one ring
   pub record IsPartOf (loose : Loose D) (placed : Placed) : Type 0 where
     pub number : placed.number ≡ loose.number
     pub handles : AreAtRest placed.napi loose.handles
@@ -45,7 +46,8 @@ module _ {D : Type 0} where
     pub ring : IsInputOf loose.rx placed.napi
     pub home : IsHome placed
 
-  -- and so does the way in which its own thread waits, if it has one
+  -- the parts belong to one instance; and the instance's own thread, if it has one, waits by the waker that stays with the
+  -- caller
   pub record IsSideOf (loose : Loose D) (placed : Placed) : Type 0 where
     pub part : IsPartOf loose placed
     pub name : loose.number ≤ 16

@@ -1,4 +1,4 @@
--- What a worker's run adds: what each act adds to its own events, and the one history that contains them.
+-- What a worker's run adds: the events that each act adds, and the history of the instance that contains them.
 use Rattle.std.specs.Prelude.{◌≡◌, ◌⊎◌, ◌≤◌, ℕ, ◌<◌, zero, suc, Bool, true, false, List, [], ◌∷◌, ◌++◌, length, flat_map}
 use Rattle.std.specs.Prelude.{if◌then◌else◌, Option}
 use Rattle.rx_ring.specs.{declared.packet.{Packet.Packet, Totals.Totals}, ReceiveRing.totals_of}
@@ -14,9 +14,9 @@ use Rattle.napi_model.specs.declared.event.Prep.TheVariants as prep
 use Rattle.napi_model.specs.declared.event.Call.TheVariants as call
 use Rattle.poll_interrupts.specs.declared.acts.Act.TheVariants as act
 
--- ---- the own events of a thread: the tries that lost, and the one that decided
+-- ---- a caller's own events: the attempts that failed, and then the one that succeeded
 
--- if granted, it hands the instance over: to its own thread if it has one and the state says so when read, otherwise to the
+-- queueing of a granted instance: for its own thread if it has one and the state word then shows THREADED, otherwise on the
 -- list
 abbrev pub IsHandingOver : Bool → List Operation → Type 0
 IsHandingOver false os = os ≡ Hand kind.List ∷ []
@@ -42,18 +42,18 @@ abbrev pub IsDisabling : List Operation → Type 0
 IsDisabling os = (ts : List (Option (Lost call.TakeDisable))) × (x : Seen)
     × (os ≡ (MarkDisable ∷ flat_map take_attempt ts) ++ Look x ∷ TakeDisable true ∷ Unmark ∷ [])
 
--- ---- a worker's ledger
+-- ---- a worker's ledger: a record of what it did
 
--- its owner: the numbers of its caller and of its controller, how many packets its ring can hold, and whether the instance has
--- its own thread
+-- The owner of a ledger: the numbers of its caller and of its controller, the capacity of its ring, and whether the instance
+-- has its own thread.
 pub record Whose : Type 0 where
   pub caller : ℕ
   pub controller : ℕ
   pub places : ℕ
   pub thread : Bool
 
--- the events of its caller and of its controller, the packets that were put, whether the instance is on, and the threaded
--- context that an enable writes
+-- What a worker did so far: the events of its caller and of its controller, and the packets that were put. Also whether the
+-- instance is enabled, and the threaded setting that the next enable writes.
 pub record Ledger : Type 0 where
   pub calls : List Event
   pub controls : List Event
@@ -64,28 +64,28 @@ pub record Ledger : Type 0 where
 abbrev pub blank : Ledger
 blank = record { calls = []; controls = []; put = []; on = false; threaded = false }
 
--- a packet is put, and interrupts
+-- a packet is put, and its interrupt requests a poll
 abbrev pub Puts : Whose → Packet → Ledger → Ledger → Type 0
 Puts w packet a b =
     (os : List Operation) × IsInterrupt w.thread os × (b ≡ record a { put = a.put ++ packet ∷ []; calls = a.calls ++ events w.caller os })
 
--- a full ring drops it, and no poll is requested
+-- a full ring drops the packet, and no poll is requested
 abbrev pub Drops : Whose → Ledger → Ledger → Type 0
 Drops w a b = (w.places ≤ length a.put) × (b ≡ a)
 
--- an instance that is on stays on
+-- enables the instance; one that is enabled stays as it is
 abbrev pub SwitchesOn : Whose → Bool → Ledger → Ledger → Type 0
 SwitchesOn w true a b = b ≡ a
 SwitchesOn w false a b =
     (os : List Operation) × IsEnabling a.threaded os × (b ≡ record a { controls = a.controls ++ events w.controller os; on = true })
 
--- one that is off stays off
+-- disables the instance; one that is disabled stays as it is
 abbrev pub SwitchesOff : Whose → Bool → Ledger → Ledger → Type 0
 SwitchesOff w true a b =
     (os : List Operation) × IsDisabling os × (b ≡ record a { controls = a.controls ++ events w.controller os; on = false })
 SwitchesOff w false a b = b ≡ a
 
--- what one act adds
+-- what one act adds to the ledger
 abbrev pub Adds : Whose → Act → Ledger → Ledger → Type 0
 Adds w (act.Arrive packet) a b = Puts w packet a b ⊎ Drops w a b
 Adds w act.Disable a b = SwitchesOff w a.on a b
@@ -93,7 +93,7 @@ Adds w act.Enable a b = SwitchesOn w a.on a b
 Adds w (act.SetThreaded threaded) a b = b ≡ record a { calls = a.calls ++ events w.caller (SetThreaded threaded ∷ []); threaded = threaded }
 Adds w act.Nothing a b = b ≡ a
 
--- what the first n acts add, each once and in order
+-- what the first n acts add, each made once and in order
 abbrev pub AllAdd : {D : Type 0} → Whose → (D → ℕ → Act) → (D → ℕ → D) → D → ℕ → Ledger → Ledger → Type 0
 AllAdd w answer after d zero a b = b ≡ a
 AllAdd w answer after d (suc n) a b = (m : Ledger) × AllAdd w answer after d n a m × Adds w (answer (after_acts after d n) n) m b
@@ -103,9 +103,9 @@ abbrev pub WorksBy : {D : Type 0} → Whose → (D → ℕ → Act) → (D → �
 WorksBy w answer after d n a b =
     (on : Ledger) × (acted : Ledger) × SwitchesOn w a.on a on × AllAdd w answer after d n on acted × SwitchesOff w acted.on acted b
 
--- ---- the whole run of a station
+-- ---- the whole run of a station, with all its threads
 
--- its instance has three callers, of its worker, of its poller and of its own thread, and so its controller has the last number
+-- Its instance has three callers: of its worker, of its poller and of its own thread. So its controller has number 3.
 abbrev pub worker_number : ℕ
 worker_number = 0
 
@@ -118,26 +118,27 @@ thread_number = 2
 abbrev pub controller_number : ℕ
 controller_number = 3
 
--- The instance was closed: what its seats did is its one history.
+-- The instance was closed: the calls of all its callers form one history.
 pub record IsEnded (closed : Closed) (put : List Packet) (totals : Totals) : Type 0 where
   pub history : List Event
-  -- It is legal, each seat's own events in it are all that it made, and no other seat has one; in the end the controller owns
-  -- the instance, and every accepted schedule is followed by a Released, with a poll start between it and the next one.
+  -- The history is legal. Each caller's own events in it are exactly those that it made, and no other number has one. At the
+  -- end the controller owns the instance. Every accepted schedule is followed by a Released, with a poll start between the two.
   pub is : IsHistoryOf controller_number (seats_in closed) history
-  -- each owner who returned the context delivered what it had polled: the first packets put, each once and in order
+  -- each owner that returned the context delivered what it had polled; all deliveries together are the first packets put, each
+  -- once and in order
   pub deliveries : List Delivery
   pub deliverers_are : deliverers deliveries ≡ givers (opening controller_number) history
   pub in_order : IsPrefix (packets_of deliveries) put
-  -- each seat's own events are those that it made, and no other seat has one
+  -- each caller's own deliveries are those that it made, and no other number has one
   pub own_exact : Each (seats_in closed) (λ p. own_deliveries (pass_number p) deliveries ≡ own_delivered p)
   pub own_only : (c : ℕ) → controller_number < c → own_deliveries c deliveries ≡ []
-  -- the totals are those of what was put and of what was delivered
+  -- the totals are those of the packets put and delivered
   pub totals_are : totals ≡ totals_of (record { put = put; received = packets_of deliveries })
 
--- a station with so many places, with a thread or without, whose device made n acts, and whose instance was closed
+-- a station with this ring capacity, with a thread or without, whose device made n acts, and whose instance was closed
 pub record HasRun {D : Type 0} (answer : D → ℕ → Act) (after : D → ℕ → D) (places : ℕ) (thread : Bool) (d : D) (n : ℕ)
     (closed : Closed) (totals : Totals) : Type 0 where
-  -- the effects of its acts are those of its worker's caller and its controller
+  -- the ledger of its worker after these acts
   pub left : Ledger
   pub works : WorksBy
       (record { caller = worker_number; controller = controller_number; places = places; thread = thread }) answer after d n blank left

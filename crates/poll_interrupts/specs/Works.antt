@@ -7,7 +7,7 @@ use Rattle.poll_interrupts.specs.Acts.{after_acts}
 use Rattle.poll_interrupts.specs.{Acts.arrivals, Calls.Lists, Runs.{Ledger, Whose, WorksBy}}
 use Rattle.poll_interrupts.specs.Handles.{AreAtRest, AreSameHandles, is_on, pass_of}
 
--- a worker's ledger, by its handles and the ring's input
+-- the ledger of a worker, read off its handles and the ring's input
 abbrev pub ledger_of : WorkerHandles → RxIn → Ledger
 ledger_of handles rx = record {
   calls = own_list handles.caller.pass;
@@ -26,18 +26,18 @@ whose handles rx thread = record {
   thread = thread;
 }
 
--- `answers` is what a gate returns: to which thread, before which act
+-- `answers thread act answer` is what a gate returned when it was asked before this act of this thread
 module _ {R D G : Type 0} (acts : D → ℕ) (answer : D → ℕ → Act) (after : D → ℕ → D) (answers : ℕ → ℕ → Bool → Type 0) where
-  -- what it did is the run of these acts, by the events that its seats had before and have afterwards
+  -- the worker's run made these acts: the own events of its caller and its controller grew accordingly
   abbrev pub HasWorked : Bool → InterruptWorker R D G → InterruptWorker R D G → Type 0
   HasWorked thread before done = WorksBy (whose before.handles.value before.rx thread) answer after before.device (acts before.device)
       (ledger_of before.handles.value before.rx) (ledger_of done.handles.value done.rx)
 
-  -- it made all acts of the device, each once and in order, and put their packets, if there is room for all
+  -- the worker made all acts of the device, each once and in order, and put their packets, if there is room for all
   pub record IsDoneBy (napi : Napi) (thread : Bool) (number : ℕ) (before done : InterruptWorker R D G) : Type 0 where
     pub handles : AreAtRest napi done.handles.value
     pub same : AreSameHandles before.handles.value done.handles.value
-    -- it pushed the station's number for each hand-over to the list, once, and nothing else
+    -- it pushed the station's number once for each time that it queued the instance on the list, and nothing else
     pub lists : Lists number before.handles.value.caller.pass done.handles.value.caller.pass before.list done.list
     pub let_go : done.stop ≡ None → WasLet answers number (acts before.device)
     pub run : done.stop ≡ None → HasWorked thread before done
@@ -50,7 +50,7 @@ module _ {R D G : Type 0} (acts : D → ℕ) (answer : D → ℕ → Act) (after
 
 module _ {R D G : Type 0} (acts : D → ℕ) (answer : D → ℕ → Act) (after : D → ℕ → D) (may_shut : Type 0)
     (answers : G → ℕ → ℕ → Bool → Type 0) where
-  -- the worker as it was, and as it returned
+  -- the worker before its run, and as its thread returned it
   pub record IsWorked (before done : InterruptWorker R D G) : Type 0 where
     pub why : IfSome done.stop (IsStop may_shut)
     pub same_handler : done.handler ≡ before.handler

@@ -1,4 +1,4 @@
-//! A device whose acts are listed.
+//! A device whose acts are a fixed list.
 
 ghost use Rattle.std.specs.Prelude.{◌≡◌, List};
 ghost use Rattle.poll_interrupts.specs.declared.acts.Act.{Act};
@@ -6,7 +6,7 @@ ghost use Rattle.poll_interrupts.specs.declared.acts.Act.{Act};
 use crate::acts::{Act, Device};
 use std::marker::Model;
 
-/// A device that makes the acts of a list, in order. It makes the first 4294967295 of a longer list.
+/// A device that returns the acts of a list, in order. It uses at most the first 4294967295 of them.
 #[derive(Drop)]
 pub struct ActList {
     acts: Vec<Act>,
@@ -19,7 +19,7 @@ impl Model for ActList {
 }
 
 impl ActList {
-    /// Creates the device of these acts.
+    /// Returns a device with these acts.
     pub fn new(acts: Vec<Act>) -> ActList
         ensures { result ≡ acts.items }
     {

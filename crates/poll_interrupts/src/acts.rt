@@ -1,4 +1,4 @@
-//! What a device does.
+//! What a device does, act by act.
 
 ghost use Rattle.std.specs.Prelude.{◌≡◌, ℕ, ◌<◌};
 
@@ -15,12 +15,12 @@ pub enum Act {
     Enable,
     /// Changes the threaded setting, and THREADED at once (`dev_set_threaded`).
     SetThreaded(bool),
-    /// Nothing for the instance.
+    /// No effect on the instance.
     Nothing,
 }
 
-/// A device whose acts a worker makes, one after the other. It states what it returns and what it is afterwards as functions of
-/// itself and the act's number.
+/// A device that returns one act after the other, which its worker executes. Its `ghost` members state each act, and the device
+/// afterwards, as functions of the device and the act's number.
 pub trait Device {
     ghost use Rattle.poll_interrupts.specs.declared.acts.Act.{Act};
 
@@ -34,7 +34,7 @@ pub trait Device {
     fn acts(&self) -> u32
         ensures { result ≡ acts self.now };
 
-    /// Returns the next act. Called for the acts in order, once each.
+    /// Returns act number `k`. The worker calls this for each act, in order and once.
     fn act(&mut self, k: u32) -> Act
         requires { k < acts self.old }
         ensures answer { result ≡ answer self.old k }

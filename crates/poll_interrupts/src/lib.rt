@@ -1,5 +1,5 @@
-//! Internal crate of the facade `poll_engine`: interrupt workers, each with the device of a station and its instance, in
-//! its own thread.
+//! Internal crate of the facade `poll_engine`: interrupt workers. Each runs in its own thread and makes the acts of one
+//! station's device on its instance.
 #![tactic(auto)]
 
 mod act_list;

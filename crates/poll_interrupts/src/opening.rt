@@ -19,8 +19,8 @@ use std::alloc::{AllocError, Global};
 use std::snapshot::Snapshot;
 use std::sync::Wait;
 
-/// The part of an instance that stays with the caller while its threads run: the instance, the waker of its own thread, if it
-/// has one, and room for its three callers. A linear value: it can't be dropped.
+/// The part of a station's instance that stays with the caller while its threads run: the instance, the waker of its own
+/// thread, if it has one, and room for its three callers. It is linear: it can't be dropped.
 pub struct Placed {
     /// The device's number.
     pub number: u32,
@@ -30,11 +30,11 @@ pub struct Placed {
     pub has_thread: bool,
     /// The waker of that thread.
     pub waker: Waker,
-    /// Room for its three callers.
+    /// Room for its three callers, reserved before the run.
     pub room: Vec<Caller>,
 }
 
-/// The parts of an instance that go to its threads. A linear value: it can't be dropped.
+/// The parts of a station that go to its threads. It is linear: it can't be dropped.
 pub struct Loose<D> {
     /// The device's number.
     pub number: u32,
@@ -42,7 +42,7 @@ pub struct Loose<D> {
     pub device: D,
     /// The input of its receive ring.
     pub rx: RxIn,
-    /// The worker's handles on the instance, which is off.
+    /// The worker's handles on the instance, which is disabled.
     pub handles: WorkerHandles,
     /// The caller that the poller of its list uses.
     pub poller: Caller,
@@ -101,7 +101,7 @@ impl Placed {
     }
 }
 
-// Returns the last remaining one of an instance's callers.
+// Returns the next of an instance's callers: the last one that is left in the vector.
 fn next(napi: &Napi, callers: &mut Vec<Caller>) -> Caller
     requires some { 1 ≤ length callers.old.items }
     requires seats { (k : ℕ) (c : Caller) → slice_get callers.old.items k ≡ Some c
@@ -117,7 +117,7 @@ fn next(napi: &Napi, callers: &mut Vec<Caller>) -> Caller
     caller
 }
 
-// Returns the instance of a station.
+// Opens a station: returns its instance, made and disabled, in the parts for its threads and the part that stays.
 fn open<D: Drop>(alloc: Global, station: Station<D>) -> Result<(Placed, Loose<D>), AllocError>
     requires { IsStation station }
     ensures loose { IfOk result (λ r. IsLoose station r.1) }

@@ -1,4 +1,4 @@
-//! What a run takes, and what it returns.
+//! What a run takes and what it returns, for each station.
 
 ghost use Rattle.std.specs.Prelude.{[], ◌∷◌};
 ghost use Rattle.rx_ring.specs.declared.ends.RxCtx.{RxCtx};
@@ -8,10 +8,10 @@ use napi_calls::{Caller, Control, Napi, Off};
 use rx_ring::Totals;
 use std::snapshot::Snapshot;
 
-/// A device to run.
+/// A device to run, with its ring and its thread.
 #[derive(Drop)]
 pub struct Station<D> {
-    /// Its number, 1 to 16, which no other one has.
+    /// The device's number, 1 to 16. No two stations of a run have the same.
     pub number: u32,
     /// The packets that its receive ring can hold, 1 to 65536.
     pub capacity: usize,
@@ -35,9 +35,9 @@ pub struct Finished<D> {
     pub closed: Closed,
 }
 
-/// A closed instance, its three callers and its controller, as clauses see them: so these clauses are about the history of that
-/// instance. It has no bytes. Each value of this type has the proof that its instance was closed with these callers and this
-/// controller, so only a real close creates one.
+/// A closed instance with its three callers and its controller, for contracts: it has no bytes at run time. A value of this
+/// type is the proof that its instance was closed with these callers and this controller, so clauses about it are about the
+/// history of that instance.
 #[derive(Drop)]
 pub struct Closed {
     pub(crate) napi: Snapshot<Napi>,

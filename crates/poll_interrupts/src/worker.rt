@@ -1,4 +1,4 @@
-//! An interrupt worker: makes its device's acts, and hands the instance to its poller.
+//! An interrupt worker: makes its device's acts, and queues the instance for its poller.
 
 ghost use Rattle.std.specs.Prelude.{◌≡◌, ℕ, ◌+◌, ◌≤◌, ◌<◌, ◌++◌, true, false, None, IfSome, is_some, length};
 ghost use Rattle.rx_ring.specs.Ends.{SameIn, capacity_of, put_list};
@@ -18,7 +18,7 @@ use rx_ring::{Packet, RxIn};
 use std::sync::Wait;
 use std::thread;
 
-// Yields the processor, so that the thread that owns an instance can continue.
+// Yields the processor, so that the thread that owns the instance can continue.
 #[derive(Drop)]
 struct Yields;
 
@@ -34,7 +34,7 @@ pub(crate) enum ControllerState {
     Off(Control<Off>),
 }
 
-/// A worker's handles on its instance. A linear value: they can't be dropped.
+/// A worker's handles on its instance. It is linear: it can't be dropped.
 pub struct WorkerHandles {
     // The caller that requests polls.
     pub(crate) caller: Caller,
@@ -44,10 +44,10 @@ pub struct WorkerHandles {
     pub(crate) threaded: bool,
 }
 
-/// Where a worker's interrupts go.
+/// Where the interrupts of a worker go: the instance and the wakers.
 #[derive(Drop)]
 pub struct InterruptHandler<'p, 'n, R> {
-    /// The runtime, which waits.
+    /// The runtime, by which it waits.
     pub rt: R,
     /// The device's number.
     pub number: u32,
@@ -60,7 +60,7 @@ pub struct InterruptHandler<'p, 'n, R> {
 }
 
 impl<'p, 'n, R: Wait> InterruptHandler<'p, 'n, R> {
-    // Hands the instance to the list, and wakes the poller of the list.
+    // Queues the instance on the list, and wakes the poller of the list.
     fn hand_to_list(&self, list: &mut ListIn<R>, granted: Granted) -> Caller
         requires { IsSeatOf self.now.napi.now granted.pass }
         ensures of { IsSeatOf self.now.napi.now result.pass }
@@ -73,7 +73,7 @@ impl<'p, 'n, R: Wait> InterruptHandler<'p, 'n, R> {
         caller
     }
 
-    // Hands the instance to its thread, if it has one and THREADED is set, otherwise to the list, and wakes the poller
+    // Queues a granted instance: for its thread, if it has one and THREADED is set, otherwise on the list; and wakes the poller
     // (`____napi_schedule`).
     fn hand_over(&self, list: &mut ListIn<R>, mut granted: Granted) -> Caller
         requires { IsSeatOf self.now.napi.now granted.pass }
@@ -92,7 +92,8 @@ impl<'p, 'n, R: Wait> InterruptHandler<'p, 'n, R> {
         caller
     }
 
-    // The interrupt of a packet that was put: requests a poll, and if it is granted, hands the instance over (`napi_schedule`).
+    // The interrupt of a packet that was put: requests a poll, and queues the instance if the request is granted
+    // (`napi_schedule`).
     fn interrupt(&self, list: &mut ListIn<R>, caller: Caller, rx: &RxIn, packet: Packet) -> Caller
         requires of { IsSeatOf self.now.napi.now caller.pass }
         requires put { IsPutLast packet rx.now }
@@ -106,7 +107,7 @@ impl<'p, 'n, R: Wait> InterruptHandler<'p, 'n, R> {
         }
     }
 
-    // Enables an instance that is off.
+    // Enables the instance if it is disabled.
     fn turn_on(&self, control: ControllerState, threaded: bool) -> ControllerState
         requires { IsSeatOf self.now.napi.now (pass_of control) }
         ensures of { IsSeatOf self.now.napi.now (pass_of result) }
@@ -120,7 +121,7 @@ impl<'p, 'n, R: Wait> InterruptHandler<'p, 'n, R> {
         }
     }
 
-    // Disables an instance that is on, which waits until its polls have ended.
+    // Disables the instance if it is enabled, and waits until its polls have ended.
     fn turn_off(&self, control: ControllerState) -> ControllerState
         requires { IsSeatOf self.now.napi.now (pass_of control) }
         ensures of { IsSeatOf self.now.napi.now (pass_of result) }
@@ -134,7 +135,7 @@ impl<'p, 'n, R: Wait> InterruptHandler<'p, 'n, R> {
         }
     }
 
-    // Makes one act: the device returns it, and the worker makes it.
+    // Makes the next act: the device returns it, and the worker executes it.
     #[inline(always)]
     fn make_act<D: Device>(
         &self,
@@ -185,7 +186,7 @@ impl<'p, 'n, R: Wait> InterruptHandler<'p, 'n, R> {
         }
     }
 
-    // Returns why the worker may not make its next act, if so. If the gate returns false, the run stops.
+    // Returns the reason if the worker must not make its next act. If the gate returns false, the run stops.
     fn stop_before<G: Gate>(&self, context: &RunContext<R, G>, k: u32) -> Option<Stop>
         ensures open { result ≡ None → G.answers context.now.gate.now self.now.number k true }
         ensures why { IfSome result (IsStop G.may_shut) }
@@ -196,7 +197,7 @@ impl<'p, 'n, R: Wait> InterruptHandler<'p, 'n, R> {
         }
     }
 
-    // Makes the device's acts in order. Returns why not all were made, if so.
+    // Makes the device's acts in order. Returns the reason if not all were made.
     #[tactic(auto, using(crate::proofs::ActSteps::steps))]
     fn make_acts<D: Device, G: Gate>(
         &self,
@@ -238,23 +239,23 @@ impl<'p, 'n, R: Wait> InterruptHandler<'p, 'n, R> {
     }
 }
 
-/// An interrupt worker, run in its own thread. It makes its device's acts over an instance that is enabled before and disabled
-/// after, also if the run was stopped.
+/// An interrupt worker, which runs in its own thread. It enables its instance, makes its device's acts and disables the
+/// instance, also if the run was stopped.
 #[derive(Drop)]
 pub struct InterruptWorker<'t, 'p, 'n, R: Wait + Drop, D, G: Gate> {
     /// What all threads of the run share.
     pub context: &'t RunContext<'t, R, G>,
     /// Where its interrupts go.
     pub handler: InterruptHandler<'p, 'n, R>,
-    /// Its end of the list of its poller.
+    /// Its end of the list of its poller, for pushes.
     pub list: ListIn<R>,
     /// The device.
     pub device: D,
     /// The input of the device's receive ring.
     pub rx: RxIn,
-    /// Its handles on the instance, which is off.
+    /// Its handles on the instance, which is disabled before and after the run.
     pub handles: DropBomb<R, WorkerHandles>,
-    /// Why not all acts were made, if so.
+    /// The reason, if not all acts were made.
     pub stop: Option<Stop>,
     ghost of: { AreAtRest handler.napi.now handles.value },
 }

@@ -1,4 +1,4 @@
--- Each step on the queue preserves the one order: a push, a pop, making an end, taking an end back, and a look.
+-- Each step on the queue preserves the order of all pushes: a push, a pop, making an end, returning an end, and a read.
 use Rattle.std.proofs.Common.{◌≡◌, ◌≢◌, ℕ, ◌+◌, ◌<◌, Bool, true, false, true≢false, List, [], ◌∷◌, ◌++◌, length, set, cond, sym, refl, ap}
 use Rattle.std.proofs.{Common.{◌∙◌, subst, inl, inr, ⊎_elim, append_assoc, length-append, lt_of_not-le, arith}, lemmas.List.length-set}
 use Rattle.{std.proofs.lemmas.List.Sums.sum_by_push, crossbeam_queue.specs.Fifo.{Pushes, Pops, Forks, Merges, Learns}}
@@ -14,7 +14,7 @@ by_live : {P : Type 0} (p : ℕ) (u : EndView) → (u.live ≡ true → P) → (
 by_live {P} p u if_so if_not =
     elim u.live as (λ b. (b ≡ true → P) → (b ≡ false → P) → P) [ true ↦ (λ f g. f refl) | false ↦ (λ f g. g refl) ] if_so if_not
 
--- a live end counts as one
+-- an end that wasn't returned counts as one
 live_weight : (v : EndView) → v.live ≡ true → live_count v ≡ 1
 live_weight v l = ap (λ (b : Bool). cond b 1 0) l
 

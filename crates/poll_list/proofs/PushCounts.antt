@@ -1,4 +1,4 @@
--- After all ends were returned, the only pushes are theirs and the poller's.
+-- After all ends were returned, the order has only the pushes of these ends and of the poller.
 use Rattle.std.proofs.Common.{◌≡◌, ℕ, zero, suc, ◌+◌, ◌<◌, ◌≤◌, ◌⊎◌, Bool, true, false, List, [], ◌∷◌, ◌++◌, length, map, cond, eqb, sym}
 use Rattle.std.proofs.Common.{refl, ap, ◌∙◌, subst, inl, inr, ⊎_elim, length-append, append-nil, eq-eqb, lt_of_not-le, arith}
 use Rattle.std.{proofs.lemmas.List.{length-map, nil_from_length, Sums.sum_by-cons, Elements.{All-nil, All-cons}}, specs.List.{sum_by, All}}
@@ -33,7 +33,7 @@ module _ {A : Type 0} where
       let b = h zero x refl in
       omega (arith, sum_by-cons f x xs, sum_by-cons g x xs)
 
--- one more push is one more push of its own end only
+-- a push is appended only to the pushes of its own end
 pushes_grow : (p : ℕ) (e : Push) (es : List Push) → length (pushes_by p es) ≤ length (pushes_by p (e ∷ es))
 pushes_grow p e es = elim (eqb e.by p) as (λ b. length (pushes_by p es) ≤ length (cond b (e.id ∷ pushes_by p es) (pushes_by p es))) [
   | true ↦ omega arith
@@ -52,7 +52,7 @@ none_later p e es z =
     let n : length (pushes_by p (e ∷ es)) ≡ 0 = ap (λ (l : List ℕ). length l) z in
     nil_from_length (pushes_by p es) (omega arith)
 
--- if each push is one of m's or of a returned end, there are at most as many as these pushed
+-- if each push was made by the poller or by one of these returned ends, the order is no longer than their pushes together
 covered : (m : ℕ) (known : List Returned) (order : List Push)
     → ((p : ℕ) → (p ≡ m) ⊎ (IsReturned p known ⊎ (pushes_by p order ≡ [])))
     → length order ≤ length (pushes_by m order) + sum_by (λ (d : Returned). length (pushes_by d.number order)) known
@@ -76,7 +76,7 @@ covered m known (e ∷ es) h =
     absurd (omega arith)))
     (h e.by)
 
--- what was popped and what is queued are then at most these pushes
+-- so the pushes that were popped and those in the queue together are no more than the pushes of these ends
 pub all_told : (v : EndView) (queued : List ℕ) → v.made ≤ length v.returned + 1 → KnowsOrder v queued
     → length v.popped + length queued ≤ length v.pushed + returned_pushes v.returned
 all_told v queued all_back t =
@@ -92,7 +92,7 @@ all_told v queued all_back t =
     let parts = length-append v.popped queued in
     omega arith
 
--- so if there was room for all of them, nothing is left
+-- if the poller had room for all of them, nothing is left in the queue
 pub emptied : (v w u : EndView) (held fresh : List ℕ) → u ≡ w → PopsMore v fresh w
     → v.made ≤ length v.returned + 1
     → length held + (length v.pushed + returned_pushes v.returned) ≤ 64 + length v.popped
@@ -118,7 +118,7 @@ module _ {R : Type 0} where
       All-cons (λ (e : ListIn R). pushed_by e ≡ pushes_by (end_number e) order) end ends (h zero (as_returned end) refl)
       (each_end ends order (λ k d e. h (suc k) d e))
 
-  -- what a poller to which all ends were returned knows of the one order, after it found the queue empty
+  -- what the poller knows of the order of all pushes, after all ends were returned to it and it found the queue empty
   pub read_off : (list : SharedList R) (ins : List (ListIn R)) (fresh : List ℕ) (v w : EndView)
       → PopsMore v fresh w
       → v ≡ poller (view list.pass).made (own_pushes list) (popped_by list) ((view list.pass).returned ++ map (as_returned {R = R}) ins)

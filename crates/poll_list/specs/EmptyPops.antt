@@ -6,10 +6,10 @@ use Rattle.poll_list.specs.declared.pops.Pops.{Pops}
 abbrev pub found_empty : Pops → ℕ
 found_empty pops = pops.empty
 
--- one more did
+-- one more pop found the queue empty
 abbrev pub CountsOne : Pops → Pops → Type 0
 CountsOne before after = found_empty after ≡ min (found_empty before + 1) (2 ^ 64 - 1)
 
--- at least this many more did
+-- at least this many more pops found the queue empty
 abbrev pub CountsMore : ℕ → Pops → Pops → Type 0
 CountsMore found before after = min (found_empty before + found) (2 ^ 64 - 1) ≤ found_empty after

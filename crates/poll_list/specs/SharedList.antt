@@ -10,7 +10,7 @@ module _ {R : Type 0} where
   abbrev pub pushed_by : ListIn R → List ℕ
   pushed_by end = (view end.pass).pushed
 
-  -- the ends that push are numbered from 1; the poller is 0
+  -- the number of an end: the poller's is 0, the ends for pushing have 1, 2 and so on
   abbrev pub end_number : ListIn R → ℕ
   end_number end = (view end.pass).number
 
@@ -21,7 +21,7 @@ module _ {R : Type 0} where
   abbrev pub popped_by : SharedList R → List ℕ
   popped_by list = (view list.pass).popped
 
-  -- the numbers that a put-back left with the poller
+  -- the numbers that the poller holds itself, because the queue had no room for them
   abbrev pub in_hand : SharedList R → List ℕ
   in_hand list = list.hand
 
@@ -37,22 +37,22 @@ module _ {R : Type 0} where
   abbrev pub IsNewList : ℕ → SharedList R → Type 0
   IsNewList pushers list = (pushers_of list ≡ pushers) × (own_pushes list ≡ []) × (popped_by list ≡ []) × (in_hand list ≡ [])
 
-  -- its new ends: this many, numbered 1, 2 .. in order
+  -- the new ends of the list: this many, numbered 1, 2 and so on, in order
   abbrev pub AreNewEnds : SharedList R → ℕ → List (ListIn R) → Type 0
   AreNewEnds list pushers ins =
       (length ins ≡ pushers)
       × All (λ (end : ListIn R). IsInOf list end × (pushed_by end ≡ [])) ins
       × ((k : ℕ) (d : ListIn R) → k < pushers → end_number (slice_index_or ins k d) ≡ k + 1)
 
-  -- the same end of the same list, and the same list, at another time
+  -- an end at two times: it is the same end of the same list
   abbrev pub SameListIn : ListIn R → ListIn R → Type 0
   SameListIn before after = (after.pass.table_id ≡ before.pass.table_id) × (end_number after ≡ end_number before)
 
   abbrev pub SameList : SharedList R → SharedList R → Type 0
   SameList before after = (after.pass.table_id ≡ before.pass.table_id) × (pushers_of after ≡ pushers_of before)
 
-  -- between these times the poller pushed the first instances, popped the second ones, and found the queue empty at least this
-  -- often
+  -- between these two times the poller pushed the first instances, popped the second ones, and found the queue empty at least
+  -- this many times
   abbrev pub PopsCame : SharedList R → List ℕ → List ℕ → ℕ → SharedList R → Type 0
   PopsCame before pushed came found after =
       SameList before after
@@ -60,19 +60,20 @@ module _ {R : Type 0} where
       × (popped_by after ≡ popped_by before ++ came)
       × CountsMore found before.pops after.pops
 
-  -- if there are fewer than 64 entries, the poller had found the queue empty
+  -- either 64 entries were taken, or the poller had found the queue empty
   abbrev pub IsAllPopped : List ℕ → SharedList R → Type 0
   IsAllPopped taken list = length taken < 64 → WasEmpty (view list.pass)
 
-  -- between these times one pop found the queue empty: then, everything pushed had been popped
+  -- between these two times one pop found the queue empty, when everything pushed until then had been popped
   abbrev pub FindsEmpty : SharedList R → SharedList R → Type 0
   FindsEmpty before after = CountsOne before.pops after.pops
 
-  -- the poller has room for this many entries besides those that it holds
+  -- the poller has room for this many entries besides those that it holds itself
   abbrev pub HandsHaveRoom : SharedList R → ℕ → Type 0
   HandsHaveRoom list n = length (in_hand list) + n ≤ 64
 
-  -- it has room for one more: a push into a full queue moves the queue's first entry there
+  -- it has room for one more entry, which it needs for a push into a full queue: that moves the first entry of the queue to the
+  -- poller
   abbrev pub HandsHavePlace : SharedList R → Type 0
   HandsHavePlace list = length (in_hand list) < 64
 
@@ -80,7 +81,7 @@ module _ {R : Type 0} where
   abbrev pub as_returned : ListIn R → Returned
   as_returned end = returned_end (end_number end) (pushed_by end)
 
-  -- one of these ends has the number
+  -- one of these ends has this number
   abbrev pub IsNumbered : ℕ → List (ListIn R) → Type 0
   IsNumbered number ins = IsReturned number (map as_returned ins)
 
@@ -92,11 +93,11 @@ module _ {R : Type 0} where
   abbrev pub AreFew : SharedList R → List (ListIn R) → Type 0
   AreFew list ins = length (in_hand list) + pushes_of list ins ≤ 64 + length (popped_by list)
 
-  -- The one order of all pushes to this list, when all its ends are given and these entries are left in the queue.
+  -- The order of all pushes to this list, if these are all its ends and these entries are left in the queue.
   pub record IsOneOrder (list : SharedList R) (ins : List (ListIn R)) (left : List ℕ) (order : List Push) : Type 0 where
-    -- what was popped is its first part, and what is left the rest: each push once
+    -- the entries popped are its first part, and those left are the rest: each push occurs once
     pub all : ids_of order ≡ popped_by list ++ left
-    -- it has exactly the pushes of the poller and of each end, each in its own order
+    -- it has exactly the pushes of the poller and of each end, each in the order of that end
     pub by_poller : own_pushes list ≡ pushes_by 0 order
     pub by_others : All (λ (end : ListIn R). pushed_by end ≡ pushes_by (end_number end) order) ins
     pub nobody_else : (number : ℕ) → (number ≡ 0) ⊎ (IsNumbered number ins ⊎ (pushes_by number order ≡ []))

@@ -18,7 +18,7 @@ use std::sync::{Arc, Wait};
 // The capacity of the queue.
 const ROOM: usize = 64;
 
-// Makes a list with this many ends.
+// Returns a list with this many ends for pushing.
 fn with_ends<R: Wait + Copy>(
     rt: R,
     alloc: Global,
@@ -50,7 +50,7 @@ fn with_ends<R: Wait + Copy>(
     Ok((list, ins))
 }
 
-// Returns whether a list can have this many pushers.
+// Returns whether a list can have this many ends for pushing.
 fn is_in_range(pushers: u32) -> bool
     ensures good { result ≡ true → (1 ≤ pushers) × (pushers ≤ 64) }
     ensures bad { result ≡ false → (pushers ≡ 0) ⊎ (64 < pushers) }
@@ -80,14 +80,14 @@ pub fn shared_list<R: Wait + Copy>(
     with_ends(rt, alloc, pushers).map_err(|_| ListFault::OutOfMemory)
 }
 
-/// What [`end_list`] returns if ends are missing: the list and the ends, unchanged.
+/// What [`end_list`] returns if ends are missing: the list and its ends, unchanged.
 #[derive(Drop)]
 pub struct ListBack<R> {
     /// `NotAll` (3).
     pub fault: ListFault,
     /// The list.
     pub list: SharedList<R>,
-    /// The ends that were given.
+    /// The ends that were passed in.
     pub ins: Vec<ListIn<R>>,
 }
 
@@ -113,7 +113,7 @@ fn take_back<R: Drop>(queue: &PushQueue, pass: &mut EndPass, ins: Vec<ListIn<R>>
     }
 }
 
-// Pops all that is left, if all ends were returned and there is room.
+// Pops everything that is left, if all ends were returned and there is room.
 fn drain<R: Wait>(
     rt: &R,
     queue: &PushQueue,
@@ -135,11 +135,11 @@ fn drain<R: Wait>(
     queue.learn_as::<PoppedLast>(pass);
 }
 
-/// Closes a list of which all ends are given, and returns the remaining entries: those with the poller first, then the queue's.
-/// Its contract states the one order of all pushes: what was popped and then what is left, with the pushes of the poller and of
-/// each end in their own order, each once, and no others.
+/// Closes a list together with all its ends, and returns the remaining entries: first those that the poller holds, then the
+/// queue's. Its contract states the order of all pushes: first what was popped and then what is left. The order has the pushes
+/// of the poller and of each end in their own order, each once, and no others.
 ///
-/// The list may hold at most 64 entries. Fails with `NotAll` (3) if fewer ends are given than were made, and returns list and
+/// The list may hold at most 64 entries. Fails with `NotAll` (3) if some of its ends are missing, and returns the list and the
 /// ends unchanged.
 pub fn end_list<R: Wait + Drop>(
     list: SharedList<R>,

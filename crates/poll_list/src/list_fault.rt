@@ -14,7 +14,7 @@ pub enum ListFault {
     /// Number 2: out of memory.
     #[error("out of memory")]
     OutOfMemory = 2,
-    /// Number 3: fewer ends were given than made.
+    /// Number 3: some of the ends that were made are missing.
     #[error("ends of the list are missing")]
     NotAll = 3,
 }

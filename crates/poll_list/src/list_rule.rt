@@ -1,10 +1,10 @@
-//! The rule of a shared list's queue, and what its ends know. It exists only in proofs.
+//! The invariant of a shared list's queue, and what its ends know. It exists only in proofs.
 
 use crossbeam_queue::protocol::{Join, Lesson, Outcome, Protocol, Split};
 use crossbeam_queue::{Pass, RuledArrayQueue};
 use std::collections::LinkedList;
 
-/// A returned end: its number, and its pushes. It is never made at run time.
+/// A returned end: its number, and its pushes. It exists only in proofs.
 pub struct Returned {
     /// Its number.
     pub number: u64,
@@ -12,13 +12,13 @@ pub struct Returned {
     pub pushed: LinkedList<u32>,
 }
 
-/// What an end of the list knows. It is never made at run time.
+/// What an end of the list knows. It exists only in proofs.
 pub struct EndView {
-    /// False after it was returned.
+    /// False after the end was returned.
     pub live: bool,
-    /// Whether it is the poller's.
+    /// Whether it is the poller's end.
     pub polls: bool,
-    /// The poller is 0; the ends for pushing are 1, 2 ..
+    /// The number of the end: the poller's is 0, the ends for pushing have 1, 2 and so on.
     pub number: u64,
     /// For the poller: how many ends were made, including its own.
     pub made: u64,
@@ -30,7 +30,8 @@ pub struct EndView {
     pub returned: LinkedList<Returned>,
 }
 
-/// All pushes have one order, in which what was popped is the first part, and what the queue holds the rest.
+/// The invariant: there is one order of all pushes. The pushes that were popped are its first part, and those in the queue are
+/// the rest.
 pub struct OneOrder;
 
 impl Protocol<u32, EndView> for OneOrder {
@@ -42,7 +43,7 @@ impl Protocol<u32, EndView> for OneOrder {
     ghost first = { poller 1 [] [] [] };
 }
 
-/// The poller makes one more end for pushing, or takes one back.
+/// The poller makes one more end for pushing, or an end is returned to it.
 pub struct PusherEnd;
 
 impl Split<EndView> for PusherEnd {
@@ -63,7 +64,7 @@ impl Join<EndView> for PusherEnd {
     ghost spent = { spent_end };
 }
 
-/// A push is the last of its end's pushes.
+/// A push becomes the last one of its end.
 pub struct PushedLast;
 
 impl Outcome<u32, EndView> for PushedLast {
@@ -76,7 +77,7 @@ impl Lesson<u32, EndView> for PushedLast {
     ghost fact = { λ _ _. Unit {0} };
 }
 
-/// A pop is the last of the poller's pops; if the queue is empty, all that was pushed was popped.
+/// A pop becomes the last one of the poller. If the queue is empty, everything that was pushed was popped.
 pub struct PoppedLast;
 
 impl Outcome<u32, EndView> for PoppedLast {

@@ -1,4 +1,4 @@
-//! The pops of a shared list's poller.
+//! Pops by the poller of a shared list, with a count.
 
 ghost use Rattle.std.specs.Prelude.{◌≡◌, true, [], ◌∷◌, IfNone, IfSome};
 ghost use Rattle.crossbeam_queue.specs.Passes.{view, IsPassOf};
@@ -8,10 +8,10 @@ ghost use Rattle.poll_list.specs.EmptyPops.{CountsOne, found_empty};
 use crate::list_rule::{EndPass, PoppedLast, PushQueue};
 use std::sync::Wait;
 
-/// Counts the pops that found the queue empty. Only a pop increases it.
+/// Counts the pops that found the queue empty.
 #[derive(Drop)]
 pub struct Pops {
-    // It saturates.
+    // The count, which saturates.
     empty: u64,
 }
 
@@ -23,7 +23,7 @@ impl Pops {
         Pops { empty: 0 }
     }
 
-    /// Pops the queue's first number. If the queue is empty, it counts that.
+    /// Pops the first number of the queue. If the queue is empty, this is counted.
     pub(crate) fn pop<R: Wait>(
         &mut self,
         rt: &R,

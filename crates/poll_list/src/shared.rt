@@ -11,11 +11,11 @@ use crate::pops::Pops;
 use poll_runs::{PollList, SoftList};
 use std::sync::{Arc, Wait};
 
-/// A poll list without a lock: the poller's end, the only one at which numbers are taken. Other threads push at its
-/// [`ListIn`](crate::ListIn)s.
+/// A poll list that threads share, without a lock: the poller's end, the only one at which numbers are taken. Other threads
+/// push at its [`ListIn`](crate::ListIn)s.
 ///
-/// Its queue holds at most 64 entries, and the poller some more. All pushes have one order, in which each end's own are in
-/// order, and what was popped is the first part of it, each push once.
+/// Its queue holds at most 64 entries, and the poller may hold some more. All pushes form one order, in which the pushes of
+/// each end keep their order; the numbers popped are the first part of it, each push once.
 #[derive(Drop)]
 pub struct SharedList<R> {
     pub(crate) rt: R,
@@ -57,8 +57,8 @@ pub(crate) fn fill<R: Wait>(
     }
 }
 
-// Pushes a number of the poller's own. If the queue is full, the poller keeps the queue's first number itself: only the poller
-// makes room, so a push that waited would wait for itself.
+// Pushes a number at the poller's end. If the queue is full, the poller takes the queue's first number and holds it itself. It
+// can't wait for room, because only the poller makes room.
 fn push_own<R: Wait>(rt: &R, queue: &PushQueue, pass: &mut EndPass, hand: &mut SoftList, id: u32)
     requires pass { IsPassOf queue.now pass.old × ((view pass.old).live ≡ true)
         × ((view pass.old).polls ≡ true) }
@@ -93,13 +93,13 @@ impl<R: Wait> PollList for SharedList<R> {
 
     ghost has_room = { HandsHaveRoom };
 
-    /// Appends a number to the queue, after what others pushed. If the queue holds 64 numbers, the poller keeps the first of
-    /// them itself: the push doesn't wait, because only the poller makes room.
+    /// Appends a number to the queue, after the pushes of other threads. If the queue holds 64 numbers, the poller takes the
+    /// first of them and holds it itself. The push doesn't wait, because only the poller makes room.
     fn push(&mut self, id: u32) {
         push_own(&self.rt, &self.queue, &mut self.pass, &mut self.hand, id);
     }
 
-    /// Takes what the poller kept, and then pops until the queue is empty or 64 are taken.
+    /// Takes the numbers that the poller holds itself, and then pops until the queue is empty or 64 are taken.
     fn splice(&mut self, to: &mut SoftList) -> usize
         requires { to.old ≡ [] }
         ensures given { (came : List ℕ) × PopsCame self.old [] came (empties to.new) self.new
@@ -123,7 +123,7 @@ impl<R: Wait> PollList for SharedList<R> {
         to.ids().len()
     }
 
-    /// Keeps the rest, then pops until the queue is empty or the poller has 64 numbers including the repolls, and appends the
+    /// Holds the rest, then pops until the queue is empty or the poller holds 64 numbers including the repolls, and appends the
     /// repolls.
     fn put_back(&mut self, rest: &SoftList, repoll: &SoftList)
         requires { HandsHaveRoom self.old (length rest.now + length repoll.now) }

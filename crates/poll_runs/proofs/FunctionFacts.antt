@@ -9,7 +9,7 @@ use Rattle.poll_runs.{specs.{Polls.{is_repoll, repolled, work_of}, declared.benc
 use Rattle.poll_runs.proofs.{PlainFacts.runs-agree, RunFacts.{going-ends, going-poll, going-spliced, going-start}, PollFacts.chain-push}
 use Rattle.poll_runs.proofs.PollFacts.{work-push, arrivals-cons, repolled-cons}
 
--- budget and window are left
+-- neither the budget nor the window is used up
 unspent : (budget window : ℕ) (polls : List Poll) → is_spent budget window polls ≡ false
     → (work_of polls < budget) × (length polls < window)
 unspent budget window polls h =
@@ -28,7 +28,7 @@ own-joins a b c pushed more came later n m h k =
     let one : came ≡ pushed = h in let two : later ≡ more = k in
     ap (λ (xs : List ℕ). xs ++ later) one ∙ ap (λ (xs : List ℕ). pushed ++ xs) two
 
--- these lemmas don't count the room in the list
+-- a list that always has room: these lemmas don't count it
 abbrev Roomy : List ℕ → ℕ → Type 0
 Roomy list n = Unit
 
@@ -197,7 +197,7 @@ longer-than-none : (xs : List ℕ) → xs ≢ [] → 1 ≤ length xs
 longer-than-none [] h = absurd (h refl)
 longer-than-none (x ∷ xs) h = omega arith
 
--- the condition for another batch implies each of its parts
+-- if a run takes another batch, each of the three conditions for it holds
 takes-tells : (spent none empty : Bool) → (not spent && (none && not empty)) ≡ true → (spent ≡ false) × (none ≡ true) × (empty ≡ false)
 takes-tells false true false h = (refl, refl, refl)
 takes-tells spent none empty h = let bad : false ≡ true = h in cc bad

@@ -13,7 +13,7 @@ use Rattle.napi_model.specs.declared.state.Kind.{Kind}
 abbrev pub IsPlainBatch : ℕ → ℕ → List ℕ → List Poll → List ℕ → Type 0
 IsPlainBatch = IsBatch all_held OwnPushes NothingBehind
 
--- the entries taken before and a batch together are the initial list and then what the polls queued on it
+-- the entries taken before, followed by a batch, are the initial list followed by what the polls queued on it
 batch-whole : (budget window : ℕ) (start : List ℕ) (earlier : List Poll) (batch : List ℕ) → IsPlainBatch budget window start earlier batch
     → ids earlier ++ batch ≡ start ++ queued_by earlier
 batch-whole budget window start earlier batch b = let own : b.came ≡ queued_by earlier = b.moved in rw (← own) b.whole

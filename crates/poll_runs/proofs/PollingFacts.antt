@@ -110,7 +110,7 @@ module _ {I P : Type 0} (tries : Call → Operation → List Operation → Type 
         (leads-from tries did (thread_poll_plan thread weight most) start) d;
   }
 
-  -- the progress after one more poll and what follows it
+  -- the progress after one more poll and the step after it (a requeue, a take, or neither)
   pub going-poll : (thread : Bool) (weight most : ℕ) (start now polled' after : I) (given given' : List P) (report : ThreadReport)
       (once : Once) (held : Bool) → Going tries did thread weight most start true now given report → report.polls < most
       → Does tries did (poll_plan thread weight) now (record { once = once; packets = given' }) polled'

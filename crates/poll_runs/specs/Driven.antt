@@ -22,8 +22,8 @@ pub record SameSettings (before after : PollingRun) : Type 0 where
   pub weight : after.weight ≡ before.weight
   pub window : after.window ≡ before.window
 
--- The state of a run over a list, after these polls: the batches that it took, and all arrivals so far. It made only polls and
--- took only batches that a polling run makes and takes.
+-- The state of a run over a list, after these polls: the batches that it took, and all arrivals so far. Each poll and each
+-- batch is one that the rules of a polling run allow.
 pub record Going {L : Type 0} (entries : L → List ℕ) (moves : L → List ℕ → List ℕ → ℕ → L → Type 0) (is_all : List ℕ → L → Type 0)
     (budget window : ℕ) (start : L) (polls : List Poll) (list : L) (ahead repoll : List ℕ) (count sum : ℕ) : Type 0 where
   pub first : List ℕ

@@ -44,7 +44,7 @@ run_of poll budget weight window bench list = from_batch poll budget weight wind
 abbrev pub run_report : ℕ → ℕ → List Poll → RunReport
 run_report budget window polls = record { polls = length polls; work = work_of polls; squeezed = is_spent budget window polls }
 
--- the relation of a bench is the graph of a function
+-- a bench's polls are a function: the relation holds exactly for the function's result
 abbrev pub IsGivenBy : {B : Type 0} → (B → ℕ → ℕ → Once → B → Type 0) → (B → ℕ → ℕ → Once × B) → Type 0
 IsGivenBy {B} polls poll =
     (before after : B) (id weight : ℕ) (once : Once)
@@ -67,13 +67,13 @@ RunIsFunction {B} relation =
     × (left ≡ (run_of poll budget weight window bench list).1)
     × (report ≡ run_report budget window (run_of poll budget weight window bench list).0.polls))
 
--- on the view of a bench, its polls are the graph of a function
+-- a bench's polls, seen through a view of the bench, are a function of that view
 abbrev pub IsShownBy : {B V : Type 0} → (B → ℕ → ℕ → Once → B → Type 0) → (B → V) → (V → ℕ → ℕ → Once × V) → Type 0
 IsShownBy {B} polls shown poll =
     (before after : B) (id weight : ℕ) (once : Once) → polls before id weight once after
     → (once ≡ (poll (shown before) id weight).0) × (shown after ≡ (poll (shown before) id weight).1)
 
--- law: if they are, every run over a list of one thread is, on the view of the bench, the run of that function
+-- law: then every run over a list of one thread, seen through the view, is the run of that function
 abbrev pub RunIsShown : {B V : Type 0} → (B → ℕ → ℕ → Once → B → Type 0) → (B → V) → (V → ℕ → ℕ → Once × V) → Type 0
 RunIsShown {B} relation shown poll =
     IsShownBy relation shown poll

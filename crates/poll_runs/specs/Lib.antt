@@ -2,6 +2,7 @@ pub mod Polls
 pub mod Batches
 pub mod Thread
 pub mod Plain
+pub mod Ranges
 pub mod Run
 pub mod Turn
 pub mod Driven

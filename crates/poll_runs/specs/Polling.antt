@@ -29,7 +29,7 @@ is_again _ = false
 abbrev pub kind_for : Flags → Kind
 kind_for flags = if flags.threaded then kind.Thread else kind.List
 
--- the queue in which the instance was put after a missed request, or released if there was none
+-- how a completed poll ended: queued again if a request was missed, otherwise released
 abbrev pub next_of : Option Kind → Next
 next_of None = Gone
 next_of (Some k) = Again k
@@ -131,8 +131,9 @@ module _ {P : Type 0} where
 
   -- ---- by its thread (`napi_threaded_poll`)
 
-  -- What follows a poll, which was the last that the thread may make, or not: whether the thread still owns the instance. It
-  -- takes an instance again that was queued for it again; one that it may not poll again goes to the list.
+  -- What the thread does after a poll; the argument says whether this was the last poll that it may make, the result whether it
+  -- still owns the instance. It takes an instance again that was queued for it again. After the last poll, an instance that
+  -- gets a repoll goes to the list.
   abbrev pub followed : Bool → Next → Plan P Bool
   followed true next = do
     _ ← let_go next
@@ -147,7 +148,7 @@ pub record ThreadPolls (P : Type 0) : Type 0 where
   pub packets : List P
 
 module _ {P : Type 0} (thread : Bool) (weight : ℕ) where
-  -- the thread owns the instance or not, has made these polls, and may make this many more
+  -- the rest of a thread's polling: it may make this many more polls, owns the instance or doesn't, and has made these polls
   unfoldable pub polls_on : ℕ → Bool → ThreadPolls P → Plan P (ThreadPolls P)
   polls_on left false before = ends before
   polls_on zero true before = ends before
@@ -212,7 +213,7 @@ module _ {P : Type 0} (bytes : List P → ℕ) (thread : Bool) (weight : ℕ) wh
     next ← left_by thread (nat_lt (length packets) weight)
     ends (record { report = record (and_poll bytes r packets) { next = next }; packets = packets })
 
-  -- this many rounds remain
+  -- the rest of busy polling, with this many rounds left
   unfoldable pub rounds_on : ℕ → BusyReport → Plan P (BusyPolls P)
   rounds_on zero r = stopped r
   rounds_on (suc left) r = do

@@ -1,5 +1,5 @@
--- The polling run (`net_rx_action`), defined by its batches, for any list that states its own relations (its entries, what was
--- pushed and what arrived between two times, and that no entry was left in it).
+-- The polling run (`net_rx_action`), defined by its batches. It is defined for any list that states three relations: its
+-- entries; what was pushed and what arrived between two times; and that no entry was left in it.
 use Rattle.std.specs.Prelude.{◌≡◌, ◌≢◌, ◌⊎◌, ℕ, ◌+◌, ◌<◌, ◌≤◌, Bool, ◌||◌, nat_le, false, List, [], ◌∷◌, ◌++◌, length, take}
 use Rattle.std.specs.List.{AllByRecursion}
 use Rattle.{std.specs.List.concat, poll_runs.specs.{Polls.{Poll, queued_by, ids, repolled, work_of}, declared.run.RunReport.RunReport}}
@@ -7,7 +7,7 @@ use Rattle.poll_runs.specs.Batches.{empties, empties_of}
 
 -- A batch that a run takes after these polls consists of all entries of the list: together with the entries taken before, which
 -- were all polled, it is the initial list followed by what arrived until then. A run takes it only if no poll asked for a
--- repoll, and budget and window are left.
+-- repoll, and neither the budget nor the window is used up.
 pub record IsBatch {L : Type 0} (entries : L → List ℕ) (moves : L → List ℕ → List ℕ → ℕ → L → Type 0) (is_all : List ℕ → L → Type 0)
     (budget window : ℕ) (start : L) (earlier : List Poll) (batch : List ℕ) : Type 0 where
   pub when : L
@@ -27,9 +27,12 @@ AreBatches takes polls taken [] = Unit
 AreBatches takes polls taken (batch ∷ more) =
     (ids (take (length taken) polls) ≡ taken) × takes (take (length taken) polls) batch × AreBatches takes polls (taken ++ batch) more
 
--- the work reached the budget, or the number of polls the window
+-- the squeeze (`time_squeeze`): the work reached the budget, or the number of polls the window
+abbrev pub is_squeezed : ℕ → ℕ → ℕ → ℕ → Bool
+is_squeezed budget window polls work = nat_le budget work || nat_le window polls
+
 abbrev pub is_spent : ℕ → ℕ → List Poll → Bool
-is_spent budget window polls = nat_le budget (work_of polls) || nat_le window (length polls)
+is_spent budget window polls = is_squeezed budget window (length polls) (work_of polls)
 
 -- A run over a list, with these polls: its first batch and the further ones, their unpolled rest, the arrivals that no batch
 -- took, and all arrivals.
@@ -47,8 +50,8 @@ pub record IsRun {L : Type 0} (entries : L → List ℕ) (moves : L → List ℕ
   -- the batches and the late arrivals together are the initial list followed by the arrivals
   pub found : ℕ
   pub moved : moves start (queued_by polls) came found after
-  -- how often, at least, the list was found empty: by each batch, and when the rest was put back; each time at least once,
-  -- unless 64 entries were taken first
+  -- a lower bound on how often the list was found empty: once for each batch and once when the rest was put back, except if 64
+  -- entries were taken
   pub emptied : empties_of (first ∷ further) + empties (entries after) ≤ found
   pub joined : (first ++ concat further) ++ late ≡ entries start ++ came
   -- the list afterwards: the unpolled rest, the late arrivals, then the repolls

@@ -2,6 +2,7 @@
 
 ghost use Rattle.std.specs.Prelude.{ℕ, List, ◌≤◌};
 ghost use Rattle.poll_runs.specs.Polling.{NoBusyPolls};
+ghost use Rattle.poll_runs.specs.Ranges.{IsMost, IsRounds, IsWeight};
 ghost use Rattle.poll_runs.specs.Thread.{IsThreadPolling, NoThreadPolls};
 ghost use Rattle.poll_runs.specs.declared.bench.BusyReport.{BusyReport};
 ghost use Rattle.poll_runs.specs.declared.bench.Once.{Once};
@@ -89,8 +90,8 @@ pub trait Bench {
     ghost polls: { Self → ℕ → ℕ → Once → Self → Type 0 };
 
     /// `thread_polls before id weight most polls after`: polling of this instance by its thread leads from one bench to the
-    /// other by these polls, including a take that finds nothing, and queueing on the list after a last `Repoll`. By default
-    /// nothing is polled and the bench is unchanged.
+    /// other by these polls. A take that finds nothing is one of them, and so is queueing on the list after a last `Repoll`. By
+    /// default nothing is polled and the bench is unchanged.
     ghost thread_polls: { Self → ℕ → ℕ → ℕ → List Once → Self → Type 0 } = { NoThreadPolls };
 
     /// `busy_polls before id weight rounds report after`: busy polling of this instance for this many rounds leads from one
@@ -100,15 +101,15 @@ pub trait Bench {
     /// Takes an instance from the list and polls it once with this weight, in 1..=64 (`napi_poll`). Returns [`Next::Absent`]
     /// for an instance that isn't on the list.
     fn poll_once(&mut self, id: u32, weight: u32) -> Once
-        requires weight { (1 ≤ weight) × (weight ≤ 64) }
+        requires weight { IsWeight weight }
         ensures leads { polls self.old id weight result self.new }
         ensures bound { result.work ≤ weight };
 
-    /// Takes an instance as its thread does, and polls it until no repoll is asked for and a take doesn't find it in the
-    /// thread's queue, at most `most` times, in 1..=131072 (`napi_threaded_poll`).
+    /// Takes an instance as its thread does, and polls it at most `most` times, in 1..=131072 (`napi_threaded_poll`). It stops
+    /// earlier if a poll asks for no repoll and a take doesn't find the instance in the thread's queue.
     fn poll_thread(&mut self, id: u32, weight: u32, most: u32) -> ThreadReport
-        requires weight { (1 ≤ weight) × (weight ≤ 64) }
-        requires most { (1 ≤ most) × (most ≤ 131072) }
+        requires weight { IsWeight weight }
+        requires most { IsMost most }
         ensures { (polls : List Once)
             × thread_polls self.old id weight most polls self.new
             × IsThreadPolling weight most polls result };
@@ -116,7 +117,7 @@ pub trait Bench {
     /// Takes an idle instance, polls it for this many rounds, in 1..=65535, stops, and polls it once more (`napi_busy_loop`,
     /// `busy_poll_stop`).
     fn busy_poll(&mut self, id: u32, weight: u32, rounds: u32) -> BusyReport
-        requires weight { (1 ≤ weight) × (weight ≤ 64) }
-        requires rounds { (1 ≤ rounds) × (rounds ≤ 65535) }
+        requires weight { IsWeight weight }
+        requires rounds { IsRounds rounds }
         ensures leads { busy_polls self.old id weight rounds result self.new };
 }

@@ -3,6 +3,7 @@
 ghost use Rattle.std.specs.Prelude.{◌≡◌, ◌≢◌, ◌≤◌, ◌<◌, ◌+◌, ◌^◌, List, MatchBool, nat_lt};
 ghost use Rattle.poll_runs.specs.Plan.{Does};
 ghost use Rattle.poll_runs.specs.Polling.{HasLast, left_by, busy_poll_plan, round};
+ghost use Rattle.poll_runs.specs.Ranges.{IsRounds, IsWeight};
 ghost use Rattle.poll_runs.specs.declared.bench.Next.TheVariants.{Absent};
 
 use crate::bench::{BusyReport, Next};
@@ -37,7 +38,7 @@ fn round<I: BusyInstance>(
     report: &mut BusyReport,
 )
     requires busy { I.in_busy instance.old }
-    requires weight { (1 ≤ weight) × (weight ≤ 64) }
+    requires weight { IsWeight weight }
     requires polls { report.old.polls + 1 < 2 ^ 32 }
     requires work { report.old.work + 64 < 2 ^ 32 }
     requires bytes { report.old.bytes + 2 ^ 38 < 2 ^ 64 }
@@ -89,8 +90,8 @@ pub fn poll_busy_of<I: BusyInstance>(
     packets: &mut I::Packets,
 ) -> BusyReport
     requires rests { I.rests instance.old }
-    requires rounds { (1 ≤ rounds) × (rounds ≤ 65535) }
-    requires weight { (1 ≤ weight) × (weight ≤ 64) }
+    requires rounds { IsRounds rounds }
+    requires weight { IsWeight weight }
     ensures does { (given : List I.Packet)
         × Does I.tries I.did
         (busy_poll_plan I.bytes_in (I.thread instance.old) weight rounds) instance.old

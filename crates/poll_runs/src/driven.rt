@@ -1,12 +1,13 @@
 //! A polling run, one poll at a time.
 
-ghost use Rattle.std.specs.Prelude.{◌≡◌, ◌+◌, ◌<◌, ◌≤◌, ◌||◌, true, false, is_some, nat_le, List, [], ◌∷◌, ◌++◌, length, if◌then◌else◌, None, Some};
+ghost use Rattle.std.specs.Prelude.{◌≡◌, ◌+◌, ◌<◌, ◌≤◌, true, false, is_some, List, [], ◌∷◌, ◌++◌, length, if◌then◌else◌, None, Some};
 ghost use Rattle.poll_runs.specs.Polls.{Poll, is_arrival, is_repoll, work_of};
 ghost use Rattle.poll_runs.specs.Batches.{empties};
-ghost use Rattle.poll_runs.specs.Run.{IsRun};
+ghost use Rattle.poll_runs.specs.Run.{IsRun, is_squeezed};
 ghost use Rattle.poll_runs.specs.Steps.{Asks, Begins, HoldsNothing, has_spent};
 ghost use Rattle.poll_runs.specs.Turn.{HandsOn, Refills};
 ghost use Rattle.poll_runs.specs.Driven.{IsGoing, IsOver, SameSettings, and_poll, held, in_run};
+ghost use Rattle.poll_runs.specs.Ranges.{IsBudget, IsWeight, IsWindow};
 
 use crate::bench::{Next, Once};
 use crate::list::PollList;
@@ -17,7 +18,7 @@ use napi_model::Kind;
 
 // Returns whether the work reaches the budget or the number of polls the window.
 pub(crate) fn is_spent(budget: u32, window: u32, polls: u32, work: u32) -> bool
-    ensures spent { result ≡ (nat_le budget work || nat_le window polls) }
+    ensures spent { result ≡ is_squeezed budget window polls work }
     ensures left { result ≡ false → (work < budget) × (polls < window) }
 {
     budget <= work || window <= polls
@@ -98,9 +99,9 @@ impl PollingRun {
 
     /// Starts a run: takes all entries of the list. The weight is in 1..=64, budget and window in 1..=65535.
     pub fn begin<L: PollList>(list: &mut L, budget: u32, weight: u32, window: u32) -> PollingRun
-        requires weight { (1 ≤ weight) × (weight ≤ 64) }
-        requires budget { (1 ≤ budget) × (budget ≤ 65535) }
-        requires window { (1 ≤ window) × (window ≤ 65535) }
+        requires weight { IsWeight weight }
+        requires budget { IsBudget budget }
+        requires window { IsWindow window }
         ensures going { IsGoing L.entries L.moves L.is_all list.old [] list.new result }
         ensures begins { Begins L.entries L.moves L.is_all list.old result list.new }
         ensures rests { result.asked ≡ None }
@@ -116,9 +117,9 @@ impl PollingRun {
     /// Like [`begin`](PollingRun::begin), in place of a run that holds nothing.
     pub fn restart<L: PollList>(&mut self, list: &mut L, budget: u32, weight: u32, window: u32)
         requires nothing { HoldsNothing self.old }
-        requires weight { (1 ≤ weight) × (weight ≤ 64) }
-        requires budget { (1 ≤ budget) × (budget ≤ 65535) }
-        requires window { (1 ≤ window) × (window ≤ 65535) }
+        requires weight { IsWeight weight }
+        requires budget { IsBudget budget }
+        requires window { IsWindow window }
         ensures going { IsGoing L.entries L.moves L.is_all list.old [] list.new self.new }
         ensures begins { Begins L.entries L.moves L.is_all list.old self.new list.new }
         ensures rests { self.new.asked ≡ None }

@@ -8,6 +8,7 @@ ghost use Rattle.napi_model.specs.declared.event.Operation.TheVariants.{BusyStop
 ghost use Rattle.napi_model.specs.declared.state.Kind.TheVariants.{List as ToList};
 ghost use Rattle.poll_runs.specs.Plan.{Action, Does};
 ghost use Rattle.poll_runs.specs.Polling.{busy_takes, completed, disabling, gives, makes, next_of, takes};
+ghost use Rattle.poll_runs.specs.Ranges.{IsWeight};
 
 use napi_model::Kind;
 
@@ -47,7 +48,7 @@ pub trait Instance {
     /// A driver's poll: takes the ring's next packets, at most `weight`, which is 1 to 64, and returns how many.
     fn poll(&mut self, weight: u32, packets: &mut Self::Packets) -> u32
         requires hand { in_hand self.old }
-        requires weight { (1 ≤ weight) × (weight ≤ 64) }
+        requires weight { IsWeight weight }
         ensures does { (given : List Self.Packet)
             × Does tries did (gives weight) self.old given self.new
             × has packets.new given × (result ≡ length given) }
@@ -74,14 +75,14 @@ pub trait Instance {
             self.old (next_of result) self.new }
         ensures rests { rests self.new };
 
-    /// No action changes nothing.
+    /// An empty list of actions leaves the state as it was.
     ghost nothing: { (it : Self) → did it [] it };
 
     /// Actions compose.
     ghost joins: { (a b c : Self) (first second : List (Action Self.Packet)) → did a first b
         → did b second c → did a (first ++ second) c };
 
-    /// Whether it has a thread doesn't change.
+    /// An action doesn't change whether the instance has a thread.
     ghost same: { (before after : Self) (deeds : List (Action Self.Packet)) → did before deeds after
         → thread after ≡ thread before };
 }
@@ -105,7 +106,7 @@ pub trait BusyInstance: Instance {
     /// many.
     fn busy_poll(&mut self, weight: u32, packets: &mut Self::Packets) -> u32
         requires busy { in_busy self.old }
-        requires weight { (1 ≤ weight) × (weight ≤ 64) }
+        requires weight { IsWeight weight }
         ensures does { (given : List Self.Packet)
             × Does Self.tries Self.did (gives weight) self.old given self.new
             × Self.has packets.new given × (result ≡ length given) }

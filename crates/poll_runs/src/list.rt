@@ -23,7 +23,7 @@ pub trait PollList {
     /// The list has room for a push, or the push waits for it.
     ghost can_push: { Self → Type 0 };
 
-    /// This many numbers that were taken from the list may return, pushed one by one or put back.
+    /// The list has room for this many of the numbers that were taken from it, if they are pushed one by one or put back.
     ghost has_room: { Self → ℕ → Type 0 };
 
     /// Appends a number to the list (`list_add_tail` in `____napi_schedule`).
@@ -59,9 +59,9 @@ pub trait PollList {
     /// What was pushed and arrived over two consecutive periods, composed.
     ghost joins: { (first second third : Self) (pushed more came later : List ℕ) (n m : ℕ) → moves first pushed came n second → moves second more later m third → moves first (pushed ++ more) (came ++ later) (n + m) third };
 
-    /// Room for one number or more is room for a push.
+    /// A list with room for a number has room for a push.
     ghost room_to_push: { (list : Self) (n : ℕ) → has_room list (n + 1) → can_push list };
 
-    /// Room for some numbers is room for one fewer.
+    /// A list with room for `n + 1` numbers has room for `n`.
     ghost room_for_less: { (list : Self) (n : ℕ) → has_room list (n + 1) → has_room list n };
 }

@@ -4,6 +4,7 @@ ghost use Rattle.std.specs.Prelude.{◌≡◌, ◌≢◌, ◌==◌, ◌≤◌, f
 ghost use Rattle.poll_runs.specs.Plan.{Does};
 ghost use Rattle.poll_runs.specs.Polling.{HasLast, ended, followed, let_go, next_of, poll_plan, thread_poll_plan, poll_once_plan};
 ghost use Rattle.poll_runs.specs.Polls.{is_repoll};
+ghost use Rattle.poll_runs.specs.Ranges.{IsMost, IsWeight};
 ghost use Rattle.poll_runs.specs.Thread.{IsThreadPolling, is_for_thread};
 ghost use Rattle.poll_runs.specs.declared.bench.Next.TheVariants.{Absent, Repoll};
 ghost use Rattle.poll_runs.specs.declared.bench.Once.{Once};
@@ -12,7 +13,7 @@ use crate::bench::{Next, Once, ThreadReport};
 use crate::instance::Instance;
 use napi_model::Kind;
 
-// Returns how a poll ended that completed its instance.
+// Returns how a poll ended, if it completed its instance: queued again, or released.
 fn next_of(again: Option<Kind>) -> Next
     ensures { result ≡ next_of again }
 {
@@ -22,7 +23,7 @@ fn next_of(again: Option<Kind>) -> Next
     }
 }
 
-// Ends a poll that used its whole weight, or less.
+// Ends a poll; `full` says whether it used its whole weight.
 fn end<I: Instance>(instance: &mut I, full: bool) -> Next
     requires { I.in_hand instance.old }
     ensures does { Does I.tries I.did (ended (I.thread instance.old) full) instance.old result
@@ -39,7 +40,7 @@ fn end<I: Instance>(instance: &mut I, full: bool) -> Next
 // Polls an instance that its poller owns (`__napi_poll`).
 fn poll_held<I: Instance>(instance: &mut I, weight: u32, packets: &mut I::Packets) -> Once
     requires hand { I.in_hand instance.old }
-    requires weight { (1 ≤ weight) × (weight ≤ 64) }
+    requires weight { IsWeight weight }
     ensures does { (given : List I.Packet)
         × Does I.tries I.did (poll_plan (I.thread instance.old) weight) instance.old
         (record { once = result; packets = given }) instance.new
@@ -70,7 +71,7 @@ fn let_go<I: Instance>(instance: &mut I, next: Next)
 /// [`Next::Again`] with the list, the caller still has to push its number.
 pub fn poll_once_of<I: Instance>(instance: &mut I, weight: u32, packets: &mut I::Packets) -> Once
     requires rests { I.rests instance.old }
-    requires weight { (1 ≤ weight) × (weight ≤ 64) }
+    requires weight { IsWeight weight }
     ensures does { (given : List I.Packet)
         × Does I.tries I.did (poll_once_plan (I.thread instance.old) weight) instance.old
         (record { once = result; packets = given }) instance.new
@@ -90,7 +91,7 @@ pub fn poll_once_of<I: Instance>(instance: &mut I, weight: u32, packets: &mut I:
 }
 
 // Decides what follows a poll by the thread: it keeps the instance, or takes it again if it was queued for the thread, unless
-// this was the last poll that it may make. An instance that it may not poll again goes to the list.
+// this was the last poll that it may make. After the last poll, an instance that gets a repoll goes to the list.
 fn follow<I: Instance>(instance: &mut I, next: Next, is_last: bool) -> bool
     requires { MatchBool (is_repoll next) (I.in_hand instance.old) (I.rests instance.old) }
     ensures does { Does I.tries I.did (followed is_last next) instance.old result instance.new }
@@ -120,8 +121,8 @@ pub fn poll_thread_of<I: Instance>(
     packets: &mut I::Packets,
 ) -> ThreadReport
     requires rests { I.rests instance.old }
-    requires weight { (1 ≤ weight) × (weight ≤ 64) }
-    requires most { (1 ≤ most) × (most ≤ 131072) }
+    requires weight { IsWeight weight }
+    requires most { IsMost most }
     ensures does { (polls : List Once) × (given : List I.Packet)
         × Does I.tries I.did (thread_poll_plan (I.thread instance.old) weight most)
         instance.old

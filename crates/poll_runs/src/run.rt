@@ -2,6 +2,7 @@
 
 ghost use Rattle.std.specs.Prelude.{◌≡◌, ◌+◌, ◌<◌, ◌≤◌, List};
 ghost use Rattle.poll_runs.specs.Polls.{At, Chain, Poll};
+ghost use Rattle.poll_runs.specs.Ranges.{IsBudget, IsWeight, IsWindow};
 ghost use Rattle.poll_runs.specs.Run.{IsRun};
 
 use crate::bench::Bench;
@@ -33,9 +34,9 @@ pub fn run_softirq<L: PollList, B: Bench>(
     weight: u32,
     window: u32,
 ) -> RunReport
-    requires weight { (1 ≤ weight) × (weight ≤ 64) }
-    requires budget { (1 ≤ budget) × (budget ≤ 65535) }
-    requires window { (1 ≤ window) × (window ≤ 65535) }
+    requires weight { IsWeight weight }
+    requires budget { IsBudget budget }
+    requires window { IsWindow window }
     ensures run { (polls : List Poll)
         × Chain (At B.polls weight) bench.old polls bench.new
         × IsRun L.entries L.moves L.is_all budget window list.old polls list.new result }

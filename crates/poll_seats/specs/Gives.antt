@@ -1,4 +1,4 @@
--- What a poller's thread, and the thread of an instance, return.
+-- What the thread of a poller, and the thread of an instance, return.
 use Rattle.{poll_list.specs.declared.shared.SharedList.SharedList, napi_calls.specs.declared.{kept.DropBomb.DropBomb, types.Caller.Caller}}
 use Rattle.poll_tasks.specs.{Asks.IsAsked, Stops.IsStop, declared.limits.PollLimits.PollLimits}
 use Rattle.poll_list.specs.declared.list_in.ListIn.{ListIn}
@@ -7,7 +7,7 @@ use Rattle.poll_seats.specs.declared.{poller.Poller.Poller, handle.PollHandle.Po
 use Rattle.poll_seats.specs.declared.thread_poller.ThreadPoller.{ThreadPoller}
 use Rattle.poll_seats.specs.{Turns.{TurnsAlone, TurnsByRun}, Serving.IsServed}
 
--- the numbers that identify a poller, and the thread of an instance, to a gate
+-- the numbers by which a poller of lists and the thread of an instance identify themselves to a gate
 abbrev pub poller_name : ℕ → ℕ
 poller_name number = 100 + number
 
@@ -15,8 +15,8 @@ abbrev pub thread_name : ℕ → ℕ
 thread_name number = 200 + number
 
 module _ {R : Type 0} where
-  -- The poller with this number started, which its gate allowed, and took its turns, one after the other, each a run by this
-  -- limits: over this list, and from its seats as they were to these.
+  -- The poller with this number started, which its gate allowed, and took its turns, one after the other. Each turn was a run
+  -- with these limits over this list. The turns changed its handles from the first to the second.
   pub record IsPolledBy (asked : ℕ → Type 0) (limits : PollLimits) (number : ℕ) (list : SharedList R) (before after : List
       (DropBomb R PollHandle)) : Type 0 where
     pub first : ListPoller R
@@ -29,8 +29,9 @@ module _ {R : Type 0} where
     pub to : vec_items last.bench.seats ≡ after
 
 module _ (R : Type 0) where
-  -- The thread of the instance with this number started, which its gate allowed, and took its turns, one after the other, each
-  -- a polling by this limits: with its own waker, handing over to this end of a list, and from this caller to that one.
+  -- The thread of the instance with this number started, which its gate allowed, and took its turns, one after the other. Each
+  -- turn polled the instance with these limits, and the thread waited by its own waker. Instances for the list were pushed at
+  -- this end. The turns changed the caller from the first to the second.
   pub record IsPolledAlone (asked : ℕ → Type 0) (limits : PollLimits) (number : ℕ) (list : ListIn R) (before after : Caller) : Type 0 where
     pub first : ThreadPoller R
     pub last : ThreadPoller R
@@ -43,11 +44,11 @@ module _ (R : Type 0) where
     pub turns : IsServed TurnsAlone first last
     pub to : last.seat.value.caller ≡ Some after
 
--- `idle` says whether there is nothing to poll, `turns` is the relation of a turn, `may_shut` is true of a gate that may return
--- false
+-- `idle` says whether there is nothing to poll, `turns` is the relation of one turn, and `may_shut` holds for a gate that may
+-- return false
 module _ {R G S : Type 0} (idle : S → Bool) (turns : S → Bool → S → Type 0) (may_shut : Type 0) (answers : G → ℕ → ℕ → Bool → Type 0) where
-  -- The poller started, which its gate allowed, and took its turns, one after the other, unless it has nothing to poll or its
-  -- run ended early; and what it polls is as after its turns.
+  -- The poller started, which its gate allowed, and took its turns, one after the other, unless it had nothing to poll or its
+  -- run ended early. What it polls is in the state after these turns.
   pub record IsPolled (before after : Poller R G S) : Type 0 where
     pub why : IfSome after.stop (IsStop may_shut)
     pub started : after.stop ≡ None → idle before.served ≡ false → IsAsked answers before.context.now.gate.now before.name

@@ -1,11 +1,11 @@
--- The effect of a poll on a poller's seats.
+-- The effect of a poll on a poller's handles. (Names with "seat" are about these handles.)
 use Rattle.std.specs.Prelude.{◌≡◌, ◌==◌, ◌<◌, ℕ, length, get_or, set, position, is_some, vec_items, MatchOption}
 use Rattle.{poll_runs.specs.declared.bench.{Next.TheVariants.Absent, Once.Once}, poll_seats.specs.declared.handle.PollHandle.PollHandle}
 use Rattle.napi_calls.specs.declared.kept.DropBomb.{DropBomb}
 use Rattle.poll_seats.specs.{declared.list_poller.HandleBench.HandleBench, Polled.Polls, SeatKeeping.IsSameSeat}
 
 module _ {R : Type 0} where
-  -- only the seat at this place was polled, once, with this weight and this result
+  -- only the handle at this index was polled, once, with this weight and this result
   pub record IsPolledAt (before : HandleBench R) (weight : ℕ) (once : Once) (after : HandleBench R) (place : ℕ) : Type 0 where
     pub was : DropBomb R PollHandle
     pub now : DropBomb R PollHandle
@@ -15,7 +15,7 @@ module _ {R : Type 0} where
     pub polls : Polls (is_some was.value.thread) weight was.value.caller once after.batch.items now.value.caller
     pub others : vec_items after.seats ≡ set (vec_items before.seats) place now
 
-  -- the poller has no seat at the instance, which is absent
+  -- the poller has no handle on the instance: nothing is polled
   pub record IsNowhere (before : HandleBench R) (once : Once) (after : HandleBench R) : Type 0 where
     pub work : once.work ≡ 0
     pub next : once.next ≡ Absent

@@ -1,8 +1,8 @@
--- A poller's seats stay at their instances.
+-- A poller's handles stay on their instances. (Names with "seat" are about these handles.)
 use Rattle.std.specs.{Prelude.{◌≡◌, List, IsSome}, List.AllZip}
 use Rattle.{napi_calls.specs.declared.kept.DropBomb.DropBomb, poll_seats.specs.declared.handle.PollHandle.PollHandle}
 
--- the seat is at the same instance, with the same waker, and its caller is present again
+-- the handle is still on the same instance, with the same waker, and its caller is present again
 pub record IsSameSeat (a b : PollHandle) : Type 0 where
   pub number : b.number ≡ a.number
   pub napi : b.napi ≡ a.napi

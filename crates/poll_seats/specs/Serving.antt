@@ -1,4 +1,4 @@
--- Turns of a poller until nothing will be handed over any more.
+-- The turns of a poller until its queue was closed: nothing is queued for it any more.
 use Rattle.{std.specs.Prelude.{Bool, false, List}, poll_runs.specs.Polls.Chain}
 
 -- turns one after the other, each of which polled something or nothing; the last one polled nothing

@@ -1,4 +1,4 @@
--- A turn of a poller, and one of the thread of an instance.
+-- A turn of a poller with a list, and of the thread of an instance.
 use Rattle.std.specs.Prelude.{◌≡◌, ◌++◌, ◌==◌, not, is_some, Bool, List, nat_lt, vec_len}
 use Rattle.poll_list.specs.SharedList.{IsAllPopped, PopsCame, in_hand, pushed_by}
 use Rattle.poll_runs.specs.{Polls.{At, Chain, Poll}, Run.IsRun, declared.{bench.ThreadReport.ThreadReport, run.RunReport.RunReport}}
@@ -7,28 +7,28 @@ use Rattle.poll_seats.specs.{HandleBenches.PollsSeat, Polled.PollsByThread}
 use Rattle.poll_seats.specs.{Polled.handed_on, SeatKeeping.IsSameSeat}
 
 module _ {R : Type 0} where
-  -- a poller without seats has nothing to poll, and neither has the thread of an instance that has none
+  -- the poller has nothing to poll: it has no handle, or it is the thread of an instance that has no thread
   abbrev pub has_no_seat : ListPoller R → Bool
   has_no_seat served = vec_len served.bench.seats == 0
 
   abbrev pub has_no_thread : ThreadPoller R → Bool
   has_no_thread served = not (is_some served.seat.value.thread)
 
-  -- a run over the list, by the budget, the weight and the window of the limits (`net_rx_action`)
+  -- one run over the list, with the budget, the weight and the window of these limits (`net_rx_action`)
   pub record RunsOnce (before : ListPoller R) (report : RunReport) (after : ListPoller R) : Type 0 where
     pub polls : List Poll
     pub seats : Chain (At PollsSeat before.limits.weight) before.bench polls after.bench
     pub run : IsRun in_hand PopsCame IsAllPopped before.limits.budget before.limits.window before.list polls after.list report
     pub limits : after.limits ≡ before.limits
 
-  -- a poller's turn is one run, and reports whether it polled anything
+  -- a turn of a poller with a list is one run; it reports whether anything was polled
   pub record TurnsByRun (before : ListPoller R) (found : Bool) (after : ListPoller R) : Type 0 where
     pub report : RunReport
     pub run : RunsOnce before report after
     pub found_polls : found ≡ nat_lt 0 report.polls
 
-  -- a thread's turn is one polling, by the weight and the window of the limits (`napi_threaded_poll`); it reports whether it
-  -- polled anything, and hands over what it may not poll again
+  -- A turn of an instance's thread polls the instance, with the weight and the window of the limits (`napi_threaded_poll`). It
+  -- reports whether anything was polled, and queues on the list an instance that the thread may not poll again.
   pub record TurnsAlone (before : ThreadPoller R) (found : Bool) (after : ThreadPoller R) : Type 0 where
     pub report : ThreadReport
     pub same : IsSameSeat before.seat.value after.seat.value

@@ -13,7 +13,7 @@ use rx_ring::Batch;
 use std::mem;
 use std::sync::Wait;
 
-/// A poller's handle on one instance. A linear value: it can't be dropped.
+/// A poller's handle on one instance. It is linear: it can't be dropped.
 pub struct PollHandle<'n> {
     /// The device's number.
     pub number: u32,
@@ -21,7 +21,7 @@ pub struct PollHandle<'n> {
     pub napi: &'n Napi,
     /// The waker of the instance's own thread, if it has one.
     pub thread: Option<&'n Waker>,
-    /// The caller that polls, absent only during a poll.
+    /// The caller that polls; `None` only during a poll.
     pub caller: Option<Caller>,
     ghost of: { ForSome caller (λ c. IsSeatOf napi.now c.pass) },
 }
@@ -31,7 +31,7 @@ impl<'n> PollHandle<'n> {
     ghost use Rattle.poll_seats.specs.Polled.{Polls, PollsByThread};
     ghost use Rattle.poll_seats.specs.SeatKeeping.{IsSameSeat};
 
-    // Puts the caller back.
+    // Puts the caller back into the handle, after a poll.
     fn sit(&mut self, caller: Caller)
         requires seat { IsSeatOf self.old.napi.now caller.pass }
         requires away { self.old.caller ≡ None }
@@ -46,7 +46,7 @@ impl<'n> PollHandle<'n> {
         }
     }
 
-    /// Returns the caller.
+    /// Returns the caller, and ends the handle.
     pub fn leave(self) -> Caller
         requires { IsSome self.caller }
         ensures of { IsSeatOf self.entry.napi.now result.pass }
@@ -62,7 +62,7 @@ impl<'n> PollHandle<'n> {
         caller
     }
 
-    /// Polls the instance once, if it is on the list. If that hands it to its thread, the thread is woken.
+    /// Polls the instance once, if it is on the list. If the poll queues it for its thread, the thread is woken.
     pub(crate) fn poll<R: Wait>(&mut self, rt: &R, weight: u32, batch: &mut Batch) -> Once
         requires weight { (1 ≤ weight) × (weight ≤ 64) }
         ensures same { IsSameSeat self.old self.new }
@@ -93,7 +93,7 @@ impl<'n> PollHandle<'n> {
         once
     }
 
-    /// Polls the instance as its thread, if it was handed to the thread, at most so many times.
+    /// Polls the instance as its thread, if it was queued for the thread, at most this many times.
     pub(crate) fn poll_thread<R: Wait>(
         &mut self,
         rt: &R,

@@ -1,5 +1,5 @@
-//! Internal crate of the facade `poll_engine`: pollers, each in its own thread, of the instances on a list or of a single
-//! one.
+//! Internal crate of the facade `poll_engine`: pollers, each in its own thread. A poller polls the instances on a list, or a
+//! single instance as its thread.
 #![tactic(auto)]
 
 mod handle;

@@ -1,4 +1,4 @@
-//! What a poller with a list polls: its seats are a bench, over which it runs while there is an instance on the list.
+//! A poller with a list. Its handles form a [`Bench`], over which it makes polling runs while there is an instance on the list.
 
 ghost use Rattle.std.specs.Prelude.{◌≡◌, ◌==◌, position, vec_items};
 ghost use Rattle.poll_tasks.specs.Limits.{IsLawful};
@@ -12,7 +12,7 @@ use poll_tasks::PollLimits;
 use rx_ring::Batch;
 use std::sync::Wait;
 
-// A poller's seats, as the bench of the instances' numbers.
+// The handles of a poller, as a bench in which instances have their numbers.
 #[derive(Drop)]
 pub(crate) struct HandleBench<'n, R: Wait + Drop> {
     rt: R,
@@ -20,7 +20,7 @@ pub(crate) struct HandleBench<'n, R: Wait + Drop> {
     batch: Batch,
 }
 
-// Returns the place of the seat at the instance with this number.
+// Returns the index of the handle on the instance with this number.
 fn find<'n, R: Wait + Drop>(seats: &[DropBomb<R, PollHandle<'n>>], number: u32) -> Option<usize>
     ensures { result ≡ position (λ seat. seat.value.number == number) seats.now }
 {
@@ -51,12 +51,12 @@ impl<'n, R: Wait + Drop> Bench for HandleBench<'n, R> {
     }
 }
 
-/// The list of a poller, and its seats at its instances.
+/// A poller's list, and its handles on its instances.
 #[derive(Drop)]
 pub struct ListPoller<'n, R: Wait + Drop> {
     /// The list of instances that the poller polls.
     pub list: SharedList<R>,
-    // Its seats at its instances.
+    // Its handles on its instances.
     bench: HandleBench<'n, R>,
     /// How it polls.
     pub limits: PollLimits,
@@ -66,7 +66,7 @@ pub struct ListPoller<'n, R: Wait + Drop> {
 impl<'n, R: Wait + Drop> ListPoller<'n, R> {
     ghost use Rattle.poll_seats.specs.Turns.{RunsOnce};
 
-    /// Creates the poller of this list, with these seats.
+    /// Returns a poller with this list and these handles.
     pub fn new(
         rt: R,
         list: SharedList<R>,
@@ -89,7 +89,7 @@ impl<'n, R: Wait + Drop> ListPoller<'n, R> {
         }
     }
 
-    /// Returns the seats.
+    /// Returns the handles.
     pub fn leave(self) -> Vec<DropBomb<R, PollHandle<'n>>>
         ensures { result ≡ self.entry.bench.seats }
     {

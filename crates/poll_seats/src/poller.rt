@@ -1,30 +1,30 @@
-//! The thread of a poller: it takes turns until nothing will be handed over any more.
+//! The thread of a poller: it takes turns until its queue is closed.
 
 ghost use Rattle.poll_seats.specs.Serving.{IsServed};
 
 use poll_tasks::{Gate, IdleWait, RunContext, Stop, Task, Waker};
 use std::sync::Wait;
 
-/// What a poller polls: the instances on a list, or the one instance that it is the thread of.
+/// What a poller polls: the instances on a list, or the one instance whose thread it is.
 pub(crate) trait Serves {
     ghost use Rattle.std.specs.Prelude.{◌≡◌, Bool};
 
     ghost idle: { Self → Bool };
 
-    /// `turns before found after`: one turn leads from `before` to `after`, and polled something or nothing.
+    /// `turns before found after`: one turn leads from `before` to `after`; `found` says whether it polled anything.
     ghost turns: { Self → Bool → Self → Type 0 };
 
-    /// Returns whether there is nothing that it could ever poll.
+    /// Returns whether there is nothing that it could ever poll: then it needs no thread.
     fn is_idle(&self) -> bool
         ensures { result ≡ idle self.now };
 
-    /// Polls what there is to poll. Returns whether there was anything.
+    /// Polls everything that is ready. Returns whether there was anything.
     fn turn(&mut self) -> bool
         ensures { turns self.old result self.new };
 }
 
-// Takes turns while there is something to poll. A turn that finds nothing is the last one if it was signalled before that turn
-// that nothing will be handed over any more: a hand-over comes before that signal.
+// Takes turns as long as they find something to poll. A turn that finds nothing is the last one if the waker was closed before
+// that turn: everything is queued before the close.
 fn serve<R: Wait, S: Serves>(rt: &R, waker: &Waker, wait: &IdleWait, served: &mut S)
     ensures { IsServed S.turns served.old served.new }
 {
@@ -41,12 +41,12 @@ fn serve<R: Wait, S: Serves>(rt: &R, waker: &Waker, wait: &IdleWait, served: &mu
     unreachable!()
 }
 
-/// A poller, run in its own thread. One that has nothing to poll needs none, and takes no turns.
+/// A poller, which runs in its own thread. A poller that never has anything to poll needs no thread, and takes no turns.
 #[derive(Drop)]
 pub struct Poller<'t, 'p, R: Wait + Drop, G: Gate, S: Drop> {
     /// What all threads of the run share.
     pub context: &'t RunContext<'t, R, G>,
-    /// The number that identifies the poller to the gate.
+    /// The number by which the poller identifies itself to the gate.
     pub name: u32,
     /// The waker of the poller.
     pub waker: &'p Waker,
@@ -54,7 +54,7 @@ pub struct Poller<'t, 'p, R: Wait + Drop, G: Gate, S: Drop> {
     pub wait: IdleWait,
     /// What it polls.
     pub served: S,
-    /// Why its run ended early: a thread couldn't be started, and it took no turn; or its gate returned false.
+    /// The reason, if its run ended early: a thread couldn't be started, and it took no turn; or its gate returned false.
     pub stop: Option<Stop>,
 }
 

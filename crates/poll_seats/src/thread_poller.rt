@@ -1,4 +1,4 @@
-//! What the thread of an instance polls: only that instance.
+//! The poller that is the thread of one instance: it polls only that instance.
 
 ghost use Rattle.std.specs.Prelude.{◌≡◌, ◌++◌, not, is_some};
 ghost use Rattle.poll_list.specs.SharedList.{pushed_by};
@@ -15,25 +15,25 @@ use poll_tasks::{PollLimits, Waker};
 use rx_ring::Batch;
 use std::sync::Wait;
 
-/// What the thread of an instance polls, if the instance has one (`napi_threaded_poll`).
+/// One instance as its own thread polls it, if the instance has a thread (`napi_threaded_poll`).
 #[derive(Drop)]
 pub struct ThreadPoller<'p, 'n, R: Wait + Drop> {
-    /// The runtime, which waits.
+    /// The runtime, by which a push waits if the list is full.
     pub rt: R,
     /// The handle that polls as the instance's thread. It has a waker if the instance has a thread.
     pub seat: DropBomb<R, PollHandle<'n>>,
-    /// The list that gets the instance if the thread may not poll it again, or if THREADED was cleared.
+    /// The list on which the instance is queued if the thread may not poll it again, or if THREADED was cleared.
     pub list: ListIn<R>,
     /// The waker of that list's poller.
     pub poller: &'p Waker,
-    /// How it polls.
+    /// Its weight and window.
     pub limits: PollLimits,
-    /// The packets of a poll.
+    /// The packets of the last poll.
     pub batch: Batch,
     ghost lawful: { IsLawful limits },
 }
 
-// Hands an instance to the list, if a poll ended such that its thread may not poll it again, and wakes the poller of the list.
+// Pushes an instance on the list, if it was queued there after its thread's last poll, and wakes the poller of the list.
 fn hand_on<R: Wait>(list: &mut ListIn<R>, poller: &Waker, number: u32, next: Next)
     ensures { pushed_by list.new ≡ pushed_by list.old ++ handed_on next number }
 {

@@ -1,4 +1,4 @@
--- A call of a caller's seat at a shared instance.
+-- A call by a caller's handle (`SharedHandle`) on a shared instance. Names with "seat" are about such handles.
 use Rattle.std.proofs.Common.{◌≡◌, ◌≢◌, ◌∙◌, ℕ, List, [], ◌∷◌, ◌++◌, Option, Some, length, drop, map}
 use Rattle.std.proofs.Common.{ap, refl, sym, append-nil, append_assoc}
 use Rattle.rx_ring.specs.{declared.{packet.Packet.Packet, ends.RxCtx.RxCtx}, Ends.{GivesNext, received_list}}
@@ -34,7 +34,7 @@ pub back_packets : (p q : Pass) (x : RxCtx) → GivesBack p x q → pass_number 
     → packets_of (own_delivered q) ≡ Polled p x ++ []
 back_packets p q x g num = delivers_back p q x g num ∙ sym (append-nil (Polled p x))
 
--- a cleared batch has exactly what was added
+-- after a batch was cleared, it has exactly what was added since
 pub batch-has : {B : Type 0} (items : B → List Packet) (next : Next) (before : B) (packets : List Packet) (after : B)
     → items before ≡ [] → HasLast (λ b ps. items b ≡ ps) next before packets after → items after ≡ packets
 batch-has items Absent before packets after none h = ap items h.1 ∙ none ∙ sym h.0
@@ -48,7 +48,7 @@ made-of : (os : List Operation) (p q : Pass) → os ≢ [] → MadeBy os (Some p
 made-of [] p q some m = absurd (some refl)
 made-of (o ∷ os) p q some m = m
 
--- operations aren't polls
+-- if the actions are only operations, they contain no poll
 gives-any : (o : Operation) (os : List Operation) (x y : Option RxCtx) → GivesEach x (made o ∷ map made os) y
 gives-any o [] x y = (y, refl)
 gives-any o (u ∷ os) x y = (x, gives-any u os x y)
@@ -58,7 +58,7 @@ gives-none [] x y some = absurd (some refl)
 gives-none (o ∷ os) x y some = gives-any o os x y
 
 module _ {R : Type 0} where
-  -- the seat whose caller went into a call and came out of it
+  -- the handle after a call, whose caller was taken out for the call and put back
   abbrev pub Back : SharedHandle R → HandleState → SharedHandle R → HandleState → SharedHandle R → Type 0
   Back s before gone after t = (s.hold ≡ before) × (gone ≡ record s { hold = Gone }) × (t ≡ record gone { hold = after })
 
@@ -69,7 +69,7 @@ module _ {R : Type 0} where
   seat_did s before gone after t deeds b m g e =
       rw (b.2, b.1) (record { thread = refl; made = rw b.0 m; gave = rw b.0 g; each = rw b.0 e })
 
-  -- a call that polls nothing
+  -- a call that makes operations and polls nothing
   pub seat_does : {A : Type 0} (plan : Plan Packet A) (s : SharedHandle R) (before : HandleState) (gone : SharedHandle R)
       (after : HandleState) (t : SharedHandle R) (p q : Pass)
       (os : List Operation) (a : A) → Back s before gone after t → handle_pass before ≡ Some p → handle_pass after ≡ Some q → IsMade plan
@@ -82,7 +82,7 @@ module _ {R : Type 0} where
         f,
       )
 
-  -- a poll, which makes no operation
+  -- a poll, which makes no operations
   pub seat_gives : (s : SharedHandle R) (before : HandleState) (gone : SharedHandle R) (after : HandleState) (t : SharedHandle R)
       (x y : RxCtx) (weight : ℕ)
       (packets : List Packet) → Back s before gone after t → handle_pass after ≡ handle_pass before → handle_ctx before ≡ Some x
@@ -94,7 +94,7 @@ module _ {R : Type 0} where
     (packets, [], next.poll.0, (refl, refl), refl),
   )
 
-  -- what was done from one caller to the next: the operations made, and the packets delivered
+  -- what was done from one state of the caller to the next: the operations made, and the packets delivered
   pub rises : {A : Type 0} (plan : Plan Packet A) (s t : SharedHandle R) (b c : Caller) (a : A) → IsMade plan
       → (d : Does Tries SeatDid plan s a t) → s.hold ≡ Rests b → t.hold ≡ Rests c
       → Made b.pass (operations d.0) c.pass × Delivers b.pass (given d.0) c.pass

@@ -1,4 +1,4 @@
--- Plans executed at a shared instance: each makes an operation, and what they imply about the packets.
+-- Plans executed on a shared instance: each makes at least one operation. What this implies for the packets.
 use Rattle.std.proofs.Common.{◌≡◌, ◌≢◌, ◌∙◌, ◌==◌, ℕ, Bool, true, false, List, [], ◌∷◌, ◌++◌, length, map, if◌then◌else◌}
 use Rattle.std.proofs.{Common.{ap, append-nil, refl, sym}, lemmas.List.map-append}
 use Rattle.{rx_ring.specs.declared.packet.Packet.Packet, napi_word.specs.declared.table.Pass.Pass}
@@ -13,7 +13,7 @@ use Rattle.poll_shared.specs.Tries.{PlanMakes, Tries, TriesFor}
 use Rattle.napi_model.specs.declared.event.Done.TheVariants as done
 use Rattle.napi_model.specs.declared.event.Call.TheVariants as call
 
--- ---- a plan that begins with a call or an operation makes at least one
+-- ---- a plan that begins with a call makes at least one operation
 
 filled : (os : List Operation) (o : Operation) (ps : List Operation) → os ++ o ∷ ps ≢ []
 filled [] o ps = λ e. cc
@@ -78,7 +78,7 @@ pub completed-released : (thread : Bool) (os : List Operation) → TriesFor call
     → PlanMakes (completed thread) os Gone
 completed-released thread os t = (Complete done.Released, os, [], refl, t, (refl, refl), sym (append-nil (map made os)))
 
--- a completion after a missed request is followed by queueing the instance
+-- after a missed request, a completion is followed by queueing the instance
 pub completed-again : (thread : Bool) (os ps : List Operation) (k : Kind) → TriesFor call.Complete (Complete done.Again ∷ []) os
     → PlanMakes (handed thread) ps k → PlanMakes (completed thread) (os ++ ps) (Again k)
 completed-again thread os ps k t m = (
@@ -91,14 +91,14 @@ completed-again thread os ps k t m = (
   map-append made os ps,
 )
 
--- two calls in sequence, the second of which made an operation
+-- two calls one after the other make an operation if the second one does
 pub made-behind : {p q r : Pass} (os ps : List Operation) → Made p os q → Made q ps r → ps ≢ [] → Made p (os ++ ps) r
 made-behind os [] m n some = absurd (some refl)
 made-behind os (o ∷ ps) m n some = more o ps m n
 
 -- ---- a poll from the list
 
--- the plan polls nothing, and each of its results has this property
+-- the plan makes no polls, and each of its results has this property
 abbrev Keeps : {A : Type 0} → (A → Type 0) → Plan Packet A → Type 0
 Keeps is (ends a) = is a
 Keeps is (asks c go) = (o : Operation) → Keeps is (go o)
@@ -140,7 +140,7 @@ ended-keeps thread true = λ o. by (flags_in o).disable
     by true = completed-keeps thread
     by false = λ e. cc e
 
--- what the outcome of a poll with these packets says
+-- what the outcome of a poll says about its packets
 abbrev Tells : List Packet → Given Packet → Type 0
 Tells packets g = (g.packets ≡ packets) × (g.once.work ≡ length packets) × (g.once.next ≢ Absent)
 
@@ -149,7 +149,7 @@ let-go-keeps : (packets : List Packet) (next : Next) (g : Given Packet) → Tell
 let-go-keeps packets Repoll g t = t
 let-go-keeps packets next g t = t
 
--- all packets of the plan are those of its poll
+-- the packets of the plan are exactly those of its one poll
 pub once-tells : (thread : Bool) (weight : ℕ) (deeds : List (Action Packet)) (g : Given Packet)
     → Follows Tries (poll_once_plan thread weight) deeds g
     → (given deeds ≡ g.packets) × (g.once.work ≡ length g.packets) × (g.once.next ≡ Absent → g.packets ≡ [])

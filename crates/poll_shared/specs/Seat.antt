@@ -1,4 +1,4 @@
--- The effect of the calls of a caller's seat at a shared instance.
+-- The effect of the calls by a caller's handle on a shared instance. Names with "seat" are about such handles.
 use Rattle.std.specs.Prelude.{◌≡◌, List, [], ◌∷◌, ◌++◌, Option, Some, None}
 use Rattle.rx_ring.specs.{Ends.GivesNext, declared.{ends.RxCtx.RxCtx, packet.Packet.Packet}}
 use Rattle.{napi_model.specs.declared.event.Operation.Operation, napi_word.specs.{declared.table.Pass.Pass, Knowledge.packets_of}}
@@ -18,21 +18,22 @@ handle_ctx (Polls w) = Some w.ctx
 handle_ctx (PollsBusily b) = Some b.ctx
 handle_ctx _ = None
 
--- the packets that its caller polled so far: those that it delivered, and then those that it polled since it took the context
+-- the packets that the caller has polled so far: those that it delivered, and then those that it polled since it took the
+-- context
 abbrev pub packets_by : HandleState → List Packet
 packets_by (Rests c) = packets_of (own_delivered c.pass)
 packets_by (Polls w) = packets_of (own_delivered w.pass) ++ polled w.pass w.ctx
 packets_by (PollsBusily b) = packets_of (own_delivered b.pass) ++ polled b.pass b.ctx
 packets_by Gone = []
 
--- the passes before and after these operations
+-- these operations lead from the first pass to the second
 abbrev pub MadeBy : List Operation → Option Pass → Option Pass → Type 0
 MadeBy [] p q = q ≡ p
 MadeBy (o ∷ os) (Some p) (Some q) = Made p (o ∷ os) q
 MadeBy (o ∷ os) _ _ = ⊥
 
--- each poll returned the context's next packets, at least those known and at most its weight; the effect of an operation on the
--- context is stated by its call
+-- Each poll returned the next packets of the context: at least those that the context knew of (up to the weight), at most the
+-- weight. The effect of an operation on the context is stated by its call.
 abbrev pub GivesEach : Option RxCtx → List (Action Packet) → Option RxCtx → Type 0
 GivesEach x [] y = y ≡ x
 GivesEach x (made o ∷ deeds) y = (next : Option RxCtx) × GivesEach next deeds y
@@ -62,7 +63,7 @@ module _ {R : Type 0} where
   abbrev pub seat_in_busy : SharedHandle R → Type 0
   seat_in_busy s = IsInBusyHand s.napi.now s.hold
 
-  -- this seat took these actions: it made the operations, and polled the packets
+  -- these actions were taken by this handle: it made the operations, and polled the packets
   pub record SeatDid (s : SharedHandle R) (deeds : List (Action Packet)) (t : SharedHandle R) : Type 0 where
     pub thread : t.thread ≡ s.thread
     pub made : MadeBy (operations deeds) (handle_pass s.hold) (handle_pass t.hold)

@@ -1,4 +1,4 @@
--- The actions of a seat compose.
+-- The actions of a handle compose. Names with "seat" are about handles.
 use Rattle.std.proofs.Common.{◌≡◌, ◌∙◌, List, [], ◌∷◌, ◌++◌, Option, Some, None, append-nil, append_assoc, ap, refl, subst, sym}
 use Rattle.{rx_ring.specs.declared.{ends.RxCtx.RxCtx, packet.Packet.Packet}, napi_model.specs.declared.event.Operation.Operation}
 use Rattle.{napi_word.specs.declared.table.Pass.Pass, napi_calls.proofs.Making.more}

@@ -16,7 +16,7 @@ use rx_ring::{Batch, Packet, batch_bytes};
 use std::mem;
 use std::sync::Wait;
 
-/// The caller's state. It is `Gone` only within a call.
+/// The state of a handle's caller. It is `Gone` only during a call.
 pub(crate) enum HandleState {
     Rests(Caller),
     Polls(Polling),
@@ -24,7 +24,7 @@ pub(crate) enum HandleState {
     Gone,
 }
 
-/// A handle by which a caller polls as an [`Instance`] does. It is linear: [`rise`](SharedHandle::rise) returns the caller.
+/// A handle by which a caller polls, as an [`Instance`]. It is linear: [`rise`](SharedHandle::rise) returns the caller.
 pub(crate) struct SharedHandle<'a, R> {
     pub(crate) rt: &'a R,
     pub(crate) napi: &'a Napi,
@@ -60,7 +60,7 @@ pub fn hand_over(napi: &Napi, mut granted: Granted, thread: bool) -> (Caller, Ki
 }
 
 /// Completes an instance (`napi_complete_done`). After a missed request it queues the instance again, like [`hand_over`], and
-/// returns which queue; `None` means that the instance was released.
+/// returns in which queue; `None` means that the instance was released.
 pub fn complete<R: Wait>(
     rt: &R,
     napi: &Napi,
@@ -86,7 +86,7 @@ impl<'a, R: Wait> SharedHandle<'a, R> {
     ghost use Rattle.poll_shared.specs.Seat.{seat_in_busy, seat_in_hand, seat_rests};
     ghost use Rattle.poll_shared.specs.declared.seat.HandleState.TheVariants.{Rests, Polls, PollsBusily, Gone};
 
-    /// Returns the caller, which doesn't poll any more.
+    /// Ends the handle, and returns its caller, which doesn't poll any more.
     pub(crate) fn rise(self) -> Caller
         requires { seat_rests self }
         ensures { self.entry.hold ≡ Rests result }
@@ -103,7 +103,7 @@ impl<'a, R: Wait> SharedHandle<'a, R> {
         }
     }
 
-    // Takes the caller out for a call.
+    // Takes the caller out of the handle, for a call.
     fn caller(&mut self) -> Caller
         requires { seat_rests self.old }
         ensures was { self.old.hold ≡ Rests result }
@@ -115,7 +115,7 @@ impl<'a, R: Wait> SharedHandle<'a, R> {
         }
     }
 
-    // Takes the poller out for a call.
+    // Takes the poller out of the handle, for a call.
     fn polling(&mut self) -> Polling
         requires { seat_in_hand self.old }
         ensures was { self.old.hold ≡ Polls result }
@@ -127,7 +127,7 @@ impl<'a, R: Wait> SharedHandle<'a, R> {
         }
     }
 
-    // Takes the busy poller out for a call.
+    // Takes the busy poller out of the handle, for a call.
     fn busy(&mut self) -> Busy
         requires { seat_in_busy self.old }
         ensures was { self.old.hold ≡ PollsBusily result }
@@ -139,7 +139,7 @@ impl<'a, R: Wait> SharedHandle<'a, R> {
         }
     }
 
-    // Puts the result of the call back.
+    // Puts the result of a call back into the handle.
     fn put(&mut self, hold: HandleState)
         requires { self.old.hold ≡ Gone }
         ensures { self.new ≡ record self.old { hold = hold } }

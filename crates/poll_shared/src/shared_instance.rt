@@ -3,6 +3,7 @@
 ghost use Rattle.std.specs.Prelude.{◌≡◌, ◌≤◌, true, [], List, length};
 ghost use Rattle.poll_runs.specs.Plan.{Action, Follows, given, operations};
 ghost use Rattle.poll_runs.specs.Polling.{busy_poll_plan, thread_poll_plan, poll_once_plan};
+ghost use Rattle.poll_runs.specs.Ranges.{IsMost, IsRounds, IsWeight};
 ghost use Rattle.poll_runs.specs.Thread.{IsThreadPolling};
 ghost use Rattle.poll_runs.specs.declared.bench.Once.{Once};
 ghost use Rattle.poll_runs.specs.declared.bench.Next.TheVariants.{Absent};
@@ -25,8 +26,8 @@ use std::sync::Wait;
 /// otherwise it is always queued on the list. After [`Next::Repoll`], and [`Next::Again`] with the list, the caller still has
 /// to push its number.
 ///
-/// The batch then has the packets of the poll, which are all that the caller delivers by it, and none if the instance wasn't on
-/// the list.
+/// Afterwards the batch has the packets of the poll, which are all that the caller delivers by it; it is empty if the instance
+/// wasn't on the list.
 pub fn poll_instance<R: Wait>(
     rt: &R,
     napi: &Napi,
@@ -36,7 +37,7 @@ pub fn poll_instance<R: Wait>(
     batch: &mut Batch,
 ) -> (Caller, Once)
     requires seat { IsSeatOf napi.now caller.pass }
-    requires weight { (1 ≤ weight) × (weight ≤ 64) }
+    requires weight { IsWeight weight }
     ensures seat { SameSeat caller.pass result.0.pass }
     ensures made { (deeds : List (Action Packet))
         × Made caller.pass (operations deeds) result.0.pass
@@ -63,7 +64,7 @@ pub fn poll_instance<R: Wait>(
 /// After a missed request the instance is queued for the thread and taken again if THREADED is set, otherwise queued on the
 /// list. After [`Next::Repoll`], and [`Next::Again`] with the list, the caller still has to push its number.
 ///
-/// The batch is cleared before each poll: afterwards it has the packets of the last one, and none if there was no poll.
+/// The batch is cleared before each poll: afterwards it has the packets of the last poll, and is empty if there was none.
 pub fn poll_instance_by_thread<R: Wait>(
     rt: &R,
     napi: &Napi,
@@ -73,8 +74,8 @@ pub fn poll_instance_by_thread<R: Wait>(
     batch: &mut Batch,
 ) -> (Caller, ThreadReport)
     requires seat { IsSeatOf napi.now caller.pass }
-    requires weight { (1 ≤ weight) × (weight ≤ 64) }
-    requires most { (1 ≤ most) × (most ≤ 131072) }
+    requires weight { IsWeight weight }
+    requires most { IsMost most }
     ensures seat { SameSeat caller.pass result.0.pass }
     ensures polls { (polls : List Once) × (deeds : List (Action Packet))
         × Made caller.pass (operations deeds) result.0.pass
@@ -101,7 +102,7 @@ pub fn poll_instance_by_thread<R: Wait>(
 /// [`Next::Repoll`], and [`Next::Again`] with the list, the caller still has to push its number. Returns [`Next::Absent`] for
 /// an instance that isn't idle.
 ///
-/// The batch is cleared before each poll: afterwards it has the packets of the last one, and none if there was no poll.
+/// The batch is cleared before each poll: afterwards it has the packets of the last poll, and is empty if there was none.
 pub fn busy_instance<R: Wait>(
     rt: &R,
     napi: &Napi,
@@ -111,8 +112,8 @@ pub fn busy_instance<R: Wait>(
     batch: &mut Batch,
 ) -> (Caller, BusyReport)
     requires seat { IsSeatOf napi.now caller.pass }
-    requires rounds { (1 ≤ rounds) × (rounds ≤ 65535) }
-    requires weight { (1 ≤ weight) × (weight ≤ 64) }
+    requires rounds { IsRounds rounds }
+    requires weight { IsWeight weight }
     ensures seat { SameSeat caller.pass result.0.pass }
     ensures polls { (deeds : List (Action Packet))
         × Made caller.pass (operations deeds) result.0.pass

@@ -1,4 +1,4 @@
--- Lists compared item by item.
+-- Two lists whose items are related index by index.
 use Rattle.std.proofs.Common.{◌≡◌, ◌≢◌, ◌<◌, ◌≤◌, ℕ, zero, suc, Bool, true, false, cond}
 use Rattle.std.proofs.Common.{List, [], ◌∷◌, ◌++◌, length, sym, refl, ap, ◌∙◌, subst}
 use Rattle.std.{proofs.Common.{append-nil, arith, All, eqb, get_or, get_or-set_other, get_or-set_same, set}, specs.Prelude.{filter, map}}
@@ -57,7 +57,7 @@ zip_both R S (x ∷ xs) [] zs h k = absurd h
 zip_both R S (x ∷ xs) (y ∷ ys) (z ∷ zs) h k = ((y, h.0, k.0), zip_both R S xs ys zs h.1 k.1)
 zip_both R S xs ys zs h k = absurd k
 
--- ---- of what passes a test
+-- ---- the items that pass a test
 
 zip_cond : {A B : Type 0} (Q : A → B → Type 0) (b : Bool) (x : A) (y : B) (xs : List A) (ys : List B) → Q x y → AllZip Q xs ys
     → AllZip Q (cond b (x ∷ xs) xs) (cond b (y ∷ ys) ys)
@@ -88,9 +88,9 @@ pub filter_fewer : {A : Type 0} (p : A → Bool) (xs : List A) → length (filte
 filter_fewer p [] = omega arith
 filter_fewer p (x ∷ xs) = fewer_if (p x) x (filter p xs) (length xs) (filter_fewer p xs)
 
--- ---- of each item by its place
+-- ---- a property of each item, by its index
 
--- one item was changed
+-- a property of each item still holds if one item was replaced
 each_set_at : {A : Type 0} (P Q : ℕ → A → Type 0) (xs : List A) (i : ℕ) (y : A) → i < length xs → Q i y
     → ((k : ℕ) (x : A) → k ≢ i → P k x → Q k x)
     → (k : ℕ) (d : A) (b : Bool) → eqb k i ≡ b → k < length xs → P k (get_or xs k d) → Q k (get_or (set xs i y) k d)
@@ -107,7 +107,8 @@ each_set P Q xs i y within were new others long k d low =
     let below : k < length xs = omega (arith, low, long) in
     each_set_at P Q xs i y within new others k d (eqb k i) refl below (were k d below)
 
--- and of what goes with it
+-- if each item of the first list has P, and two lists are related by R, each item of the second one is related to an item with
+-- P
 pub each_zip : {A B : Type 0} (P : ℕ → A → Type 0) (R : A → B → Type 0) (xs : List A) (ys : List B) → AllZip R xs ys → EachAt P xs
     → EachAt (λ k y. (x : A) × P k x × R x y) ys
 each_zip P R [] [] zip each k d low = absurd (omega (arith, low))
@@ -122,7 +123,7 @@ at_place P (x ∷ xs) each zero low = (x, each 0 x (omega arith))
 at_place P (x ∷ xs) each (suc k) low =
     at_place (λ n a. P (suc n) a) xs (λ n a b. each (suc n) a (omega (arith, b))) k (omega (arith, low))
 
--- what was mapped is at its place too
+-- an item that was mapped keeps its index
 pub at_mapped : {A B : Type 0} (f : A → B) (xs : List A) (k : ℕ) (x : A) → IsAt xs k x → IsAt (map f xs) k (f x)
 at_mapped f [] k x at = absurd (let low = at.0 in omega (arith, low))
 at_mapped f (y ∷ xs) zero x at = (omega arith, ap f at.1)
@@ -136,7 +137,7 @@ each_more P (y ∷ xs) x each here zero d low = each 0 d (omega arith)
 each_more P (y ∷ xs) x each here (suc k) d low =
     each_more (λ n a. P (suc n) a) xs x (λ n a b. each (suc n) a (omega (arith, b))) here k d (omega (arith, low))
 
--- the first one was taken
+-- the first item was removed
 pub first_of : {A : Type 0} (xs ys : List A) (x : A) → 1 ≤ length xs → x ≡ get_or xs 0 x → ys ≡ remove xs 0 → xs ≡ x ∷ ys
 first_of [] ys x some first rest = absurd (omega (arith, some))
 first_of (z ∷ xs) ys x some first rest = grind (arith, common_steps)

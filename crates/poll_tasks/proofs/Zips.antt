@@ -1,4 +1,4 @@
--- Two lists, read item by item together.
+-- Two lists that are read together, item by item.
 use Rattle.std.proofs.Common.{◌≡◌, ℕ, ◌+◌, ◌<◌, length, List, [], ◌∷◌, ◌++◌, refl, arith, length-append, ap, ◌∙◌, sym, get_or, suc}
 use Rattle.std.{proofs.Common.{append_assoc, append-nil}, specs.List.AllZip}
 
@@ -13,7 +13,7 @@ zip_long R [] [] h = refl
 zip_long R (a ∷ xs) (b ∷ ys) h = ap (λ n. suc n) (zip_long R xs ys h.1)
 zip_long R xs ys h = absurd h
 
--- the item after those that were yielded
+-- the next item, after those that were yielded
 pub at_turn : {A : Type 0} (all xs rest : List A) (x : A) → all ≡ xs ++ x ∷ rest → get_or all (length xs) x ≡ x
 at_turn all [] rest x e = ap (λ l. get_or l 0 x) e
 at_turn all (a ∷ xs) rest x e = ap (λ l. get_or l (suc (length xs)) x) e ∙ at_turn (xs ++ x ∷ rest) xs rest x refl

@@ -1,4 +1,4 @@
--- That a thread could not be started. Only the error of the start proves it.
+-- The fact that a thread could not be started. Only the error of the start proves it.
 use Rattle.std.specs.declared.thread.SpawnError.{SpawnError}
 
 pub IsRefused : Type 0

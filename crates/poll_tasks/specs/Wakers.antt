@@ -3,6 +3,6 @@ use Rattle.std.specs.Prelude.{◌≡◌}
 use Rattle.std.specs.Arc.{arc_value}
 use Rattle.poll_tasks.specs.declared.signals.{Waker.Waker, IdleWait.IdleWait}
 
--- the waker unparks the thread that waits by this
+-- the waker wakes the thread that waits by this `IdleWait`
 abbrev pub Wakes : Waker → IdleWait → Type 0
 Wakes waker wait = arc_value waker.unparker.state ≡ arc_value wait.parker.unparker.state

@@ -12,20 +12,20 @@ use std::sync::atomic::Ordering;
 use std::thread;
 use std::thread::Threads;
 
-/// The tasks of a run, before and after their threads ran them; or room for them while the threads run.
+/// The tasks of a run, before and after their threads run them; or the room that is reserved for them while the threads run.
 #[derive(Drop)]
 pub struct Tasks<P, W, S> {
     /// The pollers.
     pub pollers: Vec<P>,
     /// The interrupt workers, one for each instance.
     pub workers: Vec<W>,
-    /// The instances' own threads.
+    /// The thread pollers: each is the thread of one instance.
     pub threads: Vec<S>,
 }
 
 /// Runs the threads of a run. All pollers and thread pollers are started before the workers: if one of them can't be started,
-/// no worker makes an act, so none waits for a poll. After all workers have ended, the pollers, which wait by these wakers, are
-/// signalled to end. Sets the flags of threads that couldn't be started.
+/// no worker makes an act, so no worker waits for a poll. After all workers have ended, the wakers of the pollers are closed,
+/// and the pollers end. Sets the flags of threads that couldn't be started.
 pub fn drive<R, P, W, S, G: Gate>(
     rt: &R,
     tasks: Tasks<P, W, S>,

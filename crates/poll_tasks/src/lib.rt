@@ -1,4 +1,4 @@
-//! Internal crate of the facade `poll_engine`: tasks, each in its own thread, and what the threads of a run share.
+//! Internal crate of the facade `poll_engine`: tasks that each run in their own thread, and what the threads of a run share.
 #![tactic(auto)]
 
 mod driving;

@@ -6,7 +6,7 @@ ghost use Rattle.poll_tasks.specs.Stops.{IsStop};
 use crate::gate::Gate;
 use crate::signals::{Stop, StopFlags};
 
-/// How pollers poll.
+/// How the pollers of a run poll.
 #[derive(Clone, Copy, Debug, PartialEq, Eq)]
 pub struct PollLimits {
     /// The packets after which a polling run ends, 1 to 65535 (`netdev_budget`).
@@ -20,7 +20,7 @@ pub struct PollLimits {
 /// What all threads of a run share.
 #[derive(Drop)]
 pub struct RunContext<'t, R, G: Gate> {
-    /// The runtime: waits, and starts threads.
+    /// The runtime: starts threads, and waits.
     pub rt: R,
     /// The check before each act.
     pub gate: &'t G,
@@ -31,7 +31,7 @@ pub struct RunContext<'t, R, G: Gate> {
 }
 
 impl<'t, R, G: Gate> RunContext<'t, R, G> {
-    /// Asks the gate before an act, or when a poller starts. If it returns false, the run stops.
+    /// Calls the gate before an act, or when a poller starts. If it returns false, the run stops.
     pub fn ask(&self, by: u32, act: u32) -> Option<Stop>
         ensures open { result ≡ None → G.answers self.now.gate.now by act true }
         ensures shut { IfSome result (IsStop G.may_shut) }

@@ -1,4 +1,4 @@
-//! The signals between the threads of a run. Proofs rest on three facts: a stop has its reason, and a waker wakes the
+//! The signals between the threads of a run. Proofs rest on two facts: each stop has a reason, and a waker wakes exactly the
 //! thread that it was created for.
 
 ghost use Rattle.std.specs.Prelude.{IfOk, IfSome};
@@ -13,7 +13,7 @@ use std::marker::PhantomData;
 use std::sync::Wait;
 use std::sync::atomic::{AtomicBool, AtomicIn, Ordering, Rule};
 
-// The rule of a flag that isn't 0 only if a thread could not be started.
+// The invariant of a flag: it is 0 unless a thread could not be started.
 pub(crate) struct SpawnFailure;
 
 impl Rule for SpawnFailure {
@@ -23,7 +23,7 @@ impl Rule for SpawnFailure {
     ghost invariant = { λ n. (n ≡ 0) ⊎ IsRefused };
 }
 
-// The rule of a flag that isn't 0 only if the gate may return false.
+// The invariant of a flag: it is 0 unless the gate may return false.
 struct Shut<G>(PhantomData<G>);
 
 impl<G: Gate> Rule for Shut<G> {
@@ -37,7 +37,7 @@ impl<G: Gate> Rule for Shut<G> {
 pub enum Stop {
     /// A thread could not be started.
     Refused,
-    /// The gate returned false.
+    /// A gate returned false.
     Shut,
 }
 
@@ -56,7 +56,7 @@ impl<G: Gate> StopFlags<G> {
     ghost use Rattle.std.specs.Prelude.{◌≡◌, true};
     ghost use Rattle.poll_tasks.specs.Refusals.{IsRefused};
 
-    /// Creates the flags of a run that isn't stopped.
+    /// Returns the flags of a run that isn't stopped.
     pub fn new() -> StopFlags<G> {
         StopFlags {
             unpolled: AtomicIn::new(0),
@@ -65,7 +65,7 @@ impl<G: Gate> StopFlags<G> {
         }
     }
 
-    /// The gate returned false: no further acts are made.
+    /// Stops the run because the gate returned false: no further acts are made.
     pub fn shut(&self)
         requires { G.may_shut }
     {
@@ -86,7 +86,7 @@ impl<G: Gate> StopFlags<G> {
         self.refused.load(Ordering::SeqCst) != 0
     }
 
-    /// Returns why no further acts are made, if so.
+    /// Returns the reason if no further acts are made.
     pub fn stop(&self) -> Option<Stop>
         ensures { IfSome result (IsStop G.may_shut) }
     {
@@ -100,7 +100,7 @@ impl<G: Gate> StopFlags<G> {
     }
 }
 
-/// Wakes a poller, and signals it that nothing will be handed over any more.
+/// Wakes a poller, and closes its queue: after that nothing more is queued for it.
 #[derive(Drop)]
 pub struct Waker {
     unparker: Unparker,
@@ -108,7 +108,7 @@ pub struct Waker {
 }
 
 impl Waker {
-    /// Creates a waker, and the wait of its poller.
+    /// Returns a waker, and the `IdleWait` of its poller.
     pub fn new(alloc: Global) -> Result<(Waker, IdleWait), AllocError>
         ensures { IfOk result (λ r. Wakes r.0 r.1) }
     {
@@ -122,25 +122,25 @@ impl Waker {
         Ok((Waker { unparker, closed }, wait))
     }
 
-    /// Wakes the poller, or keeps it awake if it is about to sleep. Called after an instance was handed over.
+    /// Wakes the poller, or keeps it awake if it is about to sleep. It is called after an instance was queued for the poller.
     pub fn wake(&self) {
         self.unparker.unpark();
     }
 
-    /// Signals the poller that nothing will be handed over any more.
+    /// Closes the queue of the poller: nothing more is queued for it.
     pub fn close(&self) {
         self.closed.store(true, Ordering::SeqCst);
         self.unparker.unpark();
     }
 
-    /// Returns whether that was signalled.
+    /// Returns whether the queue was closed.
     pub fn is_closed(&self) -> bool {
         self.closed.load(Ordering::SeqCst)
     }
 }
 
-/// How a poller waits while there is nothing to poll: it spins and yields for a while, then it sleeps. A wake-up before the
-/// sleep is kept, so none is lost.
+/// How a poller waits while there is nothing to poll: it spins and yields for a while, and then sleeps. A wake-up just before
+/// the sleep isn't lost.
 #[derive(Drop)]
 pub struct IdleWait {
     parker: Parker,
@@ -148,12 +148,12 @@ pub struct IdleWait {
 }
 
 impl IdleWait {
-    /// Something was polled.
+    /// Starts with spinning again, because something was polled.
     pub fn reset(&self) {
         self.backoff.reset();
     }
 
-    /// Nothing was polled.
+    /// Waits, because nothing was polled: spins or yields at first, and later sleeps until the waker wakes it.
     pub fn wait<R: Wait>(&self, rt: &R) {
         if self.backoff.is_completed() {
             self.parker.park(rt);

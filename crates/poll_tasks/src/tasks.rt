@@ -1,4 +1,4 @@
-//! Tasks, each in its own thread.
+//! Tasks that each run in their own thread.
 
 ghost use Rattle.std.specs.Prelude.{◌≤◌, ◌≡◌, List, None, IfSome, vec_len, vec_capacity};
 ghost use Rattle.std.specs.List.{All, AllZip};
@@ -9,33 +9,33 @@ use std::snapshot::Snapshot;
 use std::sync::atomic::{AtomicIn, Ordering};
 use std::thread::{Promise, PromisedHandle, Scope, Threads};
 
-/// What one thread does. A task returns itself, so its results are in its own fields.
+/// What one thread does. `run` returns the task itself, so its fields contain the results.
 pub trait Task {
     ghost use Rattle.std.specs.Prelude.{◌≡◌, Option};
     ghost use Rattle.poll_tasks.specs.declared.signals.Stop.{Stop};
 
-    /// `gives before after`: the task as it was, and as it returned itself.
+    /// `gives before after`: the task before `run`, and as `run` returns it.
     ghost gives: { Self → Self → Type 0 };
 
-    /// Why its work ended early, if it did.
+    /// The reason, if its work ended early.
     ghost stopped: { Self → Option Stop };
 
-    /// `may_stop stop`: what is true if it ended early for this reason.
+    /// `may_stop stop`: what holds if its work ended early for this reason.
     ghost may_stop: { Stop → Type 0 };
 
-    /// Returns whether it needs no thread, because it waits for no other one.
+    /// Returns whether it needs no thread, because it waits for no other task.
     fn is_idle(&self) -> bool;
 
     /// Does the work of the task.
     fn run(self) -> Self
         ensures { gives self result };
 
-    /// Returns why its work ended early, if it did.
+    /// Returns the reason if its work ended early.
     fn stop(&self) -> Option<Stop>
         ensures { result ≡ stopped self.now };
 }
 
-/// The postcondition of a thread: it returns its task after running it.
+/// The postcondition of a thread: it returns its task after it has run.
 #[derive(Drop)]
 pub struct Gives<J>(pub(crate) Snapshot<J>);
 
@@ -48,12 +48,12 @@ impl<J: Task> Promise<J> for Gives<J> {
 pub enum Spawned<J: Task> {
     /// Its thread was started.
     Running(PromisedHandle<J, Gives<J>>),
-    /// It was run by the caller's thread, because it needs no thread or none could be started.
+    /// It was run by the caller's thread, because it needs no thread or because no thread could be started.
     Ended(J),
 }
 
-/// Starts a task. If no thread can be started, the flag is set first, and then the task is run by the caller: a task reads its
-/// flag before it waits for any other.
+/// Starts a task in a new thread. If no thread can be started, the flag is set first, and then the caller runs the task: a task
+/// reads the flag before it waits for any other task.
 pub(crate) fn spawn<'s, E, J: Task + Drop + Send + 's>(
     scope: &Scope<'s, E>,
     task: J,
@@ -77,7 +77,7 @@ pub(crate) fn spawn<'s, E, J: Task + Drop + Send + 's>(
     }
 }
 
-/// Starts all tasks, in order. Requires room for them in the vector that they came from.
+/// Starts all tasks, in order. Requires room for them in the vector that held them.
 pub(crate) fn spawn_all<'s, E, J: Task + Drop + Send + 's>(
     scope: &Scope<'s, E>,
     tasks: &mut Vec<J>,
@@ -93,7 +93,7 @@ pub(crate) fn spawn_all<'s, E, J: Task + Drop + Send + 's>(
     }
 }
 
-/// Joins all, in order. Requires room for them.
+/// Joins all tasks, in order. Requires room for them in the result.
 pub(crate) fn join_all<R: Threads, J: Task>(
     rt: &R,
     spawned: &mut Vec<Spawned<J>>,
@@ -112,7 +112,7 @@ pub(crate) fn join_all<R: Threads, J: Task>(
     }
 }
 
-/// Returns why the first of these tasks whose work ended early did so.
+/// Returns the reason of the first of these tasks whose work ended early.
 pub fn first_stop<J: Task>(tasks: &[J]) -> Option<Stop>
     requires { All (λ j. IfSome (J.stopped j) J.may_stop) tasks.now }
     ensures none { result ≡ None → All (λ j. J.stopped j ≡ None) tasks.now }

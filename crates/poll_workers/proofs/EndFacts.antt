@@ -19,9 +19,9 @@ pub not_other : (pollers number k n : ℕ) → is_own k pollers number ≡ true 
 not_other pollers number k n own ne =
     ne_eqb ((number - 1) % pollers) n (λ same. ne (sym same ∙ eqb-true ((number - 1) % pollers) k own))
 
--- ---- the seats of a poller
+-- ---- the handles of a poller (names with "seat" are about them)
 
--- they went to its stations so far, and are among the remaining ones
+-- the poller's handles were used so far for its own stations, and the remaining handles are for the remaining stations
 pub record HasGiven {R D G : Type 0} (pollers : ℕ) (before : List (Vec (DropBomb R PollHandle))) (did : List (Outcome R D G))
     (left : List (InterruptWorker R D G)) (k : ℕ) (turned : Vec (DropBomb R PollHandle)) : Type 0 where
   pub rest : AreSeatsAt pollers left k turned
@@ -64,7 +64,7 @@ module _ {R D G : Type 0} (pollers : ℕ) (before : List (Vec (DropBomb R PollHa
       → HasGiven pollers before did (place ∷ left) k was → AllZip Goes (place ∷ own_left k) (vec_items was)
   own_first k was own h = subst (λ b. AllZip Goes (cond b (place ∷ own_left k) (own_left k)) (vec_items was)) own h.rest
 
-  -- there is one for the current station, and it is at its instance
+  -- there is a handle for the current station, and it is on its instance
   pub some_left : (polled : List (Vec (DropBomb R PollHandle))) (k : ℕ) (was : Vec (DropBomb R PollHandle))
       → is_own k pollers place.handler.number ≡ true → k < length polled → EachAt (HasGiven pollers before did (place ∷ left)) polled
       → get_or polled k was ≡ was → suc (length (own_left k)) ≡ length (vec_items was)
@@ -105,7 +105,7 @@ module _ {R D G : Type 0} (pollers : ℕ) (before : List (Vec (DropBomb R PollHa
           ∙ append-nil (filter (by k) did)) ∙ h.gone d;
     }
 
-    -- the next one goes to the current station
+    -- the next handle belongs to the current station
     pub given_more : (polled : List (Vec (DropBomb R PollHandle))) (k : ℕ) (after : List (Vec (DropBomb R PollHandle)))
         → is_own k pollers place.handler.number ≡ true → k < length polled → EachAt (HasGiven pollers before did (place ∷ left)) polled
         → TakesNext polled k o.poller after → EachAt (HasGiven pollers before (did ++ o ∷ []) left) after

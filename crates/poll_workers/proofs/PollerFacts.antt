@@ -1,4 +1,4 @@
--- Pollers receive their seats.
+-- Pollers receive their handles. (Names with "seat" are about these handles.)
 use Rattle.std.proofs.Common.{◌≡◌, ◌≢◌, ◌∙◌, ℕ, ◌+◌, ◌<◌, ◌≤◌, Bool, true, List, [], ◌∷◌, ◌++◌}
 use Rattle.std.proofs.Common.{length, ap, sym, subst, get_or, arith, append-nil}
 use Rattle.std.{proofs.{Common.{cond, vec_items}, lemmas.List.length-set}, specs.{Global.Vec, Prelude.{filter, vec_capacity}}}
@@ -20,7 +20,7 @@ module _ {R : Type 0} (count pollers : ℕ) (sat : List (DropBomb R PollHandle))
   abbrev Own : List (DropBomb R PollHandle) → ℕ → Vec (DropBomb R PollHandle) → Type 0
   Own l n own = (vec_items own ≡ filter (by n) l) × (count ≤ vec_capacity own)
 
-  -- there is room for one more
+  -- there is room for one more handle
   pub has_room : (own : Vec (DropBomb R PollHandle)) → get_or seats k own ≡ own → length sat < count
       → length (vec_items own) < vec_capacity own
   has_room own there few =
@@ -29,7 +29,7 @@ module _ {R : Type 0} (count pollers : ℕ) (sat : List (DropBomb R PollHandle))
       let fewer = filter_fewer (by k) sat in
       omega (arith, long, fewer, few, p.1)
 
-  -- one more was given to its poller
+  -- one more handle was added to its poller
   pub one_more : (seat : DropBomb R PollHandle) (after : List (Vec (DropBomb R PollHandle))) → is_own k pollers seat.value.number ≡ true
       → TakesSeat seats k seat after
       → HaveOwn count pollers (sat ++ seat ∷ []) after
@@ -55,7 +55,7 @@ module _ {R : Type 0} (count pollers : ℕ) (sat : List (DropBomb R PollHandle))
         q.1,
       )
 
--- ---- ends that are taken
+-- ---- the ends of lists that are taken
 
 all_cons : {A : Type 0} (P : A → Type 0) (x : A) (xs : List A) → P x → All P xs → All P (x ∷ xs)
 all_cons P x xs p h zero d low = p
@@ -67,7 +67,7 @@ all_cut P (x ∷ xs) y h =
     let rest = all_cut P xs y (λ k d low. h (suc k) d (omega (arith, low))) in
     (all_cons P x xs (h 0 x (omega arith)) rest.0, rest.1)
 
--- two ends of a poller's list are ends of it, and so are the remaining ones
+-- if two ends of a poller's list are taken from a vector of its ends, these and the remaining ones are ends of that list
 pub ends_cut : {R : Type 0} (lists : List (SharedList R)) (ends : List (Vec (ListIn R))) (k : ℕ) (was now : Vec (ListIn R))
     (mid : List (ListIn R)) (one other : ListIn R)
     → k < length ends → get_or ends k was ≡ was → vec_items was ≡ mid ++ one ∷ [] → mid ≡ vec_items now ++ other ∷ []
@@ -93,7 +93,7 @@ wired_end lists k n given end is same e =
 pub wired_waker : (wakers : List Waker) (k n : ℕ) (here waker : Waker) → IsAt wakers k here → waker ≡ here → n ≡ k → IsAt wakers n waker
 wired_waker wakers k n here waker is same e = subst (λ m. IsAt wakers m waker) (sym e) (subst (λ b. IsAt wakers k b) (sym same) is)
 
--- ---- the counts while one more is given out
+-- ---- the counts while one more handle is added
 
 pub within_of : (k n l m : ℕ) → l ≡ m → k < n → n ≡ m → k < l
 within_of k n l m e h f = omega (arith, e, h, f)

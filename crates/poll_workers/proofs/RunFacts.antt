@@ -1,4 +1,4 @@
--- What follows from the parts of a run for its stations.
+-- What the parts of a run imply for its stations.
 use Rattle.std.proofs.lemmas.{Bool.ne_eqb, Grind.common_steps, List.{get_or_default, length-map, nil_from_length}}
 use Rattle.std.proofs.Common.{◌≡◌, ◌≢◌, ℕ, zero, suc, ◌≤◌, ◌<◌, Bool, true, false, None, is_some, List, [], ◌∷◌, ◌++◌, sym}
 use Rattle.std.{proofs.Common.{ap, inl, inr, ◌∙◌, refl, subst, Some, All, arith, rules, get_or, length}, specs.Prelude.{filter, map}}
@@ -35,7 +35,7 @@ use Rattle.poll_workers.specs.Spreads.{IsJobAt, IsKeptJobOf, IsKeptSeatFor, IsKe
 use Rattle.poll_workers.specs.{Spreads.{IsWiredJob, IsWiredSide}, declared.pollers.Begin.Begin}
 use Rattle.poll_workers.specs.Outcomes.{AreLeftBy, AreSeatsAt, IsLeftBy, IsSeatWith, IsThreadWith, Outcome}
 
--- the pollers with a list, and the threads of instances
+-- the types of the pollers with a list, and of the threads of instances
 abbrev OwnPoller : Type 0 → Type 0 → Type 0
 OwnPoller R G = Poller R G (ListPoller R)
 
@@ -148,11 +148,11 @@ module _ {R D G : Type 0} {acts : D → ℕ} {answer : D → ℕ → Act} {after
         run = run_of;
       }
 
--- ---- the stations of a run, how they ended, and what polled them
+-- ---- the stations of a run, how each ended, and what polled it
 
 module _ {R D G : Type 0} (acts : D → ℕ) (answer : D → ℕ → Act) (after : D → ℕ → D) (answers : ℕ → ℕ → Bool → Type 0)
     (asked : ℕ → Type 0) (limits : PollLimits) (lists : List (SharedList R)) (pollers : ℕ) where
-  -- the worker of this station ended in this state, and so did its thread
+  -- the worker of this station ended in this state, and so did the instance's thread
   abbrev Works : Station D → InterruptWorker R D G → Type 0
   Works station worked = (loose : DropBomb R (Loose D)) × IsKeptLoose station loose
       × IsWorkedOf acts answer after answers lists pollers loose worked
@@ -180,7 +180,7 @@ module _ {R D G : Type 0} (acts : D → ℕ) (answer : D → ℕ → Act) (after
         turns = subst (λ c. TurnsIf station.thread station.number c) (sym finish.of.thread_is) by_thread;
       }
 
-  -- the courses of these stations, and how they ended
+  -- the courses of these stations (what happened to each), and how they ended
   record Courses (stations : List (Station D)) (outcomes : List (Outcome R D G)) (ends : List (Finished D)) : Type 0 where
     pub all : List (Course D)
     pub stations_are : map (λ c. c.station) all ≡ stations
@@ -215,14 +215,14 @@ module _ {R D G : Type 0} (acts : D → ℕ) (answer : D → ℕ → Act) (after
         finished = (finished_of works.0.1 works.0.2 whole.0 taken.0 finish.0, more.finished);
       }
 
--- of what is mapped
+-- a property of pairs, if the second list is mapped afterwards
 zip_to_mapped : {A B C : Type 0} (f : B → C) (Q : A → C → Type 0) (xs : List A) (ys : List B) → AllZip (λ x y. Q x (f y)) xs ys
     → AllZip Q xs (map f ys)
 zip_to_mapped f Q [] [] h = tt
 zip_to_mapped f Q (x ∷ xs) (y ∷ ys) h = (h.0, zip_to_mapped f Q xs ys h.1)
 zip_to_mapped f Q xs ys h = absurd h
 
--- of what was mapped
+-- a property of pairs, if the first list was mapped before
 zip_mapped : {A B C : Type 0} (f : A → B) (Q : B → C → Type 0) (xs : List A) (ys : List C) → AllZip Q (map f xs) ys
     → AllZip (λ x y. Q (f x) y) xs ys
 zip_mapped f Q [] [] h = tt
@@ -244,14 +244,14 @@ fresh_of station seat (loose, opened, for) =
       unused = opened.poller;
     }
 
--- a poller without stations doesn't exist
+-- the pollers of a run are exactly those that have a station
 crew_is : {D : Type 0} (R : Type 0) (asked : ℕ → Type 0) (limits : PollLimits) (lists : List (SharedList R)) (pollers : ℕ) (number : ℕ)
     (courses : List (Course D))
     → (courses ≢ [] → TakesTurns R asked limits lists pollers number courses) → IsCrew R asked limits lists pollers number courses
 crew_is R asked limits lists pollers number [] turns = tt
 crew_is R asked limits lists pollers number (c ∷ cs) turns = turns (λ e. absurd (let n = ap (λ l. length l) e in omega (arith, n)))
 
--- what the threads of a run return if none failed
+-- what the threads of a run returned, if none failed
 module _ {R D G : Type 0} (acts : D → ℕ) (answer : D → ℕ → Act) (after : D → ℕ → D) (answers : G → ℕ → ℕ → Bool → Type 0)
     (context : RunContext R G) (lists : List (SharedList R)) (pollers : ℕ) (stations : List (Station D)) (loose left : List (DropBomb R
     (Loose D)))
@@ -277,7 +277,7 @@ module _ {R D G : Type 0} (acts : D → ℕ) (answer : D → ℕ → Act) (after
   pub all_finished : AllZip (IsFinished acts answer after (answers context.gate.now)) stations ends
   all_finished = run_courses.finished
 
-  -- the poller's own courses are those that it polled
+  -- the stations that a poller polled are its own ones
   crew_of : (number : ℕ) (p : OwnPoller R G) → HasPolled asked context.limits lists pollers loose number p
       → map (λ o. o.poller) (filter (λ o. is_own number pollers o.worker.handler.number) ran.left_by.all)
       ≡ vec_items p.served.bench.seats → p.stop ≡ None
@@ -349,7 +349,7 @@ pub none_polled : {D : Type 0} (R : Type 0) (asked : ℕ → Type 0) (limits : P
 none_polled R asked limits acts answer after pollers =
     record { lists = []; courses = []; stations_are = refl; ends_are = refl; each = tt; crews = λ number below. tt }
 
--- the ends that were made with the pollers' lists are ends of these
+-- the ends that were made together with the pollers' lists are ends of these lists
 pub ends_of_lists : {R : Type 0} (begins : List (Begin R)) (ends : List (Vec (ListIn R)))
     → AllZip (λ begin e. All (IsNewEnd begin.list) (vec_items e)) begins ends → AreEndsOf (map (λ b. b.list) begins) ends
 ends_of_lists [] [] own k d low = absurd (omega (arith, low))
@@ -366,7 +366,7 @@ each_mapped f P (x ∷ xs) h zero d low = h 0 x (omega arith)
 each_mapped f P (x ∷ xs) h (suc k) d low =
     each_mapped f (λ n y. P (suc n) y) xs (λ n a b. h (suc n) a (omega (arith, b))) k d (omega (arith, low))
 
--- a poller with seats isn't idle
+-- a poller with a handle isn't idle
 some_seat : {R : Type 0} (served : ListPoller R) → vec_items served.bench.seats ≢ [] → has_no_seat served ≡ false
 some_seat served some =
     let seats = served.bench.seats in
@@ -375,10 +375,10 @@ some_seat served some =
 some_is : {A : Type 0} {x y : A} → Some x ≡ Some y → x ≡ y
 some_is {x = x} e = ap (λ o. unwrap_or o x) e
 
--- ---- what came back of the distributed parts
+-- ---- what the threads returned of the parts that they got
 
 module _ {R D G : Type 0} where
-  -- the worker came back at the instance that stayed with the caller
+  -- the worker that a thread returned belongs to the instance that stayed with the caller
   pub record IsBackAt (placed : DropBomb R Placed) (done : InterruptWorker R D G) : Type 0 where
     pub number : done.handler.number ≡ placed.value.number
     pub napi : done.handler.napi.now ≡ placed.value.napi
@@ -556,15 +556,15 @@ module _ {R D G : Type 0} (may_shut : Type 0) (answers : G → ℕ → ℕ → B
       (λ k d low. ((low, sym (get_or_default pollers k d (get_or pollers k d) low)), have k d low)) k d low in
       came_back k (get_or polled k d) h.0 h.1.0 h.1.1 h.2
 
-  -- each poller came back with its seats at its own instances
+  -- each poller was returned with its handles on its own instances
   pub all_seats_at : EachAt (λ k p. AreSeatsAt n workers k p.served.bench.seats) polled
   all_seats_at k d low = (all_came k d low).seats
 
-  -- and polled them
+  -- each poller polled by these handles
   pub all_have_polled : EachAt (HasPolled (IsAsked answers context.gate.now) context.limits lists n loose) polled
   all_have_polled k d low = (all_came k d low).has
 
--- ---- the threads of instances took their turns
+-- ---- the threads of the instances took their turns
 
 module _ {R D G : Type 0} (may_shut : Type 0) (answers : G → ℕ → ℕ → Bool → Type 0) (context : RunContext R G)
     (lists : List (SharedList R)) (wakers : List Waker) where

@@ -1,4 +1,4 @@
--- Which poller polled which station in a run, and by which numbers.
+-- Which poller polled which station in a run, and with which limits.
 use Rattle.poll_tasks.specs.{Asks.IsAsked, Tasks.{EachAt, IsAt}, declared.limits.{PollLimits.PollLimits, RunContext.RunContext}}
 use Rattle.poll_workers.specs.{Finishes.IsWorkedOf, Outcomes.AreLeftBy, Spreads.{IsEndOf, IsKeptSeatFor}}
 use Rattle.poll_seats.specs.{declared.handle.PollHandle.PollHandle, Gives.{IsPolledAlone, IsPolledBy}}
@@ -15,15 +15,15 @@ use Rattle.poll_interrupts.specs.Runs.{poller_number, thread_number}
 abbrev pub limits_of : ℕ → ℕ → ℕ → PollLimits
 limits_of budget weight window = record { budget = budget; weight = weight; window = window }
 
--- ---- a whole run: stations, how they ended, and what polled them
+-- ---- a whole run: the stations, how each ended, and what polled it
 
--- a station and its end
+-- a station, and how its run ended
 pub record Course (D : Type 0) : Type 0 where
   pub station : Station D
   pub end : Finished D
 
--- the poller's seat at a station before its first turn: it has the station's number, has a waker exactly if the station has a
--- thread, and no call was made by it
+-- a poller's handle on a station before its first turn: it has the station's number, it has a waker exactly if the station has
+-- a thread, and no call was made by it (names with "seat" are about such handles)
 pub record IsFreshSeat {R D : Type 0} (station : Station D) (seat : DropBomb R PollHandle) : Type 0 where
   pub number : seat.value.number ≡ station.number
   pub thread : is_some seat.value.thread ≡ station.thread
@@ -31,12 +31,12 @@ pub record IsFreshSeat {R D : Type 0} (station : Station D) (seat : DropBomb R P
   pub there : seat.value.caller ≡ Some caller
   pub unused : IsUnused poller_number caller
 
--- and after its last one
+-- the handle after the last turn, with this caller
 abbrev pub IsSpentSeat : {R : Type 0} → Caller → DropBomb R PollHandle → Type 0
 IsSpentSeat caller seat = seat.value.caller ≡ Some caller
 
--- The worker of the station with this number, whose caller this was at the end, pushed into the list of its own poller: the
--- number once for each time that it handed its instance to the list, and nothing else.
+-- The worker of the station with this number pushed on the list of the station's poller: the number once for each time that it
+-- queued its instance on the list, and nothing else. The caller is the worker's at the end.
 pub record Pushes {R : Type 0} (lists : List (SharedList R)) (pollers : ℕ) (number : ℕ) (worker : Caller) : Type 0 where
   pub list : SharedList R
   pub there : IsAt lists (poller_by pollers number) list
@@ -44,16 +44,17 @@ pub record Pushes {R : Type 0} (lists : List (SharedList R)) (pollers : ℕ) (nu
   pub of : IsInOf list end
   pub pushed : pushed_by end ≡ listings number (own_list worker.pass)
 
--- `lists` are the lists of so many pollers
+-- `lists` are the lists of this many pollers
 module _ (R : Type 0) (asked : ℕ → Type 0) (limits : PollLimits) (lists : List (SharedList R)) (pollers : ℕ) where
-  -- a station's thread took its turns by this limits, exactly if it has one, and handed over to the list of the station's poller
+  -- exactly if the station has a thread, the thread took its turns with these limits, and queued on the list of the station's
+  -- poller
   abbrev pub TurnsIfThread : Bool → ℕ → Caller → Caller → Type 0
   TurnsIfThread thread number before after =
       MatchBool thread
       ((end : ListIn R) × IsEndOf lists (poller_by pollers number) end × IsPolledAlone R asked limits number end before after)
       (after ≡ before)
 
-  -- the poller with this number took its turns by this limits, over its own list, and polled exactly these stations
+  -- the poller with this number took its turns with these limits, over its own list, and polled exactly these stations
   pub record TakesTurns {D : Type 0} (number : ℕ) (courses : List (Course D)) : Type 0 where
     pub list : SharedList R
     pub there : IsAt lists number list
@@ -65,13 +66,13 @@ module _ (R : Type 0) (asked : ℕ → Type 0) (limits : PollLimits) (lists : Li
     pub turns : IsPolledBy asked limits number list before after
     pub to : AllZip (λ course seat. IsSpentSeat course.end.closed.poller.value seat) courses after
 
-  -- a poller without stations doesn't exist
+  -- a poller exists exactly if it has a station
   abbrev pub IsCrew : {D : Type 0} → ℕ → List (Course D) → Type 0
   IsCrew number [] = Unit
   IsCrew number (course ∷ courses) = TakesTurns number (course ∷ courses)
 
-  -- The station's acts were a run by the one history of its instance, which contains all that its worker, its poller and its
-  -- thread did.
+  -- The station's acts were a run on its instance, whose history contains everything that its worker, its poller and its thread
+  -- did.
   pub record IsCourse {D : Type 0} (acts : D → ℕ) (answer : D → ℕ → Act) (after : D → ℕ → D) (course : Course D) : Type 0 where
     pub run : HasRun answer after course.station.capacity course.station.thread course.station.device
         (acts course.station.device) course.end.closed course.end.totals
@@ -82,8 +83,8 @@ module _ (R : Type 0) (asked : ℕ → Type 0) (limits : PollLimits) (lists : Li
 
 module _ (R : Type 0) (asked : ℕ → Type 0) (limits : PollLimits) {D : Type 0} (acts : D → ℕ) (answer : D → ℕ → Act) (after : D → ℕ
     → D) where
-  -- Each station has its course. Each poller polled its own stations: those whose number minus 1, modulo the count of pollers,
-  -- is its number.
+  -- Each station has its course. Poller k polled its own stations: those whose number minus 1, modulo the count of pollers, is
+  -- k.
   pub record ArePolled (pollers : ℕ) (stations : List (Station D)) (ends : List (Finished D)) : Type 0 where
     pub lists : List (SharedList R)
     pub courses : List (Course D)
@@ -96,7 +97,7 @@ module _ (R : Type 0) (asked : ℕ → Type 0) (limits : PollLimits) {D : Type 0
 -- ---- what the threads of a run returned
 
 module _ {R D G : Type 0} (asked : ℕ → Type 0) (limits : PollLimits) (lists : List (SharedList R)) (pollers : ℕ) where
-  -- the poller took its turns, if it has seats, from those at its own instances to those that it returned
+  -- the poller took its turns, if it has handles: from the handles on its own instances to those that it returned
   pub record HasPolled (loose : List (DropBomb R (Loose D))) (number : ℕ) (poller : Poller R G (ListPoller R)) : Type 0 where
     pub before : List (DropBomb R PollHandle)
     pub list : SharedList R
@@ -106,12 +107,12 @@ module _ {R D G : Type 0} (asked : ℕ → Type 0) (limits : PollLimits) (lists 
     pub from : AllZip IsKeptSeatFor (filter (λ l. is_own number pollers l.value.number) loose) before
     pub turns : poller.stop ≡ None → before ≢ [] → IsPolledBy asked limits number list before (vec_items poller.served.bench.seats)
 
-  -- an instance's thread took its turns, unless the run ended early
+  -- the thread of an instance took its turns, unless the run ended early
   abbrev pub HasTurned : DropBomb R (Loose D) → Poller R G (ThreadPoller R) → Type 0
   HasTurned loose thread = (after : Caller) → thread.served.seat.value.caller ≡ Some after → thread.stop ≡ None
       → TurnsIfThread R asked limits lists pollers loose.value.has_thread loose.value.number loose.value.thread after
 
--- All threads of a run ended, none of them early: these are the parts of the instances that they returned.
+-- All threads of a run ended, none of them early, and returned these parts of the instances.
 pub record HaveRun {R D G : Type 0} (acts : D → ℕ) (answer : D → ℕ → Act) (after : D → ℕ → D) (answers : G → ℕ → ℕ → Bool → Type 0)
     (context : RunContext R G) (lists : List (SharedList R)) (pollers : ℕ) (loose left : List (DropBomb R (Loose D))) : Type 0 where
   pub workers : List (InterruptWorker R D G)

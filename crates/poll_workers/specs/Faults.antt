@@ -1,4 +1,4 @@
--- Why a run failed, by number, and which error is returned.
+-- Why a run failed, as a number, and which error is returned if there are several.
 use Rattle.{poll_tasks.specs.declared.signals.Stop.Stop, poll_workers.specs.declared.fault.WorkFault.WorkFault}
 use Rattle.poll_workers.specs.declared.fault.WorkFault.TheVariants.{OutOfMemory, GateShut, SpawnFailed}
 use Rattle.{std.specs.Prelude.{ℕ, Bool, true, false, Result, Ok, Err}, std.specs.declared.alloc.AllocError.AllocError}
@@ -9,8 +9,8 @@ number_of OutOfMemory = 1
 number_of GateShut = 2
 number_of SpawnFailed = 3
 
--- The result of a run, or the error of one that ended early, by whether a thread could not be started: out of memory takes
--- precedence over the thread, and the thread over the gate.
+-- The result of a run, or the error of one that ended early; the flag says whether a thread could not be started. Out of memory
+-- takes precedence over a thread that couldn't be started, and that over the gate.
 abbrev pub run_result : {A : Type 0} → Result (Result A Stop) AllocError → Bool → Result A WorkFault
 run_result (Err e) refused = Err OutOfMemory
 run_result (Ok came) true = Err SpawnFailed

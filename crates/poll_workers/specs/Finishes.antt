@@ -1,4 +1,4 @@
--- What is true of a finished run.
+-- What holds after a finished run.
 use Rattle.std.specs.Prelude.{◌≡◌, ℕ, ◌+◌, ◌≤◌, Bool, length}
 use Rattle.{poll_tasks.specs.Asks.WasLet, rx_ring.specs.ReceiveRing.{bytes_of, capped}}
 use Rattle.{napi_calls.specs.declared.{kept.DropBomb.DropBomb, types.Napi.Napi}}
@@ -8,8 +8,8 @@ use Rattle.poll_interrupts.specs.{Acts.{after_acts, arrivals}, Runs.HasRun, Work
 use Rattle.{poll_list.specs.declared.shared.SharedList.SharedList, poll_workers.specs.Spreads.IsEndOf, std.specs.Prelude.List}
 
 module _ {D : Type 0} (acts : D → ℕ) (answer : D → ℕ → Act) (after : D → ℕ → D) (answers : ℕ → ℕ → Bool → Type 0) where
-  -- The station's device made its acts, each once and in order. What was put was polled or is still in the ring. If the ring
-  -- has room for all its packets, all were put. Its acts were a run of its instance.
+  -- The station's device made its acts, each once and in order. Each packet that was put was polled or is still in the ring. If
+  -- the ring has room for all its packets, all were put. Its acts were a run on its instance.
   pub record IsFinished (station : Station D) (end : Finished D) : Type 0 where
     pub same_number : end.number ≡ station.number
     pub let_go : WasLet answers station.number (acts station.device)
@@ -20,7 +20,7 @@ module _ {D : Type 0} (acts : D → ℕ) (answer : D → ℕ → Act) (after : D
         × (end.totals.bytes ≡ capped (bytes_of (arrivals answer after station.device (acts station.device))))
     pub run : HasRun answer after station.capacity station.thread station.device (acts station.device) end.closed end.totals
 
-  -- The state in which the worker of a station ended; it pushed into the list of its poller.
+  -- The worker of a station ended in this state, and had pushed on the list of its poller.
   pub record IsWorkedOf {R G : Type 0} (lists : List (SharedList R)) (pollers : ℕ) (loose : DropBomb R (Loose D))
       (done : InterruptWorker R D G)
       : Type 0 where

@@ -1,4 +1,4 @@
--- What the threads of a run hold of the instances.
+-- What the threads of a run hold of the instances. (Names with "seat" are about the handles of pollers.)
 use Rattle.std.specs.Prelude.{◌≡◌, ℕ, List, ◌∷◌, IsSome, Some, filter, length, map, slice_index_or, slice_set, vec_items}
 use Rattle.{std.specs.{Global.Vec, List.{AllByRecursion, AllZip}}, poll_tasks.specs.Tasks.EachAt, poll_interrupts.specs.Deals.is_own}
 use Rattle.napi_calls.specs.{declared.kept.DropBomb.DropBomb, Instance.IsSeatOf}
@@ -6,7 +6,7 @@ use Rattle.poll_interrupts.specs.declared.{opening.Loose.Loose, worker.Interrupt
 use Rattle.poll_seats.specs.declared.{handle.PollHandle.PollHandle, poller.Poller.Poller, thread_poller.ThreadPoller.ThreadPoller}
 
 module _ {R D G : Type 0} where
-  -- a seat with its caller, at the instance of the worker
+  -- a handle with this caller, on the instance of the worker
   pub record IsSeatWith (worker : InterruptWorker R D G) (seat : DropBomb R PollHandle) : Type 0 where
     pub napi : seat.value.napi.now ≡ worker.handler.napi.now
     pub caller : IsSome seat.value.caller
@@ -14,12 +14,13 @@ module _ {R D G : Type 0} where
   abbrev pub IsThreadWith : InterruptWorker R D G → Poller R G (ThreadPoller R) → Type 0
   IsThreadWith worker thread = IsSeatWith worker thread.served.seat
 
-  -- a poller's seats are at its own instances, in order
+  -- a poller's handles are on its own instances, in the order of the instances
   abbrev pub AreSeatsAt : ℕ → List (InterruptWorker R D G) → ℕ → Vec (DropBomb R PollHandle) → Type 0
   AreSeatsAt pollers workers k own =
       AllZip IsSeatWith (filter (λ worker. is_own k pollers worker.handler.number) workers) (vec_items own)
 
-  -- the device, the ring's input and the handles are the worker's, and the callers those of the poller and of the thread
+  -- these are the parts of an instance as its threads left them: the device, the ring's input and the handles are the worker's,
+  -- and the callers those of the poller and of the thread
   pub record IsLeftBy (worker : InterruptWorker R D G) (poller : DropBomb R PollHandle) (thread : Poller R G (ThreadPoller R))
       (loose : Loose D)
       : Type 0 where
@@ -32,7 +33,7 @@ module _ {R D G : Type 0} where
     pub thread_is : thread.served.seat.value.caller ≡ Some loose.thread
     pub thread_of : IsSeatOf worker.handler.napi.now loose.thread.pass
 
--- the next of a poller's seats was taken
+-- the next of a poller's handles was taken
 pub record TakesNext {R : Type 0} (before : List (Vec (DropBomb R PollHandle))) (k : ℕ) (seat : DropBomb R PollHandle) (after : List (Vec
     (DropBomb R PollHandle)))
     : Type 0 where
@@ -42,7 +43,7 @@ pub record TakesNext {R : Type 0} (before : List (Vec (DropBomb R PollHandle))) 
   pub first : vec_items was ≡ seat ∷ vec_items now
   pub rest : after ≡ slice_set before k now
 
--- the threads of one instance, and what they hold of it
+-- what the threads of one instance hold of it
 pub record Outcome (R D G : Type 0) : Type 0 where
   pub worker : InterruptWorker R D G
   pub poller : DropBomb R PollHandle
@@ -50,7 +51,7 @@ pub record Outcome (R D G : Type 0) : Type 0 where
   pub loose : DropBomb R (Loose D)
 
 module _ {R D G : Type 0} where
-  -- the same for all instances, in order, each with the next of the seats of its poller
+  -- what the threads hold of all instances, in order, each with the next handle of its poller
   pub record AreLeftBy (workers : List (InterruptWorker R D G)) (seats : List (Vec (DropBomb R PollHandle)))
       (threads : List (Poller R G (ThreadPoller R))) (loose : List (DropBomb R (Loose D))) : Type 0 where
     pub all : List (Outcome R D G)

@@ -1,4 +1,4 @@
--- What goes to the threads of stations.
+-- The parts of stations, as they are distributed over the threads. (Names with "seat" are about the handles of pollers.)
 use Rattle.std.specs.Prelude.{◌≡◌, ℕ, ◌++◌, ◌≤◌, List, [], ◌∷◌, IfSome, IsSome, Some, filter, is_some, length}
 use Rattle.std.specs.Prelude.{slice_index_or, slice_set}
 use Rattle.std.specs.{Prelude.{vec_items, vec_capacity}, Global.Vec}
@@ -12,8 +12,8 @@ use Rattle.poll_seats.specs.declared.{handle.PollHandle.PollHandle, poller.Polle
 use Rattle.poll_seats.specs.{declared.thread_poller.ThreadPoller.ThreadPoller, Gives.{poller_name, thread_name}}
 
 module _ {R D G : Type 0} where
-  -- the worker has what all threads share, the device, its number, its end of the ring and its handles, and the waker of its
-  -- thread
+  -- the worker has the context that all threads share, the device with its number, its end of the ring, its handles, and the
+  -- waker of the instance's thread
   pub record IsJobOf (context : RunContext R G) (loose : Loose D) (job : InterruptWorker R D G) : Type 0 where
     pub has : job.context.now ≡ context
     pub same_number : job.handler.number ≡ loose.number
@@ -29,7 +29,7 @@ module _ {R D G : Type 0} where
   IsJobAt placed job = job.handler.napi.now ≡ placed.value.napi
 
 module _ {R D : Type 0} where
-  -- the seat has the number and this caller, and has a waker exactly if there is a thread
+  -- the handle has the instance's number and this caller, and has a waker exactly if there is a thread
   pub record IsSeatFor (loose : Loose D) (caller : Caller) (seat : DropBomb R PollHandle) : Type 0 where
     pub number : seat.value.number ≡ loose.number
     pub thread : is_some seat.value.thread ≡ loose.has_thread
@@ -39,7 +39,7 @@ module _ {R D : Type 0} where
   IsKeptSeatFor loose seat = IsSeatFor loose.value loose.value.poller seat
 
   module _ {G : Type 0} where
-    -- the instance's thread has the name and the thread's caller, and what all threads share
+    -- the thread of an instance has its name, the thread's caller, and the context that all threads share
     pub record IsThreadFor (context : RunContext R G) (loose : Loose D) (side : Poller R G (ThreadPoller R)) : Type 0 where
       pub has : side.context.now ≡ context
       pub paced : side.served.limits ≡ context.limits
@@ -50,55 +50,55 @@ module _ {R D : Type 0} where
     IsKeptThreadFor context loose side = IsThreadFor context loose.value side
 
 module _ {R : Type 0} where
-  -- it is at the instance, and has the waker of its thread, if there is one
+  -- the handle is on this instance, and has the waker of its thread, if there is one
   pub record IsSeatAt (placed : DropBomb R Placed) (seat : DropBomb R PollHandle) : Type 0 where
     pub number : seat.value.number ≡ placed.value.number
     pub napi : seat.value.napi.now ≡ placed.value.napi
     pub waker : IfSome seat.value.thread (λ b. b.now ≡ placed.value.waker)
     pub caller : IsSome seat.value.caller
 
-  -- the thread's seat is at the instance, whose waker wakes the thread
+  -- the thread's handle is on this instance, and the instance's waker wakes the thread
   pub record IsThreadAt {G : Type 0} (placed : DropBomb R Placed) (side : Poller R G (ThreadPoller R)) : Type 0 where
     pub seat : IsSeatAt placed side.served.seat
     pub waker : side.waker.now ≡ placed.value.waker
     pub wakes : Wakes side.waker.now side.wait
 
 module _ {R : Type 0} where
-  -- an end of this list, by which nothing was pushed
+  -- an end of this list, at which nothing was pushed yet
   abbrev pub IsNewEnd : SharedList R → ListIn R → Type 0
   IsNewEnd list end = IsInOf list end × (pushed_by end ≡ [])
 
-  -- one of the list of the poller with this number
+  -- an end of the list of the poller with this number
   abbrev pub IsEndOf : List (SharedList R) → ℕ → ListIn R → Type 0
   IsEndOf lists poller end = (list : SharedList R) × IsAt lists poller list × IsNewEnd list end
 
-  -- these are ends of each poller's list
+  -- for each poller, these are ends of its list
   abbrev pub AreEndsOf : List (SharedList R) → List (Vec (ListIn R)) → Type 0
   AreEndsOf lists ends = EachAt (λ k own. All (IsEndOf lists k) (vec_items own)) ends
 
   module _ {G : Type 0} (lists : List (SharedList R)) (wakers : List Waker) where
-    -- a worker pushes into the list of the poller of its station, and wakes that poller
+    -- a worker pushes on the list of its station's poller, and wakes that poller
     pub record IsWiredJob {D : Type 0} (job : InterruptWorker R D G) : Type 0 where
       pub list : IsEndOf lists (poller_by (length wakers) job.handler.number) job.list
       pub waker : IsAt wakers (poller_by (length wakers) job.handler.number) job.handler.poller.now
 
-    -- the same for the thread of an instance
+    -- the thread poller of an instance pushes on the list of its station's poller, and wakes that poller
     pub record IsWiredSide (side : Poller R G (ThreadPoller R)) : Type 0 where
       pub list : IsEndOf lists (poller_by (length wakers) side.served.seat.value.number) side.served.list
       pub waker : IsAt wakers (poller_by (length wakers) side.served.seat.value.number) side.served.poller.now
 
--- a poller starts with a new list
+-- what a poller starts with contains a new list
 abbrev pub IsBegin : {R : Type 0} → Begin R → Type 0
 IsBegin begin = (ends : ℕ) × IsNewList ends begin.list
 
 module _ {R : Type 0} where
-  -- each of so many pollers has its own seats, and room for so many
+  -- each of this many pollers has its own handles, and room for this many
   abbrev pub HaveOwn : ℕ → ℕ → List (DropBomb R PollHandle) → List (Vec (DropBomb R PollHandle)) → Type 0
   HaveOwn count pollers seats =
       EachAt (λ k own. (vec_items own ≡ filter (λ (s : DropBomb R PollHandle). is_own k pollers s.value.number) seats) ×
       (count ≤ vec_capacity own))
 
-  -- a poller has one more seat
+  -- a poller has one more handle
   pub record TakesSeat (before : List (Vec (DropBomb R PollHandle))) (poller : ℕ) (seat : DropBomb R PollHandle) (after : List (Vec
       (DropBomb R PollHandle))) : Type 0 where
     pub was : Vec (DropBomb R PollHandle)
@@ -109,8 +109,8 @@ module _ {R : Type 0} where
     pub rest : after ≡ slice_set before poller now
 
 module _ {R G : Type 0} where
-  -- The poller with this number has what all threads share, the waker of this number, which wakes it, a new list, and these
-  -- seats.
+  -- The poller with this number has the context that all threads share, the waker of this number, which wakes it, a new list,
+  -- and these handles.
   pub record IsPoller (context : RunContext R G) (wakers : List Waker) (seats : List (DropBomb R PollHandle)) (number : ℕ)
       (poller : Poller R G (ListPoller R)) : Type 0 where
     pub has : poller.context.now ≡ context
@@ -121,7 +121,7 @@ module _ {R G : Type 0} where
     pub new : (ends : ℕ) × IsNewList ends poller.served.list
     pub seats_are : vec_items poller.served.bench.seats ≡ seats
 
-  -- the same for all of so many pollers, each with its own seats
+  -- all of this many pollers have what they need, each with its own handles
   abbrev pub ArePollers : RunContext R G → List Waker → ℕ → List (DropBomb R PollHandle) → List (Poller R G (ListPoller R)) → Type 0
   ArePollers context wakers pollers seats =
       EachAt (λ k poller. IsPoller context wakers (filter (λ (s : DropBomb R PollHandle). is_own k pollers s.value.number) seats) k poller)

@@ -20,7 +20,7 @@ pub enum WorkFault {
 }
 
 impl WorkFault {
-    /// Returns its number: 1 `OutOfMemory`, 2 `GateShut`, 3 `SpawnFailed`.
+    /// Returns the number of this error: 1 `OutOfMemory`, 2 `GateShut`, 3 `SpawnFailed`.
     pub fn number(&self) -> u32
         ensures { result ≡ number_of self.now }
     {

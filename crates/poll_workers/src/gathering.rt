@@ -20,7 +20,7 @@ pub(crate) type RunTasks<'t, 'p, 'n, R, D, G> = Tasks<
     OwnThread<'t, 'p, 'n, R, G>,
 >;
 
-// The parts of one instance, as its threads hold them.
+// What the threads of one instance hold of it.
 fn leave<'t, 'p, 'n, R: Wait + Drop, D: Drop, G: Gate>(
     worker: InterruptWorker<'t, 'p, 'n, R, D, G>,
     poller: DropBomb<R, PollHandle<'n>>,
@@ -67,7 +67,7 @@ fn leave<'t, 'p, 'n, R: Wait + Drop, D: Drop, G: Gate>(
     }
 }
 
-/// Returns the seats of all pollers. Requires room for them.
+/// Returns the handles of all pollers. Requires room for them.
 pub(crate) fn seats_left<'t, 'p, 'n, R: Wait + Drop, G: Gate>(
     pollers: Vec<OwnPoller<'t, 'p, 'n, R, G>>,
     room: Vec<Vec<DropBomb<R, PollHandle<'n>>>>,
@@ -91,7 +91,7 @@ pub(crate) fn seats_left<'t, 'p, 'n, R: Wait + Drop, G: Gate>(
     seats
 }
 
-// Returns the next of a poller's seats.
+// Returns the next of a poller's handles.
 fn next_of<'n, R: Wait + Drop>(
     seats: &mut Vec<Vec<DropBomb<R, PollHandle<'n>>>>,
     poller: usize,

@@ -16,8 +16,7 @@ fn is_among<D: Drop>(number: u32, stations: &[Station<D>]) -> bool
         .any(|other| other == number)
 }
 
-/// Returns whether no two stations have the same number, as `run_workers` requires. The numbers of none, and of one alone, are
-/// distinct.
+/// Returns whether no two stations have the same number, as `run_workers` requires.
 pub fn have_distinct_numbers<D: Drop>(stations: &[Station<D>]) -> bool
     ensures { result ≡ have_distinct_numbers stations.now }
 {

@@ -1,4 +1,4 @@
-//! The pollers of a run, each with its waker, its list and its seats.
+//! The pollers of a run, each with its waker, its list and its handles.
 
 ghost use Rattle.std.specs.Prelude.{◌≡◌, ◌≤◌, ◌<◌, ◌+◌, ℕ, [], List, IfOk, length, map, slice_index_or, vec_items, vec_len, vec_capacity};
 ghost use Rattle.std.specs.Global.{Vec};
@@ -19,30 +19,30 @@ use poll_tasks::{Gate, IdleWait, RunContext, Waker};
 use std::alloc::{AllocError, Global};
 use std::sync::Wait;
 
-// The name of a poller is 100 plus its number, counted from 0 (`poller_name`).
+// The poller's number for the gate is this plus its number, counted from 0 (`poller_name`).
 const FIRST_POLLER: u32 = 100;
 
 /// A poller with a list.
 pub(crate) type OwnPoller<'t, 'p, 'n, R, G> = Poller<'t, 'p, R, G, ListPoller<'n, R>>;
 
-/// The thread of an instance.
+/// A poller that is the thread of an instance.
 pub(crate) type OwnThread<'t, 'p, 'n, R, G> = Poller<'t, 'n, R, G, ThreadPoller<'p, 'n, R>>;
 
-/// What a poller starts with, apart from its waker and its seats: its list, and how it waits.
+/// What a poller starts with, besides its waker and its handles: its list, and how it waits.
 #[derive(Drop)]
 pub(crate) struct Begin<R: Wait + Drop> {
     list: SharedList<R>,
     wait: IdleWait,
 }
 
-/// What all pollers start with, and two ends of its list for each station that a poller may have.
+/// What all pollers start with, and for each of them two ends of its list for each station that it may have.
 #[derive(Drop)]
 pub(crate) struct Begins<R: Wait + Drop> {
     pub(crate) pollers: Vec<Begin<R>>,
     pub(crate) ends: Vec<Vec<ListIn<R>>>,
 }
 
-// Returns what a poller of at most so many stations starts with, and two ends of its list for each.
+// Returns what a poller of at most this many stations starts with, and two ends of its list for each station.
 fn begin_of<R: Wait + Drop + Copy>(
     rt: R,
     alloc: Global,
@@ -61,7 +61,8 @@ fn begin_of<R: Wait + Drop + Copy>(
     Ok((Begin { list, wait }, ends))
 }
 
-/// Returns the wakers of so many pollers, what these start with, and two ends of its list for each of so many stations.
+/// Returns the wakers of this many pollers, what these start with, and for each two ends of its list for each of this many
+/// stations.
 pub(crate) fn begins_of<R: Wait + Drop + Copy>(
     rt: R,
     alloc: Global,
@@ -89,7 +90,7 @@ pub(crate) fn begins_of<R: Wait + Drop + Copy>(
     Ok((wakers, begins))
 }
 
-/// Returns room for the seats of so many pollers, for so many of each.
+/// Returns empty vectors for the handles of this many pollers, each with room for this many handles.
 pub(crate) fn seats_of<'n, R: Wait + Drop + Copy>(
     alloc: Global,
     pollers: usize,
@@ -105,7 +106,7 @@ pub(crate) fn seats_of<'n, R: Wait + Drop + Copy>(
     Ok(seats)
 }
 
-/// Gives a poller one more seat. Requires room for it.
+/// Adds a handle to a poller. Requires room for it.
 pub(crate) fn seat_at<'n, R: Wait + Drop>(
     seats: &mut Vec<Vec<DropBomb<R, PollHandle<'n>>>>,
     poller: usize,
@@ -120,7 +121,7 @@ pub(crate) fn seat_at<'n, R: Wait + Drop>(
     seats[poller].push_reserved(seat);
 }
 
-/// Returns two ends of a poller's list. Each poller has two.
+/// Returns two ends of a poller's list, one for a worker and one for a thread poller.
 pub(crate) fn two_ends<R: Wait + Drop>(
     ends: &mut Vec<Vec<ListIn<R>>>,
     poller: usize,
@@ -142,7 +143,7 @@ pub(crate) fn two_ends<R: Wait + Drop>(
     (one, other)
 }
 
-/// Returns the pollers with these wakers, what they start with, and their seats. Requires room for them.
+/// Returns the pollers with these wakers, starting values and handles. Requires room for them.
 pub(crate) fn pollers_of<'t, 'p, 'n, R: Wait + Drop + Copy, G: Gate>(
     context: &'t RunContext<'t, R, G>,
     wakers: &'p [Waker],

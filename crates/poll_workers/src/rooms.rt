@@ -11,18 +11,18 @@ use poll_tasks::{Spawned, Task, Tasks};
 use std::alloc::{AllocError, Global};
 use std::sync::Wait;
 
-/// Room for all that goes to the threads of so many pollers and stations, for the threads, and for what they return.
+/// Room for everything that goes to the threads of this many pollers and stations, for the threads, and for what they return.
 #[derive(Drop)]
 pub(crate) struct Rooms<'n, R: Wait + Drop, P: Task + Drop, W: Task + Drop, S: Task + Drop, D> {
     pub(crate) tasks: Tasks<P, W, S>,
     pub(crate) spawned: Tasks<Spawned<P>, Spawned<W>, Spawned<S>>,
-    /// The seats of each poller.
+    /// The handles of each poller.
     pub(crate) seats: Vec<Vec<DropBomb<R, PollHandle<'n>>>>,
     pub(crate) left_seats: Vec<Vec<DropBomb<R, PollHandle<'n>>>>,
     pub(crate) left: Vec<DropBomb<R, Loose<D>>>,
 }
 
-/// The same for the threads of a run.
+/// The same with the types of the threads of a run.
 pub(crate) type RunRooms<'t, 'p, 'n, R, D, G> = Rooms<
     'n,
     R,
@@ -32,7 +32,7 @@ pub(crate) type RunRooms<'t, 'p, 'n, R, D, G> = Rooms<
     D,
 >;
 
-/// Returns the room for so many pollers and stations.
+/// Returns the room for this many pollers and stations.
 pub(crate) fn rooms_of<'n, R, P, W, S, D>(
     alloc: Global,
     pollers: usize,

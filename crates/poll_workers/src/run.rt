@@ -27,10 +27,10 @@ use std::alloc::{AllocError, Global};
 use std::sync::Wait;
 use std::thread::Threads;
 
-// The parts of the instances after the threads have ended, and why the run ended early, if so.
+// The parts of the instances after the threads have ended, and the reason, if the run ended early.
 type Ended<R, D> = (Vec<DropBomb<R, Loose<D>>>, Option<Stop>);
 
-// Returns why a run ended early, if so.
+// Returns the reason if a run ended early.
 fn stop_of_run<'t, 'p, 'n, R: Wait + Drop + Copy, D: Device + Drop, G: Gate>(
     tasks: &RunTasks<'t, 'p, 'n, R, D, G>,
 ) -> Option<Stop>
@@ -51,8 +51,7 @@ fn stop_of_run<'t, 'p, 'n, R: Wait + Drop + Copy, D: Device + Drop, G: Gate>(
     first_stop(tasks.workers.as_slice())
 }
 
-// Runs all threads, in one scope. If an allocation fails, no thread starts, and the parts that would have gone to them are
-// returned.
+// Runs all threads in one scope. If an allocation fails, no thread starts, and the parts for the threads are returned.
 fn run_threads<'t, 'p, 'n, R, D, G>(
     context: &'t RunContext<'t, R, G>,
     alloc: Global,
@@ -101,7 +100,7 @@ where
     Ok((left, stop))
 }
 
-// Opens all stations, and runs them. If an allocation fails, no thread starts; if a run ended early, it returns why.
+// Opens all stations, and runs them. If an allocation fails, no thread starts; if the run ended early, it returns the reason.
 fn run_all<'t, R, D, G>(
     context: &'t RunContext<'t, R, G>,
     alloc: Global,
@@ -149,7 +148,7 @@ where
     }
 }
 
-// Returns the result of a run.
+// Returns the result of a run, or its error.
 fn run_result<T: Drop>(
     came: Result<Result<T, Stop>, AllocError>,
     refused: bool,
@@ -165,7 +164,7 @@ fn run_result<T: Drop>(
     }
 }
 
-/// Runs the devices of the stations concurrently, each in its own thread, which makes its acts in order as interrupts of its
+/// Runs the devices of the stations concurrently, each in its own thread, whose acts are made in order, as interrupts of its
 /// own instance. Station `number` is polled by poller `(number - 1) mod pollers`, in runs over that poller's list
 /// (`net_rx_action`), and while THREADED is set, by its own thread, if it has one (`napi_threaded_poll`). At the end each
 /// device is disabled, its instance closed, and its ring counted. Returns the devices in the order of the stations, each with
@@ -203,14 +202,14 @@ where
     ensures finished { IfOk result
         (λ all. AllZip (IsFinished D.acts D.answer D.after (G.answers gate.now))
         (vec_items stations) (vec_items all)) }
-    // The one history of each instance has the polls of its poller, in runs by these numbers, and of its thread exactly if it
-    // has one; its worker pushed to the list of that poller. The gate allowed each of them to start.
+    // The history of each instance has the polls of its poller, in runs with these limits, and of its thread exactly if it has
+    // one. Its worker pushed on the list of that poller. The gate allowed each of them to start.
     ensures polled { IfOk result
         (λ all. ArePolled (Bor R) (IsAsked G.answers gate.now) (limits_of budget weight window)
         D.acts D.answer D.after pollers (vec_items stations) (vec_items all)) }
     // Only if an allocation failed.
     ensures memory { IsErrOf result OutOfMemory → IsWantOfMemory }
-    // So never with a gate that always returns true.
+    // So a gate that always returns true never causes this error.
     ensures gate { IsErrOf result GateShut → G.may_shut }
     // Only if a thread could not be started, so not because of the gate.
     ensures spawn { IsErrOf result SpawnFailed → IsRefused }

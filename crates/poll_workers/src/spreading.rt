@@ -1,4 +1,4 @@
-//! What goes to the threads of a run.
+//! Distributes the parts of the opened instances over the threads of a run.
 
 ghost use Rattle.std.specs.Prelude.{◌≡◌, ◌+◌, ◌<◌, ◌≤◌, List, IfSome, Some, is_some, length, vec_items, vec_len};
 ghost use Rattle.std.specs.List.{All, AllByRecursion, AllZip};
@@ -22,7 +22,7 @@ use poll_tasks::{Gate, RunContext, Waker};
 use rx_ring::Batch;
 use std::sync::Wait;
 
-// The name of a thread poller is 200 plus its device's number (`thread_name`).
+// The number of an instance's thread for the gate is this plus its device's number (`thread_name`).
 const FIRST_THREAD: u32 = 200;
 
 // Returns the waker of an instance's own thread, if it has one.
@@ -45,7 +45,7 @@ fn waker_at(wakers: &[Waker], poller: usize) -> &Waker
     &wakers[poller]
 }
 
-// Returns where the interrupts of an instance's worker go.
+// Returns the interrupt handler of an instance's worker: where its interrupts go.
 fn handler_at<'t, 'p, 'n, R: Copy, G: Gate>(
     context: &RunContext<'t, R, G>,
     waker: &'p Waker,
@@ -67,7 +67,7 @@ fn handler_at<'t, 'p, 'n, R: Copy, G: Gate>(
     }
 }
 
-// Returns the seat that polls an instance by this caller.
+// Returns the handle by which this caller polls an instance.
 fn seat_of<'n, R: Wait + Drop + Copy>(
     rt: R,
     placed: &'n Placed,
@@ -92,7 +92,7 @@ fn seat_of<'n, R: Wait + Drop + Copy>(
     )
 }
 
-// Returns the parts of one instance: its worker, the seat of the poller of its list, and its thread.
+// Returns the parts of one instance: its worker, the handle for the poller of its list, and its thread poller.
 fn split<'t, 'p, 'n, R: Wait + Drop + Copy, D: Drop, G: Gate>(
     context: &'t RunContext<'t, R, G>,
     waker: &'p Waker,
@@ -174,7 +174,7 @@ pub(crate) fn spread<'t, 'p, 'n, R: Wait + Drop + Copy, D: Device + Drop, G: Gat
     ensures thread_places { AllZip IsThreadAt placed.now (vec_items result.tasks.threads) }
     ensures threads { AllZip (IsKeptThreadFor context.now) (vec_items loose)
         (vec_items result.tasks.threads) }
-    // Each worker and each thread pushes into the list of its own poller, and wakes that one.
+    // Each worker and each thread poller pushes on the list of its station's poller, and wakes that poller.
     ensures wired_jobs { (lists : List (SharedList _)) → AreEndsOf lists (vec_items ends)
         → AllByRecursion (IsWiredJob lists wakers.now) (vec_items result.tasks.workers) }
     ensures wired_threads { (lists : List (SharedList _)) → AreEndsOf lists (vec_items ends)

@@ -1,11 +1,11 @@
 pub use Rattle.device_rows.specs.Failures
 pub use Rattle.device_rows.specs.Trace
-pub use Rattle.replay_words.specs.Defaults
-pub use Rattle.replay_words.specs.Refusals
-pub use Rattle.replay_words.specs.Words
-pub use Rattle.replay_words.specs.declared.mode.ReplayMode
-pub use Rattle.replay_words.specs.declared.settings.ReplaySettings
-pub use Rattle.replay_words.specs.declared.words.WordFault
+pub use Rattle.replay_args.specs.Defaults
+pub use Rattle.replay_args.specs.Refusals
+pub use Rattle.replay_args.specs.Args
+pub use Rattle.replay_args.specs.declared.mode.ReplayMode
+pub use Rattle.replay_args.specs.declared.settings.ReplaySettings
+pub use Rattle.replay_args.specs.declared.args.WordFault
 pub use Rattle.replay_text.specs.Fault
 pub use Rattle.replay_text.specs.Outside
 pub use Rattle.replay_text.specs.Stops

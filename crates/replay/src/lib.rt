@@ -1,15 +1,15 @@
-//! Whole replays of a trace of network events, from the bytes of the trace to the bytes of the report, or the message and the
-//! exit status of an error: on one thread, by one thread on instances that threads could share, and with threads. Also the
-//! command line that selects one of these.
+//! Whole replays of a trace of network events: from the bytes of the trace to the bytes of the report, or to the message and
+//! the exit status of an error. A replay runs on one thread, by one thread on instances that threads could share, or with
+//! threads. The crate also has the command line that selects one of these.
 //!
-//! This is a facade: it re-exports its internal crates, and adds nothing. `replay_words` has the command line and the settings,
-//! `replay_text` the errors, `replay_rows` the replay on one thread, and `replay_threads` the other two. `specs/Lib.antt`
+//! This is a facade: it re-exports its internal crates, and adds nothing. `replay_args` has the command line and the settings,
+//! `replay_text` the errors, `replay_rows` the replay on one thread, and `replay_threads` the other two kinds. `specs/Lib.antt`
 //! re-exports what contracts cite. The program `napi_replay` makes these calls.
 #![tactic(auto)]
 
 pub use replay_rows::replay_serial;
 pub use replay_text::{ReplayFault, fault_line, status};
 pub use replay_threads::{ClosedSide, replay_shared, replay_threads};
-pub use replay_words::{
+pub use replay_args::{
     ReplayMode, ReplaySettings, WordFault, parse_words, word_line, word_status,
 };

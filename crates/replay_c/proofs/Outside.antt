@@ -1,4 +1,4 @@
--- An error whose status is that of a bad trace comes from the text.
+-- If an error's status is that of a bad trace, the bytes of the trace cause it.
 use Rattle.std.proofs.Common.{◌≡◌, ◌≢◌, ◌⊎◌, inl, inr, refl, subst, arith}
 use Rattle.device_rows.specs.declared.fault.TraceFault.{TraceFault}
 use Rattle.replay_text.specs.{Outside.IsOutside, declared.fault.ReplayFault.ReplayFault}
@@ -37,7 +37,7 @@ trace-memory TooManyRows other = absurd (other refl)
 trace-memory ReadFailed other = refl
 trace-memory OutOfMemory other = refl
 
--- any other status is that of an allocation that failed
+-- any other status means that an allocation failed
 pub else-memory : (fault : ReplayFault) → fault_status fault ≢ 120 → fault_status fault ≡ 112
 else-memory (Trace fault) other = trace-memory fault other
 else-memory (Pending row) other = absurd (other refl)

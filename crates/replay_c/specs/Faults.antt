@@ -1,11 +1,11 @@
--- The errors of a replay as numbers.
+-- The errors of a replay, as the numbers that C gets.
 use Rattle.{std.specs.Prelude.ℕ, replay_text.specs.declared.fault.ReplayFault.{ReplayFault, TheVariants.{Trace, Pending, OutputFailed}}}
 use Rattle.device_rows.specs.declared.fault.TraceFault.{TraceFault, TheVariants.{BadHeader, BadFields, BadNumber, BadEvent, OutOfRange}}
 use Rattle.device_rows.specs.declared.fault.TraceFault.TheVariants.{UnknownDevice, OpenTwice, WrongState, TooManyRows, ReadFailed}
 use Rattle.{device_rows.specs.declared.fault.TraceFault.TheVariants.OutOfMemory}
 use Rattle.{replay_c.specs.Status.{REPLAY_BAD_TRACE, REPLAY_OUT_OF_MEMORY}}
 
--- an error that doesn't come from the trace is that of an allocation
+-- the status of an error: bad trace if the trace causes it, otherwise out of memory
 abbrev pub trace_c_status : TraceFault → ℕ
 trace_c_status ReadFailed = REPLAY_OUT_OF_MEMORY
 trace_c_status OutOfMemory = REPLAY_OUT_OF_MEMORY

@@ -1,4 +1,4 @@
--- The statuses that a replay returns, which are among those of all calls for C.
+-- The statuses that a replay returns. They are among the statuses of all calls for C.
 use Rattle.std.specs.Prelude.{ℕ}
 
 abbrev pub REPLAY_OK : ℕ

@@ -1,4 +1,4 @@
-//! Errors of a trace, as numbers.
+//! Errors of a trace, as the numbers that C gets.
 
 ghost use Rattle.std.specs.Prelude.{◌≡◌};
 ghost use Rattle.replay_c.specs.Status.{REPLAY_BAD_TRACE};
@@ -8,8 +8,8 @@ use crate::status;
 use device_rows::TraceFault;
 use replay_text::ReplayFault;
 
-// Returns the status of an error. Reading a trace from memory never fails, so a reader or a writer fails only if an allocation
-// does.
+// Returns the status of an error. A trace is read from memory and the report is written to memory, so a reader or a writer
+// fails only if an allocation does.
 pub(crate) fn fault_status(fault: &ReplayFault) -> u32
     ensures { result ≡ fault_status fault.now }
 {

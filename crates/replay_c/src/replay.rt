@@ -1,4 +1,4 @@
-//! A whole replay on one thread, from the caller's bytes into the caller's bytes.
+//! A whole replay on one thread, from a trace in the caller's memory to a report in the caller's memory.
 
 ghost use Rattle.std.specs.Prelude.{◌≡◌, ◌≢◌, ◌<◌, ◌≤◌, ◌⊎◌, ◌↔◌, ℕ, List, Ok, Err, IfOk, IfErr, length, take};
 ghost use Rattle.replay_text.specs.Outside.{IsOutside};
@@ -9,9 +9,9 @@ ghost use Rattle.replay_c.specs.Replay.{AreSettingsOf, HasWeight, HasBudget, IsR
 
 use crate::fault::{fault_status, row_of};
 use crate::status;
+use replay_args::ReplaySettings;
 use replay_rows::replay_serial;
 use replay_text::ReplayFault;
-use replay_words::ReplaySettings;
 use std::alloc::Global;
 
 /// The settings of a replay: `struct fq_settings`.
@@ -66,7 +66,7 @@ fn report_of(alloc: Global, settings: &ReplaySettings, trace: &[u8]) -> Result<V
     }
 }
 
-// Puts a report into the caller's array, if that has room for all of it.
+// Copies a report to the caller's array, if that has room for all of it.
 fn put_report(text: &[u8], report: &mut [u8], replayed: &mut FqReplayed) -> u32
     ensures ok { result ≡ REPLAY_OK → take replayed.new.length report.new ≡ text.now }
     ensures no_room { result ≢ REPLAY_OK → (result ≡ REPLAY_NO_ROOM)
@@ -85,10 +85,10 @@ fn put_report(text: &[u8], report: &mut [u8], replayed: &mut FqReplayed) -> u32
 }
 
 // Reports an error of the trace by its numbers.
-fn tell(fault: &ReplayFault, replayed: &mut FqReplayed) -> u32
+fn report_fault(fault: &ReplayFault, replayed: &mut FqReplayed) -> u32
     ensures status { result ≡ fault_status fault.now }
-    ensures told { result ≡ REPLAY_BAD_TRACE → ReportsFault fault.now replayed.new }
-    ensures untold { result ≢ REPLAY_BAD_TRACE → replayed.new ≡ replayed.old }
+    ensures reported { result ≡ REPLAY_BAD_TRACE → ReportsFault fault.now replayed.new }
+    ensures unreported { result ≢ REPLAY_BAD_TRACE → replayed.new ≡ replayed.old }
 {
     let status = fault_status(fault);
     if status == status::BAD_TRACE {
@@ -101,9 +101,9 @@ fn tell(fault: &ReplayFault, replayed: &mut FqReplayed) -> u32
     status
 }
 
-/// Like `replay_serial`, from the bytes of a trace into an array: the report is the first `length` bytes of it. Returns ok; no
-/// room, and then nothing is written; bad weight or bad budget (or window); bad trace, with the numbers of its error; or out of
-/// memory.
+/// Like `replay_serial`, from the bytes of a trace to an array: the report is the first `length` bytes of the array. Returns
+/// OK; NO_ROOM, and writes nothing; BAD_WEIGHT or BAD_BUDGET (also for the window); BAD_TRACE, with the numbers of its error;
+/// or OUT_OF_MEMORY.
 #[unsafe(no_mangle)]
 pub extern "C" fn fq_replay(
     alloc: Global,
@@ -112,7 +112,8 @@ pub extern "C" fn fq_replay(
     report: &mut [u8],
     replayed: &mut FqReplayed,
 ) -> u32
-    // What is written is the report of the bytes of the trace with these settings, and an error is theirs.
+    // The text that is written is the report of the trace with these settings, and an error that is reported is that of the
+    // trace.
     ensures written { result ≡ REPLAY_OK
         → IsReplayReport settings.now trace.now (take replayed.new.length report.new) }
     ensures no_room { result ≡ REPLAY_NO_ROOM
@@ -125,12 +126,13 @@ pub extern "C" fn fq_replay(
         → result ≢ REPLAY_BAD_BUDGET → (result ≡ REPLAY_OUT_OF_MEMORY)
         × LacksMemory settings.now trace.now }
 
-    // Settings are rejected exactly if they are out of their ranges; then, and after every error, nothing is written.
+    // Settings are rejected exactly if they are out of their ranges. After that, and after every other error, nothing is
+    // written.
     ensures weight { (result ≡ REPLAY_BAD_WEIGHT) ↔ ¬ HasWeight settings.now }
     ensures budget { (result ≡ REPLAY_BAD_BUDGET)
         ↔ (HasWeight settings.now × ¬ HasBudget settings.now) }
     ensures kept { result ≢ REPLAY_OK → report.new ≡ report.old }
-    // What is returned besides the status is of the report or of the error, and otherwise 0.
+    // The other results describe the report or the error; if there is none, they are 0.
     ensures faultless { result ≢ REPLAY_BAD_TRACE
         → (replayed.new.fault ≡ 0) × (replayed.new.row ≡ 0) }
     ensures no_report { result ≢ REPLAY_OK → result ≢ REPLAY_NO_ROOM → replayed.new.length ≡ 0 }
@@ -143,7 +145,7 @@ pub extern "C" fn fq_replay(
     match asked_by(settings) {
         Ok(asked) => match report_of(alloc, &asked, trace) {
             Ok(text) => put_report(text.as_slice(), report, replayed),
-            Err(fault) => tell(&fault, replayed),
+            Err(fault) => report_fault(&fault, replayed),
         },
         Err(status) => status,
     }

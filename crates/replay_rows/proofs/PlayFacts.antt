@@ -7,9 +7,9 @@ use Rattle.{device_rows.specs.declared.row.Row.Row, replay_rows.specs.Replay.{af
 use Rattle.replay_rows.specs.{Report.{report_of, serial_report}, Transmits.{after_transmit, after_transmits, transmits_of}}
 use Rattle.{replay_rows.specs.ReplayState.ReplayState, replay_text.specs.declared.fault.ReplayFault.{ReplayFault, TheVariants.OutputFailed}}
 use Rattle.replay_text.specs.{declared.fault.ReplayFault.TheVariants.Pending, Outside.IsReplayOutOfMemory}
-use Rattle.replay_words.specs.declared.settings.ReplaySettings.{ReplaySettings}
+use Rattle.replay_args.specs.declared.settings.ReplaySettings.{ReplaySettings}
 
--- the remaining rows, after those before them were processed
+-- the state after the remaining rows, if those before them were processed
 then_rows : ReplaySettings → ℕ → List Row → Result ReplayState ReplayFault → Result ReplayState ReplayFault
 then_rows s n rows (Ok w) = after_rows s n rows w
 then_rows s n rows (Err fault) = Err fault
@@ -34,7 +34,7 @@ split-at (row ∷ rows) (suc i) d below =
     let next : suc i + 1 ≡ suc (i + 1) = omega arith in
     rw next (ap (λ (l : List Row). row ∷ l) (split-at rows i d (omega (arith, below))))
 
--- one more row that isn't early
+-- one more row, which isn't an early enable (one that meets a pending disable)
 pub played-more : (s : ReplaySettings) (rows : List Row) (i : ℕ) (d : Row) (old new : ReplayState) → i < length rows
     → after_rows s 1 (take i rows) start ≡ Ok old
     → is_early (get_or rows i d).event (get_or rows i d).device old ≡ false → new ≡ after_row s (i + 1) (get_or rows i d) old
@@ -45,7 +45,7 @@ played-more s rows i d old new below before on_time step =
     let appended = after_rows-append s 1 (i + 1) (take i rows) (row ∷ []) start (omega (arith, length-take i rows)) in
     ap (λ (l : List Row). after_rows s 1 l start) (take_more rows i d below) ∙ appended ∙ rw (before, on_time, step) refl
 
--- an early row ends the replay
+-- an early enable ends the replay
 pub played-early : (s : ReplaySettings) (rows : List Row) (i : ℕ) (d : Row) (old : ReplayState) → i < length rows
     → after_rows s 1 (take i rows) start ≡ Ok old
     → is_early (get_or rows i d).event (get_or rows i d).device old ≡ true → after_all_rows s rows ≡ Err (Pending (i + 1))
@@ -66,7 +66,7 @@ pub after_transmits-more : (rows : List Row) (all : Transmits) (i : ℕ) (d : Ro
     → after_transmits (take (i + 1) rows) all ≡ after_transmit (get_or rows i d) (after_transmits (take i rows) all)
 after_transmits-more rows all i d below = rw (take_more rows i d below) (after_transmits-push (take i rows) (get_or rows i d) all)
 
--- if the rows have an error, so has their report
+-- if the rows have an error, it is that of their report
 pub report-early : (s : ReplaySettings) (rows : List Row) (fault : ReplayFault) → after_all_rows s rows ≡ Err fault → (version : ℕ)
     → serial_report s version rows ≡ Err fault
 report-early s rows fault early version = ap (report_of version (transmits_of rows)) early
@@ -82,7 +82,7 @@ rows-fault s n (row ∷ rows) w fault e = by (is_early row.event row.device w) (
     by true rest e = let is : fault ≡ Pending n = cc e in (n, is)
     by false rest e = rest e
 
--- and so is that of their report
+-- the only error of a report is an early enable too
 report_written : (s : ReplaySettings) (version : ℕ) (rows : List Row) → serial_report s version rows ≡ Err OutputFailed → ⊥
 report_written s version rows e = by (after_all_rows s rows) refl e
   where
@@ -102,6 +102,6 @@ unwritten s version rows (Err fault) h = λ failed. elim h [
   | inr early ↦ report_written s version rows (early ∙ ap Err failed)
 ]
 
--- four parts of a text, however they were concatenated
+-- four parts of a text, concatenated in any grouping
 pub four-parts : (a b c d : List ℕ) → ((a ++ b) ++ c) ++ d ≡ a ++ (b ++ (c ++ d))
 four-parts a b c d = append_assoc (a ++ b) c d ∙ append_assoc a b (c ++ d)

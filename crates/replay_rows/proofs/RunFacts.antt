@@ -1,5 +1,5 @@
--- A run over the poll list is the one that its definition computes, and the list never has more entries than devices that wait
--- on it.
+-- A run over the poll list is the one that the definition computes, and the list never has more entries than there are devices
+-- that wait on it.
 use Rattle.std.proofs.Common.{◌≡◌, ℕ, ◌+◌, ◌≤◌, cond, List, [], ◌∷◌, ◌++◌, length, length-append, take, drop, ap, refl, arith}
 use Rattle.{std.{proofs.lemmas.List.{length-drop, length-take, Sums.sum_by-cons}, specs.Prelude.sum_by}, device_bench.specs.Bench.ArePolls}
 use Rattle.{device_bench.specs.{Bench.{BenchDevices, polled_at}, Waiting.leaves}}
@@ -8,7 +8,7 @@ use Rattle.poll_runs.specs.{Function.run_report, Laws.IsPlainRun, Polls.{At, Cha
 use Rattle.poll_runs.specs.declared.{bench.{Next.{Next, TheVariants.{Absent, Gone, Again, Repoll}}, Once.Once}, run.RunReport.RunReport}
 use Rattle.poll_runs.proofs.{FunctionFacts.run-is-shown, PlainFacts.list-afterwards, PollFacts.{arrivals-append, arrivals-one, length-ids}}
 use Rattle.{poll_runs.proofs.PollFacts.{repolled-append, repolled-one}, replay_rows.specs.Run.replay_run}
-use Rattle.replay_words.specs.declared.settings.ReplaySettings.{ReplaySettings}
+use Rattle.replay_args.specs.declared.settings.ReplaySettings.{ReplaySettings}
 use Rattle.napi_model.specs.declared.state.Kind.TheVariants as kind
 
 abbrev pub Leads : {B : Type 0} → (B → ℕ → ℕ → Once → B → Type 0) → ReplaySettings → B → List Poll → B → Type 0
@@ -31,7 +31,7 @@ pub record IsRunOf (s : ReplaySettings) (devices : BenchDevices) (list : List �
   pub list_after : left ≡ (replay_run s devices list).1
   pub reported : report ≡ run_report s.budget s.window (replay_run s devices list).0.polls
 
--- by the law of runs on a view of the bench, its devices
+-- the law of runs on a view of the bench, for the view that shows its devices
 pub only-run : {B : Type 0} (devices : B → BenchDevices) (shows : B → Transmits → Type 0) (waiting : B → ℕ)
     (relation : B → ℕ → ℕ → Once → B → Type 0)
     → ArePolls devices shows waiting relation
@@ -44,7 +44,7 @@ only-run devices shows waiting relation are s before after list left polls repor
     s.budget_in.0 s.window_in.0 before after list left polls report leads run in
     record { devices_after = is.1; list_after = is.2; reported = is.3 }
 
--- ---- room on the list
+-- ---- room on the poll list
 
 leavers : List Poll → ℕ
 leavers polls = sum_by (λ poll. leaves poll.once.next) polls

@@ -1,11 +1,11 @@
--- A replay after its first n rows, none of which had an error, and what it shows.
+-- The state of a replay after its first n rows, none of which had an error, and what it shows.
 use Rattle.std.specs.Prelude.{◌≡◌, ℕ, Bool, List, [], Option, None, Result, Ok, Err, take}
 use Rattle.device_transmit.specs.Transmits.{Transmits, is_used}
 use Rattle.{device_places.specs.Places.at, device_bench.specs.DeviceBench.{ShowsTransmits, devices_of}}
 use Rattle.{device_bench.specs.declared.counts.DeviceCounts.DeviceCounts, device_rows.specs.declared.row.Row.Row}
 use Rattle.replay_rows.specs.{Played.replay_state, Replay.after_all_rows, Report.{reported_counts, last_poll_by}, Transmits.transmits_of}
 use Rattle.replay_rows.specs.{ReplayState.ReplayState, declared.{line.PollRecord.PollRecord, serial_replay.SerialReplay.SerialReplay}}
-use Rattle.{replay_text.specs.declared.fault.ReplayFault.ReplayFault, replay_words.specs.declared.settings.ReplaySettings.ReplaySettings}
+use Rattle.{replay_text.specs.declared.fault.ReplayFault.ReplayFault, replay_args.specs.declared.settings.ReplaySettings.ReplaySettings}
 
 pub record IsAfter (s : ReplaySettings) (rows : List Row) (n : ℕ) (r : SerialReplay) : Type 0 where
   pub state : after_all_rows s (take n rows) ≡ Ok (replay_state devices_of r.replay)
@@ -19,11 +19,11 @@ device_counts_in (Err fault) transmits device = None
 abbrev pub counts_after : ReplaySettings → List Row → ℕ → ℕ → Option DeviceCounts
 counts_after s rows n device = device_counts_in (after_all_rows s (take n rows)) (transmits_of (take n rows)) device
 
--- whether it shows the device's transmit side
+-- whether that report shows the device's transmit side
 abbrev pub is_used_after : List Row → ℕ → ℕ → Bool
 is_used_after rows n device = is_used (at device (transmits_of (take n rows)))
 
--- what row n did by the report of the first n rows, if it polled
+-- what row n did if it polled, by the report of the first n rows
 abbrev pub polled_in : Result ReplayState ReplayFault → ℕ → Option PollRecord
 polled_in (Ok w) n = last_poll_by n w
 polled_in (Err fault) n = None

@@ -1,10 +1,10 @@
--- The result of a replay of a text: the serial report of its rows, or its first error.
+-- The result of a replay of a text: the report of its rows in serial mode, or its first error.
 use Rattle.std.specs.Prelude.{◌≡◌, ℕ, List, Option, Some, Result, Ok, Err}
 use Rattle.device_rows.specs.Trace.{records_of, trace_of, version_in}
 use Rattle.{device_rows.specs.declared.{fault.TraceFault.TraceFault, row.Row.Row}, replay_rows.specs.Report.serial_report}
 use Rattle.{device_bench.specs.Bench.BenchDevices, replay_rows.specs.{Replay.after_all_rows, ReplayState.ReplayState}}
 use Rattle.replay_text.specs.declared.fault.ReplayFault.{ReplayFault, TheVariants.Trace}
-use Rattle.replay_words.specs.declared.settings.ReplaySettings.{ReplaySettings}
+use Rattle.replay_args.specs.declared.settings.ReplaySettings.{ReplaySettings}
 
 abbrev pub serial_result : ReplaySettings → ℕ → Result (List Row) TraceFault → Result (List ℕ) ReplayFault
 serial_result s version (Ok rows) = serial_report s version rows
@@ -15,11 +15,11 @@ replay_of s bytes = serial_result s (version_in (records_of bytes)) (trace_of (r
 
 -- ---- the devices after a replay
 
--- those after these rows, all of which were processed
+-- the devices after these rows, all of which were processed
 abbrev pub LeavesDevices : ReplaySettings → List Row → BenchDevices → Type 0
 LeavesDevices s rows devices = (w : ReplayState) × (after_all_rows s rows ≡ Ok w) × (w.devices ≡ devices)
 
--- those after the rows of the bytes read
+-- the devices after the rows of the bytes read
 abbrev pub Plays : ReplaySettings → Option (List ℕ) → BenchDevices → Type 0
 Plays s input devices =
     (bytes : List ℕ) → input ≡ Some bytes → (rows : List Row) × (trace_of (records_of bytes) ≡ Ok rows) × LeavesDevices s rows devices

@@ -4,9 +4,9 @@ use Rattle.device_rows.specs.declared.{event.RowEvent.TheVariants.Enable, row.Ro
 use Rattle.{replay_rows.specs.{Replay.is_early, Report.serial_report, ReplayState.ReplayState}}
 use Rattle.{replay_text.specs.Outside.IsReplayOutOfMemory}
 use Rattle.replay_text.specs.declared.fault.ReplayFault.{ReplayFault, TheVariants.Pending}
-use Rattle.replay_words.specs.declared.settings.ReplaySettings.{ReplaySettings}
+use Rattle.replay_args.specs.declared.settings.ReplaySettings.{ReplaySettings}
 
--- an allocation failed, or an enable row met a pending disable, which is an error of the rows
+-- an allocation failed, or the rows have an error: an enable row met a pending disable
 abbrev pub IsSerialFault : ReplaySettings → List Row → ReplayFault → Type 0
 IsSerialFault s rows fault = IsReplayOutOfMemory fault ⊎ ((version : ℕ) → serial_report s version rows ≡ Err fault)
 

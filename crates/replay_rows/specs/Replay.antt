@@ -11,25 +11,25 @@ use Rattle.{poll_runs.specs.declared.bench.{Once.Once, ThreadReport.ThreadReport
 use Rattle.{replay_rows.specs.{Run.replay_run, ReplayState.ReplayState}}
 use Rattle.{replay_rows.specs.declared.line.PollRecord.PollRecord}
 use Rattle.{replay_text.specs.declared.fault.ReplayFault.{ReplayFault, TheVariants.Pending}}
-use Rattle.replay_words.specs.declared.settings.ReplaySettings.{ReplaySettings}
+use Rattle.replay_args.specs.declared.settings.ReplaySettings.{ReplaySettings}
 use Rattle.replay_rows.specs.declared.line.PollRecord.TheVariants as line
 
 abbrev pub start : ReplayState
 start = record { devices = empty; list = []; lines = [] }
 
--- ---- what puts a device on the poll list, at its tail
+-- ---- how a device gets on the poll list: at its end
 
 abbrev pub entry : Bool → ℕ → List ℕ
 entry listed number = if listed then number ∷ [] else []
 
--- a packet whose request was granted and queued on the list
+-- a packet arrives; if its request is granted and queued on the list, the device's number is appended
 abbrev pub with_packet : ℕ → ℕ → ReplayState → ReplayState
 with_packet number bytes w = record w {
   devices = after_arrival number bytes w.devices;
   list = w.list ++ entry (is_listed (handed_by bytes (at number w.devices))) number;
 }
 
--- ---- a run over the list, a thread's polling and busy polling, each with its line
+-- ---- a run over the list, a thread's polling and busy polling; each adds a line
 
 abbrev pub with_line : PollRecord → ReplayState → ReplayState
 with_line line w = record w { lines = w.lines ++ line ∷ [] }
@@ -39,7 +39,7 @@ with_run s row w =
     let run = replay_run s w.devices w.list in
     with_line (line.Softirq row (run_report s.budget s.window run.0.polls)) (record w { devices = run.0.bench; list = run.1 })
 
--- the most polls that a thread makes in a row; the kernel has no such bound, and a trace has too few packets to reach it
+-- the most polls that a thread makes in one row; the kernel has no such bound, and a trace has too few packets to reach it
 abbrev pub most_thread_polls : ℕ
 most_thread_polls = 131072
 
@@ -54,7 +54,7 @@ with_thread s row number w =
       list = w.list ++ entry (is_left_to_list (last_next polls)) number;
     })
 
--- busy polling for this many rounds, with its line
+-- busy polling for this many rounds, and its line
 abbrev pub with_busy : ReplaySettings → ℕ → ℕ → ℕ → ReplayState → ReplayState
 with_busy s row number rounds w =
     let report = busy_report_of s.weight rounds (at number w.devices) in
@@ -65,7 +65,7 @@ with_busy s row number rounds w =
 
 -- ---- rows
 
--- the effect of row n, by its event; tx and done rows affect only the transmit side
+-- the effect of row n by its event; tx and done rows affect only the transmit side
 abbrev pub after_event : ReplaySettings → ℕ → RowEvent → Row → ReplayState → ReplayState
 after_event s n Opened row w = record w { devices = added row.device (new_device row.value) w.devices }
 after_event s n Rx row w = with_packet row.device row.value w
@@ -90,7 +90,7 @@ abbrev pub is_early : RowEvent → ℕ → ReplayState → Bool
 is_early Enable number w = is_pending_at (at number w.devices)
 is_early _ number w = false
 
--- the rows from row n on, in order, or the first enable row that is early
+-- the state after the rows from row n on, in order, or the first enable row that is early
 abbrev pub after_rows : ReplaySettings → ℕ → List Row → ReplayState → Result ReplayState ReplayFault
 after_rows s n [] w = Ok w
 after_rows s n (row ∷ rows) w = if is_early row.event row.device w then Err (Pending n) else after_rows s (n + 1) rows (after_row s n row w)

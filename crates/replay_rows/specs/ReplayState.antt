@@ -1,4 +1,4 @@
--- A replay as plain data.
+-- The state of a replay as a record of plain values.
 use Rattle.{std.specs.Prelude.{ℕ, List}, device_bench.specs.Bench.BenchDevices, replay_rows.specs.declared.line.PollRecord.PollRecord}
 
 pub record ReplayState : Type 0 where
@@ -6,5 +6,5 @@ pub record ReplayState : Type 0 where
   pub devices : BenchDevices
   -- the numbers on the poll list, the next one first
   pub list : List ℕ
-  -- a line for each row that polled, in order
+  -- one line for each row that polled, in order
   pub lines : List PollRecord

@@ -1,4 +1,4 @@
--- The report's text, word by word. See docs/FORMATS.md, "The report".
+-- The text of the report. See docs/FORMATS.md, "The report".
 use Rattle.std.specs.Prelude.{ℕ, zero, suc, ◌-◌, ◌==◌, Bool, length, slice_get, List, [], ◌∷◌, ◌++◌, Option, Some, None, Result, Ok, Err}
 use Rattle.std.specs.Prelude.{codes, decimal, flat_map, if◌then◌else◌, sum_by}
 use Rattle.device_transmit.specs.Transmits.{Transmits, is_used}
@@ -10,9 +10,9 @@ use Rattle.replay_rows.specs.declared.{report.RunTotals.RunTotals, line.PollReco
 use Rattle.{replay_rows.specs.declared.line.PollRecord.TheVariants.Busy}
 use Rattle.{replay_text.specs.{declared.fault.ReplayFault.ReplayFault, Lines.with_newline}}
 use Rattle.{replay_text.specs.Lines.{flag, tx_lines, words}, poll_runs.specs.declared.run.RunReport.RunReport}
-use Rattle.replay_words.specs.declared.settings.ReplaySettings.{ReplaySettings}
+use Rattle.replay_args.specs.declared.settings.ReplaySettings.{ReplaySettings}
 
--- what a row that polls did
+-- the line of a row that polled
 abbrev pub poll_line : PollRecord → List ℕ
 poll_line (Softirq row run) = words (codes "softirq" ∷ decimal row ∷ codes "polls" ∷ decimal run.polls ∷ codes "work" ∷ decimal run.work
     ∷ codes "squeezed" ∷ decimal (flag run.squeezed) ∷ [])
@@ -23,7 +23,7 @@ poll_line (Busy row device report) =
     words (codes "busy" ∷ decimal row ∷ codes "device" ∷ decimal device ∷ codes "polls" ∷ decimal report.polls
     ∷ codes "work" ∷ decimal report.work ∷ [])
 
--- one device
+-- the name of a device's state
 abbrev pub state_word : DeviceState → List ℕ
 state_word On = codes "on"
 state_word Off = codes "off"
@@ -36,7 +36,7 @@ device_line number counts =
     ∷ codes "polled" ∷ decimal counts.polled ∷ codes "bytes" ∷ decimal counts.bytes ∷ codes "left" ∷ decimal counts.left
     ∷ codes "polls" ∷ decimal counts.polls ∷ [])
 
--- in version 2 also the completions that were held
+-- in version 2, the line also has the completions that returned Held
 abbrev pub held_part : ℕ → ℕ → List ℕ
 held_part version held = if version == 2 then codes " held " ++ decimal held else []
 
@@ -46,7 +46,7 @@ napi_line version number counts =
     ∷ codes "disabled" ∷ decimal counts.disabled ∷ codes "again" ∷ decimal counts.again ∷ codes "released" ∷ decimal counts.released
     ∷ codes "word" ∷ decimal counts.word ∷ []) ++ held_part version counts.held
 
--- the lines of a device, if there is one: the third one only if its transmit side had a row
+-- the lines of a device, if there is one: two, and a third one only if its transmit side had a tx or done row
 abbrev pub device_lines : ℕ → ℕ → Bool → Option DeviceCounts → List ℕ
 device_lines version number used None = []
 device_lines version number used (Some counts) =
@@ -59,13 +59,13 @@ spaced numbers = flat_map (λ number. codes " " ++ decimal number) numbers
 abbrev pub list_line : List ℕ → List ℕ
 list_line numbers = codes "list" ++ spaced numbers
 
--- a number of a run; a thread's polling isn't a run, nor is busy polling
+-- a number of a softirq run; 0 for a thread's polling and for busy polling, which aren't runs
 abbrev pub of_run : (RunReport → ℕ) → PollRecord → ℕ
 of_run number (Softirq row run) = number run
 of_run number (Kthread row device report) = 0
 of_run number (Busy row device report) = 0
 
--- opened devices, runs, and sums over the runs
+-- the number of opened devices and of runs, and sums over the runs
 abbrev pub run_totals : ℕ → List PollRecord → RunTotals
 run_totals devices lines = record {
   devices = devices;
@@ -83,7 +83,7 @@ total_line totals = words (codes "total" ∷ codes "devices" ∷ decimal totals.
 abbrev pub reported_counts : ReplayState → Transmits → ℕ → Option DeviceCounts
 reported_counts w transmits n = counts_at (at n w.devices) (tx_counts_of (at n transmits))
 
--- what row n did, if it is the last one that polled
+-- the number of the row that a line is about
 abbrev pub record_row : PollRecord → ℕ
 record_row (Softirq row run) = row
 record_row (Kthread row device report) = row
@@ -96,28 +96,29 @@ if_of_row n (Some line) = if record_row line == n then Some line else None
 abbrev pub last_poll_by : ℕ → ReplayState → Option PollRecord
 last_poll_by n w = if_of_row n (slice_get w.lines (length w.lines - 1))
 
--- the lines of device n
+-- the lines of device n in the report
 abbrev pub lines_of : ℕ → ReplayState → Transmits → ℕ → List ℕ
 lines_of version w transmits n = device_lines version n (is_used (at n transmits)) (reported_counts w transmits n)
 
--- those of the devices whose numbers are below n, by increasing number
+-- the lines of the devices whose numbers are below n, by increasing number
 unfoldable pub lines_below : (ℕ → List ℕ) → ℕ → List ℕ
 lines_below device zero = []
 lines_below device (suc n) = lines_below device n ++ device n
 
--- The line of each row that polled, in order; the lines of each device, by increasing number; the poll list; the totals.
+-- the text: the line of each row that polled, in order; the lines of each device, by increasing number; the poll list; the
+-- totals
 unfoldable pub text_by : List PollRecord → (ℕ → List ℕ) → List ℕ → ℕ → List ℕ
 text_by lines device list devices = flat_map (λ line. with_newline (poll_line line)) lines
     ++ (lines_below device 17
     ++ (with_newline (list_line list)
     ++ with_newline (total_line (run_totals devices lines))))
 
--- the text of a replay as plain data
+-- the text of the report for this state of a replay
 abbrev pub serial_text : ℕ → ReplayState → Transmits → List ℕ
 serial_text version w transmits = text_by w.lines (lines_of version w transmits) w.list (attached w.devices)
 
--- the serial report: the text for the state after the rows of a trace of this version, or the error of the first enable row
--- that is early
+-- the report of a trace of this version in serial mode: the text for the state after its rows, or the error of the first enable
+-- row that is early
 abbrev pub report_of : ℕ → Transmits → Result ReplayState ReplayFault → Result (List ℕ) ReplayFault
 report_of version transmits (Ok w) = Ok (serial_text version w transmits)
 report_of version transmits (Err fault) = Err fault

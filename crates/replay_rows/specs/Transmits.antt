@@ -1,4 +1,4 @@
--- The transmit sides of all devices: a fold over the open, tx and done rows. Polls don't affect them.
+-- The transmit sides of all devices, computed from the open, tx and done rows. Polls don't affect them.
 use Rattle.std.specs.Prelude.{List, [], ◌∷◌}
 use Rattle.device_transmit.specs.{Transmits.Transmits, Transmit.{after_finish, after_tx}}
 use Rattle.{device_transmit.specs.Transmit.opened_transmit, device_places.specs.Places.{added, changed, empty}}

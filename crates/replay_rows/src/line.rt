@@ -1,11 +1,11 @@
-//! What the rows that poll contribute to the report.
+//! What a row that polls adds to the report.
 
 use poll_runs::{BusyReport, RunReport, ThreadReport};
 
-/// The effect of one row that polls.
+/// What one row did that polled.
 #[derive(Clone, Copy)]
 pub enum PollRecord {
-    /// A softirq row: its number, and its run over the poll list.
+    /// A softirq row: its number, and the run over the poll list.
     Softirq {
         row: u32,
         run: RunReport,

@@ -1,30 +1,31 @@
-//! Processing the rows of a trace on any bench, for every mode that does so.
+//! Processing the rows of a trace on any bench, for all modes that process rows.
 
 ghost use Rattle.std.specs.Prelude.{◌≡◌, ◌≤◌, [], IfOk, length};
+ghost use Rattle.poll_runs.specs.Ranges.{IsRounds};
 
 use crate::line::PollRecord;
 use device_bench::ReplayBench;
 use device_rows::{Row, RowEvent};
 use napi_model::Kind;
 use poll_runs::{Next, PlainList, PollList, run_softirq};
+use replay_args::ReplaySettings;
 use replay_text::ReplayFault;
-use replay_words::ReplaySettings;
 use std::alloc::{AllocError, Global};
 
-/// The most polls that a kthread row makes. A trace has too few packets to reach it.
+/// The most polls that a kthread row makes. A trace has too few packets to reach this number.
 pub(crate) const MOST_THREAD_POLLS: u32 = 131072;
 
-/// The state after the rows so far, with any bench.
+/// The state after the rows so far, on any bench.
 #[derive(Drop)]
 pub(crate) struct Replay<B: ReplayBench> {
     pub(crate) bench: B,
     pub(crate) list: PlainList,
     pub(crate) lines: Vec<PollRecord>,
-    // Each entry of the list is a device that waits on it, so the list has room for all.
+    // Each entry of the list is a device that waits on it, so the list has room for all of them.
     ghost room: { length list ≤ B.waiting bench },
 }
 
-/// Returns an empty list of lines, with room for that of each row that polls.
+/// Returns an empty list of lines, with room for the line of each row that polls.
 pub(crate) fn room_for_lines(alloc: Global, rows: &[Row]) -> Result<Vec<PollRecord>, AllocError>
     ensures { IfOk result (λ lines. lines.items ≡ []) }
 {
@@ -42,7 +43,6 @@ impl<B: ReplayBench> Replay<B> {
     ghost use Rattle.std.specs.Prelude.{◌≡◌, ℕ, ◌+◌, ◌++◌, [], ◌∷◌, true, false, Ok, OnOk, IfErr};
     ghost use Rattle.device_transmit.specs.Transmits.{Changes, KeepsTransmits};
     ghost use Rattle.device_places.specs.Places.{empty};
-    ghost use Rattle.device_places.specs.Range.{IsWithin};
     ghost use Rattle.device_rows.specs.Row.{device_fits, value_fits};
     ghost use Rattle.device_rows.specs.Trace.{AcceptedAfter};
     ghost use Rattle.device_bench.specs.Waiting.{one_when, is_left_to_list};
@@ -51,7 +51,7 @@ impl<B: ReplayBench> Replay<B> {
     ghost use Rattle.replay_rows.specs.Replay.{after_event, after_row, entry, is_early, start, with_busy, with_line, with_packet, with_run, with_thread, after_all_rows};
     ghost use Rattle.replay_rows.specs.Transmits.{after_transmit, after_transmits};
 
-    /// Returns a replay on a bench without devices, which keeps its lines in `lines`.
+    /// Returns a replay on a bench without devices, which collects its lines in `lines`.
     pub(crate) fn new(bench: B, lines: Vec<PollRecord>) -> Replay<B>
         requires { lines.items ≡ [] }
         ensures bench { result.bench ≡ bench }
@@ -65,7 +65,7 @@ impl<B: ReplayBench> Replay<B> {
         }
     }
 
-    // Processes a packet. If that queues the device on the list, it pushes the number.
+    // Handles the arrival of a packet. If that queues the device on the list, it pushes the number.
     fn rx(&mut self, device: u32, bytes: u32)
         ensures state { replay_state B.devices self.new
             ≡ with_packet device bytes (replay_state B.devices self.old) }
@@ -133,7 +133,7 @@ impl<B: ReplayBench> Replay<B> {
         device: u32,
         rounds: u32,
     ) -> PollRecord
-        requires { IsWithin 1 65535 rounds }
+        requires { IsRounds rounds }
         ensures state { with_line result (replay_state B.devices self.new)
             ≡ with_busy settings.now row device rounds (replay_state B.devices self.old) }
         ensures lines { self.new.lines ≡ self.old.lines }
@@ -148,7 +148,7 @@ impl<B: ReplayBench> Replay<B> {
         }
     }
 
-    // Keeps the line of a row that polled, for the report.
+    // Adds the line of a row that polled, for the report.
     fn keep(&mut self, line: PollRecord) -> Result<(), AllocError>
         ensures state { OnOk result
             (replay_state B.devices self.new ≡ with_line line (replay_state B.devices self.old)) }

@@ -1,4 +1,4 @@
-//! The report: the rows are processed, and their effects become its text, in every mode that processes rows.
+//! The report: the rows are processed, and the state after them is written as text, in all modes that process rows.
 
 ghost use Rattle.std.specs.Prelude.{◌≡◌, ◌≢◌, ◌⊎◌, ◌+◌, ◌^◌, ◌<◌, ◌≤◌, ◌++◌, [], Ok, Err, Some, IfErr, IfOk, OnOk, flat_map, length, string_bytes};
 ghost use Rattle.device_places.specs.Places.{empty};
@@ -15,8 +15,8 @@ use device_bench::{DeviceCounts, DeviceState, ReplayBench};
 use device_places::TABLE_LEN;
 use device_rows::Row;
 use poll_runs::PollList;
+use replay_args::ReplaySettings;
 use replay_text::{ReplayFault, add_transmit};
-use replay_words::ReplaySettings;
 use std::alloc::{AllocError, Global};
 use std::fmt;
 
@@ -67,7 +67,7 @@ fn add_line(text: &mut String, line: &PollRecord) -> Result<(), AllocError>
     Ok(())
 }
 
-// Appends the lines of a device: two, and a third one if its transmit side had a row.
+// Appends the lines of a device: two, and a third one if its transmit side had a tx or done row.
 fn add_device(
     text: &mut String,
     version: u32,
@@ -117,7 +117,7 @@ fn add_device_line(text: &mut String, number: u32, counts: &DeviceCounts) -> Res
     Ok(())
 }
 
-// In version 2 the line ends with the completions that were held.
+// Appends the completions that returned Held, in version 2.
 fn add_held(text: &mut String, version: u32, held: u64) -> Result<(), AllocError>
     ensures { OnOk result
         (string_bytes text.new ≡ string_bytes text.old ++ held_part version held) }
@@ -175,7 +175,7 @@ pub fn add_numbers(text: &mut String, numbers: &[u32]) -> Result<(), AllocError>
     Ok(())
 }
 
-/// The sums in the last line: opened devices, and sums over the runs of all softirq rows.
+/// The sums in the last line: the opened devices, and sums over the runs of all softirq rows.
 #[derive(Clone, Copy)]
 pub(crate) struct RunTotals {
     /// Opened devices.
@@ -206,7 +206,7 @@ impl fmt::Display for RunTotals {
 }
 
 impl RunTotals {
-    // Adds the run of a softirq row; a thread's polling isn't a run, nor is busy polling.
+    // Adds the run of a softirq row. A thread's polling and busy polling aren't runs, and add nothing.
     fn add(&mut self, line: &PollRecord)
         requires { (self.old.runs < 2 ^ 63) × (self.old.polls < 2 ^ 63) × (self.old.work < 2 ^ 63)
             × (self.old.squeezed < 2 ^ 63) }

@@ -7,22 +7,22 @@ ghost use Rattle.replay_rows.specs.Answer.{replay_of};
 
 use crate::whole::replay_on;
 use device_bench::SerialBench;
+use replay_args::ReplaySettings;
 use replay_text::ReplayFault;
-use replay_words::ReplaySettings;
 use std::alloc::Global;
 use std::io::{Read, Write};
 
 /// Replays a trace on one thread, and writes its report.
 ///
-/// It writes nothing before the whole trace is read and processed. So after every error but `OutputFailed` nothing was written;
-/// after that one, a proper prefix of the report. `OutOfMemory` may take precedence over any other error.
+/// Nothing is written before the whole trace is read and processed. So nothing was written after any error but `OutputFailed`;
+/// after that one, only a part of the report was. `OutOfMemory` may be returned instead of any other error.
 pub fn replay_serial<R: Read + Drop, W: Write>(
     alloc: Global,
     reader: R,
     writer: &mut W,
     settings: &ReplaySettings,
 ) -> Result<(), ReplayFault>
-    // What is written is the report of the rows of the bytes read, and nothing else.
+    // The bytes written are the report of the rows of the bytes read.
     ensures written { OnOk result (Writes (λ bytes text. replay_of settings.now bytes ≡ Ok text)
         (R.remaining reader) (W.contents writer.old) (W.contents writer.new)) }
 
@@ -30,7 +30,7 @@ pub fn replay_serial<R: Read + Drop, W: Write>(
     ensures fault { IfErr result (IsFaultBy IsOutside
         (λ bytes fault. replay_of settings.now bytes ≡ Err fault) (R.remaining reader)) }
 
-    // If the output failed, less than the whole report was written, and after each other error nothing.
+    // If the output failed, only a part of the report was written; after any other error, nothing was.
     ensures output { IfErr result (LeavesText (λ bytes text. replay_of settings.now bytes ≡ Ok text)
         (R.remaining reader) (W.contents writer.old) (W.contents writer.new)) }
 {

@@ -4,11 +4,11 @@ use crate::line::PollRecord;
 use crate::replay::{Replay, room_for_lines};
 use device_bench::{DeviceCounts, ReplayBench, SerialBench};
 use device_rows::Row;
+use replay_args::ReplaySettings;
 use replay_text::ReplayFault;
-use replay_words::ReplaySettings;
 use std::alloc::{AllocError, Global};
 
-/// A replay on one thread that processes the rows one by one, and shows the state after each.
+/// A replay on one thread that processes the rows one by one, and shows the state after each row.
 #[derive(Drop)]
 pub struct SerialReplay {
     replay: Replay<SerialBench>,
@@ -18,7 +18,7 @@ impl SerialReplay {
     ghost use Rattle.std.specs.Prelude.{◌≡◌, ◌⊎◌, ◌≤◌, ◌<◌, ◌+◌, ℕ, [], List, Err, IfOk, IfErr, OnOk, length};
     ghost use Rattle.device_rows.specs.Trace.{AcceptedAfter};
     ghost use Rattle.device_rows.specs.declared.row.Row.{Row};
-    ghost use Rattle.replay_words.specs.declared.settings.ReplaySettings.{ReplaySettings};
+    ghost use Rattle.replay_args.specs.declared.settings.ReplaySettings.{ReplaySettings};
     ghost use Rattle.replay_rows.specs.After.{IsAfter, counts_after, is_used_after, list_after, polled_after};
     ghost use Rattle.replay_rows.specs.Replay.{after_all_rows};
     ghost use Rattle.replay_text.specs.Outside.{IsReplayOutOfMemory};
@@ -33,7 +33,8 @@ impl SerialReplay {
         })
     }
 
-    /// Processes the row with this index of a trace, after those before it. After an error the replay can't be used any more.
+    /// Processes the row with this index of a trace, after all rows before it. After an error the replay can't be used any
+    /// more.
     pub fn play_row(
         &mut self,
         alloc: Global,
@@ -66,8 +67,8 @@ impl SerialReplay {
         Some(self.replay.bench.counts(device))
     }
 
-    /// Returns whether the report of the rows so far shows the device's transmit side, which is so after its first tx or done
-    /// row.
+    /// Returns whether the report of the rows so far shows the device's transmit side, which it does after the device's first
+    /// tx or done row.
     pub fn uses_transmit(&self, device: u32) -> bool
         ensures { (s : ReplaySettings) (rows : List Row) (n : ℕ) → IsAfter s rows n self.now
             → result ≡ is_used_after rows n device }
@@ -83,7 +84,7 @@ impl SerialReplay {
         self.replay.list.ids()
     }
 
-    /// Returns what the row with this number did, if it is the last one processed, and polled.
+    /// Returns what the row with this number did, if it is the last row processed and it polled.
     pub fn polled(&self, number: u32) -> Option<PollRecord>
         ensures { (s : ReplaySettings) (rows : List Row) → IsAfter s rows number self.now
             → result ≡ polled_after s rows number }

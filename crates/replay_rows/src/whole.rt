@@ -9,15 +9,15 @@ ghost use Rattle.replay_rows.specs.Answer.{Plays, replay_of};
 use crate::report::report_on;
 use device_bench::ReplayBench;
 use device_rows::read_trace;
+use replay_args::ReplaySettings;
 use replay_text::{ReplayFault, write_text};
-use replay_words::ReplaySettings;
 use std::alloc::Global;
 use std::io::{Read, Write};
 
 /// Replays a trace on a bench that has no devices yet, and writes its report. It returns the bench.
 ///
-/// It writes nothing before the whole trace is read and processed. So after every error but `OutputFailed` nothing was written;
-/// after that one, a proper prefix of the report. `OutOfMemory` may take precedence over any other error.
+/// Nothing is written before the whole trace is read and processed. So nothing was written after any error but `OutputFailed`;
+/// after that one, only a part of the report was. `OutOfMemory` may be returned instead of any other error.
 pub fn replay_on<B: ReplayBench, R: Read + Drop, W: Write>(
     alloc: Global,
     bench: B,
@@ -28,7 +28,7 @@ pub fn replay_on<B: ReplayBench, R: Read + Drop, W: Write>(
     requires devices { B.devices bench ≡ empty }
     requires transmits { B.shows bench empty }
 
-    // What is written is the report of the rows of the bytes read, and nothing else.
+    // The bytes written are the report of the rows of the bytes read.
     ensures written { OnOk result.1 (Writes (λ bytes text. replay_of settings.now bytes ≡ Ok text)
         (R.remaining reader) (W.contents writer.old) (W.contents writer.new)) }
 
@@ -36,12 +36,12 @@ pub fn replay_on<B: ReplayBench, R: Read + Drop, W: Write>(
     ensures fault { IfErr result.1 (IsFaultBy IsOutside
         (λ bytes fault. replay_of settings.now bytes ≡ Err fault) (R.remaining reader)) }
 
-    // If the output failed, less than the whole report was written, and after each other error nothing.
+    // If the output failed, only a part of the report was written; after any other error, nothing was.
     ensures output { IfErr result.1 (LeavesText
         (λ bytes text. replay_of settings.now bytes ≡ Ok text)
         (R.remaining reader) (W.contents writer.old) (W.contents writer.new)) }
 
-    // The bench has the devices in the state after the rows of the bytes read.
+    // The bench has its devices in the state after the rows of the bytes read.
     ensures played { OnOk result.1 (Plays settings.now (R.remaining reader) (B.devices result.0)) }
 {
     let trace = match read_trace(alloc, reader) {

@@ -1,4 +1,4 @@
--- What was written of some bytes, one part at a time.
+-- How much of a text was written, part by part.
 use Rattle.std.proofs.Common.{◌≡◌, ◌∙◌, ◌<◌, ◌+◌, ℕ, List, [], ◌++◌, Option, None, Some, refl, sym, ap, subst, arith, length, take}
 use Rattle.std.proofs.Common.{append_assoc, append-nil, length-append, take_at}
 use Rattle.{std.specs.Io.KnownBytes.{Appends, Keeps}, replay_text.specs.Written.AppendsPart}
@@ -25,7 +25,7 @@ pub none_more : (a b c : Option (List ℕ)) (done rest : List ℕ) (n : ℕ) →
 none_more a b c done rest n e p q =
     subst (Appends a c) (ap (λ (m : ℕ). done ++ take m rest) e ∙ append-nil done) (then_more a b c done (take n rest) p q)
 
--- what was written is a prefix, and something is left
+-- only a prefix was written, and something is left
 pub cut_behind : (a b : Option (List ℕ)) (all done rest : List ℕ) → all ≡ done ++ rest → 0 < length rest → Appends a b done
     → AppendsPart a b all
 cut_behind a b all done rest split some p = (
@@ -34,6 +34,6 @@ cut_behind a b all done rest split some p = (
   subst (Appends a b) (sym (ap (take (length done)) split ∙ take_at done rest (length done) refl)) p,
 )
 
--- of bytes that aren't empty, none were written
+-- if no byte of a text that isn't empty was written, only a part was
 pub none_out : (a : Option (List ℕ)) (all : List ℕ) → 0 < length all → AppendsPart a a all
 none_out a all some = cut_behind a a all [] all refl some (nothing a)

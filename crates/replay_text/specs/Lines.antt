@@ -1,4 +1,4 @@
--- Lines that every replay's report has. See docs/FORMATS.md, "The report".
+-- Lines that the report of every replay has. See docs/FORMATS.md, "The report".
 use Rattle.std.specs.{Prelude.{ℕ, Bool, List, [], ◌∷◌, ◌++◌, codes, decimal, if◌then◌else◌}, Fmt.signed_decimal}
 use Rattle.device_transmit.specs.declared.transmit.TxCounts.{TxCounts}
 
@@ -15,12 +15,12 @@ with_newline line = line ++ codes "\n"
 abbrev pub flag : Bool → ℕ
 flag b = if b then 1 else 0
 
--- the transmit side of a device
+-- the line of a device's transmit side
 abbrev pub tx_line : ℕ → TxCounts → List ℕ
 tx_line number counts = words (codes "tx" ∷ decimal number ∷ codes "sent" ∷ decimal counts.sent ∷ codes "held" ∷ decimal counts.held
     ∷ codes "done" ∷ decimal counts.done ∷ codes "denied" ∷ decimal counts.denied ∷ codes "limit" ∷ decimal counts.state.limit
     ∷ codes "avail" ∷ signed_decimal counts.state.avail ∷ codes "stopped" ∷ decimal (flag counts.state.stopped) ∷ [])
 
--- only if it had a row
+-- that line, only if the transmit side had a tx or done row
 abbrev pub tx_lines : ℕ → Bool → TxCounts → List ℕ
 tx_lines number used counts = if used then with_newline (tx_line number counts) else []

@@ -1,11 +1,11 @@
--- Errors that don't come from the text.
+-- Errors that aren't in the text of the trace.
 use Rattle.std.specs.Prelude.{◌≡◌}
 use Rattle.device_rows.specs.{Failures.IsTraceOutOfMemory, Source.IsReadFailure}
 use Rattle.{device_rows.specs.declared.fault.TraceFault.TheVariants.OutOfMemory, replay_text.specs.Stops.HasStopped}
 use Rattle.replay_text.specs.declared.fault.ReplayFault.{ReplayFault, TheVariants.{Trace, Pending, RingTooSmall, GateShut, OutputFailed}}
 use Rattle.replay_text.specs.declared.fault.ReplayFault.TheVariants.{SpawnFailed}
 
--- out of memory
+-- the error is an allocation that failed
 abbrev pub IsReplayOutOfMemory : ReplayFault → Type 0
 IsReplayOutOfMemory fault = (fault ≡ Trace OutOfMemory) × IsTraceOutOfMemory
 

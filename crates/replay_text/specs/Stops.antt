@@ -1,4 +1,4 @@
--- That a writer stopped, which a function learns from what the writer returned, or from how often it was called.
+-- The fact that a writer stopped, which a function concludes from what the writer returned, or from how often it was called.
 use Rattle.std.specs.{Prelude.{◌≡◌, ◌≤◌, ◌-◌, ◌^◌, ℕ}, IoError.error_kind, declared.io.{Error.Error, ErrorKind.TheVariants.Interrupted}}
 
 pub HasStopped : Type 0

@@ -9,10 +9,10 @@ use std::alloc::{AllocError, Global};
 use std::fmt;
 use thiserror::Error;
 
-/// Why a replay has no report. Nothing was written, except as `OutputFailed` says.
+/// Why a replay has no report. Nothing was written, unless the error is `OutputFailed`.
 #[derive(Clone, Copy, Debug, PartialEq, Eq, Error)]
 pub enum ReplayFault {
-    /// 1 to 11: the text isn't a trace, the reader failed, or an allocation failed, whether while the trace was read or later.
+    /// 1 to 11: the text isn't a trace, the reader failed, or an allocation failed, while the trace was read or later.
     #[error(transparent)]
     Trace(TraceFault),
     /// 12: this row enables a device whose disable is still pending. Rows count from 1.
@@ -25,7 +25,7 @@ pub enum ReplayFault {
     /// 14: a gate stopped a run with threads.
     #[error("a gate was shut")]
     GateShut,
-    /// 15: the writer failed. Less than the whole report was written.
+    /// 15: the writer failed. Only a part of the report was written.
     #[error("the report could not be written")]
     OutputFailed,
     /// 16: a thread of a run couldn't be started.
@@ -133,8 +133,8 @@ pub fn fault_line(alloc: Global, fault: &ReplayFault) -> Result<String, AllocErr
     format!(in alloc; "{}\n", FaultLine(fault))
 }
 
-/// Returns the exit status of an error: 2 for the trace's own errors, 3 for a ring that is too small, 4 if an allocation, the
-/// output or the workers failed.
+/// Returns the exit status of an error: 2 for an error of the trace, 3 for a ring that is too small, 4 if an allocation, the
+/// output or a thread failed, or the gate stopped the run.
 pub fn status(fault: &ReplayFault) -> u8
     ensures { result ≡ replay_fault_status fault.now }
 {
@@ -150,10 +150,13 @@ pub fn status(fault: &ReplayFault) -> u8
 
 impl Fault for ReplayFault {
     ghost use Rattle.replay_text.specs.Fault.{replay_fault_line, replay_fault_status};
+    ghost use Rattle.replay_text.specs.declared.fault.ReplayFault.TheVariants.{OutputFailed};
 
     ghost line = { replay_fault_line };
 
     ghost status = { replay_fault_status };
+
+    ghost output_failed = { OutputFailed };
 
     fn line(&self, alloc: Global) -> Result<String, AllocError> {
         fault_line(alloc, self)

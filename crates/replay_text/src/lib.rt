@@ -1,5 +1,5 @@
-//! Internal crate of the facade `replay`: what all replays of a trace share: their errors, the common lines of their reports,
-//! and how each program ends.
+//! Internal crate of the facade `replay`: what all replays of a trace have in common: their errors, some lines of their
+//! reports, and how their programs end.
 #![tactic(auto)]
 
 mod fault;
@@ -8,4 +8,4 @@ mod program;
 
 pub use fault::{ReplayFault, fault_line, status};
 pub use lines::{add_transmit, write_text};
-pub use program::{Fault, ProgramFault, end_by, given_words};
+pub use program::{Fault, Program, ProgramFault, end_by, given_args, run_asked};

@@ -1,4 +1,4 @@
-//! Lines that every replay's report has, and writing a report.
+//! Lines that the report of every replay has, and writing a report.
 
 ghost use Rattle.std.specs.Prelude.{◌≡◌, ◌++◌, IfErr, OnErr, OnOk, false, string_bytes, true};
 ghost use Rattle.std.specs.Io.KnownBytes.{Appends};
@@ -33,7 +33,8 @@ pub fn add_transmit(text: &mut String, number: u32, counts: &TxCounts) -> Result
     Ok(())
 }
 
-/// Writes the bytes in order, and returns whether all were written. It calls the writer until that accepts none.
+/// Writes the bytes in order, and returns whether all were written. It calls the writer until all bytes are written or the
+/// writer accepts no more.
 pub(crate) fn write_out<W: Write>(writer: &mut W, bytes: &[u8]) -> bool
     ensures whole { result ≡ true
         → Appends (W.contents writer.old) (W.contents writer.new) bytes.now }
@@ -60,8 +61,8 @@ pub(crate) fn write_out<W: Write>(writer: &mut W, bytes: &[u8]) -> bool
     rest.is_empty()
 }
 
-/// Writes the whole text of a report. Fails only with [`OutputFailed`](ReplayFault::OutputFailed); a proper prefix of the text
-/// was written then.
+/// Writes the whole text of a report. Fails only with [`OutputFailed`](ReplayFault::OutputFailed); then only a part of the text
+/// was written.
 pub fn write_text<W: Write>(writer: &mut W, text: &String) -> Result<(), ReplayFault>
     ensures written { OnOk result
         (Appends (W.contents writer.old) (W.contents writer.new) (string_bytes text.now)) }

@@ -4,7 +4,7 @@ use Rattle.std.proofs.{lemmas.Grind.common_steps, Common.{◌≡◌, ◌∙◌, 
 use Rattle.poll_interrupts.specs.declared.station.Station.{Station}
 use Rattle.{std.specs.List.{list_any, range_with_len}, poll_workers.specs.Numbers.{are_distinct, have_distinct_numbers, numbers_of}}
 
--- none of the numbers from here on is lower
+-- none of the numbers from this one on is lower
 none-below : (p : ℕ → Bool) (n a k : ℕ) → k < a → list_any (λ m. m == k) (filter p (range_with_len a n)) ≡ false
 none-below p zero a k below = refl
 none-below p (suc n) a k below = grind (arith, common_steps, none-below p n (a + 1) k (omega (arith, below)))
@@ -20,7 +20,7 @@ module _ {D : Type 0} (Of : ℕ → Station D → Type 0) (numbered : (n : ℕ) 
   same-numbers (n ∷ ns) [] h = absurd h
   same-numbers (n ∷ ns) (s ∷ ss) h = rw (numbered n s h.0, same-numbers ns ss h.1) refl
 
-  -- stations of some of the numbers from here on, in order
+  -- the stations have some of the numbers from this one on, in increasing order
   pub rising-numbers : (p : ℕ → Bool) (n a : ℕ) (ss : List (Station D)) → AllZip Of (filter p (range_with_len a n)) ss
       → have_distinct_numbers ss ≡ true
   rising-numbers p n a ss h = ap (λ ns. are_distinct ns) (same-numbers (filter p (range_with_len a n)) ss h) ∙ rising-distinct p n a

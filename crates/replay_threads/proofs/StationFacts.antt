@@ -12,15 +12,15 @@ use Rattle.device_script.proofs.{Rows.{filter-long, find-among, find-here, find-
 use Rattle.device_script.specs.Script.{has_thread, is_act_of, is_open, is_rx, opening_of, openings_of, rx_of, script_of}
 use Rattle.{device_script.specs.ScriptShown.{Script, acts, script_after, answer}, poll_workers.specs.declared.fault.WorkFault.WorkFault}
 use Rattle.poll_workers.specs.{Finishes.IsFinished, Courses.{ArePolled, limits_of}}
-use Rattle.replay_words.specs.declared.settings.ReplaySettings.{ReplaySettings}
+use Rattle.replay_args.specs.declared.settings.ReplaySettings.{ReplaySettings}
 use Rattle.replay_text.specs.declared.fault.ReplayFault.{ReplayFault, TheVariants.{OutputFailed, RingTooSmall}}
 use Rattle.replay_threads.specs.{ThreadsReport.{arrived, bytes, threads_device_lines, is_opened, opened_devices}}
 use Rattle.replay_threads.specs.{Stations.{AreRunBy, IsStationEnd, IsStationOf}}
 use Rattle.replay_threads.specs.{Stations.{end_lines, is_small, small_fault}}
-use Rattle.replay_threads.specs.{Answer.{IsThreadsOutside, IsToldAs, overflows}}
+use Rattle.replay_threads.specs.{Answer.{IsThreadsOutside, IsReportedAs, overflows}}
 use Rattle.poll_workers.specs.declared.fault.WorkFault.TheVariants as work
 
--- ---- what follows for a row's numbers if it is accepted
+-- ---- the ranges of a row's numbers, if it is accepted
 
 value-small : (e : RowEvent) (v : ℕ) → value_fits e v ≡ true → v ≤ 65536
 value-small e v h = grind (arith, common_steps)
@@ -32,7 +32,7 @@ values-small : (rows : List Row) → AcceptedAfter [] rows → All IsSmall rows
 values-small rows h k d below = let a = accepted-at [] rows k d below h in
     value-small (get_or rows k d).event (get_or rows k d).value a.1.value
 
--- the bytes of any of them fit into 64 bits
+-- the sum of the bytes of a device's packets fits into 64 bits
 pub bytes-small : (rows : List Row) (device : ℕ) → AcceptedAfter [] rows → length rows ≤ 100000 → bytes device rows ≤ 6553600000
 bytes-small rows device h few =
     let acts = All-filter (is_act_of device) IsSmall rows (values-small rows h) in
@@ -44,12 +44,12 @@ bytes-small rows device h few =
 
 -- ---- the open row of a device
 
--- it is among the open rows
+-- the open row of a device is one of the open rows
 pub opening-among : (rows openings : List Row) (device : ℕ) → openings ≡ openings_of rows
     → opening_of device openings ≡ opening_of device rows
 opening-among rows openings device e = rw e (find-among (λ (row : Row). is_open row.event) (λ (row : Row). row.device == device) rows)
 
--- the script of a device is at its index
+-- the script of a device (its list of rows) is at its index
 pub script-at : (rows : List Row) (scripts : List (List Row)) (device : ℕ) (script : List Row) → 1 ≤ device → device ≤ 16
     → script ≡ slice_index_or scripts (device - 1) []
     → ((place : ℕ) → device ≤ place + 1 → place < 16 → slice_index_or scripts place [] ≡ script_of (place + 1) rows)
@@ -62,7 +62,7 @@ overflow-same : (rows : List Row) (device : ℕ) (station : Station Script) → 
     → overflows rows device ≡ is_small station
 overflow-same rows device station h = rw (h.its_opening, h.its_rows, h.its_capacity) refl
 
--- the first ring that is too small is that of the first such station
+-- the first ring that is too small, by the rows, is that of the first station whose ring is too small
 pub ring-of : (rows : List Row) (devices : List ℕ) (stations : List (Station Script)) → AllZip (IsStationOf rows) devices stations
     → option_map (λ device. RingTooSmall device (arrived device rows)) (find (overflows rows) devices) ≡ small_fault stations
 ring-of rows [] [] h = refl
@@ -70,7 +70,7 @@ ring-of rows [] (s ∷ ss) h = absurd h
 ring-of rows (d ∷ ds) [] h = absurd h
 ring-of rows (d ∷ ds) (s ∷ ss) h = grind (arith, common_steps, overflow-same, ring-of rows ds ss h.1)
 
--- the first such station
+-- the station at this index is the first one whose ring is too small
 pub small-here : (stations : List (Station Script)) (i : ℕ) (station : Station Script) → i < length stations
     → find is_small (take i stations) ≡ None → get_or stations i station ≡ station
     → is_small station ≡ true → Some (RingTooSmall station.number (length (rx_of station.device.rows))) ≡ small_fault stations
@@ -81,7 +81,7 @@ pub small-later : (stations : List (Station Script)) (i : ℕ) (station : Statio
     → is_small station ≡ false → find is_small (take (i + 1) stations) ≡ None
 small-later stations i station below before here large = find-more is_small stations i station below before (rw here large)
 
--- one more device was checked
+-- one more device was checked for its ring
 pub station-here : (rows : List Row) (number : ℕ) (devices : List ℕ) (stations : List (Station Script)) (station : Station Script)
     → is_opened rows number ≡ true
     → IsStationOf rows number station → AllZip (IsStationOf rows) devices stations
@@ -99,7 +99,7 @@ opened-more rows number one = grind (arith, common_steps, range-more)
 capped-small : (n : ℕ) → n ≤ 6553600000 → capped n ≡ n
 capped-small n h = min-eq_left (omega (arith, h))
 
--- the result of its run, for the device afterwards
+-- the result of the run of this station, for the device after its acts
 run-of : {rows : List Row} {device : ℕ} (station : Station Script) (end : Finished Script) → IsStationOf rows device station
     → end.device ≡ record station.device { made = length station.device.rows }
     → HasRun answer script_after station.capacity station.thread station.device (acts station.device) end.closed end.totals
@@ -169,11 +169,11 @@ ends-of answers rows (d ∷ ds) (s ∷ ss) (e ∷ es) accepted few of enough fin
     by true small go = absurd (let none = rw small at enough in cc none)
     by false large go = (end-of answers rows d s e accepted few of.0 large finished.0, go (rw large at enough))
 
--- no ring is too small
+-- no station's ring is too small
 pub none-small : (stations : List (Station Script)) → small_fault stations ≡ None → find is_small stations ≡ None
 none-small stations h = grind (arith, common_steps)
 
--- the same for the result of a run
+-- the result of the whole run has the properties of each station's result
 pub ends-if-ok : (answers : ℕ → ℕ → Bool → Type 0) (rows : List Row) (stations : List (Station Script))
     (answered : Result (Vec (Finished Script)) ReplayFault)
     → AcceptedAfter [] rows → length rows ≤ 100000
@@ -194,13 +194,13 @@ run-if-ok R asked settings rows stations answered of polled = grind (arith, comm
 pub rings-if-ok : {P A E : Type 0} → (answered : Result A E) → P → OnOk answered P
 rings-if-ok answered p = grind (arith, common_steps)
 
--- an error that is passed on unchanged doesn't come from the text
+-- an error of the run is reported as one that isn't in the trace
 pub told-outside : (may_shut : Type 0) (fault : WorkFault) (told : ReplayFault) → (fault ≡ work.GateShut → may_shut)
-    → (fault ≡ work.SpawnFailed → IsRefused) → IsToldAs fault told → IsThreadsOutside may_shut told
+    → (fault ≡ work.SpawnFailed → IsRefused) → IsReportedAs fault told → IsThreadsOutside may_shut told
 told-outside may_shut fault told gate spawn is = grind (arith, common_steps)
 
--- nor is it an error of the output, and neither is that of a ring which is too small
-pub told-unwritten : (fault : WorkFault) (told : ReplayFault) → IsToldAs fault told → told ≡ OutputFailed → ⊥
+-- an error of the run is reported neither as one of the output nor as a ring that is too small
+pub told-unwritten : (fault : WorkFault) (told : ReplayFault) → IsReportedAs fault told → told ≡ OutputFailed → ⊥
 told-unwritten fault told is failed = grind (arith, common_steps)
 
 pub small-unwritten : (stations : List (Station Script)) (fault : ReplayFault) → small_fault stations ≡ Some fault → fault ≡ OutputFailed

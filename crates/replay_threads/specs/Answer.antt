@@ -1,7 +1,7 @@
--- The result of a run of a text with threads: the threads report of its rows, or its first error.
+-- The result of a replay of a text with threads: the report of its rows in threads mode, or its first error.
 use Rattle.std.specs.{Prelude.{◌≡◌, ℕ, List, Bool, Option, Some, None, Result, Ok, Err, nat_lt, option_map}, List.find}
 use Rattle.poll_interrupts.specs.declared.station.Finished.{Finished}
-use Rattle.replay_words.specs.declared.settings.ReplaySettings.{ReplaySettings}
+use Rattle.replay_args.specs.declared.settings.ReplaySettings.{ReplaySettings}
 use Rattle.device_rows.specs.{Trace.{records_of, trace_of}, declared.{TraceFault.TraceFault, row.Row.Row}}
 use Rattle.{poll_tasks.specs.Refusals.IsRefused}
 use Rattle.{replay_threads.specs.{ThreadsReport.{arrived, opened_devices, threads_report}, Stations.AreRunBy}}
@@ -35,17 +35,17 @@ threads_result (Err fault) = Err (Trace fault)
 abbrev pub threads_of : List ℕ → Result (List ℕ) ReplayFault
 threads_of bytes = threads_result (trace_of (records_of bytes))
 
--- the reader, an allocation, the writer or a thread failed; or the gate stopped the run, if it may
+-- the reader, an allocation, the writer or a thread failed; or the gate stopped the run, if the gate may do that
 abbrev pub IsThreadsOutside : Type 0 → ReplayFault → Type 0
 IsThreadsOutside may_shut GateShut = may_shut
 IsThreadsOutside may_shut SpawnFailed = IsRefused
 IsThreadsOutside may_shut fault = IsSerialOutside fault
 
--- the error of a run, as the replay reports it
-abbrev pub IsToldAs : WorkFault → ReplayFault → Type 0
-IsToldAs work.OutOfMemory told = IsReplayOutOfMemory told
-IsToldAs work.GateShut told = told ≡ GateShut
-IsToldAs work.SpawnFailed told = told ≡ SpawnFailed
+-- the error of a run, and the error of the replay that reports it
+abbrev pub IsReportedAs : WorkFault → ReplayFault → Type 0
+IsReportedAs work.OutOfMemory told = IsReplayOutOfMemory told
+IsReportedAs work.GateShut told = told ≡ GateShut
+IsReportedAs work.SpawnFailed told = told ≡ SpawnFailed
 
 -- these devices were run and polled by the rows of the bytes read, by as many pollers as the settings say, with their numbers
 abbrev pub IsRunBy : Type 0 → (ℕ → Type 0) → ReplaySettings → Option (List ℕ) → List (Finished Script) → Type 0

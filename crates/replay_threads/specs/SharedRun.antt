@@ -2,7 +2,7 @@
 use Rattle.{std.specs.Prelude.{ℕ, List, Option}, device_places.specs.Places.DeviceTable}
 use Rattle.device_bench.specs.{Bench.BenchDevices, Ending.AllEnded}
 use Rattle.{device_shared.specs.{Ending.IsSideClosed, declared.closed_side.ClosedSide.ClosedSide}, replay_rows.specs.Answer.Plays}
-use Rattle.{replay_words.specs.declared.settings.ReplaySettings.ReplaySettings}
+use Rattle.{replay_args.specs.declared.settings.ReplaySettings.ReplaySettings}
 
 -- The rows of the bytes read were processed on instances that threads could share. These are the instances: each was closed in
 -- the state after its rows, with the one history of all calls on it, and all packets in its ring were polled.

@@ -4,7 +4,7 @@ use Rattle.{replay_text.specs.Lines.with_newline}
 use Rattle.{replay_text.specs.declared.fault.ReplayFault.{ReplayFault, TheVariants.RingTooSmall}, device_rows.specs.declared.row.Row.Row}
 use Rattle.replay_threads.specs.{ThreadsReport.{arrived, arrived_line, bytes, opened_devices, side_lines}}
 use Rattle.std.specs.{List.{AllZip, find}, Prelude.{◌≡◌, ℕ, ◌+◌, ◌++◌, Bool, List, Option, Some, length, nat_lt, option_map}}
-use Rattle.{replay_words.specs.declared.settings.ReplaySettings.ReplaySettings, poll_workers.specs.Courses.{ArePolled, limits_of}}
+use Rattle.{replay_args.specs.declared.settings.ReplaySettings.ReplaySettings, poll_workers.specs.Courses.{ArePolled, limits_of}}
 use Rattle.device_script.specs.{ScriptShown.{Script, acts, script_after, answer, side_of}}
 use Rattle.device_script.specs.{Script.{has_thread, opening_of, rx_of, script_of}}
 
@@ -17,7 +17,7 @@ pub record IsStationOf (rows : List Row) (device : ℕ) (station : Station Scrip
   pub its_capacity : station.capacity ≡ station.device.opening.value
   pub its_thread : station.thread ≡ has_thread (script_of device rows)
 
--- and after them, if its ring had room for each packet
+-- the station of a device after its acts, if its ring had room for each packet
 pub record IsStationEnd (rows : List Row) (device : ℕ) (end : Finished Script) : Type 0 where
   pub its_number : end.number ≡ device
   pub its_opening : opening_of device rows ≡ Some end.device.opening
@@ -29,7 +29,7 @@ pub record IsStationEnd (rows : List Row) (device : ℕ) (end : Finished Script)
   pub its_run : HasRun answer script_after end.device.opening.value (has_thread end.device.rows) (record end.device { made = 0 })
       (length end.device.rows) end.closed end.totals
 
--- The devices that the rows open ran and were polled, by as many pollers as the settings say, with the settings' numbers.
+-- The devices that the rows open ran and were polled, by as many pollers as the settings ask for, with the settings' limits.
 pub record AreRunBy (R : Type 0) (asked : ℕ → Type 0) (settings : ReplaySettings) (rows : List Row) (ends : List (Finished Script)) : Type 0
   where
     pub stations : List (Station Script)
@@ -37,12 +37,12 @@ pub record AreRunBy (R : Type 0) (asked : ℕ → Type 0) (settings : ReplaySett
     pub polled : ArePolled R asked
         (limits_of settings.budget settings.weight settings.window) acts answer script_after settings.pollers stations ends
 
--- its lines of the report
+-- the lines of a device in the report
 abbrev pub end_lines : Finished Script → List ℕ
 end_lines end = with_newline (arrived_line end.number end.totals.put end.totals.bytes)
     ++ side_lines end.number (side_of end.device)
 
--- the first station whose ring has less room than packets that arrive there
+-- more packets arrive at the station than its ring has room for; the next function is the first such station
 abbrev pub is_small : Station Script → Bool
 is_small station = nat_lt station.capacity (length (rx_of station.device.rows))
 

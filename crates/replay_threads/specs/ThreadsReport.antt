@@ -1,5 +1,5 @@
--- The report of a run with threads, as a function of the rows: what arrived at each device, and its transmit side. It doesn't
--- depend on polls, and so on no thread. See docs/FORMATS.md, "The report".
+-- The report of a replay with threads, as a function of the rows: what arrived at each device, and its transmit side. It
+-- doesn't depend on polls, and so not on the threads. See docs/FORMATS.md, "The report".
 use Rattle.std.specs.Prelude.{ℕ, Bool, List, [], ◌∷◌, ◌++◌, Option, Some, None, codes, decimal, filter, flat_map, is_some, length, sum_by}
 use Rattle.{std.specs.List.range_with_len, device_rows.specs.declared.row.Row.Row, device_transmit.specs.Transmit.{TransmitView, tx_counts}}
 use Rattle.{replay_text.specs.Lines.{with_newline, tx_lines, words}, device_script.specs.Script.{opening_of, rx_of, script_of, side_after}}
@@ -13,7 +13,7 @@ opened_devices rows = filter (is_opened rows) (range_with_len 1 16)
 
 -- ---- packets
 
--- how many arrive at a device, and their bytes
+-- how many packets arrive at a device, and their bytes
 abbrev pub arrived : ℕ → List Row → ℕ
 arrived device rows = length (rx_of (script_of device rows))
 

@@ -1,11 +1,11 @@
 //! Internal crate of the facade `replay`: a replay of a trace with threads, and one by one thread on instances that threads
 //! could share.
 //!
-//! With threads, there is an interrupt worker for each device, pollers, and a thread for each device that is ever threaded.
-//! What is written is a function of the bytes read, whatever the threads do.
+//! With threads, there is an interrupt worker for each device, some pollers, and a thread for each device that is ever
+//! threaded. The report is a function of the bytes read, however the threads are scheduled.
 //!
-//! `specs/ThreadsReport.antt` defines the report by the rows, and the contract of [`replay_threads`] says that it writes that.
-//! docs/FORMATS.md has the format.
+//! `specs/ThreadsReport.antt` defines the report from the rows, and the contract of [`replay_threads`] says that it writes that
+//! report. docs/FORMATS.md has the format.
 #![tactic(auto)]
 
 mod report;

@@ -1,4 +1,4 @@
-//! The text of the report, and the counts of the polls, which aren't in it.
+//! The text of the report, and the counts of the polls, which the report doesn't show.
 
 ghost use Rattle.std.specs.Prelude.{◌≡◌, ◌++◌, IfOk, List, OnOk, flat_map, length, string_bytes, vec_items};
 ghost use Rattle.std.specs.List.{AllZip};
@@ -12,7 +12,7 @@ use poll_workers::Finished;
 use replay_text::add_transmit;
 use std::alloc::{AllocError, Global};
 
-// Appends the lines of a device: one, and a second one if its transmit side had a row.
+// Appends the lines of a device: one, and a second one if its transmit side had a tx or done row.
 fn add_end(text: &mut String, end: &Finished<ScriptDevice>) -> Result<(), AllocError>
     ensures { OnOk result (string_bytes text.new ≡ string_bytes text.old ++ end_lines end.now) }
 {

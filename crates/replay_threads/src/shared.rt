@@ -8,19 +8,19 @@ ghost use Rattle.replay_threads.specs.SharedRun.{IsSharedRun};
 
 use device_places::TABLE_LEN;
 use device_shared::{ClosedSide, SharedBench};
+use replay_args::ReplaySettings;
 use replay_rows::replay_on;
 use replay_text::ReplayFault;
-use replay_words::ReplaySettings;
 use std::alloc::Global;
 use std::io::{Read, Write};
 use std::sync::Wait;
 
 /// Replays a trace by one thread on instances that threads could share, and writes its report, which is that of serial mode.
 ///
-/// It writes nothing before the whole trace is read and processed. So after every error but `OutputFailed` nothing was written;
-/// after that one, a proper prefix of the report. `OutOfMemory` may take precedence over any other error. At the end, even
-/// after an error, it ends the bench, which may wait: each instance is closed, and all packets in its ring are polled. Returns
-/// the closed instances with the counts of their rings, by device number.
+/// Nothing is written before the whole trace is read and processed. So nothing was written after any error but `OutputFailed`;
+/// after that one, only a part of the report was. `OutOfMemory` may be returned instead of any other error. Finally, even after
+/// an error, the bench is ended, which may wait: each instance is closed, and all packets in its ring are polled. Returns the
+/// closed instances with the counts of their rings, by device number.
 pub fn replay_shared<H: Wait + Copy + Drop, R: Read + Drop, W: Write>(
     rt: H,
     alloc: Global,
@@ -28,14 +28,14 @@ pub fn replay_shared<H: Wait + Copy + Drop, R: Read + Drop, W: Write>(
     writer: &mut W,
     settings: &ReplaySettings,
 ) -> Result<[Option<ClosedSide>; TABLE_LEN as usize], ReplayFault>
-    // What is written is the report of the rows of the bytes read, and nothing else.
+    // The bytes written are the report of the rows of the bytes read.
     ensures written { OnOk result (Writes (λ bytes text. replay_of settings.now bytes ≡ Ok text)
         (R.remaining reader) (W.contents writer.old) (W.contents writer.new)) }
 
     // An error is that of the bytes read, unless the reader, an allocation or the writer failed.
     ensures fault { IfErr result (IsFaultBy IsOutside
         (λ bytes fault. replay_of settings.now bytes ≡ Err fault) (R.remaining reader)) }
-    // If the output failed, less than the whole report was written, and after each other error nothing.
+    // If the output failed, only a part of the report was written; after any other error, nothing was.
     ensures output { IfErr result (LeavesText (λ bytes text. replay_of settings.now bytes ≡ Ok text)
         (R.remaining reader) (W.contents writer.old) (W.contents writer.new)) }
     // The rows were processed on shared instances, which are those that it returns, as they were when they were closed.

@@ -11,7 +11,7 @@ ghost use Rattle.poll_workers.specs.Courses.{ArePolled, limits_of};
 ghost use Rattle.poll_workers.specs.Finishes.{IsFinished};
 ghost use Rattle.poll_workers.specs.Numbers.{have_distinct_numbers};
 ghost use Rattle.poll_interrupts.specs.Opens.{IsStation};
-ghost use Rattle.replay_threads.specs.Answer.{IsThreadsOutside, IsToldAs, ring_fault};
+ghost use Rattle.replay_threads.specs.Answer.{IsThreadsOutside, IsReportedAs, ring_fault};
 ghost use Rattle.device_script.specs.Script.{opening_of, rx_of, script_of};
 ghost use Rattle.device_script.specs.ScriptShown.{acts, script_after, answer};
 ghost use Rattle.replay_threads.specs.Stations.{AreRunBy, IsStationEnd, IsStationOf, is_small, small_fault};
@@ -22,13 +22,13 @@ use device_places::TABLE_LEN;
 use device_rows::Row;
 use device_script::{ScriptDevice, opening_of, openings_of, scripts_of, take_script};
 use poll_workers::{Finished, Gate, Station, WorkFault, run_workers};
+use replay_args::ReplaySettings;
 use replay_text::ReplayFault;
-use replay_words::ReplaySettings;
 use std::alloc::{AllocError, Global};
 use std::sync::Wait;
 use std::thread::Threads;
 
-// Returns the station of the device of this open row, with its rows after that one.
+// Returns the station of the device that this row opens, with the device's rows after it.
 fn station_of(
     alloc: Global,
     number: u32,
@@ -52,7 +52,7 @@ fn station_of(
     })
 }
 
-// Adds the station of a device with its script, if one of the open rows opens it.
+// Adds the station of a device with its script (its list of rows), if one of the open rows opens it.
 fn add_station(
     alloc: Global,
     openings: &[Row],
@@ -103,7 +103,7 @@ fn is_small(station: &Station<ScriptDevice>) -> bool
     station.capacity < station.device.packets() as usize
 }
 
-// Returns an error for the first station whose ring has less room than packets that arrive there.
+// Returns an error for the first station at which more packets arrive than its ring has room for.
 fn ring_fault(stations: &[Station<ScriptDevice>]) -> Option<ReplayFault>
     ensures { result ≡ small_fault stations.now }
 {
@@ -118,9 +118,9 @@ fn ring_fault(stations: &[Station<ScriptDevice>]) -> Option<ReplayFault>
     None
 }
 
-// Returns the error of the replay for an error of a run.
+// Returns the error of the replay that reports an error of a run.
 fn work_fault(fault: WorkFault) -> ReplayFault
-    ensures { IsToldAs fault result }
+    ensures { IsReportedAs fault result }
 {
     match fault {
         WorkFault::OutOfMemory => AllocError.into(),
@@ -136,7 +136,7 @@ fn limits_of(settings: &ReplaySettings) -> (u32, u32, u32)
     (settings.budget, settings.weight, settings.window)
 }
 
-// Runs the stations with the numbers of the settings.
+// Runs the stations with the limits of the settings.
 fn run_stations<P, G>(
     rt: &P,
     alloc: Global,

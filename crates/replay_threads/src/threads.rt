@@ -18,8 +18,8 @@ use crate::stations::run_rows;
 use device_rows::{Row, read_trace};
 use device_script::ScriptDevice;
 use poll_workers::{Finished, Gate};
+use replay_args::ReplaySettings;
 use replay_text::{ReplayFault, write_text};
-use replay_words::ReplaySettings;
 use std::alloc::Global;
 use std::io::{Read, Write};
 use std::sync::Wait;
@@ -62,18 +62,17 @@ where
     Ok(ends)
 }
 
-/// Runs a trace with threads, and writes its report: an interrupt worker for each device makes its acts in order, and as many
-/// pollers as the settings ask for poll, with an own thread for each device that is ever threaded. The gate is asked before
-/// each act. Returns each device with the counts of its ring and with its closed instance, by increasing number.
+/// Replays a trace with threads, and writes its report. An interrupt worker for each device makes the device's acts in order.
+/// As many pollers as the settings ask for poll the devices, and each device that is ever threaded has its own thread. The gate
+/// is asked before each act. Returns each device with the counts of its ring and with its closed instance, by increasing number.
 ///
-/// The report shows what arrived and the transmit sides, and depends on no setting. Softirq and kthread rows do nothing, and a
-/// disable waits until its device is released.
+/// The report shows what arrived and the transmit sides, and depends on no setting. Softirq and kthread rows do nothing; a
+/// disable waits until no caller owns the instance.
 ///
-/// It fails with `RingTooSmall` before any worker starts, for the device with the lowest number whose ring can't hold all
-/// packets that arrive there; with `GateShut` if the gate returns false, so never with one that is always open; with
-/// `SpawnFailed` if a thread can't be started. All threads have ended then. It writes nothing before the whole run is over. So
-/// after every error but `OutputFailed` nothing was written; after that one, a proper prefix of the report. `OutOfMemory` may
-/// take precedence over any other error.
+/// Fails with `RingTooSmall` before any worker starts, for the device with the lowest number whose ring can't hold all packets
+/// that arrive there; with `GateShut` if the gate returns false; with `SpawnFailed` if a thread can't be started. Then all
+/// threads have ended. Nothing is written before the whole run is over. So nothing was written after any error but
+/// `OutputFailed`; after that one, only a part of the report was. `OutOfMemory` may be returned instead of any other error.
 pub fn replay_threads<P, R, W, G>(
     rt: &P,
     alloc: Global,
@@ -87,7 +86,7 @@ where
     R: Read + Drop,
     W: Write,
     G: Gate + Sync,
-    // What is written is the threads report of the rows of the bytes read, and nothing else.
+    // The bytes written are the report in threads mode of the rows of the bytes read.
     ensures written { OnOk result (Writes (λ bytes text. threads_of bytes ≡ Ok text)
         (R.remaining reader) (W.contents writer.old) (W.contents writer.new)) }
     // For each device that they open, the packets polled and left are those that arrived, by the one history of its instance.
@@ -98,10 +97,10 @@ where
     ensures run { IfOk result (λ all. IsRunBy (Bor P) (IsAsked G.answers gate.now) settings.now
         (R.remaining reader) (vec_items all)) }
     // An error is that of the bytes read, unless the reader, an allocation, the writer or a thread failed, or the gate stopped
-    // the run, if it may.
+    // the run, if the gate may do that.
     ensures fault { IfErr result (IsFaultBy (IsThreadsOutside G.may_shut)
         (λ bytes fault. threads_of bytes ≡ Err fault) (R.remaining reader)) }
-    // If the output failed, less than the whole report was written, and after each other error nothing.
+    // If the output failed, only a part of the report was written; after any other error, nothing was.
     ensures output { IfErr result (LeavesText (λ bytes text. threads_of bytes ≡ Ok text)
         (R.remaining reader) (W.contents writer.old) (W.contents writer.new)) }
 {

@@ -77,9 +77,9 @@ pub record Gives (weight : ℕ) (before after : PollEnd) (given : List Packet) :
   pub ring : SameConsumer before.consumer after.consumer
   pub poll : IsPoll weight given (received before.consumer) (received after.consumer)
   pub in_turn : IsPrefix (known_items before.consumer) (given ++ known_items after.consumer)
-  -- at least as many as the weight allows of those that were known
+  -- it returns at least the packets that the context knew of, up to the weight
   pub least : min weight (length (known_items before.consumer)) ≤ length given
-  -- under the mark of `beside`, exactly these
+  -- if the mark of `beside` is set, it returns exactly these
   pub exact : before.mark ≡ true → given ≡ take weight (known_items before.consumer)
   pub polls : after.polls ≡ capped (before.polls + 1)
   pub unmarked : after.mark ≡ false
@@ -94,7 +94,7 @@ pub record Meeting (input : RxIn) (end : PollEnd) (input_after : RxIn) (end_afte
   pub same_lists : ring_at input_after end_after ≡ ring_at input end
   pub order : IsInOrder (ring_at input end)
   pub known : known_items end_after.consumer ≡ held_of (ring_at input end)
-  -- the other end knows every slot to be free that holds no packet
+  -- the other end knows of every free slot
   pub free : capacity_of input ≤ free_of input_after + length (held_of (ring_at input end))
   pub polls : end_after.polls ≡ end.polls
   pub marked : end_after.mark ≡ true

@@ -1,11 +1,11 @@
 //! The two ends of a ring.
 
-ghost use Rattle.std.specs.Prelude.{◌≡◌, ◌+◌, ◌≤◌, ◌++◌, [], length, take};
+ghost use Rattle.std.specs.Prelude.{◌≡◌, ◌+◌, ◌≤◌, ◌++◌, [], true, length, take, min};
 ghost use mathlib.Core.List.{IsPrefix};
-ghost use Rattle.rtrb.specs.Ring.{sent, received, known_items, known_free, producer_capacity, SameConsumer};
+ghost use Rattle.rtrb.specs.Ring.{sent, received, known_items, known_free, producer_capacity, ConsumerLooked, SameConsumer};
 ghost use Rattle.rx_ring.specs.ReceiveRing.{NAPI_POLL_WEIGHT, capped, bytes_of};
 
-use crate::packet::{Batch, MAX_WEIGHT, Packet, RxCounts, batch_bytes};
+use crate::packet::{Batch, MAX_WEIGHT, Packet, RxCounts, bytes_in};
 use rtrb::{Consumer, Producer, PushError};
 
 /// The producer's end, to which an interrupt handler puts packets. It can be sent to another thread.
@@ -78,7 +78,7 @@ impl RxIn {
 }
 
 impl RxCtx {
-    ghost use Rattle.std.specs.Prelude.{◌≡◌, ◌≤◌, length, false};
+    ghost use Rattle.std.specs.Prelude.{◌≡◌, ◌≤◌, length, take, drop, false};
     ghost use Rattle.rx_ring.specs.ReceiveRing.{NAPI_POLL_WEIGHT, counts_of};
     ghost use Rattle.rx_ring.specs.Ends.{received_list, known_list, polls_of, is_beside, SameCtx, GivesNext};
 
@@ -107,6 +107,18 @@ impl RxCtx {
         self.end.poll(weight, batch)
     }
 
+    /// Like [`poll`](RxCtx::poll), into an array that has room for at least `weight` packets: it moves the packets into the first
+    /// elements, and returns how many these are. The array's other elements stay as they are.
+    pub fn poll_into(&mut self, weight: usize, packets: &mut [Packet]) -> usize
+        requires weight { (1 ≤ weight) × (weight ≤ NAPI_POLL_WEIGHT) }
+        requires room { weight ≤ length packets.old }
+        ensures next { GivesNext weight self.old self.new (take result packets.new) }
+        ensures work { result ≤ weight }
+        ensures others { drop result packets.new ≡ drop result packets.old }
+    {
+        self.end.poll_into(weight, packets)
+    }
+
     /// Clears the mark that [`beside`](crate::beside) sets, so that the next poll reads the ring again. Call it before another
     /// thread may put packets: otherwise the next poll would overlook them.
     #[tactic(auto, unfolding(crate::specs::Ends::is_beside))]
@@ -122,7 +134,7 @@ impl RxCtx {
 }
 
 impl PollEnd {
-    ghost use Rattle.std.specs.Prelude.{◌≡◌, ◌≤◌, length};
+    ghost use Rattle.std.specs.Prelude.{◌≡◌, ◌+◌, ◌≤◌, ◌++◌, length, take, drop, false};
     ghost use Rattle.rx_ring.specs.Ends.{Gives};
 
     fn poll(&mut self, weight: usize, batch: &mut Batch) -> usize
@@ -130,41 +142,78 @@ impl PollEnd {
         ensures next { Gives weight self.old self.new batch.new.items }
         ensures work { result ≡ length batch.new.items }
     {
-        if !self.mark && self.consumer.cached_slots() < weight {
-            self.consumer.slots();
-        }
-        let count = self.consumer.cached_slots().min(weight);
-        self.bytes = take_known(&mut self.consumer, count, self.bytes, batch);
-        self.packets = self.packets.saturating_add(count as u64);
+        let count = due(&mut self.consumer, self.mark, weight);
+        resize(batch, count);
+        self.take(batch.as_mut_slice());
+        count
+    }
+
+    fn poll_into(&mut self, weight: usize, packets: &mut [Packet]) -> usize
+        requires weight { (1 ≤ weight) × (weight ≤ NAPI_POLL_WEIGHT) }
+        requires room { weight ≤ length packets.old }
+        ensures next { Gives weight self.old self.new (take result packets.new) }
+        ensures work { result ≤ weight }
+        ensures others { drop result packets.new ≡ drop result packets.old }
+    {
+        let count = due(&mut self.consumer, self.mark, weight);
+        self.take(&mut packets[..count]);
+        count
+    }
+
+    // A poll that takes as many packets as the slice has elements.
+    fn take(&mut self, packets: &mut [Packet])
+        requires known { length packets.old ≤ length (known_items self.old.consumer) }
+        requires room { length packets.old ≤ NAPI_POLL_WEIGHT }
+        ensures ring { SameConsumer self.old.consumer self.new.consumer }
+        ensures taken { packets.new ≡ take (length packets.old) (known_items self.old.consumer) }
+        ensures received { received self.new.consumer
+            ≡ received self.old.consumer ++ packets.new }
+        ensures known { IsPrefix (known_items self.old.consumer)
+            (packets.new ++ known_items self.new.consumer) }
+        ensures polls { self.new.polls ≡ capped (self.old.polls + 1) }
+        ensures unmarked { self.new.mark ≡ false }
+    {
+        self.bytes = take_known(&mut self.consumer, self.bytes, packets);
+        self.packets = self.packets.saturating_add(packets.len() as u64);
         self.polls = self.polls.saturating_add(1);
         self.mark = false;
-        count
     }
 }
 
-// Moves `count` packets that the consumer knows of into the batch, in one step, and adds their bytes to `bytes`.
-fn take_known(consumer: &mut Consumer<Packet>, count: usize, bytes: u64, batch: &mut Batch) -> u64
-    requires known { count ≤ length (known_items consumer.old) }
-    requires room { count ≤ NAPI_POLL_WEIGHT }
+// Reads the ring if the mark isn't set and fewer packets are known than the weight allows. Returns how many packets a poll takes.
+fn due(consumer: &mut Consumer<Packet>, mark: bool, weight: usize) -> usize
+    ensures looked { ConsumerLooked consumer.old consumer.new }
+    ensures count { result ≡ min weight (length (known_items consumer.new)) }
+    ensures marked { mark ≡ true → consumer.new ≡ consumer.old }
+{
+    if !mark && consumer.cached_slots() < weight {
+        consumer.slots();
+    }
+    consumer.cached_slots().min(weight)
+}
+
+// Moves as many packets that the consumer knows of as the slice has elements into it, in one step, and adds their bytes to `bytes`.
+fn take_known(consumer: &mut Consumer<Packet>, bytes: u64, packets: &mut [Packet]) -> u64
+    requires known { length packets.old ≤ length (known_items consumer.old) }
+    requires room { length packets.old ≤ NAPI_POLL_WEIGHT }
     requires bytes { bytes ≡ capped (bytes_of (received consumer.old)) }
     ensures ring { SameConsumer consumer.old consumer.new }
-    ensures batch { batch.new.items ≡ take count (known_items consumer.old) }
-    ensures received { received consumer.new ≡ received consumer.old ++ batch.new.items }
+    ensures taken { packets.new ≡ take (length packets.old) (known_items consumer.old) }
+    ensures received { received consumer.new ≡ received consumer.old ++ packets.new }
     ensures known { IsPrefix (known_items consumer.old)
-        (batch.new.items ++ known_items consumer.new) }
+        (packets.new ++ known_items consumer.new) }
     ensures bytes { result ≡ capped (bytes_of (received consumer.new)) }
 {
-    resize(batch, count);
     // A single packet, as under light load, needs no slice.
-    if count == 1 {
+    if packets.len() == 1 {
         let packet = consumer.pop_known();
-        batch.as_mut_slice()[0] = packet;
+        packets[0] = packet;
         return bytes.saturating_add(u64::from(packet.bytes));
     }
-    let Ok(()) = consumer.pop_entire_slice(batch.as_mut_slice()) else {
+    let Ok(()) = consumer.pop_entire_slice(packets) else {
         unreachable!();
     };
-    bytes.saturating_add(batch_bytes(batch))
+    bytes.saturating_add(bytes_in(packets))
 }
 
 const BLANKS: [Packet; MAX_WEIGHT] = [Packet {

@@ -1,6 +1,6 @@
 //! Packets, the batches that polls return, and their counts.
 
-ghost use Rattle.std.specs.Prelude.{◌≡◌, ◌<◌, ◌^◌};
+ghost use Rattle.std.specs.Prelude.{◌≡◌, ◌<◌, ◌≤◌, ◌^◌, length};
 ghost use Rattle.rx_ring.specs.ReceiveRing.{bytes_of};
 
 use arrayvec::ArrayVec;
@@ -26,8 +26,17 @@ pub fn batch_bytes(batch: &Batch) -> u64
     ensures sum { result ≡ bytes_of batch.now.items }
     ensures bound { result < 2 ^ 38 }
 {
+    bytes_in(batch.as_slice())
+}
+
+// Returns the sum of the bytes of at most 64 packets.
+pub(crate) fn bytes_in(packets: &[Packet]) -> u64
+    requires { length packets.now ≤ 64 }
+    ensures sum { result ≡ bytes_of packets.now }
+    ensures bound { result < 2 ^ 38 }
+{
     let mut bytes = 0;
-    for packet in batch.as_slice() {
+    for packet in packets {
         bytes += u64::from(packet.bytes);
     }
     bytes

@@ -72,7 +72,7 @@ fn meet(input: &mut RxIn, end: &mut PollEnd)
     end.mark = true;
 }
 
-/// Finishes a ring, from its two ends: returns how much was put, received, and left.
+/// Finishes a ring, from its two ends: returns how many packets were put, received and left, and the bytes of all.
 pub fn finish(input: RxIn, ctx: RxCtx) -> Totals
     requires { IsOneRing input ctx }
     ensures totals { result ≡ totals_of (ring_of input ctx) }

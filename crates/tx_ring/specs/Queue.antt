@@ -26,7 +26,7 @@ opening_queue capacity limit = record { capacity = capacity; sizes = []; done = 
 abbrev pub held_sizes : TransmitQueue → List ℕ
 held_sizes t = drop t.done t.sizes
 
--- the bytes available are negative
+-- `avail` is negative: more bytes are in flight than the limit allows
 abbrev pub is_over : Limit → Bool
 is_over s = int_lt (avail_of s) (pos 0)
 
@@ -50,7 +50,7 @@ after_send t bytes =
 abbrev pub oldest_bytes : TransmitQueue → ℕ → ℕ
 oldest_bytes t count = sum (take count (held_sizes t))
 
--- these bytes are reported to the limit; a stopped queue stays stopped if the bytes available are still negative
+-- these bytes are reported to the limit; a stopped queue stays stopped if `avail` is still negative
 abbrev pub after_bytes : TransmitQueue → ℕ → ℕ → ℕ → TransmitQueue
 after_bytes t count bytes now =
     let limit = after_completed t.limit bytes now in

@@ -6,7 +6,7 @@ use Rattle.calls_tests.proofs.bed.seat_two.Goals as goal
 abbrev Seated : Napi → List Caller → Type 0
 Seated n callers = (k : ℕ) (c : Caller) → slice_get callers k ≡ Some c → IsNewSeat n k c.pass
 
--- of two callers the second is popped first
+-- of two callers, caller 1 is popped first
 two_popped : (n : Napi) (callers rest none : List Caller) (first second : Caller) → Seated n callers → length callers ≡ 2
     → callers ≡ rest ++ second ∷ [] → rest ≡ none ++ first ∷ []
     → IsNewSeat n 0 first.pass × IsNewSeat n 1 second.pass

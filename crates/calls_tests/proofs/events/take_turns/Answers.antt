@@ -7,7 +7,7 @@ use Rattle.napi_model.specs.declared.event.Prep.TheVariants as prep
 use Rattle.napi_model.specs.declared.event.Done.TheVariants as done
 use Rattle.calls_tests.proofs.events.take_turns.Goals as goal
 
--- call by call; a poll isn't an event
+-- one step for each call; a poll isn't an event
 pub returns-clause-first : goal.returns-clause-first
 returns-clause-first g c =
     let meets = c.meet.ensures.first in

@@ -11,7 +11,7 @@ none_left (x ∷ xs) a b d e =
     let r = length-append (x ∷ xs) (a ∷ []) in
     absurd (omega (arith, p, q, r, e))
 
--- of three callers the last is popped first
+-- of three callers, caller 2 is popped first
 three_popped : (n : Napi) (callers two one none : List Caller) (first second third : Caller)
     → ((k : ℕ) (c : Caller) → slice_get callers k ≡ Some c → IsNewSeat n k c.pass) → length callers ≡ 3
     → callers ≡ two ++ third ∷ [] → two ≡ one ++ second ∷ [] → one ≡ none ++ first ∷ []

@@ -11,7 +11,7 @@ alone (x ∷ xs) a b d e is =
     let r = length-append (x ∷ xs) (a ∷ []) in
     absurd (omega (arith, o, p, q, r, is))
 
--- the four passes, in order
+-- the four passes, in the order of their numbers
 module _ (c : goal.After-drop-room) where
   abbrev a : Pass
   a = c.in-Some-last-3.first

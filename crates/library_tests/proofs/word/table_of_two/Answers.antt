@@ -3,7 +3,7 @@ use Rattle.napi_word.specs.declared.table.Pass.{Pass}
 use Rattle.library_tests.proofs.Popped.{none_left}
 use Rattle.library_tests.proofs.word.table_of_two.Goals as goal
 
--- the three passes, in order
+-- the three passes, in the order of their numbers
 module _ (c : goal.In-Some-last-2) where
   abbrev a : Pass
   a = c.in-Some-last-2.first

@@ -24,20 +24,20 @@ returns-in-Ok-report_of-clause-no_room c = λ no.
 
 pub returns-in-Err-report_of-clause-fault : goal.returns-in-Err-report_of-clause-fault
 returns-in-Err-report_of-clause-fault c = λ bad.
-    let told = c.tell.ensures.told bad in (
+    let reported = c.report_fault.ensures.reported bad in (
       c.in-Err-report_of.fault,
-      (c.in-Ok.asked, c.in-Ok.ensures.asked, theirs c.in-Err-report_of.fault _ c.in-Err-report_of.ensures.fault told.0),
-      told.1,
+      (c.in-Ok.asked, c.in-Ok.ensures.asked, theirs c.in-Err-report_of.fault _ c.in-Err-report_of.ensures.fault reported.0),
+      reported.1,
     )
 
 pub returns-in-Err-report_of-clause-memory : goal.returns-in-Err-report_of-clause-memory
 returns-in-Err-report_of-clause-memory c = λ ok room bad setting size.
-    let un = c.tell.ensures.untold bad in
+    let un = c.report_fault.ensures.unreported bad in
     let fault = c.in-Err-report_of.fault in
     let is = c.in-Err-report_of.ensures.fault in
     let why : IsMachineOutside fault ⊎ IsMachineFault c.args.settings.now c.args.arrivals.now fault = elim is [
       | inl outside ↦ inl outside
-      | inr told ↦ inr (c.in-Ok.asked, c.in-Ok.ensures.asked, told)
+      | inr reported ↦ inr (c.in-Ok.asked, c.in-Ok.ensures.asked, reported)
     ] in (
       un.0,
       elim un.2 [

@@ -1,5 +1,5 @@
 use Rattle.std.proofs.{Common.{[], ◌∙◌, ◌∷◌, ◌++◌, ap, arith, inl, inr, refl, sym}, lemmas.Result.err_from_is_err_and}
-use Rattle.machine_words.specs.declared.settings.MachineSettings.{MachineSettings}
+use Rattle.machine_model.specs.declared.settings.MachineSettings.{MachineSettings}
 use Rattle.machine_report.specs.Endless.{endless_at}
 use Rattle.machine_report.proofs.TakingFacts.{takes-push}
 use Rattle.machine_report.proofs.run.take_all.Goals as goal

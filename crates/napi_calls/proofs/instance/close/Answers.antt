@@ -12,7 +12,7 @@ join-requires-clause-pass c =
     i.1.1 ∙ ap (λ (l : List Caller). l ++ i.1.0) c.in-Some.ensures.items ∙ append_assoc rest (one ∷ []) i.1.0 in
     c.requires.callers (length rest) one (here rest i.1.0 c.args.callers.items one items)
 
--- every caller's seat was joined, the last caller's first
+-- the passes of all callers were joined, from the last caller to the first
 pub returns-clause-closed : goal.returns-clause-closed
 returns-clause-closed c =
     let i = c.loop-caller.invariant in

@@ -1,7 +1,7 @@
 use Rattle.std.proofs.Common.{◌≡◌, ◌+◌, ◌++◌, ℕ, List, string_bytes}
 use Rattle.device_rows.specs.declared.row.Row.{Row}
 use Rattle.{napi_series.specs.Series.gave_in, replay_rows.specs.{After.IsAfter, Report.lines_below}}
-use Rattle.replay_words.specs.declared.settings.ReplaySettings.{ReplaySettings}
+use Rattle.replay_args.specs.declared.settings.ReplaySettings.{ReplaySettings}
 use Rattle.napi_series.proofs.line.add_given.Given as goal
 
 abbrev pub invariant-loop-device : goal.invariant-loop-device

@@ -2,10 +2,10 @@ use Rattle.std.proofs.{Common.{◌≡◌, ◌⊎◌, ℕ, List, Err, inl, inr, r
 use Rattle.replay_rows.{specs.Replay.after_all_rows, proofs.PlayFacts.{report-early, unwritten}}
 use Rattle.replay_text.specs.{Outside.IsReplayOutOfMemory, declared.fault.ReplayFault.{ReplayFault, TheVariants.OutputFailed}}
 use Rattle.device_rows.specs.declared.row.Row.{Row}
-use Rattle.replay_words.specs.declared.settings.ReplaySettings.{ReplaySettings}
+use Rattle.replay_args.specs.declared.settings.ReplaySettings.{ReplaySettings}
 use Rattle.napi_series.proofs.series.write_series.Goals as goal
 
--- no error of a row is that of an output
+-- an error of a row is never OutputFailed
 never : (s : ReplaySettings) (rows : List Row) (fault : ReplayFault) → IsReplayOutOfMemory fault ⊎ (after_all_rows s rows ≡ Err fault)
     → fault ≡ OutputFailed → ⊥
 never s rows fault (inl memory) = unwritten {A = ℕ} s 1 rows (Err fault) (inl memory)

@@ -26,7 +26,7 @@ loop-worker-init g c =
       },
     )
 
--- the current poller, and the current instance
+-- whether the current instance belongs to the current poller
 own_of : (pollers n k number : ℕ) → pollers ≡ n → is_own k pollers number ≡ true → is_own k n number ≡ true
 own_of pollers n k number e own = subst (λ m. is_own k m number ≡ true) e own
 

@@ -13,7 +13,7 @@ pub run_all-came-requires-clause-count : goal.run_all-came-requires-clause-count
 run_all-came-requires-clause-count g c = let few = few_stations _ c.requires.stations c.requires.numbers in
     grind (arith, common_steps, few)
 
--- the result of an answer is the answer, or an error
+-- a successful result of the run is the result of the whole call
 result_ok : {A : Type 0} (P : A → Type 0) (came : Result (Result A Stop) AllocError) (refused : Bool) → IfOk came (λ o. IfOk o P)
     → IfOk (run_result came refused) P
 result_ok P (Err e) refused h = tt
@@ -22,7 +22,7 @@ result_ok P (Ok (Err stop.Refused)) false h = tt
 result_ok P (Ok (Err stop.Shut)) false h = tt
 result_ok P (Ok (Ok a)) false h = h
 
--- an error is returned only with its reason
+-- an error is returned only if its reason holds
 result_memory : {A : Type 0} (came : Result (Result A Stop) AllocError) (refused : Bool) → IsErrOf (run_result came refused) OutOfMemory
     → IsWantOfMemory
 result_memory (Err e) refused h = wanted_by e

@@ -28,9 +28,9 @@ returns-in-Err-report_of-clause-fault c = λ bad. (
     c.in-Ok.asked,
     c.in-Ok.ensures.asked.0,
     theirs c.in-Err-report_of.fault _ c.in-Err-report_of.ensures.fault
-        (sym c.tell.ensures.status ∙ bad),
+        (sym c.report_fault.ensures.status ∙ bad),
   ),
-  c.tell.ensures.told bad,
+  c.report_fault.ensures.reported bad,
 )
 
 pub returns-in-Ok-report_of-clause-memory : goal.returns-in-Ok-report_of-clause-memory
@@ -39,9 +39,9 @@ returns-in-Ok-report_of-clause-memory c = λ ok room. absurd (room (c.put_report
 pub returns-in-Err-report_of-clause-memory : goal.returns-in-Err-report_of-clause-memory
 returns-in-Err-report_of-clause-memory c = λ ok room bad weight budget.
     let fault = c.in-Err-report_of.fault in
-    let status = else-memory fault (λ is. bad (c.tell.ensures.status ∙ is)) in
+    let status = else-memory fault (λ is. bad (c.report_fault.ensures.status ∙ is)) in
     let why : IsOutside fault ⊎ IsReplayFault c.args.settings.now c.args.trace.now fault = elim c.in-Err-report_of.ensures.fault [
       | inl outside ↦ inl outside
       | inr is ↦ inr (c.in-Ok.asked, c.in-Ok.ensures.asked.0, is)
     ] in
-    (c.tell.ensures.status ∙ status, (fault, status, why))
+    (c.report_fault.ensures.status ∙ status, (fault, status, why))

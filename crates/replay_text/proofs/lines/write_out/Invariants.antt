@@ -1,4 +1,4 @@
--- What was removed from `rest` was written.
+-- The bytes that were removed from `rest` were written.
 use Rattle.std.{proofs.Common.{◌≡◌, ℕ, List, ◌++◌}, specs.Io.KnownBytes.Appends}
 use Rattle.replay_text.proofs.lines.write_out.Given as goal
 

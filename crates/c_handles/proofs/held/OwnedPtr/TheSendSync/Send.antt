@@ -1,4 +1,4 @@
--- An owning pointer can be sent to another thread if its value can.
+-- An owning pointer can be sent to another thread if its value can be sent.
 use mir.Raw.{raw}
 use base.Shift.{Keyless}
 use denote.{Memory.lone, RawPtr.Ptr, Struct.{Struct.exits_of, Owning.{shape, fields, to}}}

@@ -1,4 +1,4 @@
--- `into_parts` moves the two fields of an owning pointer, and with them what they own.
+-- `into_parts` moves the two fields of an owning pointer, and with them the memory that they own.
 use Rattle.{std.specs.Prelude.{Option, Some}, std_alloc.proofs.BoxSteps.{Form.{D, word, box_typed}, Steps.{box_out, box_in}}}
 use Rattle.c_handles.{specs.{declared.body.Object.Object, contracts.held.OwnedPtr.into_parts.Key.name as #self}}
 use Rattle.c_handles.{proofs.AsBox.{E, FromHeld as From}}

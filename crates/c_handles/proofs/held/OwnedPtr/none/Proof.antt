@@ -1,4 +1,4 @@
--- `none` makes an owning pointer that owns nothing, with a null pointer.
+-- `none` returns an owning pointer that owns nothing: its pointer is null.
 use Rattle.{std.{proofs.{Common.lit<, alloc.Calls.{α, handle_tells}}, specs.Prelude.None}, std_alloc.proofs.ResultValues.and_tt}
 use Rattle.{std_alloc.proofs.BoxSteps.Form.handle, c_handles.{specs.contracts.held.OwnedPtr.none.Key.name as #self, proofs.AsBox.E}}
 use mathlib.Core.{Path.{refl, sym, subst}, List.{List, [], ◌∷◌, ◌++◌}}

@@ -1,4 +1,4 @@
--- `of_parts` moves two fields, and with them what they own.
+-- `of_parts` moves two fields into an owning pointer, and with them the memory that they own.
 use mathlib.Core.{Path.{refl, sym, subst}, List.{List, [], ◌∷◌, ◌++◌}}
 use seplogic.Ra.Ura.{Ura}
 use mir.Val.{Val}

@@ -1,4 +1,4 @@
--- `into_box` passes what the parts own to `from_raw`.
+-- `into_box` passes the memory that the fields own to `Box::from_raw`.
 use Rattle.{std.proofs.alloc.Calls.{token, Goes-blank}, std_alloc.{specs.Box.Ownership.box_owns, proofs.BoxSteps.Form.{Bx, D, R, P, B}}}
 use Rattle.std_alloc.proofs.BoxSteps.{Form.{args, box_ty, word, box_typed}, Steps.{box_out, box_in}}
 use mathlib.Core.{Path.{◌≡◌, refl, sym, subst, ap}, List.{List, [], ◌∷◌, ◌++◌}}

@@ -1,4 +1,4 @@
--- `of` takes the box apart, and the parts own what it owned.
+-- `of` takes a box apart into its fields, which then own its memory.
 use Rattle.std_alloc.{specs.Box.Ownership.box_owns, proofs.BoxSteps.{Steps.{box_out, box_in}, Form.{Bx, D, τ, R, P, B, word, box_typed}}}
 use Rattle.{c_handles.specs.contracts.parts.RawBox.of.Key.name as #self, std.proofs.alloc.Calls.{token, handle_tells, Goes-blank}}
 use mathlib.Core.{Path.{◌≡◌, refl, sym, subst, ap, ◌∙◌}, List.{List, [], ◌∷◌, ◌++◌}}

@@ -1,7 +1,7 @@
 use Rattle.{rx_ring.specs.declared.packet.Packet.Packet, device_shared.proofs.RingFacts.{put_side, put_whole}}
 use Rattle.device_shared.proofs.shared_receive.SharedReceiveReceiveSide.put.Goals as goal
 
--- a packet for which there is no room is counted, and nothing else changes
+-- a packet that finds no room is counted, and nothing else changes
 pub invariant_of-self : goal.invariant_of-self
 invariant_of-self g c = c.self.invariant
 

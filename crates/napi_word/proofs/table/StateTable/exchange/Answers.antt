@@ -3,7 +3,7 @@ use Rattle.napi_model.specs.declared.state.{Kind.Kind, Seen.Seen}
 use Rattle.napi_word.specs.{Atoms.MayExchange, Operations.Did}
 use Rattle.napi_word.proofs.table.StateTable.exchange.Goals as goal
 
--- what was seen, put together again from its parts
+-- a decoded word, put together again from its flags and its mark
 again : (x : Seen) (m : Option Kind) → x.handed ≡ m → record { flags = x.flags; handed = m } ≡ x
 again x m is = ap (λ (m : Option Kind). record { flags = x.flags; handed = m }) (sym is)
 

@@ -3,7 +3,7 @@ use Rattle.device_rows.{specs.declared.{event.RowEvent.TheVariants.Opened, row.R
 use Rattle.replay_rows.{specs.Transmits.after_transmits, proofs.PlayFacts.{after_transmits-more, played-early, played-more, report-early}}
 use Rattle.replay_rows.proofs.replay.Replay.play_rows.Goals as goal
 
--- the row for an index out of range
+-- the row that is returned for an index out of range
 abbrev none : Row
 none = record { moment = 0; device = 0; event = Opened; value = 0 }
 

@@ -5,7 +5,7 @@ use Rattle.replay_rows.specs.Transmits.{after_transmits}
 use Rattle.replay_rows.proofs.PlayFacts.{after_transmits-more, played-early, played-more}
 use Rattle.replay_rows.proofs.serial_replay.SerialReplay.play_row.Goals as goal
 
--- the row for an index out of range
+-- the row that is returned for an index out of range
 abbrev none : Row
 none = record { moment = 0; device = 0; event = Opened; value = 0 }
 

@@ -1,2 +1,0 @@
-pub mod Usual
-pub mod Words

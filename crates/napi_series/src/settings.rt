@@ -1,0 +1,15 @@
+//! What the arguments ask for.
+
+ghost use Rattle.std.specs.Prelude.{◌≤◌};
+
+use replay_args::ReplaySettings;
+
+/// The settings of a series.
+#[derive(Clone, Copy)]
+pub(crate) struct SeriesSettings {
+    /// How many rows make one line, 1 to 99999.
+    pub(crate) every: u32,
+    /// The settings of the replay, which is on one thread.
+    pub(crate) replay: ReplaySettings,
+    ghost every_in: { 1 ≤ every },
+}

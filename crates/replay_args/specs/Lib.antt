@@ -1,0 +1,5 @@
+pub mod Defaults
+pub mod Given
+pub mod Options
+pub mod Refusals
+pub mod Args
