@@ -33,7 +33,7 @@
 #include <stdint.h>
 
 #define FQ_VERSION "1.1.0"
-/* The same as numbers, for example for #if FQ_VERSION_NUMBER >= 10100, which asks for 1.1.0 or later. */
+/* The same as numbers. For example, #if FQ_VERSION_NUMBER >= 10100 requires 1.1.0 or later. */
 #define FQ_VERSION_MAJOR 1
 #define FQ_VERSION_MINOR 1
 #define FQ_VERSION_PATCH 0
@@ -49,7 +49,7 @@
 #define FQ_RESTRICT
 #endif
 
-/* An enum is a uint32_t, also in C++, so that it can hold what a later library returns and this header doesn't name. */
+/* An enum is a uint32_t, also in C++, so that it can hold a number that a later library returns and this header doesn't name. */
 #ifdef __cplusplus
 #define FQ_NUMBER : uint32_t
 #else
@@ -60,9 +60,9 @@
 extern "C" {
 #endif
 
-/* The statuses that calls return. 0: success. 1 to 15: errors of a queue limit, and the operation isn't made. 16 to 99: results; after
- * FQ_NOT_THERE, FQ_BUSY, FQ_CHANGED, FQ_STOPPED, FQ_MORE_THAN_SENT, FQ_NOT_DUE, and FQ_FULL unless it is of a burst, nothing has
- * changed. 100 and above: errors, and the operation isn't made. */
+/* The statuses that calls return. 0: success. 1 to 15: errors of a queue limit; the operation isn't made. 16 to 99: results. After
+ * FQ_NOT_THERE, FQ_BUSY, FQ_CHANGED, FQ_STOPPED, FQ_MORE_THAN_SENT and FQ_NOT_DUE nothing has changed, and after FQ_FULL neither, except
+ * for a burst. 100 and above: errors; the operation isn't made. */
 enum fq_status FQ_NUMBER {
     FQ_OK = 0,
     FQ_BAD_BOUNDS = 1,         /* limit: min is above max, or max is above 1879048192 */
@@ -84,30 +84,30 @@ enum fq_status FQ_NUMBER {
     FQ_DONE = 27,      /* run: no device is left to poll */
     FQ_STOPPED = 28,   /* send: the limit has stopped the queue */
     FQ_MORE_THAN_SENT = 29, /* done: more packets than the transmit ring holds */
-    FQ_NOT_DUE = 30,        /* driver: this isn't due, and nothing has changed */
+    FQ_NOT_DUE = 30,        /* driver: this action isn't due, and nothing has changed */
 
     FQ_NOT_ALLOWED = 100,   /* the object's state doesn't allow this call */
     FQ_BAD_KIND = 101,      /* not a number of enum fq_kind */
     FQ_BAD_HANDLE = 110,    /* the handle is unset, or refers to an object of another kind */
     FQ_IN_USE = 111,        /* the handle is set already; push, polled: the list has the number already */
     FQ_OUT_OF_MEMORY = 112,
-    FQ_BAD_CAPACITY = 113,  /* rings: 1 to 65536 */
-    FQ_BAD_WEIGHT = 114,    /* 1 to 64 */
-    FQ_NO_ROOM = 115,       /* poll: the array is shorter than the weight; replay, machine: than the report */
-    FQ_BAD_BUDGET = 116,    /* run, replay: budget and window are 1 to 65535 */
-    FQ_BAD_COUNT = 117,     /* shared instance: 2 to 8 seats; driver: 1 to 64 devices */
+    FQ_BAD_CAPACITY = 113,  /* the capacity of a ring isn't 1 to 65536 */
+    FQ_BAD_WEIGHT = 114,    /* a weight isn't 1 to 64 */
+    FQ_NO_ROOM = 115,       /* poll: the array is shorter than the weight; replay, machine: the array is shorter than the report */
+    FQ_BAD_BUDGET = 116,    /* run, replay: a budget or a window isn't 1 to 65535 */
+    FQ_BAD_COUNT = 117,     /* shared instance: there aren't 2 to 8 seats; driver: there aren't 1 to 64 devices */
     FQ_BAD_NEXT = 118,      /* not a number of enum fq_next */
     FQ_BAD_WORK = 119,      /* run, driver: more packets than the weight */
     FQ_BAD_TRACE = 120,     /* replay: the bytes aren't a trace, or a row of it can't be processed */
-    FQ_BAD_DEVICE = 121,    /* driver: not a number of one of its devices */
+    FQ_BAD_DEVICE = 121,    /* driver: it has no device with this number */
     FQ_BAD_SIZE = 122,      /* the size of a struct isn't one that this library knows */
     FQ_BAD_SETTING = 123,   /* machine: a setting is out of its range */
     FQ_BAD_ARRIVALS = 124   /* machine: the bytes aren't arrivals */
 };
 
-/* Each call writes a text into an array of `room` bytes, with a terminating 0: the library's FQ_VERSION; the name of a status, and its
- * message ("?" for an unknown number); the name of a trace's fault. It returns the length of the text; the array is unchanged if that
- * isn't below `room`. FQ_MESSAGE_ROOM bytes are enough for each of them. */
+/* Each call writes a text to an array of `room` bytes, with a terminating 0: the library's FQ_VERSION; the name of a status, or its
+ * message ("?" for an unknown number); the name of a trace's fault. It returns the length of the text; if that isn't below `room`, the
+ * array is unchanged. FQ_MESSAGE_ROOM bytes are enough for each text. */
 #define FQ_MESSAGE_ROOM 96
 FQ_NONNULL size_t fq_version(char *to, size_t room);
 FQ_NONNULL size_t fq_status_text(uint32_t status, char *to, size_t room);
@@ -171,8 +171,8 @@ static inline const char *fq_status_name(uint32_t status) {
 enum fq_kind FQ_NUMBER { FQ_LIST = 0, FQ_THREAD = 1 };
 
 /* How a poll ended. FQ_NEXT_GONE: the device leaves the list. FQ_NEXT_AGAIN: it has to be listed again. FQ_NEXT_AGAIN_THREAD: it is
- * queued for its thread. FQ_NEXT_REPOLL: it returned its whole weight, and is polled again after all others. FQ_NEXT_ABSENT: it wasn't
- * there. */
+ * queued for its thread. FQ_NEXT_REPOLL: it returned its whole weight, and is polled again after all others. FQ_NEXT_ABSENT: its instance
+ * wasn't queued there. */
 enum fq_next FQ_NUMBER { FQ_NEXT_GONE = 0, FQ_NEXT_AGAIN = 1, FQ_NEXT_AGAIN_THREAD = 2, FQ_NEXT_REPOLL = 3, FQ_NEXT_ABSENT = 4 };
 
 /* The bits of a state word: the kernel's NAPI_STATE_.., and two of this library. FQ_BIT_QUEUED: the instance is on a poll list, and
@@ -209,32 +209,32 @@ struct fq_dql_made {
  * FQ_BAD_BOUNDS; after FQ_BAD_BOUNDS it is a limit of 0. */
 struct fq_dql_made fq_dql_new(uint32_t min, uint32_t max, uint64_t hold_ms, uint64_t now_ms);
 
-/* The same, into the caller's struct: returns the status. */
+/* Like fq_dql_new, but writes the limit to the caller's struct, and returns the status. */
 FQ_CHECKED static inline enum fq_status fq_dql_init(struct fq_dql *dql, uint32_t min, uint32_t max, uint64_t hold_ms, uint64_t now_ms) {
     struct fq_dql_made made = fq_dql_new(min, max, hold_ms, now_ms);
     *dql = made.dql;
     return (enum fq_status)made.status;
 }
 
-/* The same for callers that can't use returned structs. *dql has to be all 0 or a limit; it is unchanged if the call returns
+/* Like fq_dql_init, for callers that can't use returned structs. *dql has to be all 0 or a limit; it is unchanged if the call returns
  * FQ_BAD_BOUNDS. */
 FQ_CHECKED enum fq_status fq_dql_renew(struct fq_dql *dql, uint32_t min, uint32_t max, uint64_t hold_ms, uint64_t now_ms);
 
-/* Adds an object of `count` bytes that was given to the device (dql_queued). Returns FQ_OK; FQ_TOO_LARGE; FQ_TOO_MUCH_IN_FLIGHT. */
+/* Adds an object of `count` bytes that was sent to the device (dql_queued). Returns FQ_OK; FQ_TOO_LARGE; FQ_TOO_MUCH_IN_FLIGHT. */
 FQ_CHECKED enum fq_status fq_dql_queued(struct fq_dql *dql, uint32_t count);
 /* Completes `count` bytes, and adapts the limit (dql_completed). Returns FQ_OK; FQ_MORE_THAN_QUEUED. */
 FQ_CHECKED enum fq_status fq_dql_completed(struct fq_dql *dql, uint32_t count, uint64_t now_ms);
-/* Starts over: nothing is in flight (dql_reset). */
+/* Resets the limit: nothing is in flight (dql_reset). */
 FQ_NONNULL void fq_dql_reset(struct fq_dql *dql, uint64_t now_ms);
 /* Returns the limit in bytes. */
 FQ_NONNULL uint32_t fq_dql_limit(const struct fq_dql *dql);
-/* Returns the bytes that may still be given to the device (dql_avail); if negative, the queue has to be stopped. */
+/* Returns the bytes that may still be sent to the device (dql_avail); if negative, the queue has to be stopped. */
 FQ_NONNULL int64_t fq_dql_avail(const struct fq_dql *dql);
 /* Returns the bytes that were queued and aren't completed. */
 FQ_NONNULL uint32_t fq_dql_in_flight(const struct fq_dql *dql);
 
-/* The same three, read in place without a call: the struct's first four numbers are the bytes queued, the bytes completed, the last
- * object's bytes, and the limit. */
+/* The same three numbers, read in place without a call: the struct's first four numbers are the bytes queued, the bytes completed, the
+ * last object's bytes, and the limit. */
 FQ_NONNULL static inline uint32_t fq_dql_limit_here(const struct fq_dql *dql) { return dql->private_a[3]; }
 FQ_NONNULL static inline uint32_t fq_dql_in_flight_here(const struct fq_dql *dql) { return dql->private_a[0] - dql->private_a[1]; }
 FQ_NONNULL static inline int64_t fq_dql_avail_here(const struct fq_dql *dql) {
@@ -245,14 +245,14 @@ FQ_NONNULL static inline int64_t fq_dql_avail_here(const struct fq_dql *dql) {
  * instance is made. Any bytes of the struct represent a state, the same one in all calls. */
 
 struct fq_napi {
-    uint8_t sched, missed, disable, npsvc, in_busy_poll, threaded, sched_threaded; /* each is set unless it is 0 */
-    uint8_t place; /* 0 no owner, 1 granted, 2 listed, 3 queued for its thread, 4 polled, else with the controller */
+    uint8_t sched, missed, disable, npsvc, in_busy_poll, threaded, sched_threaded; /* each flag is set unless its byte is 0 */
+    uint8_t place; /* 0 no owner, 1 granted, 2 listed, 3 queued for its thread, 4 polled, any other number: owned by the controller */
     uint32_t owner, controller;
 };
 
 /* Returns a new instance (netif_napi_add), which is disabled. */
 struct fq_napi fq_napi_new(uint32_t controller);
-/* The same, into the caller's struct. */
+/* Like fq_napi_new, in the caller's struct. */
 FQ_NONNULL void fq_napi_init(struct fq_napi *napi, uint32_t controller);
 /* Requests a poll (napi_schedule_prep). Returns FQ_GRANTED; FQ_MISSED; FQ_DISABLED. */
 FQ_CHECKED enum fq_status fq_napi_schedule(struct fq_napi *napi, uint32_t who);
@@ -296,14 +296,14 @@ struct fq_handle {
 /* An unset handle: it refers to no object. */
 #define FQ_NONE {false, NULL}
 
-/* Frees the object of a handle, which is unset then. Returns FQ_OK; FQ_BAD_HANDLE; FQ_NOT_ALLOWED, and nothing changes, for a seat that
- * isn't at rest, for a controller that isn't off, and for a list in a run. Packets in a ring are lost to the caller: poll them before.
- * The status may be ignored. */
+/* Frees the object of a handle, which is unset after that. Returns FQ_OK; FQ_BAD_HANDLE; FQ_NOT_ALLOWED, and nothing changes, for a seat
+ * that isn't at rest, for a controller that isn't off, and for a list in a run. Packets in a ring are lost, so poll them before. The
+ * status may be ignored. */
 FQ_NONNULL enum fq_status fq_free(struct fq_handle *handle);
 /* Frees the object of a handle in any state. Returns FQ_OK; FQ_BAD_HANDLE. An instance whose poller was abandoned is never polled again.
  * The status may be ignored. */
 FQ_NONNULL enum fq_status fq_abandon(struct fq_handle *handle);
-/* Moves the object of `from` to `to`; `from` is unset then. Returns FQ_OK; FQ_IN_USE if `to` is set; FQ_BAD_HANDLE. */
+/* Moves the object of `from` to `to`; `from` is unset after that. Returns FQ_OK; FQ_IN_USE if `to` is set; FQ_BAD_HANDLE. */
 FQ_CHECKED enum fq_status fq_move(struct fq_handle *FQ_RESTRICT from, struct fq_handle *FQ_RESTRICT to);
 
 /* ---- Receive rings. The caller chooses a packet's number: an index, a pointer. */
@@ -327,11 +327,11 @@ FQ_CHECKED enum fq_status fq_ring_put_all(struct fq_handle *FQ_RESTRICT ring, co
 FQ_CHECKED enum fq_status fq_ring_poll(struct fq_handle *FQ_RESTRICT ring, size_t weight, struct fq_packet *FQ_RESTRICT out, size_t len, size_t *FQ_RESTRICT count);
 
 struct fq_counts {
-    uint64_t polls, packets, bytes; /* each saturates at its maximum */
+    uint64_t polls, packets, bytes; /* each count saturates at its maximum */
 };
 
 struct fq_totals {
-    uint64_t put, polled, left, bytes; /* bytes: of all packets put */
+    uint64_t put, polled, left, bytes; /* bytes: those of all packets put */
 };
 
 /* Sets *counts to the counts of a ring's polls. The handle has to own the poll end: it is a ring, or the poll end of one that was split;
@@ -339,17 +339,17 @@ struct fq_totals {
  * unchanged unless it returns FQ_OK. */
 FQ_CHECKED enum fq_status fq_count(struct fq_handle *FQ_RESTRICT handle, struct fq_counts *FQ_RESTRICT counts);
 struct fq_ring_shown {
-    uint64_t put;  /* the packets put so far, which saturates; minus the packets of fq_count, those in the ring */
+    uint64_t put;  /* the packets put so far, a count that saturates; minus the packets of fq_count, it is the number in the ring */
     size_t places; /* the ring's capacity in packets */
 };
 
 /* Sets *shown to the state of a ring, or of its input. Returns FQ_OK; FQ_BAD_HANDLE, and *shown is unchanged. */
 FQ_CHECKED enum fq_status fq_ring_show(struct fq_handle *FQ_RESTRICT ring, struct fq_ring_shown *FQ_RESTRICT shown);
-/* Splits a ring without an instance for two threads: `ring` is then its input, for puts, and `out` its poll end, for polls. Each is
- * freed separately. Returns FQ_OK; FQ_IN_USE; FQ_BAD_HANDLE; FQ_OUT_OF_MEMORY. */
+/* Splits a ring without an instance for two threads: after it, `ring` is the ring's input, for puts, and `out` its poll end, for polls.
+ * Each is freed separately. Returns FQ_OK; FQ_IN_USE; FQ_BAD_HANDLE; FQ_OUT_OF_MEMORY. */
 FQ_CHECKED enum fq_status fq_ring_split(struct fq_handle *FQ_RESTRICT ring, struct fq_handle *FQ_RESTRICT out);
-/* Frees a ring that was never split, and sets *totals to its totals; the handle is unset then. Returns FQ_OK; FQ_BAD_HANDLE, and nothing
- * changes. */
+/* Frees a ring that was never split, and sets *totals to its totals; the handle is unset after that. Returns FQ_OK; FQ_BAD_HANDLE, and
+ * nothing changes. */
 FQ_CHECKED enum fq_status fq_ring_finish(struct fq_handle *FQ_RESTRICT ring, struct fq_totals *FQ_RESTRICT totals);
 
 /* ---- Transmit rings under a byte queue limit (netdev_tx_sent_queue, netdev_tx_completed_queue). The ring keeps the sizes of the
@@ -357,7 +357,7 @@ FQ_CHECKED enum fq_status fq_ring_finish(struct fq_handle *FQ_RESTRICT ring, str
 
 struct fq_tx_shown {
     uint32_t queued;    /* the bytes of all packets ever sent, modulo 2^32 */
-    uint32_t completed; /* the bytes of all that are completed, modulo 2^32: queued - completed are in flight */
+    uint32_t completed; /* the bytes of all packets ever completed, modulo 2^32: queued - completed are in flight */
     uint32_t limit;     /* in bytes */
     int64_t avail;      /* the bytes that may still be sent; if negative, the queue is over its limit */
     bool stopped;       /* the limit has stopped the queue, and no completion has started it since */
@@ -366,8 +366,9 @@ struct fq_tx_shown {
 /* Makes a ring of capacity 1 to 65536, not stopped, over a new limit between `min` and `max` bytes, with the slack hold time `hold_ms`
  * (dql_init). fq_free frees it, whatever it holds. Returns FQ_OK; FQ_IN_USE; FQ_BAD_BOUNDS; FQ_BAD_CAPACITY; FQ_OUT_OF_MEMORY. */
 FQ_CHECKED enum fq_status fq_tx_new(struct fq_handle *tx, size_t capacity, uint32_t min, uint32_t max, uint64_t hold_ms, uint64_t now_ms);
-/* Adds a packet of `bytes` bytes that is given to the device (netdev_tx_sent_queue), and stops the queue if `avail` becomes negative.
- * Returns FQ_OK; otherwise nothing is sent: FQ_STOPPED, else FQ_FULL, else FQ_TOO_LARGE, else FQ_TOO_MUCH_IN_FLIGHT; FQ_BAD_HANDLE. */
+/* Sends a packet of `bytes` bytes to the device (netdev_tx_sent_queue): adds it to the ring, and stops the queue if `avail` becomes
+ * negative. Returns FQ_OK; otherwise nothing is sent: FQ_STOPPED, else FQ_FULL, else FQ_TOO_LARGE, else FQ_TOO_MUCH_IN_FLIGHT;
+ * FQ_BAD_HANDLE. */
 FQ_CHECKED enum fq_status fq_tx_send(struct fq_handle *tx, uint32_t bytes);
 /* Completes the `count` oldest packets (netdev_tx_completed_queue). If these have any bytes, the limit adapts, and the queue is started
  * if the limit has room again. Returns FQ_OK; FQ_MORE_THAN_SENT, and nothing is completed; FQ_BAD_HANDLE. */
@@ -402,16 +403,16 @@ FQ_CHECKED static inline enum fq_status fq_tx_watch(struct fq_handle *FQ_RESTRIC
 /* ---- Instances that threads share. */
 
 /* Makes an instance over the ring's poll end, with its controller and an array of `count` (2 to 8) seats, one for each caller. It is
- * disabled. `ring` is only the ring's input then. Returns FQ_OK; FQ_IN_USE; FQ_BAD_COUNT; FQ_BAD_HANDLE; FQ_OUT_OF_MEMORY. */
+ * disabled. After it, `ring` is only the ring's input. Returns FQ_OK; FQ_IN_USE; FQ_BAD_COUNT; FQ_BAD_HANDLE; FQ_OUT_OF_MEMORY. */
 FQ_CHECKED enum fq_status fq_shared_new(struct fq_handle *FQ_RESTRICT ring, struct fq_handle *FQ_RESTRICT control, struct fq_handle *FQ_RESTRICT seats, size_t count);
 
 /* Makes an instance without a ring, for a card that the caller polls itself; fq_seat_poll returns no packets. Otherwise like
  * fq_shared_new. Returns FQ_OK; FQ_IN_USE; FQ_BAD_COUNT; FQ_OUT_OF_MEMORY. */
 FQ_CHECKED enum fq_status fq_shared_bare(struct fq_handle *FQ_RESTRICT control, struct fq_handle *FQ_RESTRICT seats, size_t count);
 
-/* The calls of a seat. Each makes one attempt, after checks for FQ_BAD_KIND, FQ_BAD_WEIGHT, FQ_NO_ROOM and FQ_BAD_HANDLE. A seat at rest
- * may request a poll (napi_schedule_prep), take the instance from the list or as its thread, take it to busy poll it (napi_busy_loop),
- * and set whether polls are queued for its thread (dev_set_threaded). */
+/* The calls of a seat, which is one caller of the instance. Each makes one attempt, after checks for FQ_BAD_KIND, FQ_BAD_WEIGHT,
+ * FQ_NO_ROOM and FQ_BAD_HANDLE. A seat at rest, which owns nothing, may request a poll (napi_schedule_prep), take the instance from the
+ * list or as its thread, take it to busy poll it (napi_busy_loop), and set whether polls are queued for its thread (dev_set_threaded). */
 FQ_CHECKED enum fq_status fq_seat_schedule(struct fq_handle *seat); /* FQ_GRANTED, FQ_MISSED, FQ_DISABLED, FQ_CHANGED */
 FQ_CHECKED enum fq_status fq_seat_take(struct fq_handle *seat, uint32_t kind); /* FQ_TAKEN, FQ_NOT_THERE */
 FQ_CHECKED enum fq_status fq_seat_busy_take(struct fq_handle *seat); /* FQ_TAKEN, FQ_BUSY, FQ_CHANGED */
@@ -428,7 +429,7 @@ FQ_CHECKED enum fq_status fq_seat_busy_stop(struct fq_handle *seat); /* FQ_OK, F
 /* Sets *word to the state word, a sum of FQ_BIT_.., in any state of the seat. Returns FQ_OK; FQ_BAD_HANDLE. */
 FQ_CHECKED enum fq_status fq_seat_look(struct fq_handle *FQ_RESTRICT seat, uint64_t *FQ_RESTRICT word);
 
-struct fq_answers { /* each saturates at its maximum */
+struct fq_answers { /* each count saturates at its maximum */
     uint64_t granted, missed, disabled; /* requests (FQ_GRANTED ..) */
     uint64_t released, again, held;     /* completions */
     uint64_t changed;                   /* attempts of any call that returned FQ_CHANGED */
@@ -438,13 +439,13 @@ struct fq_answers { /* each saturates at its maximum */
  * unchanged. */
 FQ_CHECKED enum fq_status fq_seat_count(struct fq_handle *FQ_RESTRICT seat, struct fq_answers *FQ_RESTRICT answers);
 
-/* The callbacks of a driver for its card, each called with `at`. One that a call doesn't use may be null. */
+/* The callbacks of a driver for its card. Each is called with `at`. A callback that a call doesn't use may be null. */
 struct fq_card {
     void *at;
     void (*mask)(void *at);                /* stops the card's interrupts */
     void (*unmask)(void *at);              /* allows them again */
-    bool (*look)(void *at);                /* returns whether something is there to be polled */
-    size_t (*poll)(void *at, size_t most); /* polls at most so many packets, and returns how many */
+    bool (*look)(void *at);                /* returns whether there is something to poll */
+    size_t (*poll)(void *at, size_t most); /* polls at most this many packets, and returns how many */
 };
 
 /* Handles an interrupt: schedules, and repeats the attempt while it returns FQ_CHANGED; if granted, masks the card and queues the
@@ -462,7 +463,7 @@ FQ_CHECKED static inline enum fq_status fq_seat_interrupt_masked(struct fq_handl
     return handed == FQ_OK ? said : handed;
 }
 
-/* The same for a card that is masked already, or never. */
+/* Like fq_seat_interrupt_masked, for a card that is masked already, or is never masked. */
 FQ_CHECKED static inline enum fq_status fq_seat_interrupt(struct fq_handle *seat, uint32_t kind) {
     const struct fq_card none = {NULL, NULL, NULL, NULL, NULL};
     return fq_seat_interrupt_masked(seat, kind, &none);
@@ -526,10 +527,10 @@ FQ_CHECKED static inline enum fq_status fq_seat_end(struct fq_handle *FQ_RESTRIC
 }
 
 #if defined(__GNUC__)
-/* Ends a poll of a card whose queue can be checked by `look`. Like fq_seat_end; and if the instance was released, unmasks the card,
- * looks after a memory fence, and if something is there requests a poll itself, masks the card and queues the instance. Without this
- * look an edge-triggered interrupt is lost. If FQ_BIT_THREADED was set meanwhile, it is queued for its thread: wake it after
- * FQ_NEXT_AGAIN_THREAD. Returns what fq_seat_end does. */
+/* Ends a poll of a card whose queue can be checked by `look`. Like fq_seat_end; and if the instance was released, unmasks the card, and
+ * looks after a memory fence. If there is something to poll, it requests a poll itself, masks the card and queues the instance. Without
+ * this look an edge-triggered interrupt would be lost. If FQ_BIT_THREADED was set meanwhile, the instance is queued for its thread: wake
+ * it after FQ_NEXT_AGAIN_THREAD. Returns what fq_seat_end returns. */
 FQ_CHECKED static inline enum fq_status fq_seat_end_watched(struct fq_handle *FQ_RESTRICT seat, bool full, const struct fq_card *FQ_RESTRICT card, uint32_t *FQ_RESTRICT next) {
     enum fq_status said = fq_seat_end(seat, full, next);
     if (said != FQ_OK || *next != FQ_NEXT_GONE) return said;
@@ -545,9 +546,9 @@ FQ_CHECKED static inline enum fq_status fq_seat_end_watched(struct fq_handle *FQ
 #endif
 
 /* Ends a poll of a card whose queue can't be checked. *work is the number of packets polled so far. If it is below `weight`, unmasks the
- * card while the seat still polls, polls the rest of the weight, adds that to *work, and ends like fq_seat_end, full or not. An
- * interrupt meanwhile is missed, so that one more poll follows; for that one, and if the poll was full, the card is masked. Returns
- * FQ_BAD_WEIGHT if the weight isn't 1 to 64, and nothing is done; otherwise what fq_seat_end does. */
+ * card while the seat still polls, polls the rest of the weight, adds that to *work, and ends like fq_seat_end, full or not. A request
+ * that comes meanwhile is missed, so that one more poll follows; for that poll, and if this one was full, the card is masked. Returns
+ * FQ_BAD_WEIGHT if the weight isn't 1 to 64, and nothing is done; otherwise what fq_seat_end returns. */
 FQ_CHECKED static inline enum fq_status fq_seat_end_unmasked(struct fq_handle *FQ_RESTRICT seat, const struct fq_card *FQ_RESTRICT card, size_t weight, size_t *FQ_RESTRICT work, uint32_t *FQ_RESTRICT next) {
     struct fq_counts counts; /* only for its status: FQ_OK if the seat polls */
     uint64_t word;
@@ -571,9 +572,10 @@ FQ_CHECKED static inline enum fq_status fq_seat_end_unmasked(struct fq_handle *F
     return fq_seat_hand_again(seat, next);
 }
 
-/* The calls of the controller. Off: enable (napi_enable). On: mark. Marked: try to take, until it returns FQ_TAKEN, and the instance is
- * off again (napi_disable). Request a poll once after each enable, by a seat (fq_seat_request), or enable by fq_control_open, which does
- * so: an earlier request was missed and isn't polled, and a masked card with a full ring would hang for ever. */
+/* The calls of the controller. If the instance is off: enable (napi_enable). If it is on: mark. If it is marked: try to take, until that
+ * returns FQ_TAKEN, and the instance is off again (napi_disable). Request a poll once after each enable, by a seat (fq_seat_request), or
+ * enable by fq_control_open, which does so: an earlier request was missed and isn't polled, and a masked card with a full ring would wait
+ * forever. */
 FQ_CHECKED enum fq_status fq_control_enable(struct fq_handle *control, bool threaded); /* FQ_OK, FQ_CHANGED */
 FQ_CHECKED enum fq_status fq_control_mark(struct fq_handle *control);                  /* FQ_OK */
 FQ_CHECKED enum fq_status fq_control_try_take(struct fq_handle *control);              /* FQ_TAKEN, FQ_BUSY, FQ_CHANGED */
@@ -589,7 +591,7 @@ FQ_CHECKED static inline enum fq_status fq_control_step(struct fq_handle *contro
         while (said == FQ_CHANGED);
         return said;
     }
-    const enum fq_status marked = fq_control_mark(control); /* not allowed if it is marked already, or off */
+    const enum fq_status marked = fq_control_mark(control); /* not allowed if the instance is marked already, or off */
     if (marked != FQ_OK && marked != FQ_NOT_ALLOWED) return marked;
     do said = fq_control_try_take(control);
     while (said == FQ_CHANGED);
@@ -617,20 +619,21 @@ struct fq_run_report {
 /* Makes a poll list for up to 64 numbers of devices; for more devices use more lists, for example one for each processor. A number
  * leaves the list when its poll ends with FQ_NEXT_GONE. Returns FQ_OK; FQ_IN_USE; FQ_OUT_OF_MEMORY. */
 FQ_CHECKED enum fq_status fq_list_new(struct fq_handle *list);
-/* Puts a number at the list's tail. Returns FQ_OK; FQ_IN_USE if it is on the list, or waits in the run over it; FQ_FULL if list and run
- * hold 64, including the one that is being polled: then end that poll with FQ_NEXT_AGAIN instead of a push. */
+/* Puts a number at the list's tail. Returns FQ_OK; FQ_IN_USE if it is on the list, or waits in the run over it; FQ_FULL if the list and
+ * its run hold 64, including the number that is being polled: then end that poll with FQ_NEXT_AGAIN instead of a push. */
 FQ_CHECKED enum fq_status fq_list_push(struct fq_handle *list, uint32_t id);
-/* Sets *len to how many numbers list and run hold, including the one that is being polled. Returns FQ_OK; FQ_BAD_HANDLE. */
+/* Sets *len to how many numbers the list and its run hold, including the one that is being polled. Returns FQ_OK; FQ_BAD_HANDLE. */
 FQ_CHECKED enum fq_status fq_list_len(struct fq_handle *FQ_RESTRICT list, uint32_t *FQ_RESTRICT len);
 /* Begins a run with a budget in packets, a weight in packets per poll, and a window in polls, as in struct fq_settings. Returns FQ_OK;
- * FQ_NOT_ALLOWED if a run is under way; FQ_BAD_WEIGHT; FQ_BAD_BUDGET. */
+ * FQ_NOT_ALLOWED if a run is in progress; FQ_BAD_WEIGHT; FQ_BAD_BUDGET. */
 FQ_CHECKED enum fq_status fq_run_begin(struct fq_handle *list, uint32_t budget, uint32_t weight, uint32_t window);
-/* Sets *id to the number to be polled next. Returns FQ_OK; FQ_NOT_ALLOWED without a run, or if the last poll wasn't reported; FQ_DONE. */
+/* Sets *id to the number to poll next. Returns FQ_OK; FQ_DONE if the run is over; FQ_NOT_ALLOWED without a run, or if the last poll
+ * wasn't reported. */
 FQ_CHECKED enum fq_status fq_run_next(struct fq_handle *FQ_RESTRICT list, uint32_t *FQ_RESTRICT id);
-/* Reports what the poll did: its packets, and how it ended (enum fq_next). Returns FQ_OK; FQ_NOT_ALLOWED; FQ_BAD_WORK above the weight;
- * FQ_BAD_NEXT; FQ_IN_USE if the number would be listed twice, and the poll still has to be reported. It isn't checked that
- * FQ_NEXT_REPOLL follows a whole weight, because a device may have its own weight, below the run's; nor that FQ_NEXT_ABSENT comes
- * without packets. */
+/* Reports the outcome of the poll: its packets, and how it ended (enum fq_next). Returns FQ_OK; FQ_NOT_ALLOWED; FQ_BAD_WORK above the
+ * weight; FQ_BAD_NEXT; FQ_IN_USE if the number would be listed twice, and the poll still has to be reported. It isn't checked that
+ * FQ_NEXT_REPOLL follows a whole weight, because a device may have its own weight, below the run's; nor that FQ_NEXT_ABSENT comes without
+ * packets. */
 FQ_CHECKED enum fq_status fq_run_polled(struct fq_handle *list, uint32_t work, uint32_t next);
 /* Ends the run, and sets *report. The numbers that weren't polled, and those to be polled again, are on the list. Returns FQ_OK;
  * FQ_NOT_ALLOWED. */
@@ -663,21 +666,21 @@ FQ_CHECKED enum fq_status fq_run_end(struct fq_handle *FQ_RESTRICT list, struct 
 enum fq_what FQ_NUMBER {
     FQ_TODO_SLEEP = 0,  /* nothing, until the next interrupt, open or stop */
     FQ_TODO_MASK = 1,   /* mask the interrupt of the device's card */
-    FQ_TODO_UNMASK = 2, /* unmask it */
+    FQ_TODO_UNMASK = 2, /* unmask the interrupt of the device's card */
     FQ_TODO_LOOK = 3,   /* look whether the card has packets, and set `packets` to how many, or to 1 if it has any, or to 0: after a full
                          * memory fence, if the card works at the same time */
     FQ_TODO_FETCH = 4,  /* take packets from the card, at most `most` of them, deliver them, and set `packets` to how many */
-    FQ_TODO_ENDED = 5   /* a run ended, with the report `run` (net_rx_action): do other work first if there is some */
+    FQ_TODO_ENDED = 5   /* a run ended, with the report `run` (net_rx_action): do other work first, if there is some */
 };
 
 struct fq_todo {
     size_t size;              /* sizeof(struct fq_todo): set by the caller, once (FQ_TODO_INIT), since the struct may grow */
-    uint64_t number;          /* by which it is reported: each thing that is said has another one; 0 if there is nothing to report */
-    uint32_t what;            /* enum fq_what */
+    uint64_t number;          /* the number under which to report it: each action has another one; 0 if there is nothing to report */
+    uint32_t what;            /* what has to be done: a number of enum fq_what */
     uint32_t device;          /* 0 for FQ_TODO_SLEEP and FQ_TODO_ENDED */
     uint32_t most;            /* the packets that a fetch may take, the driver's weight; 0 for anything else */
     uint32_t packets;         /* 0 at first; the caller sets it after a look and a fetch */
-    struct fq_run_report run; /* of the run that ended; all 0 for anything else */
+    struct fq_run_report run; /* the report of the run that ended; all 0 for anything else */
 };
 
 #define FQ_TODO_INIT {sizeof(struct fq_todo), 0, FQ_TODO_SLEEP, 0, 0, 0, {0, 0, false}}
@@ -701,16 +704,16 @@ FQ_CHECKED enum fq_status fq_driver_stop(struct fq_handle *driver, uint32_t devi
  * interrupt without packets costs one empty poll. */
 FQ_CHECKED enum fq_status fq_driver_interrupt(struct fq_handle *driver, uint32_t device);
 
-/* Sets *todo to what has to be done now. It says the same, with the same number, until that is reported or is no longer due. Returns
- * FQ_OK; FQ_BAD_SIZE if todo->size is too small, and *todo is unchanged; FQ_BAD_HANDLE, and *todo says to sleep. The status may be
- * ignored if `size` and handle are right. */
+/* Sets *todo to what has to be done now. It is the same action, with the same number, until that is reported or isn't due any more.
+ * Returns FQ_OK; FQ_BAD_SIZE if todo->size is too small, and *todo is unchanged; FQ_BAD_HANDLE, and *todo is set to sleep. The status may
+ * be ignored if `size` and the handle are right. */
 FQ_NONNULL enum fq_status fq_driver_next(struct fq_handle *FQ_RESTRICT driver, struct fq_todo *FQ_RESTRICT todo);
 
-/* Reports that what *todo says was done, with todo->packets; only todo->number and todo->packets are read. Do it before the next call of
- * fq_driver_next, or not at all: what isn't reported is said again. Returns FQ_OK; FQ_NOT_DUE: the driver doesn't wait for this report
- * any more, because of an interrupt, an open, a stop or an earlier report, and fq_driver_next says what is due instead, so the status may
- * be ignored; FQ_BAD_WORK if a fetch took more than `most`; FQ_BAD_SIZE if todo->size is too small; FQ_BAD_HANDLE. Nothing changes unless
- * it returns FQ_OK. */
+/* Reports that the action in *todo was done, with todo->packets; only todo->number and todo->packets are read. Call it before the next
+ * call of fq_driver_next, or not at all: an action that isn't reported is returned again. Returns FQ_OK; FQ_NOT_DUE: the driver doesn't
+ * wait for this report any more, because of an interrupt, an open, a stop or an earlier report, and fq_driver_next says what is due
+ * instead, so the status may be ignored; FQ_BAD_WORK if a fetch took more than `most`; FQ_BAD_SIZE if todo->size is too small;
+ * FQ_BAD_HANDLE. Nothing changes unless it returns FQ_OK. */
 FQ_NONNULL enum fq_status fq_driver_done(struct fq_handle *FQ_RESTRICT driver, const struct fq_todo *FQ_RESTRICT todo);
 
 /* The states of a device. */
@@ -718,31 +721,31 @@ enum fq_device_state FQ_NUMBER { FQ_DEVICE_CLOSED = 0, FQ_DEVICE_OPEN = 1, FQ_DE
 
 struct fq_device_shown {
     size_t size;      /* sizeof(struct fq_device_shown): set by the caller */
-    uint32_t state;   /* enum fq_device_state */
-    bool scheduled;   /* a poll is requested, and isn't completed (NAPI_STATE_SCHED); set for a closed device too, as in the kernel */
-    bool missed;      /* an interrupt came meanwhile (NAPI_STATE_MISSED) */
-    uint64_t polls;   /* fetches that were reported; saturates */
-    uint64_t packets; /* the packets of these; saturates */
+    uint32_t state;   /* the device's state: a number of enum fq_device_state */
+    bool scheduled;   /* whether a poll is requested and isn't completed (NAPI_STATE_SCHED); set for a closed device too, as in the kernel */
+    bool missed;      /* whether an interrupt came meanwhile (NAPI_STATE_MISSED) */
+    uint64_t polls;   /* how many fetches were reported; saturates */
+    uint64_t packets; /* the packets of these fetches; saturates */
 };
 
 /* Sets *shown to the state of a device and the counts of its polls. Returns FQ_OK; FQ_BAD_SIZE if shown->size is too small;
  * FQ_BAD_DEVICE; FQ_BAD_HANDLE. *shown is unchanged unless it returns FQ_OK. */
 FQ_CHECKED enum fq_status fq_driver_show(struct fq_handle *FQ_RESTRICT driver, uint32_t device, struct fq_device_shown *FQ_RESTRICT shown);
 
-/* ---- A word of pending bits. Only its poller uses a list: another thread raises the bit of a device in such a word, and wakes the
- * poller, which takes all bits and pushes their numbers. All operations are sequentially consistent. */
+/* ---- A word of pending bits. Only its poller uses a list: another thread sets the bit of a device in such a word, and wakes the poller,
+ * which takes all bits and pushes their numbers. All operations are sequentially consistent. */
 
 struct fq_word {
     uint64_t private_bits; /* 0 at first */
 };
 
 #if defined(__GNUC__)
-/* Raises a bit, 0 to 63, and returns whether the word was 0: then the poller has to be woken. */
+/* Sets a bit, 0 to 63, and returns whether the word was 0: then the poller has to be woken. */
 FQ_NONNULL static inline bool fq_word_raise(struct fq_word *word, uint32_t bit) {
     return __atomic_fetch_or(&word->private_bits, UINT64_C(1) << (bit & 63), __ATOMIC_SEQ_CST) == 0;
 }
 
-/* Returns whether any bit is raised: the poller checks it before it sleeps. */
+/* Returns whether any bit is set: the poller checks this before it sleeps. */
 FQ_NONNULL static inline bool fq_word_any(const struct fq_word *word) { return __atomic_load_n(&word->private_bits, __ATOMIC_SEQ_CST) != 0; }
 
 /* Takes all bits: returns the word, and sets it to 0. */
@@ -791,23 +794,23 @@ struct fq_machine_settings {
     uint32_t queues;            /* queues of a device, 1 to 64, chosen by the flow (ethtool -L) */
     uint32_t ring;              /* packets that a ring holds, 1 to 65536 (ethtool -G); with a backlog net.core.netdev_max_backlog plus 1 */
     uint32_t socket;            /* packets that a processor's socket holds, 1 to 65536 (SO_RCVBUF) */
-    uint32_t backlog;           /* flag: the backlog of a processor, as of RPS (process_backlog) */
-    uint32_t budget;            /* packets that a run polls, 0 to 65535 (net.core.netdev_budget); 0: an interrupt for each packet */
+    uint32_t backlog;           /* flag: queues are processors' backlogs, as with RPS (process_backlog) */
+    uint32_t budget;            /* packets that a run polls before it is squeezed, 0 to 65535 (net.core.netdev_budget); 0: an interrupt for each packet */
     uint32_t weight;            /* packets that one poll takes at most, 1 to 64; of a backlog net.core.dev_weight */
-    uint32_t window;            /* polls that a run makes, 1 to 65535; Linux has no such limit */
-    uint32_t time_limit;        /* the time after which a run ends, from 1 (net.core.netdev_budget_usecs, in us there) */
-    uint32_t rx_nsecs;          /* from a packet to its interrupt (ethtool -C rx-usecs, in us there) */
-    uint32_t rx_frames;         /* packets at which it comes earlier, 0 to 65535; 0: none (ethtool -C rx-frames) */
-    uint32_t defer_hard_irqs;   /* polls without packets before interrupts are enabled again, 0 to 65535 (napi_defer_hard_irqs) */
-    uint32_t gro_flush_timeout; /* the time between such polls (gro_flush_timeout) */
-    uint32_t threaded;          /* flag: threads poll (/sys/class/net/DEV/threaded) */
+    uint32_t window;            /* polls that a run makes before it is squeezed, 1 to 65535; Linux has no such limit */
+    uint32_t time_limit;        /* the time after which a run is squeezed, from 1 (net.core.netdev_budget_usecs, which is in us) */
+    uint32_t rx_nsecs;          /* how long a card delays its interrupt (ethtool -C rx-usecs, which is in us) */
+    uint32_t rx_frames;         /* packets at which the interrupt comes before that time, 0 to 65535; 0: none (ethtool -C rx-frames) */
+    uint32_t defer_hard_irqs;   /* how often a queue stays masked after a poll without packets, 0 to 65535 (napi_defer_hard_irqs) */
+    uint32_t gro_flush_timeout; /* the time until such a queue is polled again (gro_flush_timeout) */
+    uint32_t threaded;          /* flag: each queue is polled by its own thread (/sys/class/net/DEV/threaded) */
     uint32_t apart;             /* flag: the application has a processor of its own (taskset) */
-    uint32_t app_wake;          /* what waking the application there takes */
-    uint32_t interrupt;         /* what an interrupt takes */
-    uint32_t poll;              /* what a poll takes without its packets */
-    uint32_t packet;            /* what a packet takes in a poll */
-    uint32_t use_time;          /* what the application takes for a packet */
-    uint32_t wake;              /* what waking an idle processor takes */
+    uint32_t app_wake;          /* the time to wake the application on its own processor */
+    uint32_t interrupt;         /* the time of an interrupt */
+    uint32_t poll;              /* the time of a poll before its first packet */
+    uint32_t packet;            /* the time of each packet of a poll */
+    uint32_t use_time;          /* the time that the application takes for a packet */
+    uint32_t wake;              /* the time to wake an idle processor */
 };
 
 struct fq_machine_ran {
@@ -815,7 +818,7 @@ struct fq_machine_ran {
     size_t length;    /* the length of the report in bytes, even if there is no room for it; 0 if there is none */
     uint64_t row;     /* the row that the fault of the arrivals names, counted from 1; 0 if it names none */
     uint32_t fault;   /* the number of that fault, 1 to 8; 0 if they have none */
-    uint32_t setting; /* the setting that is out of its range: 1 for processors, 2 for queues ..; 0 if none is */
+    uint32_t setting; /* the setting that is out of its range: 1 for processors, 2 for queues and so on; 0 if none is */
     char message[64]; /* the message of the fault of the arrivals, as napi_machine prints it, with a terminating 0; otherwise empty */
 };
 

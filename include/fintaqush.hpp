@@ -40,10 +40,10 @@ using Answers = fq_answers;
 }
 
 namespace detail {
-// Discards the status of a call that the type allows: it says nothing more.
+// Discards the status of a call that always succeeds in the state that the type guarantees.
 inline void made(std::uint32_t) noexcept {}
 
-// Callbacks of fq_card over a card's member functions, which don't throw.
+// The callbacks of fq_card, over a card's member functions, which don't throw.
 template <class Card>
 void mask(void *at) noexcept { static_cast<Card *>(at)->mask(); }
 template <class Card>
@@ -82,11 +82,11 @@ public:
     Word() = default;
     Word(const Word &) = delete;
     Word &operator=(const Word &) = delete;
-    // Raises a bit, 0 to 63, and returns whether the word was 0: then the poller has to be woken.
+    // Sets a bit, 0 to 63, and returns whether the word was 0: then the poller has to be woken.
     [[nodiscard]] bool raise(std::uint32_t bit) noexcept { return fq_word_raise(&raw_, bit); }
     // Takes all bits: returns the word, and sets it to 0.
     [[nodiscard]] std::uint64_t take() noexcept { return fq_word_take(&raw_); }
-    // Returns whether any bit is raised.
+    // Returns whether any bit is set.
     [[nodiscard]] bool any() const noexcept { return fq_word_any(&raw_); }
 
 private:
@@ -185,8 +185,8 @@ public:
     [[nodiscard]] Status hand(std::uint32_t who, Kind kind) { return Status(fq_napi_hand(&raw_, who, kind)); }
     [[nodiscard]] Status take(std::uint32_t who, Kind kind) { return Status(fq_napi_take(&raw_, who, kind)); }
     [[nodiscard]] Status complete(std::uint32_t who) { return Status(fq_napi_complete(&raw_, who)); }
-    // Ends a poll as the kernel does, full or not (fq_napi_end). Returns FQ_OK, and next is what a run takes: after FQ_NEXT_AGAIN_THREAD
-    // wake the thread; FQ_HELD: the caller keeps polling; FQ_NOT_ALLOWED.
+    // Ends a poll as the kernel does, full or not (fq_napi_end). Returns FQ_OK, and sets next to the outcome for a run: after
+    // FQ_NEXT_AGAIN_THREAD wake the thread; FQ_HELD if the caller keeps polling; FQ_NOT_ALLOWED.
     [[nodiscard]] Status end(std::uint32_t who, bool full, fq_next &next) {
         std::uint32_t number = FQ_NEXT_GONE;
         const Status said = fq_napi_end(&raw_, who, full, &number);
@@ -227,9 +227,10 @@ struct Scheduled;
 using Took = std::variant<Caller, Polling>;
 // The result of busy: the busy poller, or the caller if the instance isn't idle.
 using TookBusy = std::variant<Caller, Busy>;
-// The result of complete: the caller at rest, or the grant of another poll if a request was missed.
+// The result of complete: the caller, which owns nothing now, or the grant of another poll if a request was missed.
 using Completed = std::variant<Caller, Granted>;
-// The result of end: the caller at rest with what a run takes, or the poller if it keeps polling, after a thread's full poll.
+// The result of end: the caller, which owns nothing now, with the outcome for a run; or the poller if it keeps polling, after a
+// thread's full poll.
 struct Ended;
 using End = std::variant<Ended, Polling>;
 
@@ -277,7 +278,7 @@ protected:
 };
 } // namespace detail
 
-// A caller at rest.
+// A caller that owns nothing.
 class [[nodiscard]] Caller : public detail::Seat {
 public:
     [[nodiscard]] Scheduled schedule() && noexcept;
@@ -286,16 +287,17 @@ public:
     [[nodiscard]] TookBusy busy() && noexcept;
     // Handles an interrupt: schedules, and queues the instance if granted. Returns FQ_GRANTED, FQ_MISSED or FQ_DISABLED.
     [[nodiscard]] Status interrupt(Kind kind) { return Status(fq_seat_interrupt(at_.raw(), kind)); }
-    // The same, with card.mask() after the grant and before the instance is queued.
+    // Like interrupt, with card.mask() after the grant and before the instance is queued.
     template <class Card>
     [[nodiscard]] Status interrupt(Kind kind, Card &card) {
         const fq_card calls = {&card, detail::mask<Card>, nullptr, nullptr, nullptr};
         return Status(fq_seat_interrupt_masked(at_.raw(), kind, &calls));
     }
-    // The same, but reads the kind from the state word: for an interrupt, a timer, a driver's open (fq_seat_request).
+    // Like interrupt with a card, but reads the kind from the state word: for an interrupt, a timer, a driver's open
+    // (fq_seat_request).
     template <class Card>
     Requested request(Card &card) { return request_by({&card, detail::mask<Card>, nullptr, nullptr, nullptr}); }
-    // The same for a card that is masked already, or never.
+    // Like request with a card, for a card that is masked already, or is never masked.
     Requested request() { return request_by({nullptr, nullptr, nullptr, nullptr, nullptr}); }
     // Sets whether polls are queued for the instance's own thread (dev_set_threaded).
     void set_threaded(bool threaded) { detail::made(fq_seat_set_threaded(at_.raw(), threaded)); }
@@ -336,12 +338,12 @@ public:
     }
     // Ends the poll as the kernel does (fq_seat_end); full says that it returned its whole weight.
     [[nodiscard]] End end(bool full) && noexcept;
-    // The same for a card whose queue can be checked (fq_seat_end_watched): calls card.unmask(), look() and mask(), which don't throw. It
-    // may queue the instance for its thread: wake it after FQ_NEXT_AGAIN_THREAD.
+    // Like end, for a card whose queue can be checked (fq_seat_end_watched): calls card.unmask(), look() and mask(), which
+    // don't throw. The instance may be queued for its thread: wake it after FQ_NEXT_AGAIN_THREAD.
     template <class Card>
     [[nodiscard]] End end_watched(bool full, Card &card) && noexcept;
-    // The same for a card whose queue can't be checked (fq_seat_end_unmasked), after work packets were polled: calls card.unmask(),
-    // poll(most) and mask().
+    // Like end, for a card whose queue can't be checked (fq_seat_end_unmasked), after work packets were polled: calls
+    // card.unmask(), poll(most) and mask().
     template <class Card>
     [[nodiscard]] End end_unmasked(Card &card, Weight weight, std::size_t &work) && noexcept;
     [[nodiscard]] Completed complete() && noexcept {
@@ -438,7 +440,7 @@ struct Off {};
 struct On {};
 struct Marked {};
 
-// The controller, by its state.
+// The controller of an instance, by its state.
 template <class State>
 class Control;
 
@@ -494,7 +496,7 @@ private:
 template <>
 class [[nodiscard]] Control<Marked> {
 public:
-    // Takes the instance if no caller owns it; otherwise returns this object again.
+    // Takes the instance if no caller owns it; otherwise returns the controller unchanged.
     [[nodiscard]] std::variant<Control<Marked>, Control<Off>> try_take() && noexcept {
         std::uint32_t said;
         do said = fq_control_try_take(at_.raw());
@@ -616,7 +618,7 @@ private:
 };
 
 namespace detail {
-// Returns 2 to 8 seats as callers. Their vector is allocated before they are made, so that none is lost if memory runs out.
+// Returns 2 to 8 callers. Their vector is allocated before the library makes them, so that none is lost if memory runs out.
 template <class Make, class ToCaller>
 std::optional<std::vector<Caller>> callers(std::size_t count, Make make, ToCaller to_caller) {
     if (count < 2 || count > 8) return std::nullopt;
@@ -672,11 +674,11 @@ struct [[nodiscard]] Bare {
 // The result of a push: FQ_OK, FQ_IN_USE or FQ_FULL.
 struct [[nodiscard]] Pushed {
     Status status;
-    // Returns whether it was listed.
+    // Returns whether the number was pushed.
     operator bool() const noexcept { return status == FQ_OK; }
 };
 
-// The result of a run: FQ_OK, or why it ended early, and the report of what it did until then.
+// The result of a run: FQ_OK, or the reason for which it ended early, and the report of what it did until then.
 struct [[nodiscard]] Ran {
     Status status;
     fq_run_report report;
@@ -698,9 +700,10 @@ public:
         return std::optional<List>(List(std::move(at)));
     }
 
-    // Puts a number at the list's tail. Returns FQ_IN_USE if it is listed already, FQ_FULL if list and run hold 64.
+    // Puts a number at the list's tail. Returns FQ_OK; FQ_IN_USE if it is listed already; FQ_FULL if the list and its run hold
+    // 64.
     Pushed push(std::uint32_t id) { return {fq_list_push(at_.raw(), id)}; }
-    // Returns how many numbers list and run hold.
+    // Returns how many numbers the list and its run hold.
     [[nodiscard]] std::uint32_t size() {
         std::uint32_t len = 0;
         detail::made(fq_list_len(at_.raw(), &len));
@@ -726,7 +729,7 @@ public:
     }
 
 private:
-    // A run under way, which ends with its scope. A call fails, and changes nothing, if there is nothing left to end.
+    // A run in progress, which ends with its scope. A call fails, and changes nothing, if there is nothing left to end.
     struct Run {
         fq_handle *at;
         fq_run_report report;
@@ -749,8 +752,8 @@ private:
 using Todo = fq_todo;
 using DeviceShown = fq_device_shown;
 
-// A driver of up to 64 devices on one thread: their instances, the poll list and the runs over it. It says what has to be done at a card,
-// and no order of calls leaves a packet unseen.
+// A driver of up to 64 devices on one thread: their instances, the poll list and the runs over it. It returns what has to be
+// done at a card. In no order of calls does a packet wait unseen.
 class [[nodiscard]] Driver {
 public:
     // Makes a driver, all devices closed; returns nullopt if there aren't 1 to 64 of them, budget or window isn't 1 to 65535, or memory
@@ -768,19 +771,19 @@ public:
     // Reports an interrupt of a card: FQ_GRANTED, FQ_MISSED, FQ_DISABLED or FQ_BAD_DEVICE.
     Status interrupt(std::uint32_t device) { return Status(fq_driver_interrupt(at_.raw(), device)); }
 
-    // Returns what has to be done now. What isn't reported is said again.
+    // Returns what has to be done now. An action that isn't reported is returned again.
     [[nodiscard]] Todo next() {
         Todo todo FQ_TODO_INIT;
         fq_driver_next(at_.raw(), &todo);
         return todo;
     }
-    // Reports that it was done, after a look and a fetch with todo.packets. Returns FQ_OK; FQ_NOT_DUE if it wasn't due any more;
-    // FQ_BAD_WORK if a fetch took more than todo.most.
+    // Reports that an action was done; after a look and a fetch set todo.packets before. Returns FQ_OK; FQ_NOT_DUE if the
+    // action isn't due any more; FQ_BAD_WORK if a fetch took more than todo.most.
     Status done(const Todo &todo) { return Status(fq_driver_done(at_.raw(), &todo)); }
 
-    // Does one thing at a card: calls mask(device), unmask(device), look(device), which returns whether it has packets, or
-    // fetch(device, most), which takes and delivers packets and returns how many. Returns what was done, or that there is nothing to do,
-    // or that a run ended. If a call throws, nothing is reported, and the same is due again.
+    // Does one action at a card: calls mask(device), unmask(device), look(device), which returns whether the card has packets,
+    // or fetch(device, most), which takes and delivers packets and returns how many. Returns the action, or that there is
+    // nothing to do, or that a run ended. If a call throws, nothing is reported, and the same action is due again.
     template <class Cards>
     Todo step(Cards &cards) {
         Todo todo = next();
@@ -795,7 +798,7 @@ public:
         return todo;
     }
 
-    // Returns the state of a device and the counts of its polls; nullopt for a number of none.
+    // Returns the state of a device and the counts of its polls; nullopt if there is no such device.
     [[nodiscard]] std::optional<DeviceShown> shown(std::uint32_t device) {
         DeviceShown shown{};
         shown.size = sizeof shown;
@@ -837,8 +840,8 @@ struct MachineSettings : fq_machine_settings {
     MachineSettings() noexcept : fq_machine_settings{} { detail::made(fq_machine_usual(this, sizeof(fq_machine_settings))); }
 };
 
-// Why the machine returned no report: its status; for FQ_BAD_SETTING which one, from 1; for FQ_BAD_ARRIVALS the number of the fault of
-// the arrivals, its row, and the message of napi_machine.
+// Why the machine returned no report: its status; for FQ_BAD_SETTING the setting's number, from 1; for FQ_BAD_ARRIVALS the
+// number of the fault of the arrivals, its row, and the message of napi_machine.
 struct MachineFault {
     std::uint32_t status, setting, fault;
     std::uint64_t row;

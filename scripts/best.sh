@@ -4,8 +4,8 @@
 bench=$(cd "$(dirname "$0")" && pwd)
 . "$bench/../scripts/arguments.sh"
 
-# begin VARIABLE CRATE: sets `program` to the one that this variable names, or to the crate's, which is built; `scratch` has
-# measure, and is removed at the end.
+# begin VARIABLE CRATE: sets `program` to the program that this variable names, otherwise to that of the crate, which is built
+# first; `scratch` has measure, and is removed at the end.
 begin() {
     is_count TURNS "$turns"
     is_tool cc
@@ -17,7 +17,7 @@ begin() {
     cc -O2 -o "$scratch/measure" "$bench/measure.c"
 }
 
-# The least of the first column, the greatest of the second one, and the last status.
+# best: prints the least value of the first column, the greatest of the second one, and the last status
 best() {
     awk 'NR == 1 || $1 < least { least = $1 } $2 > most { most = $2 } END { print least, most, $3 }' "$1"
 }

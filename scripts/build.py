@@ -48,13 +48,13 @@ class Sums(dict):
             return self[at][3]
         with open(path, "rb") as file:
             sum = hashlib.sha256(file.read()).hexdigest()
-        # A file that was changed just now may be changed again within the resolution of its times.
+        # a file that was changed just now may be changed again without a change of its time, because times have a resolution
         if time.time_ns() - max(state[:2]) > 10**9:
             self[at], self.is_changed = [*state, sum], True
         return sum
 
     def keep(self):
-        """Keeps them for later calls, if this one may write."""
+        """Keeps the checksums for later calls, if this call may write."""
         if self.is_changed:
             with contextlib.suppress(OSError):
                 with open(f"{self.kept}.{os.getpid()}", "w", encoding="utf-8") as file:
@@ -64,7 +64,7 @@ class Sums(dict):
 
 
 class Stop(Exception):
-    """The end of a call: its status, and its message on standard error."""
+    """The end of a call: its status, and its message for standard error."""
 
 
 def read(path):
@@ -73,7 +73,7 @@ def read(path):
 
 
 def write(text, end=1):
-    """Writes all of it, and returns whether that succeeded."""
+    """Writes the whole text, and returns whether that succeeded."""
     with contextlib.suppress(OSError), open(end, "wb", closefd=False) as file:
         file.write(text)
         return True
@@ -109,7 +109,8 @@ def end_by(call):
 
 
 def child(memory=0):
-    """What a child process does first: it ends with its parent, however that ends, and its memory is limited to this many MiB."""
+    """What a child process does first: it arranges to end with its parent, however the parent ends, and limits its memory to this many
+    MiB."""
     LIBC.prctl(1, signal.SIGTERM)  # PR_SET_PDEATHSIG
     with contextlib.suppress(OSError):  # else the prover's processes wake, and stop, each other all the time
         os.sched_setscheduler(0, os.SCHED_BATCH, os.sched_param(0))
@@ -123,7 +124,7 @@ def child(memory=0):
 
 @functools.cache
 def kit():
-    """The folder of the toolchain."""
+    """Returns the folder of the toolchain."""
     if not shutil.which("rt"):
         raise Stop(69, "there is no rt on PATH, which proves and builds the program: see 'What it needs' in README.md")
     return os.path.dirname(subprocess.run(["rt", "doc"], stdout=subprocess.PIPE, text=True, check=False).stdout.strip())
@@ -136,7 +137,7 @@ def sums():
 
 @functools.cache
 def crates():
-    """The crates of crates.txt by their names, or the programs of an installation."""
+    """Returns the crates of crates.txt by their names, or the programs of an installation."""
     if INSTALLED:
         return {name: Installed(name) for name in os.listdir(f"{TOP}/programs")}
     rows = re.findall(r"^ *(\w+)([^#:\n]*):([^#\n]*)", read(f"{TOP}/crates.txt"), re.M)
@@ -167,11 +168,11 @@ class Crate:
 
     @functools.cached_property
     def all(self):
-        """Its dependencies in this checkout, lowest first, and itself."""
+        """Returns its dependencies in this checkout, lowest first, and itself."""
         return [*dict.fromkeys(it for name in self.uses if name in crates() for it in crates()[name].all), self]
 
     def texts(self):
-        """The paths of its files in its folder."""
+        """Returns the paths of its files in its folder."""
         return sorted(os.path.relpath(f"{at}/{name}", self.folder) for part in ("src", "specs", "proofs")
                       for at, _, names in os.walk(f"{self.folder}/{part}") for name in names)
 
@@ -198,21 +199,21 @@ class Crate:
         return sum_of([*(it.sources for it in self.all), *made])
 
     def is_built(self):
-        """Whether what was built was made from these sources."""
+        """Returns whether its files were built from these sources."""
         try:
             return read(f"{self.made}.sum") == self.sum()
         except OSError:
             return False
 
     def stands(self, times):
-        """Records that what was built was made from these sources, unless one of its files, or of a library below it, has changed since
-        these times."""
+        """Records that its files were built from these sources, unless one of them, or of a library below it, has changed since these
+        times."""
         if self.own() == self.sources and self.times() == times and all(it.is_built() for it in self.all[:-1]):
             with open(f"{self.made}.sum", "w", encoding="utf-8") as file:
                 file.write(self.sum())
 
     def words(self, verb, jobs):
-        """The prover's command that checks or builds it by this many processes, with the libraries that are built."""
+        """Returns the prover's command that checks or builds it with this many processes, over the libraries that are built."""
         root, at = "src/main.rt" if self.is_program else "src/lib.rt", kit()
         words = [f"{at}/bin/rattle", verb, "--crate-name", self.name, root, "--jobs", str(jobs), "-L", f"dependency={BUILT}"]
         words += ["--antt-project", f"{at}/rattle/logic/antt-project.json", "--logic-built", f"{at}/logic_built"]
@@ -220,7 +221,7 @@ class Crate:
         return [*words, "-L", f"dependency={at}/rlibs", *(word for it in uses for word in ("--extern", it))]
 
     def begin(self, jobs, place):
-        """Starts to prove and to build it, by this many processes, with a lower priority than those of a crate before it."""
+        """Starts to prove and build it, with this many processes, at a lower priority than that of crates before it."""
         command = [*self.words("build", jobs), "-o", f"{self.made}.new", *["--crate-type", "staticlib"] * self.is_archive]
         command += ["--statements"] if self.is_library else ["--toolchain", f"{kit()}/toolchain", "--backend", "llvm"]
         self.begun = self.times()
@@ -229,7 +230,7 @@ class Crate:
             return subprocess.Popen(command, preexec_fn=lambda: (os.nice(min(4 * place, 19)), child()), **how)
 
     def end(self, status):
-        """Moves what was built into place. If a source has changed meanwhile, the next call builds it again."""
+        """Moves the built files into place. If a source has changed meanwhile, the next call builds the crate again."""
         new = f"{self.made}.new"
         if status == 0 and self.is_program:
             os.replace(new, f"{BUILT}/{self.name}.o")
@@ -245,7 +246,8 @@ class Crate:
 
 
 def to_build(asked):
-    """Which of these crates and of those below them have to be built, that of the longest chain upwards first."""
+    """Returns which of these crates and of those below them have to be built; the crate with the longest chain of crates above it comes
+    first."""
     every, chain = [], {}
     for crate in dict.fromkeys(it for crate in asked for it in crate.all):
         if not crate.is_built() or any(it in every for it in crate.all):
@@ -256,7 +258,8 @@ def to_build(asked):
 
 
 def time_left(every, left, seconds):
-    """The time that is left, by the sizes of the crates that were built; those in progress count half. Nothing before the first."""
+    """Estimates the time that is left from the sizes of the crates that were built; those in progress count half. Returns None before the
+    first one is built."""
     sizes = {it: it.size or 1 for it in every}
     at_work = sum(sizes[it] for it in AT_WORK)
     built = sum(sizes.values()) - sum(sizes[it] for it in left) - at_work
@@ -265,12 +268,12 @@ def time_left(every, left, seconds):
 
 
 def prove(asked, beside):
-    """Proves and builds these crates, and those below them, if that isn't done, and calls `beside` again and again meanwhile."""
+    """Proves and builds these crates, and those below them, as far as that isn't done; meanwhile calls `beside` again and again."""
     names, since, left = " and ".join(it.name for it in asked), time.time_ns(), to_build(asked)
     every, processors = left, len(os.sched_getaffinity(0))
     lanes = min(max(int(re.search(r"MemAvailable: *(\d+)", read("/proc/meminfo"))[1]) // 2_500_000, 1), processors)  # kB of a check
     say(f"proving and building {names} and what they stand on, {len(every)} crates: on 4 cores some {len(every) // 3 + 1} minutes")
-    # Old libraries aren't used with new sources, nor those built with other libraries than the present ones.
+    # old libraries aren't used with new sources, nor libraries that were built with others than the present ones
     old = [it.made for it in crates().values() if not {*every}.isdisjoint(it.all) and (it.is_library or it in every)]
     subprocess.run(["rm", "-rf", *old, *(f"{it}.sum" for it in old)], check=False)
     while left or AT_WORK:
@@ -281,8 +284,8 @@ def prove(asked, beside):
             else:
                 crate.end(status)
         ready = [it for it in left if {*left, *AT_WORK}.isdisjoint(it.all[:-1])][: max(lanes - len(AT_WORK), 0)]
-        # Each by several processes, for which memory was counted: what one leaves idle at its end, the others use. The one of the longest
-        # chain has as many as there are processors, because the others wait for it in the end.
+        # each crate by several processes, for which memory was counted: when one crate leaves some idle at its end, others use them; the
+        # crate with the longest chain above it gets as many as there are processors, because the others wait for it in the end
         few = max(2, 6 - len(AT_WORK) - len(ready))
         for crate in ready:
             place = every.index(crate)
@@ -313,8 +316,8 @@ def lock(file, beside):
 
 
 def build(names, beside=lambda: None):
-    """Ensures that they are built. Only one build runs at a time in a checkout: a second one waits, and mostly finds all built then.
-    While it waits, `beside` is called again and again."""
+    """Ensures that these crates are built. Only one build runs at a time in a checkout: a second one waits, and mostly finds everything
+    built. While it waits, it calls `beside` again and again."""
     if unknown := [it for it in names if it not in crates()]:
         raise Stop(64, f"there is no crate {unknown[0]!r} in crates.txt")
     asked = [it for it in map(crates().get, names) if not it.is_built()]

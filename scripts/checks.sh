@@ -1,6 +1,6 @@
 #!/usr/bin/env bash
-# For tests to source, which have their own folder in `scratch`, and the repository in `top`: counts checks, and skipped ones.
-# Their sum is the last line.
+# Sourced by tests, which have their own folder in `scratch` and the repository in `top`: counts checks and skipped tests, and
+# prints their sums as the last line.
 passed=0
 failed=0
 skipped=0
@@ -18,8 +18,8 @@ check() {
     fi
 }
 
-# skip WHAT NEED ..: counts a skipped test, because these are missing, with the Debian packages that have them. Each of them is
-# in tests/needs.txt.
+# skip WHAT NEED ..: counts a skipped test, and prints the programs that are missing, with the Debian packages that have them.
+# Each of them is in tests/needs.txt.
 skip() {
     local what=$1 need packages line
     shift
@@ -37,14 +37,14 @@ skip() {
     echo "$line"
 }
 
-# has PROGRAM WHAT: whether it is installed; otherwise the test that needs it is skipped.
+# has PROGRAM WHAT: returns whether the program is installed; if not, the test WHAT, which needs it, is skipped.
 has() {
     command -v "$1" > /dev/null && return
     skip "$2" "$1"
     return 1
 }
 
-# header_calls: the calls that the C header declares and the library exports, without those that are inline.
+# header_calls: prints the calls that the C header declares and the library exports, without the inline ones.
 header_calls() {
     awk '/static inline/ { next } match($0, /fq_[a-z_]+\(/) && /^(FQ_|struct |uint|size_t)/ {
         print substr($0, RSTART, RLENGTH - 1) }' "$top/include/fintaqush.h" | sort

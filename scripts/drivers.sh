@@ -1,4 +1,4 @@
-# For tests of examples/DRIVER to source, after scripts/checks.sh: `driver` is its name, and `top` the repository.
+# Sourced by tests of examples/DRIVER, after scripts/checks.sh: `driver` is its name, and `top` the repository.
 over=0
 
 # build NAME [FLAG ..]: builds the driver with these flags of the compiler, in its own folder in `scratch`.
@@ -11,7 +11,7 @@ build() {
     [ -e "$scratch/$name/$driver" ]
 }
 
-# refuses OPTIONS: with its usage and status 64
+# refuses OPTIONS: checks that the driver rejects these options, with its usage and status 64
 refuses() {
     local status=0
     # shellcheck disable=SC2086
@@ -19,7 +19,7 @@ refuses() {
     check "'$1' is refused" [ "$status $(grep -c '^usage: ' "$scratch/run")" = '64 1' ]
 }
 
-# way NAME [OPTION ..]: a run of this build, with these options; each line `ok` or `WRONG` of it is a test.
+# way NAME [OPTION ..]: runs this build with these options; each line `ok` or `WRONG` that it prints counts as a test.
 way() {
     local name=$1 status=0
     shift
@@ -34,14 +34,14 @@ as_printed() {
     local fetched=.cache/fintaqush/linux-image
     if [ ! -d "$scratch/fresh" ]; then
         "$top/scripts/fresh_clone.sh" "$scratch/fresh" || return
-        # What `scripts/test-packages.sh --fetch` has downloaded isn't downloaded again.
+        # what `scripts/test-packages.sh --fetch` has downloaded isn't downloaded again
         mkdir -p "$scratch/fresh/home/${fetched%/*}"
         [ ! -d ~/"$fetched" ] || ln -s ~/"$fetched" "$scratch/fresh/home/$fetched"
     fi
     (cd "$scratch/fresh/fintaqush" && env -i PATH="$PATH" TERM="${TERM:-dumb}" HOME="$scratch/fresh/home" timeout -k 20 600 bash -c "$1") > "$scratch/run" 2>&1
 }
 
-# printed COMMAND: runs the driver as a page has it; each line `ok` or `WRONG` of it is a test.
+# printed COMMAND: runs the driver as a page shows it; each line `ok` or `WRONG` that it prints counts as a test.
 printed() {
     local status=0
     [ "$over" = 0 ] || return 0
@@ -49,8 +49,8 @@ printed() {
     count_run "$status" "'$1' as printed"
 }
 
-# printed_table COMMAND COUNT PATTERN: it succeeds, and this many lines that it prints match the pattern: no row is of a load
-# that failed.
+# printed_table COMMAND COUNT PATTERN: checks that the command succeeds, and that this many lines of its output match the
+# pattern: so no row is of a load that failed.
 printed_table() {
     local status=0
     [ "$over" = 0 ] || return 0
@@ -58,7 +58,8 @@ printed_table() {
     check "$1 as printed: $(cat "$scratch/run")" [ "$status $(grep -c -x -E -e "$3" "$scratch/run")" = "0 $2" ]
 }
 
-# count_run STATUS NAME: counts the lines `ok` and `WRONG` of the run; one of status 69 skips all others.
+# count_run STATUS NAME: counts the lines `ok` and `WRONG` of a run as tests; a run with status 69 skips the driver's other
+# tests.
 count_run() {
     local status=$1 name=$2
     if [ "$status" = 69 ]; then
@@ -76,8 +77,8 @@ count_run() {
     fi
 }
 
-# mistake NAME WRONG FILE OLD NEW [OLD NEW ..]: the driver with these changes of a file, in which each OLD occurs once, prints
-# such a line `WRONG` last.
+# mistake NAME WRONG FILE OLD NEW [OLD NEW ..]: checks that the driver, with these changes of a file, prints a line with WRONG
+# last. Each OLD occurs once in the file.
 mistake() {
     local name=$1 wrong=$2 status=0
     [ "$over" = 0 ] || return 0
@@ -105,7 +106,7 @@ plant() {
     "$scratch/mistake/examples/$driver/build.sh" "$scratch/mistake/built" > "$scratch/run" 2>&1
 }
 
-# mistakes: of a driver, in code that it shares with others
+# mistakes: planted in code that several drivers share
 mistakes() {
     mistake 'a mask that comes too late' '3000 pings are answered' driver/driver.h 'case FQ_TODO_UNMASK: device->unmask(device); break;' \
         'case FQ_TODO_UNMASK: device->unmask(device), device->mask(device); break;'

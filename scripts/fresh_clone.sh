@@ -14,7 +14,7 @@ cd "$top"
 git ls-files -z --cached --others --exclude-standard | while IFS= read -r -d '' file; do [ ! -e "$file" ] || printf '%s\0' "$file"; done |
     xargs -0 cp -P --parents --preserve=mode,timestamps -t "$clone"
 git ls-files -z --deleted | (cd "$clone" && xargs -0 rm -f)
-# What is built, with the checksums of its sources.
+# what is built, with the checksums of its sources
 for built in crates/{napi_machine/out/napi_machine,napi_replay/out/napi_replay,napi_serial/out/napi_serial,napi_series/out/napi_series} \
     crates/{napi_c/out/libnapi_c,replay_c/out/libreplay_c,machine_c/out/libmachine_c}.a; do
     [ ! -e "$built.sum" ] || cp --parents "$built"{,.sum} "$clone"

@@ -33,7 +33,7 @@ declare -A known=() # the crates of `order`
 partial=
 child=
 
-# Leaves the ms since the start in `now`.
+# Sets `now` to the ms since the start.
 look_at_clock() { now=$(((${EPOCHREALTIME/[.,]/} - begin) / 1000)); }
 
 seconds() { printf '%d.%d' $(($1 / 1000)) $(($1 % 1000 / 100)); }
@@ -43,7 +43,7 @@ told() {
     known[$1]=yes
 }
 
-# stamp LINE: prints it with its second, and records what it says is done.
+# stamp LINE: prints the line with its second, and records which step it says is done.
 stamp() {
     look_at_clock
     local text
@@ -63,7 +63,7 @@ stamp() {
     fi
 }
 
-# The crate for which a process of the prover works, by its command line; nothing for other processes.
+# Prints the crate for which a process of the prover works, by its command line; nothing for other processes.
 work_of() {
     local words name='' is_test='' at
     mapfile -d '' -t words < "/proc/$1/cmdline" || return
@@ -81,16 +81,16 @@ work_of() {
     esac
 }
 
-# Reads every process below the gate: the ticks of each count for the nearest process of the prover above it.
+# Reads every process below the gate, and counts its ticks for the nearest process of the prover above it.
 look() {
     local -A parent=() ticks=() start=() sum=()
     local file line fields pid up key
     look_at_clock
     for file in /proc/[0-9]*/stat; do
         { IFS= read -r line < "$file"; } 2> /dev/null || continue
-        # The name in brackets may contain anything.
+        # the name in brackets may contain anything
         read -ra fields <<< "${line##*) }"
-        # Of a process that ends meanwhile there is half a line, or none.
+        # a process that ends meanwhile leaves half a line, or none
         [ "${#fields[@]}" -gt 19 ] || continue
         pid=${line%% *}
         parent[$pid]=${fields[1]}
@@ -116,7 +116,7 @@ look() {
     done
 }
 
-# is_below PID: whether the gate started it, by the `parent` entries just read.
+# is_below PID: returns whether the gate started the process, by the `parent` entries that were just read.
 is_below() {
     local up=$1
     while [ "${up:-0}" -gt 1 ]; do
@@ -126,7 +126,7 @@ is_below() {
     return 1
 }
 
-# The whole processor time of the gate, which has ended, in ticks, by the system's count.
+# Prints the whole processor time of the gate, which has ended, in ticks, as the system counted it.
 whole() {
     local line fields
     IFS= read -r line < "/proc/$$/stat"
@@ -134,10 +134,10 @@ whole() {
     echo $((fields[13] + fields[14]))
 }
 
-# tenths TICKS: in seconds.
+# tenths TICKS: converts to seconds, with one decimal
 tenths() { seconds $(($1 * 1000 / hertz)); }
 
-# The table, with the crates in the order in which they were done.
+# Prints the table, with the crates in the order in which they were done.
 table() {
     local key crate part at line all=0
     local -A sum=()
@@ -172,7 +172,7 @@ interrupted() {
 }
 
 pipe=$(mktemp -u) && mkfifo -m 600 "$pipe" || exit 73
-# The command doesn't ignore Ctrl-C either.
+# the command must not ignore Ctrl-C either
 setsid env --default-signal=INT "$@" > "$pipe" 2>&1 < /dev/null 4>&- &
 child=$!
 exec 3< "$pipe"

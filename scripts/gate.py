@@ -27,8 +27,8 @@ HEAD = re.compile(r"^( *)(?:pub(?:\([a-z]+\))? )?(?:const |unsafe |extern \"C\" 
 
 
 def block_of(text):
-    """The prover's name for the `impl` in which this text ends: its type, its trait, and the types these are for, if they
-    aren't parameters."""
+    """Returns the prover's name for the `impl` in which this text ends: its type, its trait, and their type arguments, if these aren't
+    parameters."""
     generics, head = re.findall(r"^(?:impl|(?:pub )?trait)(<.*?>)? (?=\w)(.*) \{$", text, re.M)[-1]
     known = [*re.findall(r"(?:<|, )([A-Z]\w*)", generics.replace("'", "")), "for"]
     trait, _, of = head.rpartition(" for ")
@@ -37,7 +37,7 @@ def block_of(text):
 
 
 class Function:
-    """The function that contains a text: its lines, whether the text is in its body, and its name, by its type or its file."""
+    """The function that contains a text: its lines, whether the text is in its body, and its name (with its type or its file)."""
 
     def __init__(self, path, text, at):
         head = [it for it in HEAD.finditer(text) if it.start() < at][-1]
@@ -49,8 +49,8 @@ class Function:
         self.name = head[2] if of in ("lib", "main") else f"{of}::{head[2]}"
 
     def refusal(self, said):
-        """The first line that says that it isn't proved: one of its own, or one of its proof, which doesn't name something that
-        is gone."""
+        """Returns the prover's first line that says that the function isn't proved: a line about the function or its proof that doesn't
+        name something that the edit removed."""
         own = f"/{self.name.replace('::', '/')}/"
         for line in re.findall(r"^(?:note: )?(?:\./)?(?:src|proofs)/\S+?:\d+:\d+: .*", said, re.M):
             file, number = re.match(r"(?:note: )?(?:\./)?(\S+?):(\d+)", line).groups()
@@ -61,7 +61,7 @@ class Function:
 
 
 def function_of(path, text, part):
-    """The function that has this part of the file, and nothing else, if there is one."""
+    """Returns the function that contains this part of the file, if it contains all of it."""
     at = text.find(part)
     if text.count(part) != 1 or not HEAD.search(text, 0, at):
         return None
@@ -82,7 +82,7 @@ class Edit:
                 self.pairs.append((path, old, text))
 
     def apply(self, texts):
-        """The texts of the crate's files, by path, with this edit; None if one of its `old:` doesn't occur there exactly once."""
+        """Returns the texts of the crate's files, by path, with this edit; None if one of its `old:` doesn't occur exactly once there."""
         texts = {**texts}
         for path, old, new in self.pairs:
             if texts.get(path, "").count(old) != 1:
@@ -91,14 +91,14 @@ class Edit:
         return texts
 
     def function(self, texts):
-        """The function that it changes, if it changes nothing else."""
+        """Returns the function that the edit changes, if it changes nothing else."""
         functions = [function_of(path, texts.get(path, ""), old) for path, old, _ in self.pairs]
         if None in functions or len({(it.path, it.first) for it in functions}) > 1:
             return None
         return min(functions, key=lambda it: it.in_body)
 
     def alone(self, texts):
-        """Whether its function or, if there is none, the crate is rejected with only this edit, and what to print."""
+        """Tries the edit alone. Returns whether its function, or the crate if there is none, is rejected, and what to print."""
         changed, function = self.apply(texts), self.function(texts)
         names = [function.name] if function else []
         said, proved = check(self.crate, changed, names) if changed else ("its old text doesn't stand once in its file", None)
@@ -109,7 +109,7 @@ class Edit:
 
 
 class Round:
-    """Edits that are checked together, each with its function, and the crate's texts with them."""
+    """Edits that are tried together, each with its function, and the crate's texts with all of them."""
 
     def __init__(self, texts):
         self.texts, self.edits = texts, []
@@ -123,8 +123,8 @@ class Round:
 
 
 def check(crate, texts, names):
-    """What the prover says about these functions of the crate, or about all, with these texts; and whether it proves them, if
-    it says so."""
+    """Runs the prover on these functions of the crate, or on all, with these texts. Returns what it says, and whether it proves them, if it
+    says so."""
     with tempfile.TemporaryDirectory(prefix="must-fail-") as room:
         for path, text in texts.items():
             os.makedirs(os.path.dirname(f"{room}/{path}"), exist_ok=True)
@@ -140,12 +140,12 @@ def check(crate, texts, names):
 
 
 def texts_of(crate):
-    """The texts of the crate's files, by path."""
+    """Returns the texts of the crate's files, by path."""
     return {it: read(f"{crate.folder}/{it}") for it in crate.texts()}
 
 
 def try_edits(crate):
-    """For each edit of the crate: its name, whether it passed, and what to print."""
+    """Yields for each edit of the crate: its name, whether it passed, and what to print."""
     texts, folder = texts_of(crate), f"{crate.folder}/must-fail"
     rounds, alone, is_seen = [], [], False
     names = sorted(os.listdir(folder))
@@ -173,7 +173,7 @@ def try_edits(crate):
 
 
 def try_text(crate, file):
-    """Whether the crate with this edit is rejected by the error that the edit names, before any proof, and what to print."""
+    """Returns whether the crate with this edit is rejected with the error that the edit names, before any proof, and what to print."""
     error, changed = re.search("^error: (.*)$", read(file), re.M)[1], Edit(crate, file).apply(texts_of(crate))
     said, proved = check(crate, changed, []) if changed else ("its old text doesn't stand once in its file", None)
     well = f"error[{error}]" in said and proved is None
@@ -182,8 +182,8 @@ def try_text(crate, file):
 
 
 def try_all(tries, below, what):
-    """Makes these calls, up to four at a time, over the libraries of these crates, with a line for each result; returns how many are as they
-    should be, and how many aren't."""
+    """Makes these calls, up to four at a time, over the libraries of these crates, and prints a line for each result. Returns how many
+    passed, and how many failed."""
     build(list(dict.fromkeys(it.name for crate in below for it in crate.all[:-1])))
     tried = []
     with concurrent.futures.ThreadPoolExecutor(min(len(os.sched_getaffinity(0)), 4)) as pool:
@@ -195,27 +195,28 @@ def try_all(tries, below, what):
 
 
 def all_edits(names):
-    """Tries the edits of these crates, or of all, those of the largest crate first."""
+    """Tries the edits of these crates, or of all; those of the largest crate come first."""
     asked = [it for it in ([crates()[name] for name in names] or crates().values()) if os.path.isdir(f"{it.folder}/must-fail")]
     asked.sort(key=lambda it: -it.size)
     return try_all([(try_edits, it) for it in asked], asked, "must-fail")
 
 
 def all_texts():
-    """Tries what must not compile."""
+    """Tries the edits that must not compile."""
     files = [(it, f"{it.folder}/must-not-compile/{name}") for it in crates().values() if os.path.isdir(f"{it.folder}/must-not-compile")
              for name in sorted(os.listdir(f"{it.folder}/must-not-compile"))]
     return try_all([(try_text, *it) for it in files], [it for it, _ in files], "must-not-compile")
 
 
 def prove_all(room, names):
-    """Runs `rt ci` on a copy of these crates with those below them, or of all that it reads, and keeps what it has built."""
+    """Runs `rt ci` on a copy of these crates and those below them, or of all, and keeps the libraries that it builds."""
     asked = [*dict.fromkeys(below for name in names or crates() for below in crates()[name].all)]
     listed = {crate.name for crate in asked}
     times = {crate: (crate.sources, crate.times())[1] for crate in asked}
 
     def left_out(folder, files):
-        """Files and folders not to copy. Everything else is copied: `rt ci` has to see links, and files that no crate reads."""
+        """Returns the files and folders not to copy. Everything else is copied, because `rt ci` has to see links, and files that no crate
+        reads."""
         others = {*files} - (listed if folder == f"{TOP}/crates" else {"crates", "crates.txt", "HANDLES"})
         is_other = names and folder in (TOP, f"{TOP}/crates")
         return {"out", "must-fail", *([".git"] if folder == TOP else []), *(others if is_other else [])}

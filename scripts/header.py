@@ -9,8 +9,8 @@ import sys
 import textwrap
 
 HEADER = pathlib.Path(__file__).resolve().parent.parent / "include/fintaqush.h"
-# By the first call of each group: the group's name, and what its manual page says that it is. Of another group the name is in its first
-# call, and its comment says what it is.
+# For a group whose name isn't in its first call: by its first call, the group's name, and what its manual page says that it is. The name of
+# any other group is in its first call, and its comment says what it is.
 KNOWN = {
     "fq_version": ("status", "statuses, kinds, flags and sizes"),
     "fq_dql_new": ("dql", "byte queue limits"),
@@ -26,12 +26,12 @@ KNOWN = {
     "fq_machine_usual": ("machine", "the receiving machine in time"),
 }
 BANNER = re.compile(r"/\* ---- (.*?)\*/", re.S)
-# The comment of the first declaration that is of a group.
+# A pattern for the comment of the first declaration that belongs to a group.
 FIRST = re.compile(r"/\*(?:(?!\*/).)*\*/\nenum fq_status", re.S)
 
 
 def groups():
-    """Each group: its name, what it is, its comment, and the header's text up to the next one."""
+    """Yields each group: its name, what it is, its comment, and the header's text up to the next group."""
     text = HEADER.read_text()
     parts = BANNER.split(text[FIRST.search(text).start() :])
     found = []
@@ -43,12 +43,12 @@ def groups():
 
 
 def prose(comment):
-    """A comment's text, one line a paragraph."""
+    """Returns a comment's text, with one line for each paragraph."""
     return " ".join(re.sub(r"^ ?\* ?", "", line).strip() for line in comment.strip().splitlines()).strip()
 
 
 def declarations(text):
-    """Pairs of a comment and the declarations below it, without bodies: each declaration its text, and the comment at its end."""
+    """Yields pairs of a comment and the declarations below it. Each declaration is its text without a body, and the comment at its end."""
     doc, found, lines = "", [], iter(text.splitlines())
     for line in lines:
         if line.startswith("/*"):
@@ -69,7 +69,7 @@ def declarations(text):
 
 
 def declaration(line, lines):
-    """A declaration without its body and without what says no more than the comments do, and the comment at its end."""
+    """Returns a declaration without its body and without parts that say no more than the comments, and the comment at its end."""
     behind = ""
     if "static inline" in line:
         end = line
@@ -118,7 +118,7 @@ def manual(name, what, comment, text, version):
 
 
 def pages():
-    """Each manual page's name and text."""
+    """Yields each manual page's name and text."""
     version = re.search(r'^#define FQ_VERSION "(.*)"$', HEADER.read_text(), re.M)[1]
     for name, what, comment, text in groups():
         yield f"fintaqush_{name}.3", "\n".join(manual(name, what, comment, text, version)) + "\n"
@@ -126,7 +126,8 @@ def pages():
 
 
 def for_doxygen(path):
-    """A header's text with comments that Doxygen reads: what is before its code is the main page, and its groups are modules."""
+    """Returns a header's text with comments that Doxygen reads: the comment before the code becomes the main page, and groups become
+    modules."""
     text = path.read_text()
     if path.suffix == ".hpp":
         text = re.sub(r"^( *)// ", r"\1/// ", text, flags=re.M)

@@ -18,13 +18,13 @@ CLAUSE = re.compile(r"(requires|ensures)\b ?\*?(\w+)?")
 GHOST = re.compile(r"(?:pub(?:\([\w:]+\))? )?ghost\b")
 PUBLIC = re.compile(r"pub(?:\([\w:]+\))? (?:struct|enum|union|trait|type) (\w+)")
 DEFINITION = re.compile(r"(?P<words>(?:(?:pub|abbrev|unfoldable|record|data) )*)(?P<name>[^\s(){}:◌]+)(?P<end> :| \(| \{)")
-# Names that two crates may have, each with the reason; there is none. Operators, as ◌>>=◌, aren't names.
+# Names that two crates may have, each with the reason; there is none now. Operators, such as ◌>>=◌, don't count as names.
 SHARED = {}
 LITERAL = re.compile(r"""//.*|b?"(?:[^"\\]|\\.)*"|b?'(?:[^'\\]|\\.[^']*)'""")
 
 
 class Crate:
-    """The numbers of a crate, and each place that exceeds a limit."""
+    """The numbers of a crate, and the places that exceed a limit."""
 
     def __init__(self, name):
         self.name = name
@@ -44,7 +44,7 @@ class Crate:
 
 
 class Function:
-    """A function that is being read: where it begins, its nesting depth, and what was counted of it."""
+    """A function that is being read: where it begins, its nesting depth, and its counts so far."""
 
     def __init__(self, name, place, depth):
         self.name = name
@@ -65,7 +65,7 @@ def lines_of(path):
 
 
 def bare(line):
-    """The line without string literals, characters and comments."""
+    """Returns the line without string literals, characters and comments."""
     return LITERAL.sub("", line)
 
 
@@ -103,7 +103,7 @@ class Source:
         self.crate.count("tests" if self.is_test else "contracts")
         if clause:
             self.in_clause = True
-            # A closure's clauses are within the body.
+            # the clauses of a closure belong to the body
             if self.functions and not self.functions[-1].has_body:
                 self.functions[-1].clauses[clause[1]].append(clause[2])
         if self.in_clause:
@@ -137,7 +137,7 @@ class Source:
         if self.is_test:
             return
         self.crate.count("functions")
-        # The line that closes the body isn't counted.
+        # the line that closes the body isn't counted
         function.lines = max(function.lines - 1, 0)
         self.crate.reach("function", function.lines)
         if function.lines >= LONGEST_FUNCTION:
@@ -151,7 +151,7 @@ class Source:
 
 
 def definitions_of(path):
-    """The names that a file of `specs` defines, each with its place: no field of a record, no constructor, and no equation."""
+    """Returns the names that a file of `specs` defines, each with its place; fields of a record, constructors and equations don't count."""
     outer = []  # the columns of the blocks that are open, and whether each is a module
     for number, line in enumerate(lines_of(path), 1):
         text = line.strip()
@@ -193,7 +193,7 @@ def crates():
 
 
 def find_shared(all_crates):
-    """One name means one thing: a public type's name, or a definition's, that another crate has exceeds a limit, too."""
+    """Finds names with two meanings: the name of a public type or of a definition that another crate has too."""
     for kind in ("types", "definitions"):
         first = {}
         for crate in all_crates:
@@ -217,7 +217,7 @@ def show(all_crates):
 
 
 def check(all_crates):
-    """Checks the limits; each crate is a test."""
+    """Checks the limits; each crate counts as a test."""
     find_shared(all_crates)
     for crate in all_crates:
         for line in crate.over:

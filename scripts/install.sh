@@ -11,7 +11,7 @@
 set -euo pipefail
 unset CDPATH
 top=$(dirname "$(dirname "$(readlink -f "${BASH_SOURCE[0]}")")")
-# each with its crate of that name; one without a manual page of its own has napi_replay's
+# each is a crate of that name; one without a manual page of its own has that of napi_replay
 programs=(napi_replay napi_serial napi_series napi_machine)
 prefix=
 is_library=
@@ -97,10 +97,10 @@ command -v "$cc" > /dev/null || stop 69 "there is no $cc, which makes the shared
     stop 70 "the shared library couldn't be made"
 [ -n "$is_library" ] || "$top/scripts/build.sh" "${programs[@]}" || stop 70 "the programs couldn't be built"
 
-# for_sed TEXT: as sed takes it in the place of another.
+# for_sed TEXT: prints the text as the replacement of a sed command
 for_sed() { printf '%s' "$1" | sed 's/[&|\\]/\\&/g'; }
 
-# In quotes, since a prefix may have spaces.
+# in quotes, because a prefix may have spaces
 sed -e "s|@PREFIX@|$(for_sed "$prefix")|" -e "s|@LIBDIR@|$(for_sed "$libdir")|" -e "s|@VERSION@|$version|" > "$scratch/fintaqush.pc" << 'END'
 prefix=@PREFIX@
 libdir=${prefix}/@LIBDIR@
@@ -156,7 +156,7 @@ put() {
     install -D -m "$1" "$2" "$to/$3" || stop 73 "$to/$3 can't be written"
 }
 
-# A page as it is installed: a link to what isn't installed with it is its text alone.
+# page_of: prints a page for the installation: a link to what isn't installed with it becomes plain text
 page_of() {
     awk -v pages=" ${pages[*]} " '{
         while (match($0, /\[[^][]*\]\([^)]*\)/)) {

@@ -14,7 +14,7 @@ folder=$2
 shift 2
 kept=$top/out/linux-$version
 
-# download: the package, from where apt has it, or from the backports.
+# download: gets the package from where apt has it, or from the backports.
 download() {
     local key=/usr/share/keyrings/debian-archive-keyring.gpg quick=(-o Acquire::http::Timeout=20) own
     timeout 900 apt-get "${quick[@]}" download "linux-source-$version" > fetch.log 2>&1 && return
@@ -26,7 +26,7 @@ download() {
 }
 backports=trixie-backports
 
-# fetch FILE ..: these files of Debian's package.
+# fetch FILE ..: extracts these files of Debian's package.
 fetch() {
     command -v apt-get > /dev/null && command -v dpkg-deb > /dev/null || return 1
     work=$(mktemp -d)
@@ -34,7 +34,7 @@ fetch() {
     (cd "$work" && download) || return 1
     dpkg-deb --fsys-tarfile "$work"/linux-source-*.deb | tar -x -C "$work" "./usr/src/linux-source-$version.tar.xz"
     mkdir -p "$work/files"
-    # If nothing can be kept, they only go to FOLDER.
+    # if nothing can be kept, the files only go to FOLDER
     mkdir -p "$kept" 2> /dev/null && [ -w "$kept" ] || from=$folder
     tar -x -J -f "$work/usr/src/linux-source-$version.tar.xz" -C "$work/files" --strip-components=1 --occurrence "${@/#/linux-source-$version/}"
     cp -r "$work/files/." "$from"

@@ -41,10 +41,10 @@ DESTDIR=$stage "$top/scripts/install.sh" --python --libdir="$libdir" /usr
 chmod -R u=rwX,go=rX "$stage"
 find "$stage/usr/share/man" -type f -exec gzip -9n {} +
 strip --strip-unneeded "$stage"/usr/lib/fintaqush/programs/*
-# Debian's python3, and no other that stands before it on PATH
+# uses Debian's python3, and not one that comes before it on PATH
 find "$stage/usr/lib/fintaqush" -type f -exec sed -i '1s|^#!/usr/bin/env \(-S \)\{0,1\}python3|#!/usr/bin/python3|' {} +
 
-# move PACKAGE PATH ..: gives these files to a package, where they have the same place.
+# move PACKAGE PATH ..: moves these files to a package, to the same paths.
 move() {
     local to=$scratch/$1 path
     shift
@@ -63,13 +63,13 @@ mkdir "$scratch/fintaqush"
 mv "$stage/usr" "$scratch/fintaqush/usr"
 rmdir "$scratch/fintaqush/usr/$libdir" "$scratch/fintaqush/usr/share/doc" 2> /dev/null || true
 
-# glibc_of FOLDER: the newest C library that any of its programs and libraries asks for.
+# glibc_of FOLDER: prints the newest version of the C library that one of its programs and libraries needs.
 glibc_of() {
     find "$1/usr" -type f \( -perm -100 -o -name '*.so.*' \) -exec readelf -V {} + 2> /dev/null |
         grep -o 'GLIBC_[0-9.]*[0-9]' | sort -uV | tail -n 1 | sed 's/GLIBC_//'
 }
 
-# about PACKAGE: the changelog, which Debian wants with each package, and the checksums.
+# about PACKAGE: writes the changelog, which Debian requires in each package, and the checksums.
 about() {
     local root=$scratch/$1
     mkdir -p "$root/usr/share/doc/$1"

@@ -20,7 +20,8 @@ NAME = re.compile(r"[A-Za-z_][\w-]*")
 
 @functools.cache
 def definitions(crate):
-    """The module of each definition in a crate's specs/, by its name; of two with one name both modules."""
+    """Returns the module of each definition in a crate's specs/, by the definition's name; both modules if two definitions have one
+    name."""
     found = {}
     for path in sorted((TOP / "crates" / crate / "specs").glob("*.antt")):
         for line in path.read_text().splitlines():
@@ -30,7 +31,7 @@ def definitions(crate):
 
 
 def paths_of(tree, before=()):
-    """The whole paths that a `use` names, such as A.B.C of `A.{B.{C}, D}`."""
+    """Yields the whole paths that a `use` names, for example A.B.C for `A.{B.{C}, D}`."""
     depth, part, parts = 0, "", []
     for letter in tree + ",":
         depth += (letter == "{") - (letter == "}")
@@ -46,7 +47,7 @@ def paths_of(tree, before=()):
 
 @functools.cache
 def scope(path):
-    """The page and anchor of each definition that a file uses or has."""
+    """Returns the page and anchor of each definition that a file uses or contains."""
     found = {}
     text, crate = path.read_text(), path.parts[-3]
     for tree in re.findall(r"^ *(?:ghost )?use ([^;\n]*);?$", text, re.M):
@@ -59,7 +60,7 @@ def scope(path):
 
 
 def linked(line, names, way, is_own=None):
-    """A line of code as HTML: names that are defined link there; the one that the line itself defines is the anchor."""
+    """Returns a line of code as HTML. Names link to their definitions; the name that the line itself defines is the anchor."""
     def one(found):
         name = found[0]
         if name == is_own:
@@ -93,7 +94,7 @@ def definition_lines(path):
 
 
 class Facade:
-    """A page of a facade's items, each with its `impl`s. An item has the anchor NAME, a call of a type TYPE.NAME."""
+    """The page of a facade's items, each with its `impl`s. An item has the anchor NAME, a method of a type TYPE.NAME."""
 
     def __init__(self, facade):
         self.facade, self.anchors, self.contents, self.lines = facade, set(), [], []
@@ -121,7 +122,7 @@ class Facade:
         self.lines += [*(re.sub(r"^ */// ?", "", line) for line in doc), "", "<pre><code>" + "\n".join(lines) + "</code></pre>", ""]
 
     def item(self, path, lines):
-        """A function, type, trait or constant; returns its name."""
+        """Adds a function, type, trait or constant; returns its name."""
         first = next(at for at, line in enumerate(lines) if not line.startswith("///"))
         name = surface.ITEM.match(lines[first])[2]
         at = self.anchor(name)
@@ -131,7 +132,7 @@ class Facade:
         return name
 
     def block(self, path, lines):
-        """An `impl` with its calls."""
+        """Adds an `impl` with its methods."""
         head, type_of = lines[0], surface.type_of(lines[0])
         self.lines += [f'<h4 id="{self.anchor("impl." + type_of)}"><code>{html.escape(head)}</code></h4>', ""]
         for doc, code in self.parts(lines[1:]):
@@ -141,7 +142,7 @@ class Facade:
 
     @staticmethod
     def parts(lines):
-        """Pairs of the `///` above some lines of code, and these, up to an empty line."""
+        """Yields pairs of a `///` and the lines of code below it, up to an empty line."""
         doc, code = [], []
         for line in [*lines, ""]:
             if line.strip() and not (line.lstrip().startswith("///") and not code):
@@ -153,7 +154,7 @@ class Facade:
                 doc, code = [], []
 
     def resolve(self, found):
-        """A link of a `///` to an item: to its place on this page, if it is here."""
+        """Returns a link of a `///` to an item as a link to its place on this page, if it is there."""
         at = found[2].removeprefix("crate::").replace("::", ".")
         return f"[{found[1]}](#{at})" if at in self.anchors else found[1]
 

@@ -1,7 +1,7 @@
 """The launcher, which ./replay starts: its options, the trace, the runs, and what it prints about them."""
 import sys
 
-# Until `end_by` handles signals and errors: they end the program with a message.
+# until `end_by` handles signals and errors, they end the program with a message
 sys.excepthook = lambda kind, error, _: sys.stderr.write(
     f"replay: {'interrupted' if kind is KeyboardInterrupt else 'out of memory' if kind is MemoryError else error or kind.__name__}\n")
 
@@ -56,7 +56,7 @@ CAUSES = {  # by the error's number and the line after it: the first that fits
 
 
 def shown(name):
-    """The name itself if it is printable, otherwise quoted for bash, so that a terminal doesn't interpret it."""
+    """Returns the name itself if it is printable, otherwise quoted for bash, so that a terminal doesn't interpret it."""
     return name if name.isprintable() else "$'%s'" % re.sub(rb"[^ -~]|['\\]", lambda it: b"\\%03o" % ord(it[0]), os.fsencode(name)).decode()
 
 
@@ -72,7 +72,8 @@ def version():
 
 
 class Run:
-    """A program that runs over the trace of a call, with this many MiB: its status, its output if that is kept, and its messages."""
+    """A program that runs on the trace of a call, with this many MiB of memory: its status, its output if that is kept, and its
+    messages."""
 
     def __init__(self, call, command, memory=0, is_kept=True, **where):
         self.call, self.told = call, (None, "")
@@ -98,13 +99,14 @@ class Run:
 
 
 class First:
-    """The report of an unproved run, while the program is proved and built: it is printed once, as soon as it is complete."""
+    """The report of an unproved run, which is printed once, as soon as it is complete, while the program is still being proved and
+    built."""
 
     def __init__(self, call):
         self.call, self.run, self.answer = call, call.begin_unproved(), None
 
     def tell(self):
-        """Waits for it, unless it was printed."""
+        """Waits for the report, unless it was printed."""
         if not self.answer:
             result = self.run.result()
             clear()
@@ -116,14 +118,14 @@ class First:
             self.tell()
 
     def end(self):
-        """What was printed; a run that isn't over yet isn't needed any more."""
+        """Ends the unproved run, if it isn't over yet; returns what it printed."""
         if not self.answer:
             self.run.process.terminate()
         return self.answer
 
 
 class Call:
-    """A call of the launcher. What is neither one of its own options nor a file is left to the program to reject."""
+    """A call of the launcher. An argument that is neither one of its own options nor a file is left to the program to reject."""
 
     def __init__(self, given):
         self.words, self.files, self.own, rest = [], [], set(), iter(given)
@@ -164,7 +166,7 @@ class Call:
         if is_unproved:
             say("an unproved run: the program is made anew each time and nothing is checked (up to a minute)")
             return self.end_unproved(self.begin_unproved().result(), "this was an UNPROVED run")[0]
-        # On a terminal an answer comes while the proof of it is made.
+        # on a terminal, a first result is printed while the program is still being proved
         if not is_ready and os.isatty(1) and kit() and all(len(self.kept) <= MOST_KEPT for _ in self.parts()):
             say("the program is to be proved and built: meanwhile the answer of an UNPROVED run, in up to a minute")
             beside = First(self)
@@ -186,14 +188,14 @@ class Call:
         return self.finish(*last)
 
     def open(self):
-        """Opens the trace, or returns why it can't. It is passed to the program through here, because not every input can be
+        """Opens the trace, or returns the reason why it can't. The launcher passes it on to the program, because not every input can be
         read twice."""
         if len(self.files) > 1:
             return f"two traces are named, {self.name} and {shown(self.files[1])}: replay one at a time"
         if not self.files and os.isatty(0):
             return "no trace: name a file, or give one on standard input"
         try:
-            # `/proc/kmsg` is a file too, and reading it waits for more.
+            # `/proc/kmsg` is a file too, but a read at its end would block
             end = os.open(self.files[0], os.O_RDONLY | (os.O_NONBLOCK if os.path.isfile(self.files[0]) else 0)) if self.name else 0
             os.read(end, 0)  # a folder can be opened too
         except OSError as error:
@@ -202,7 +204,7 @@ class Call:
         return ""
 
     def parts(self):
-        """All of the trace: what is kept of it, and what arrives then, which is kept while it isn't too much."""
+        """Yields the trace: the part that was kept, and then what is read, which is kept up to a limit."""
         yield bytes(self.kept)
         try:
             for text in self.rest:
@@ -212,8 +214,8 @@ class Call:
             raise Stop(66, f"{self.which}: a read of it failed") from None
 
     def pass_on(self, to, process):
-        """Passes the trace to a program. Half a trace isn't a trace: if a read fails, the program is ended before it could
-        accept it as one."""
+        """Passes the trace to a program. If a read fails, the program is ended, so that it doesn't accept a part of a trace as a whole
+        one."""
         try:
             all(write(text, to.fileno()) for text in self.parts())
         except Stop as stop:
@@ -222,12 +224,12 @@ class Call:
         to.close()
 
     def begin_unproved(self):
-        """`rt try` runs the sources without their proofs, and leaves no program."""
+        """Starts `rt try`, which runs the sources without their proofs and leaves no program."""
         command = [f"{kit()}/bin/rt", "try", "--steps", "4000000000", "--seconds", "600", "--", *self.words]
         return Run(self, command, cwd=self.crate.folder)
 
     def end_unproved(self, result, line):
-        """Prints the output of such a run, without rt's own lines about it."""
+        """Prints the output of such a run, without the toolchain's own lines about it."""
         status, output, said = result
         status = status if re.search("^run=ended ", said, re.M) else 70
         said = re.sub("^(checked: |races: |run=).*\n", "", said, flags=re.M)
@@ -236,7 +238,7 @@ class Call:
         return status, output, said
 
     def finish(self, status, output, said):
-        """Prints the output, if it was kept, and the messages; then one line of explanation, if there is more to say."""
+        """Prints the output, if it was kept, and the messages; then one line that explains the error, if there is more to say."""
         is_json, to_json = "--json" in self.own and status == 0, [f"{TOP}/tools/report2json"]
         if output and (subprocess.run(to_json, input=output, preexec_fn=child, check=False).returncode if is_json else not write(output)):
             raise Stop(4, f"the report couldn't be written{' as JSON' * is_json}")
@@ -253,7 +255,8 @@ class Call:
         return status
 
     def explain(self, fault, row):
-        """The line, its text and the likely cause. A row counts records: nothing is printed if its line isn't known for sure."""
+        """Prints the line of the trace that the error names, its text and the likely cause. Rows count records, so nothing is printed if
+        the line isn't known for sure."""
         data = bytes(self.kept)
         if packed := next((packed for first, packed in PACKED.items() if fault == 1 and re.match(first, data)), ""):
             return f": the file is {packed}{' ' + shlex.quote(self.name) if self.name else ''} | {CALLED}"

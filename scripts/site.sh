@@ -28,7 +28,7 @@ trap 'exit 130' INT
 trap 'exit 143' TERM
 cd "$top"
 
-# What is made of the sources, below the folder `made`, where each page has the place that it has in the site.
+# The folder `made` has what is generated from the sources; each page there has the place that it has in the site.
 made=$scratch/made
 
 make_manuals() {
@@ -61,7 +61,7 @@ EXTRACT_STATIC = YES
 QUIET = YES
 $(printf '%s = NO\n' GENERATE_LATEX MARKDOWN_SUPPORT HTML_DYNAMIC_MENUS SEARCHENGINE VERBATIM_HEADERS HAVE_DOT CLASS_GRAPH WARNINGS)
 END
-    # Doxygen has light colours only.
+    # Doxygen has only light colours.
     cat > "$scratch/narrow_and_dark.css" << 'END'
 .memproto, .memname { overflow-x: auto; }
 p.up { margin: 0.5rem; }
@@ -79,7 +79,8 @@ make_rust() {
     mv "$scratch/rust/doc" "$new/reference/rust"
 }
 
-# links_to FOLDER END FILE ..: links to the pages of these files in a folder, by name, which end so.
+# links_to FOLDER END FILE ..: prints links to the pages of these files in a folder, by name; END is the ending of the pages'
+# names.
 links_to() {
     local folder=$1 end=$2 separator=
     shift 2
@@ -89,7 +90,7 @@ links_to() {
     done
 }
 
-# reference_page: what leads to all references.
+# reference_page: prints the page that links to all references.
 reference_page() {
     local page
     echo '# All calls'
@@ -121,10 +122,10 @@ reference_page > "$made/reference/README.md"
 mapfile -t kept < <(git ls-files -- '*.md' 'docs/man/*')
 mapfile -t pages < <({ printf '%s\n' "${kept[@]}"; (cd "$made" && find . -type f -printf '%P\n'); } | LC_ALL=C sort)
 
-# Where the text of a page is.
+# text_of PAGE: prints where the text of a page is.
 text_of() { [ -e "$made/$1" ] && echo "$made/$1" || echo "$1"; }
 
-# Where a page is in the site.
+# place_of PAGE: prints where the page is in the site.
 place_of() {
     case $1 in
         *README.md) echo "${1%README.md}index.html" ;;
@@ -133,10 +134,10 @@ place_of() {
     esac
 }
 
-# way_up PLACE: the path from a page's folder to the top of the site.
+# way_up PLACE: prints the path from a page's folder to the top of the site.
 way_up() { printf '%s' "${1//[^\/]/}" | sed 's|/|../|g'; }
 
-# title_of PAGE: its first heading; of a crate's page and a manual page its name.
+# title_of PAGE: prints its first heading; for a crate's page and a manual page, its name.
 title_of() {
     case $1 in
         docs/man/*) basename "$1" ;;
@@ -145,7 +146,7 @@ title_of() {
     esac
 }
 
-# group_of PAGE: the menu that lists it; none for those to which reference/README.md leads.
+# group_of PAGE: prints the menu that lists it; nothing for pages to which reference/README.md links.
 group_of() {
     case $1 in
         reference/*/*) ;;
@@ -160,7 +161,7 @@ group_of() {
     esac
 }
 
-# The menus, made once; @UP@ is the way to the top of the site.
+# menus: prints the menus, once; @UP@ stands for the way to the top of the site.
 menus() {
     local group page
     echo '<nav><a href="@UP@index.html">Fintaqush</a> <a href="@UP@reference/index.html">All calls</a>'
@@ -202,7 +203,7 @@ h5 { font-size: 1rem; margin-bottom: 0; }
 </style>
 END
 
-# A link to a page leads to its page in the site; others, and links into the network, stay as they are.
+# relink: turns a link to a page into a link to its page in the site; other links, and links into the network, stay the same.
 relink() {
     sed -E -e 's/(href="[^":#]*)README\.md(["#])/\1index.html\2/g' -e 's/(href="[^":#]*)\.md(["#])/\1.html\2/g'
 }
@@ -218,7 +219,7 @@ show() {
         --include-in-header "$scratch/style.html" --include-before-body "$nav" "$(text_of "$1")" | relink > "$new/$place"
 }
 
-# The files and folders of the repository to which a page links, without anchors; of a folder all files.
+# linked: prints the files and folders of the repository to which a page links, without anchors; for a folder all its files.
 linked() {
     local name
     while IFS= read -r name; do
@@ -228,7 +229,7 @@ linked() {
 }
 
 menus > "$scratch/menus"
-# Several at once; of those that fail, one is named.
+# several pages at once; of those that fail, one is named
 failed=
 begun=()
 for page in "${pages[@]}" ''; do

@@ -65,7 +65,7 @@ def usage():
 
 
 def unknown(name):
-    """The message for a subcommand that doesn't exist, with the nearest ones."""
+    """Returns the message for a subcommand that doesn't exist, with the names that are nearest to it."""
     import difflib
     name = "".join(letter if " " <= letter <= "~" else "?" for letter in name)
     begun = [each for each in sorted(FILES) if len(name) > 1 and each.startswith(name)]

@@ -10,7 +10,8 @@ ITEM = re.compile(r"pub (?:const |unsafe )*(fn|struct|enum|trait|type|const) (\w
 
 
 def passed_on(crate):
-    """Pairs of a crate and the names that this one re-exports from it, in the order of its `pub use`; its own names as one."""
+    """Yields pairs of a crate and the names that this crate re-exports from it, in the order of its `pub use`; its own names count as one
+    such pair."""
     text, found = (CRATES / crate / "src/lib.rt").read_text(), {}
     for place, names in re.findall(r"^pub use (?:crate::)?(\w+)::((?:\w|::|[{},\s])+);", text, re.M):
         of = place if (CRATES / place / "src").is_dir() else crate
@@ -19,7 +20,7 @@ def passed_on(crate):
 
 
 def parts(lines):
-    """Each line that isn't a `///` or an attribute, by its index, with the `///` above it."""
+    """Yields each line that isn't a `///` or an attribute, by its index, with the `///` above it."""
     doc = []
     for at, line in enumerate(lines):
         if line.lstrip().startswith("///"):
@@ -30,7 +31,7 @@ def parts(lines):
 
 
 def to_body(lines, at):
-    """A function's lines up to its body, or a constant's or an alias's to its end."""
+    """Returns a function's lines up to its body, or a constant's or an alias's to its end."""
     depth = re.match(" *", lines[at])[0]
     shown = []
     for line in lines[at:]:
@@ -43,7 +44,7 @@ def to_body(lines, at):
 
 
 def to_brace(lines, at):
-    """The lines of a struct, an enum or a trait, without a struct's private fields and their comments."""
+    """Returns the lines of a struct, an enum or a trait, without a struct's private fields and their comments."""
     shown, doc, is_private, is_struct = [], [], False, " struct " in lines[at]
     for line in lines[at:]:
         is_field = is_struct and re.match(r"    [a-z_]+: ", line)
@@ -59,7 +60,7 @@ def to_brace(lines, at):
 
 
 def block(lines, at):
-    """The lines of an `impl` without what is private: its head, a trait's relations, and each public call."""
+    """Returns the lines of an `impl` without what is private: its head, a trait's relations, and each public method."""
     head = re.sub(r" \{.*$", "", " ".join(it.strip() for it in lines[at : next(n for n in range(at, len(lines)) if "{" in lines[n]) + 1]))
     end = at if lines[at].endswith("{}") else next(n for n in range(at, len(lines)) if lines[n].startswith("}"))
     shown = [head, ""]
@@ -76,13 +77,13 @@ def block(lines, at):
 
 
 def type_of(line):
-    """The type that an `impl` is of."""
+    """Returns the type that an `impl` is for."""
     text = re.sub(r"^impl(<(?:[^<>]|<[^<>]*>)*>)? *", "", line)
     return re.match(r"\w*", text.rpartition(" for ")[2] if " for " in text else text)[0]
 
 
 def items(crate, names):
-    """These items of a crate, and the `impl`s of these types: pairs of a file and the lines of an item."""
+    """Yields these items of a crate, and the `impl`s for these types: pairs of a file and the lines of an item."""
     for path in sorted((CRATES / crate / "src").glob("*.rt")):
         lines = path.read_text().splitlines()
         for at, doc, line in parts(lines):
@@ -95,7 +96,7 @@ def items(crate, names):
 
 
 def aliased(crate, name):
-    """The type of an alias, with the crate that has it, if the name is an alias."""
+    """Returns the type that a name is an alias of, with the crate that has the type, if the name is an alias."""
     texts = {path: path.read_text() for path in sorted(CRATES.glob("*/src/*.rt"))}
     own = "\n".join(text for path, text in texts.items() if path.parts[-3] == crate)
     if alias := re.search(rf"^pub type {name}\b(?:<[^=]*>)? =\s+(\w+)", own, re.M):
@@ -105,7 +106,8 @@ def aliased(crate, name):
 
 
 def surface(facade):
-    """The parts of a facade: each a crate, the alias under which the facade re-exports its one type (None if there is none), and its items."""
+    """Yields the parts of a facade: each is a crate, the alias under which the facade re-exports its one type (None if there is none), and
+    its items."""
     shown = set()
     for crate, names in passed_on(facade):
         yield crate, None, items(crate, names)

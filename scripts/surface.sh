@@ -1,6 +1,7 @@
 #!/usr/bin/env bash
-# scripts/surface.sh FACADE: prints the public items of a facade crate from the sources, each with its `///`, signature and clauses: what
-# the facade re-exports, also the calls of a type that has another name there. Exit status: 0; 64 there is no such facade.
+# scripts/surface.sh FACADE: prints the public items of a facade crate from the sources, each with its `///`, signature and
+# clauses: what the facade re-exports, including the methods of types that have another name there. Exit status: 0; 64 there is
+# no such facade.
 set -euo pipefail
 unset CDPATH
 cd "$(dirname "$(dirname "$(readlink -f "${BASH_SOURCE[0]}")")")"

@@ -17,7 +17,7 @@ stop() {
     exit "$status"
 }
 
-# read_lines FILE ARRAY: the line of each crate that the file lists.
+# read_lines FILE ARRAY: reads the line of each crate that the file lists.
 read_lines() {
     local -n into=$2
     local line words
@@ -38,7 +38,7 @@ visit() {
     all+=("$1")
 }
 
-# is_same NAME: whether the crate there is this one.
+# is_same NAME: returns whether the crate there is the same as this one.
 is_same() {
     local part
     for part in "${parts[@]}"; do
@@ -48,7 +48,7 @@ is_same() {
     done
 }
 
-# What was copied is removed again, unless all of it was.
+# removes what was copied, unless all of it was
 undo() {
     local name
     rm -rf "$scratch"
@@ -66,7 +66,7 @@ if [ -z "${here[$name]:-}" ] || [ ! -e "$top/crates/$name/src/lib.rt" ] || [[ ${
     refuse "NAME is '$name', which is no library of crates.txt"
 fi
 [ ! -e "$to/crates.txt" ] || read_lines "$to/crates.txt" there
-# If a repository has no crates/, its crates are next to its crates.txt.
+# a repository without the folder crates/ has its crates next to its crates.txt
 home=$to/crates
 [ -d "$home" ] || [ "${#there[@]}" = 0 ] || home=$to
 
@@ -98,7 +98,7 @@ for it in "${new[@]}"; do
     done
 done
 {
-    # its last line may lack a line end
+    # the last line may lack a line end
     [ ! -e "$to/crates.txt" ] || awk 1 "$to/crates.txt"
     for it in "${lines[@]}"; do echo "${here[$it]}"; done
 } > "$scratch/crates.txt" || stop 73 "$to can't be written to"

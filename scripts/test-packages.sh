@@ -15,7 +15,7 @@ stop() {
     exit "$1"
 }
 
-# Names of what is only downloaded begin with linux-.
+# names of packages that are only downloaded begin with linux-
 packages() { awk '{ sub(/#.*/, "") } NF && $2 != "-" && $1 !~ /^linux-/ { for (i = 2; i <= NF; i++) print $i }' "$top/tests/needs.txt" | sort -u; }
 
 fetch() {
@@ -23,11 +23,11 @@ fetch() {
     fetch_image
 }
 
-# depends PACKAGE: the packages of Debian's kernel that it depends on.
+# depends PACKAGE: prints the packages of Debian's kernel on which it depends.
 depends() { apt-cache depends "$1" 2> /dev/null | grep -o 'linux-\(base\|binary\|image\|modules\)-[0-9][^ ]*cloud-amd64$'; }
 
-# fetch_image: unpacks Debian's newest kernel for machines in a cloud: the package linux-image-VERSION and, since some version, those with
-# the image and the modules, on which it depends.
+# fetch_image: unpacks Debian's newest kernel for machines in a cloud: the package linux-image-VERSION and, if it has them, the
+# packages with the image and the modules on which it depends.
 fetch_image() {
     local image=~/.cache/fintaqush/linux-image room name names
     [ ! -d "$image" ] || return 0
@@ -41,7 +41,7 @@ fetch_image() {
     mv "$room/image" "$image"
 }
 
-# gives: each package, and what it gives to tests.
+# gives: prints each package, and what it provides for tests.
 gives() {
     awk -F ' # ' '!/^#/ && NF == 2 { n = split($1, it, " "); for (i = 2; i <= n; i++) { more = (it[i] in what) ? what[it[i]] "; " : ""; what[it[i]] = more $2 } }
         END { for (name in what) print name ": " what[name] }' "$top/tests/needs.txt" | sort
@@ -57,7 +57,7 @@ all)
     # shellcheck disable=SC2046 # names of packages
     apt-get update && DEBIAN_FRONTEND=noninteractive apt-get install -y --no-install-recommends $(packages) ||
         stop 70 'apt-get could not install them all; its messages are above'
-    # Downloads belong to the user who runs the tests.
+    # downloads belong to the user who runs the tests
     if [ -n "${SUDO_USER:-}" ]; then sudo -H -u "$SUDO_USER" "$0" --fetch; else fetch; fi
     echo 'All packages are there: ./test skips only what needs no package.'
     ;;

@@ -1,4 +1,4 @@
-"""The options of the replay program: their ranges, and what is wrong with invalid ones."""
+"""The options of the replay program: their ranges, and messages about invalid ones."""
 import re
 
 MOST = {"--pollers": 8, "--budget": 65535, "--weight": 64, "--window": 65535}
@@ -8,21 +8,21 @@ OPTIONS = ("--mode", "--pollers", "--budget", "--weight", "--window", "--unprove
 
 
 def quoted(text, most=40):
-    """Quoted, shortened, and without characters that a terminal interprets."""
+    """Returns the text quoted, shortened, and without characters that a terminal interprets."""
     text = re.sub("[^ -~]", "?", text)
     return f"'{text[: most - 2]}..'" if len(text) > most else f"'{text}'"
 
 
 def nearest(word, options):
-    """The option of which this is a prefix, or the nearest one, if that isn't far."""
+    """Returns the option of which this is a prefix, or else the nearest one, if that is near enough."""
     import difflib
     begun = [it for it in options if len(word) > 2 and it.startswith(word)]
     return next(iter(begun + difflib.get_close_matches(word.lower(), options, 1, 0.75)), "")
 
 
 def judge(words):
-    """What is wrong with the first invalid one of these options, its range and the nearest option; nothing if the program
-    accepts them all."""
+    """Returns a message about the first invalid option among these, with its range and the nearest option; nothing if the program accepts
+    them all."""
     rest, seen = iter(words), set()
     for word in rest:
         option, is_given, value = word.partition("=") if word.startswith("--") else (word, "", "")

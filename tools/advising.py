@@ -94,7 +94,7 @@ def candidates(head, device, options, has_program):
     return tried
 
 
-# ---- how it is set
+# ---- how settings are applied
 
 def thread_of(device):
     """Returns the prefix of the names of a device's NAPI threads."""

@@ -13,7 +13,7 @@ MOST_DEVICES = 64 * 64  # 64 devices on each of 64 processors
 
 
 class Packets:
-    """Packets in compact arrays: for each its time, the number of its kind, and its size."""
+    """Packets in compact arrays: the time of each, the number of its kind, and its size."""
 
     def __init__(self):
         self.times, self.kinds, self.sizes, self.numbers = array("Q"), array("L"), array("H"), {}

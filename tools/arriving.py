@@ -43,8 +43,8 @@ def packet_of(event):
 
 
 class PollBegins:
-    """When the current poll on each processor began, or the interrupt that requested it. A packet that the poll takes arrived by then, or during the
-    poll."""
+    """For each processor, when the current poll began, or the interrupt that requested it. A packet that the poll takes arrived before
+    that, or during the poll."""
 
     def __init__(self):
         self.handlers, self.ended, self.began = {}, {}, {}  # by processor
@@ -105,7 +105,7 @@ def by_device(counted):
 
 
 def why_no_packet(head, count):
-    """Returns why a recording has no arrivals."""
+    """Returns the reason why a recording has no arrivals."""
     if "net/net_dev_xmit" in head.get("missing", "").split():
         return "the kernel that recorded it has no event net/net_dev_xmit, so there is no packet in it"
     if not count:

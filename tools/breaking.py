@@ -71,7 +71,7 @@ def rate_of(path):
 
 @dataclass
 class Breaking:
-    """The load at which a combination breaks, with the given costs and with lower and higher ones."""
+    """The load at which a setting breaks, for the given costs and for lower and higher ones."""
 
     key: tuple
     ends: dict  # for each percentage of the costs: the load that holds and the load that breaks
@@ -105,7 +105,7 @@ def about(load):
 
 
 def told(until, each, rate, percents):
-    """Returns the sentence on a combination."""
+    """Returns the sentence that describes a combination of settings."""
     holds, broken = each.ends[100]
     what = "packets are lost" if until == "drops" else f"the 99th percentile of waits is over {until.partition('=')[2]} µs"
     if broken is None:

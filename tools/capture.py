@@ -21,7 +21,7 @@ MOST_SECONDS, MOST_HELD = 2**31, 262144
 
 
 class Strange(Exception):
-    """A packet or capture that is left to tcpdump."""
+    """Raised for a packet or a capture that is left to tcpdump."""
 
 
 @functools.lru_cache(1 << 16)

@@ -1,6 +1,5 @@
-"""Shared by sweep and what-if: a CSV file with a row per combination, each made by a program. Several programs run at once on all processors,
-or by GNU parallel on many machines. Existing rows aren't made again, and several calls may work on one file.
-"""
+"""Used by sweep and what-if: a CSV file with a row per combination of settings. Each row is made by running a program. Several programs run
+at once on all processors, or by GNU parallel on many machines. Existing rows aren't made again, and several calls may work on one file."""
 
 from toolbox import (Progress, Refusal, add_program, begun, check_target, number, pair, read_now, say, share_of, shown, unfinished, why,
                      write_whole)
@@ -109,7 +108,7 @@ class Combinations:
         self.head = ",".join(self.columns) + "\n"
 
     def try_row(self, made, key):
-        """Returns the row of a key, or why there is none."""
+        """Returns the row of a key, or the reason why there is none."""
         try:
             return self.row_of(made, key), None
         except (Refusal, OSError, UnicodeError, MemoryError) as error:
@@ -142,7 +141,7 @@ class Combinations:
         command = ["parallel", "--will-cite", "--line-buffer", "--quote", "--retries", TRIES, "--jobs", words.jobs or "100%",
                    "--max-args", some, "--workdir", os.getcwd(), "--sshloginfile", words.sshloginfile, self.script, "--program", made, "--play"]
         with tempfile.TemporaryFile() as lines:
-            # A file, because a pipe that is full in both directions would deadlock.
+            # a file, because a pipe that is full in both directions would deadlock
             lines.write(b"".join(os.fsencode(f"{','.join(key[1:])},{key[0]}\n") for key in keys))
             lines.seek(0)
             with begun(list(map(str, command)), set(), stdin=lines, stdout=subprocess.PIPE, text=True, encoding="utf-8",
@@ -156,7 +155,7 @@ class Combinations:
                     process.terminate()
 
     def rows_here(self, made, keys, words):
-        """The same on this machine, with a pool of threads, each running a program."""
+        """Makes the rows on this machine, with a pool of threads that each run a program."""
         def tries(key):
             for left in range(TRIES - 1, -1, -1):
                 row, told = self.try_row(made, key)

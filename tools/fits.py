@@ -33,7 +33,7 @@ class Cost:
 
 
 def cost_of(times, source, less=0):
-    """Returns the median of these times minus a constant, each clipped at 0; None if there are too few."""
+    """Returns the median of these times minus a constant, each at least 0; None if there are too few."""
     if len(times) < FEWEST:
         return None
     ordered = sorted(max(0, each - less) for each in times)

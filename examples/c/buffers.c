@@ -11,7 +11,7 @@ enum { PACKETS = 200000, WEIGHT = 64, PLACES = 256, BURST = 16, BUFFERS = PLACES
 
 static unsigned char buffers[BUFFERS][BYTES];
 
-/* The value of each byte of the packet. */
+/* Returns the value of each byte of the packet. */
 static unsigned char written(uint64_t packet) { return (unsigned char)(packet % 251); }
 
 struct interrupts {

@@ -8,7 +8,7 @@
 #include <stdlib.h>
 
 enum { STOPS = 20, BETWEEN = 1000, PACKETS = (STOPS + 1) * BETWEEN, ROOM = 256 };
-static struct fq_word interrupts; /* a bit for each device */
+static struct fq_word interrupts; /* a bit for each device whose card has interrupted */
 static sem_t wake;
 static atomic_uint arrived, polled, masked = 1;
 static unsigned stops;
@@ -24,14 +24,14 @@ static void *receive(void *none) {
     return none;
 }
 
-/* Takes packets from the card, at most so many. */
+/* Takes packets from the card, at most this many. */
 static uint32_t fetch(uint32_t most) {
     uint32_t count = 0;
     for (; count < most && polled != arrived; count++) polled++;
     return count;
 }
 
-/* Does what is due, until nothing is: then each packet that comes interrupts. */
+/* Does what the driver asks for until there is nothing to do: from then on each packet that arrives raises an interrupt. */
 static void work(struct fq_handle *driver) {
     struct fq_todo todo = FQ_TODO_INIT;
     if (fq_word_take(&interrupts)) must(fq_driver_interrupt(driver, 0) < FQ_NOT_ALLOWED);

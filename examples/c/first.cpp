@@ -2,7 +2,7 @@
 #include <fintaqush.hpp>
 #include <cstdio>
 
-// Each caller of an instance has a number; the controller's is named when the instance is made.
+// Each caller of an instance has a number. The controller's number is an argument when the instance is made.
 enum : std::uint32_t { INTERRUPT, POLLER, CONTROLLER };
 
 // The card's interrupt. Returns whether the instance was queued on the poll list now.

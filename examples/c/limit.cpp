@@ -1,5 +1,5 @@
-// A queue limit: frames of 1500 bytes are given to a card while the limit allows it, and the card completes all of them every
-// six milliseconds. The limit grows, because the card ran out of work each time.
+// A queue limit: frames of 1500 bytes are sent to a card while the limit allows it, and every six milliseconds the card
+// completes all of them. The limit grows, because the card ran out of work each time.
 #include <fintaqush.hpp>
 #include <cstdio>
 

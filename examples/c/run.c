@@ -6,10 +6,10 @@ enum { DEVICES = 4, POLLER = 1, CONTROLLER = 2, BUDGET = 100, WEIGHT = 64, WINDO
 
 struct device {
     struct fq_napi napi;
-    uint32_t left; /* packets in its ring */
+    uint32_t left; /* the packets in its ring */
 };
 
-/* Polls a device, and ends the poll; the result is of enum fq_next. */
+/* Polls a device, ends the poll, and returns how it ended (enum fq_next). */
 static enum fq_next poll_once(struct device *device, uint32_t *work) {
     *work = 0;
     if (fq_napi_take(&device->napi, POLLER, FQ_LIST) != FQ_TAKEN) return FQ_NEXT_ABSENT;
@@ -20,7 +20,7 @@ static enum fq_next poll_once(struct device *device, uint32_t *work) {
     return fq_napi_hand(&device->napi, POLLER, FQ_LIST) == FQ_OK ? FQ_NEXT_AGAIN : FQ_NEXT_ABSENT;
 }
 
-/* Makes one run, and returns whether it polled something. */
+/* Makes one run, and returns whether it polled anything. */
 static bool run(struct fq_handle *list, struct device *devices) {
     struct fq_run_report report;
     uint32_t id, work;

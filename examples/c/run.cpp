@@ -8,7 +8,7 @@ constexpr std::uint32_t POLLER = 1, CONTROLLER = 2, BUDGET = 100, WEIGHT = 64, W
 
 struct Device {
     SerialNapi napi{CONTROLLER};
-    std::uint32_t left; // packets in its ring
+    std::uint32_t left; // the packets in its ring
 };
 
 // Polls a device, and ends the poll.

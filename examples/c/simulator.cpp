@@ -10,16 +10,16 @@ constexpr Time INTERRUPT = 4000, POLL = 1000, PACKET = 1000;
 
 struct Card {
     Time next;               // when the next packet arrives
-    std::queue<Time> ring{}; // when those in it arrived
+    std::queue<Time> ring{}; // when the packets in it arrived
     unsigned arrived = 0;
     bool masked = true, raised = false;
 };
 struct Machine {
-    Time gap, now = 0, waited = 0; // the distance of a card's packets; the clock; the sum of all waits
+    Time gap, now = 0, waited = 0; // gap: the time between a card's packets; now: the clock; waited: the sum of all waits
     std::vector<Card> cards{};
     unsigned interrupts = 0, polled = 0, dropped = 0, runs = 0, squeezed = 0;
 
-    // What arrived until now is in a ring, or dropped; a card that isn't masked raises its interrupt.
+    // Handles the arrivals up to now: packets go into a ring or are dropped, and a card that isn't masked raises its interrupt.
     void arrivals() {
         for (Card &card : cards)
             for (; card.arrived < PACKETS && card.next <= now; card.arrived++, card.next += gap) {
@@ -27,7 +27,7 @@ struct Machine {
                 else card.ring.push(card.next), card.raised |= !card.masked;
             }
     }
-    // What the driver asks for. A poll takes packets that arrive meanwhile too.
+    // The actions that the driver asks for. A poll also takes packets that arrive meanwhile.
     void mask(unsigned device) { cards[device].masked = true, now += INTERRUPT, interrupts++; }
     void unmask(unsigned device) { cards[device].masked = false; }
     bool look(unsigned device) { return !cards[device].ring.empty(); }
@@ -45,7 +45,7 @@ struct Machine {
             runs += did.what == FQ_TODO_ENDED, squeezed += did.run.squeezed;
             const auto soonest = std::min_element(cards.begin(), cards.end(), [](auto &a, auto &b) { return a.next < b.next; });
             if (did.what == FQ_TODO_SLEEP) now = std::max(now, soonest->next);
-            if (did.what == FQ_TODO_UNMASK || (did.what == FQ_TODO_FETCH && did.packets < did.most)) continue; // its unmask and look come first
+            if (did.what == FQ_TODO_UNMASK || (did.what == FQ_TODO_FETCH && did.packets < did.most)) continue; // unmask and look before handling arrivals
             arrivals();
             const auto raised = std::find_if(cards.begin(), cards.end(), [](auto &card) { return card.raised; });
             if (raised != cards.end()) raised->raised = false, driver.interrupt(unsigned(raised - cards.begin()));

@@ -2,7 +2,7 @@
 #include <fintaqush.h>
 #include <stdio.h>
 
-static unsigned waiting; /* packets that the card has */
+static unsigned waiting; /* the packets that the card has */
 static bool masked = true;
 
 /* Packets arrive. The card interrupts unless it is masked. */
@@ -36,7 +36,7 @@ static void work(struct fq_handle *driver) {
 int main(void) {
     struct fq_handle driver = FQ_NONE;
     if (fq_driver_new(&driver, 1, 300, 64, 1024) != FQ_OK || fq_driver_open(&driver, 0) != FQ_OK) return 1;
-    if (!arrive(&driver, 3)) return 1; /* before the card is unmasked: without an interrupt */
+    if (!arrive(&driver, 3)) return 1; /* these arrive before the card is unmasked, so without an interrupt */
     work(&driver);
     if (!arrive(&driver, 150)) return 1;
     work(&driver);

@@ -6,11 +6,11 @@
 enum { BURSTS = 1000, BURST = 100, BYTES = 60 };
 static struct fq_handle driver, tx;
 static uint64_t now_ms;
-static unsigned arrived, polled, answered, sent, stopped; /* sent: what the card has sent, and not yet reported */
+static unsigned arrived, polled, answered, sent, stopped; /* sent: the packets that the card has sent and not reported yet */
 static bool masked = true;
 static void must(bool holds) { if (!holds) abort(); }
 
-/* The driver gives answers to the card, which sends them (netdev_tx_sent_queue). */
+/* Passes answers to the card, which sends them (netdev_tx_sent_queue). */
 static void send_answers(void) {
     for (; answered < polled; answered++, sent++) {
         const enum fq_status said = fq_tx_send(&tx, BYTES);
@@ -35,7 +35,7 @@ static void work(void) {
     while (fq_driver_next(&driver, &todo), todo.what != FQ_TODO_SLEEP) {
         if (todo.what == FQ_TODO_MASK) masked = true;
         else if (todo.what == FQ_TODO_UNMASK) masked = false;
-        else if (todo.what == FQ_TODO_LOOK) todo.packets = arrived - polled + sent; /* or there is something to complete */
+        else if (todo.what == FQ_TODO_LOOK) todo.packets = arrived - polled + sent; /* or if there is something to complete */
         else if (todo.what == FQ_TODO_FETCH) todo.packets = fetch(todo.most);
         fq_driver_done(&driver, &todo);
     }

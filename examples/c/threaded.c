@@ -38,7 +38,7 @@ struct poller {
     bool failed;
 };
 
-/* One take: polls until a poll isn't full, and returns how that ended. */
+/* One turn after a take: polls until a poll isn't full, and returns how that one ended. */
 static uint32_t poll_once(struct poller *poller) {
     struct fq_packet out[WEIGHT];
     uint32_t said, next;
@@ -53,7 +53,7 @@ static uint32_t poll_once(struct poller *poller) {
     return next;
 }
 
-/* napi_threaded_poll. */
+/* The instance's thread (napi_threaded_poll). */
 static void *poll_all(void *at) {
     struct poller *poller = at;
     uint32_t next = FQ_NEXT_GONE;
@@ -76,7 +76,7 @@ int main(void) {
     if (pthread_create(&threads[1], NULL, poll_all, &poller) != 0) return 1;
     for (int i = 0; i < 2; i++) pthread_join(threads[i], NULL);
     if (irq.failed || poller.failed || poller.next != PACKETS || poller.held == 0) return 1;
-    /* napi_disable: an instance that was handed to the thread last is taken and completed */
+    /* napi_disable: an instance that was queued for the thread last is taken and completed */
     while (fq_control_step(&control, false, false) == FQ_BUSY)
         if (fq_seat_take(&seats[1], FQ_THREAD) == FQ_TAKEN) poll_once(&poller);
     printf("%d packets by a thread of its own, each once and in order\n", PACKETS);

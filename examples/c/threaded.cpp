@@ -27,7 +27,7 @@ struct Thread {
     unsigned long held = 0;
     bool good = true;
 
-    // Takes the instance if it is there, and polls until a poll isn't full.
+    // Takes the instance if it is queued for the thread, and polls until a poll isn't full.
     bool poll_once() {
         auto took = std::move(*caller).take(FQ_THREAD);
         if (auto *resting = std::get_if<Caller>(&took)) {
@@ -59,7 +59,7 @@ int main() {
     });
     first.join();
     second.join();
-    // an instance that was handed to the thread last is taken and completed before the disable
+    // an instance that was queued for the thread last is taken and completed before the disable
     while (own.poll_once()) {
     }
     const auto off = std::move(on).disable();

@@ -1,4 +1,4 @@
-/* An interrupt thread and a poller thread share an instance: 200000 packets, each is polled once and in order. */
+/* An interrupt thread and a poller thread share an instance: 200000 packets are each polled once and in order. */
 #include <fintaqush.h>
 #include <pthread.h>
 #include <sched.h>

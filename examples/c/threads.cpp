@@ -1,4 +1,4 @@
-// An interrupt thread and a poller thread share an instance: 200000 packets, each is polled once and in order.
+// An interrupt thread and a poller thread share an instance: 200000 packets are each polled once and in order.
 #include <fintaqush.hpp>
 #include <cstdio>
 
@@ -33,7 +33,7 @@ static void poll_all(std::optional<Caller> &caller, bool &good) {
             std::this_thread::yield();
         }
     }
-    // an instance that is still on the list
+    // the instance may still be on the list
     auto took = std::move(*caller).take(FQ_LIST);
     if (auto *polling = std::get_if<Polling>(&took)) {
         caller = end_poll(std::move(*polling), 0);

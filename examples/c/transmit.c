@@ -1,5 +1,5 @@
-/* The transmit side of a card: frames of 1500 bytes are sent into a ring of capacity four until a send fails, and the card
- * completes all of them every six milliseconds. The limit grows, because the card ran out of work each time, until the ring
+/* The transmit side of a card: frames of 1500 bytes are sent into a ring of capacity four until a send fails, and every six
+ * milliseconds the card completes all of them. The limit grows, because the card ran out of work each time, until the ring
  * itself is too short. */
 #include <fintaqush.h>
 #include <stdio.h>

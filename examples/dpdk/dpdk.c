@@ -20,7 +20,7 @@ enum { RING = 512, WAITING = 1024, MBUFS = 8191, BURST = 32, QUIET = 10, SLEEPY 
 struct port {
     struct device device;
     uint16_t id;
-    bool switches; /* whether its driver turns the interrupt on and off; otherwise only epoll does */
+    bool switches; /* whether its DPDK driver can turn the interrupt on and off; if not, only epoll can */
     struct rte_mbuf *seen[BURST], *waiting[WAITING];
     uint16_t seens; /* packets that a look took from the card, for the next fetch */
     uint64_t first, let, behind; /* the limit has allowed the answers from first on, those from let on wait for it, and the
@@ -59,7 +59,7 @@ static void use(struct port *port, struct rte_mbuf *got) {
     port->device.answered++;
 }
 
-/* Gives frames to the card as the limit allows; and again, if the card completed some at once. */
+/* Passes frames to the card as the limit allows; tries again if the card has completed some meanwhile. */
 static void give(struct device *device) {
     struct port *port = (struct port *)device;
     do {
@@ -69,7 +69,7 @@ static void give(struct device *device) {
             const uint64_t rest = port->let - port->first, straight = WAITING - port->first % WAITING;
             given = rte_eth_tx_burst(port->id, 0, port->waiting + port->first % WAITING, (uint16_t)(rest < straight ? rest : straight));
         }
-        rte_eth_tx_done_cleanup(port->id, 0, 0); /* some drivers free late, and have this */
+        rte_eth_tx_done_cleanup(port->id, 0, 0); /* some drivers free completed frames late, and have this call for it */
     } while (port->freed);
 }
 
@@ -81,14 +81,14 @@ static void mask(struct device *device) {
     arm(device, EPOLL_CTL_MOD, false);
 }
 
-/* Looks and fetches after it find the events that were reported until here. */
+/* Unmasks the card's interrupt. Looks and fetches after this find the packets of events that were reported until here. */
 static void unmask(struct device *device) {
     struct port *port = (struct port *)device;
     if (port->switches && ((void)!read(device->event, &(uint64_t){0}, 8), rte_eth_dev_rx_intr_enable(port->id, 0))) die("unmask");
     arm(device, EPOLL_CTL_MOD, true);
 }
 
-/* Some of DPDK's drivers can't say how many packets there are, but each can give some. */
+/* Some DPDK drivers can't say how many packets there are, but each of them can return some packets. */
 static uint32_t look(struct device *device) {
     struct port *port = (struct port *)device;
     if (!port->seens) port->seens = rte_eth_rx_burst(port->id, 0, port->seen, BURST);
@@ -151,7 +151,7 @@ static void open_port(struct port *port) {
 static void close_port(struct port *port) {
     struct rte_eth_stats card;
     if (rte_eth_stats_get(port->id, &card) || rte_eth_dev_stop(port->id) || rte_eth_dev_close(port->id)) die("statistics");
-    completed(&port->device, port->freed); /* the counts of the port */
+    completed(&port->device, port->freed); /* reports the frames that the port has completed */
     close_device(&port->device);
     printf("dropped %lu sleeps %lu | the port: in %lu out %lu missed %lu errors %lu\n", port->dropped, sleeps, card.ipackets, card.opackets, card.imissed,
         card.ierrors + card.oerrors);

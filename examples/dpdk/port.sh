@@ -1,6 +1,7 @@
 # examples/dpdk/port.sh, sourced: the driver on DPDK's port over a TAP device, which it makes in the namespace of the load.
 
-# start_port MODE [OPTION ..]: the port's device is fq0. DPDK's main thread may run on each processor that this script may use.
+# start_port MODE [OPTION ..]: starts the driver on a port whose device is fq0. DPDK's main thread may run on each processor
+# that this script may use.
 start_port() {
     local processors
     processors=$(awk '/^Cpus_allowed_list/ { print $2 }' /proc/self/status)

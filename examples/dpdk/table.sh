@@ -16,7 +16,7 @@ built=${BUILT:-$scratch}
 # The processor time of the driver's threads, in ns.
 spent() { cat "/proc/$driver/task/"*/schedstat | awk '{ sum += $1 } END { printf "%.0f\n", sum }'; }
 
-# under COMMAND ..: the processor time under this load, and the times that it prints
+# under COMMAND ..: prints the processor time under this load, and the times that the load prints
 under() {
     local time clock
     time=$(spent) clock=$(date +%s%N)

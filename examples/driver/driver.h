@@ -27,11 +27,11 @@ struct device {
     uint32_t id;
     int event;                                                     /* the file that becomes readable when the card interrupts */
     void (*mask)(struct device *device), (*unmask)(struct device *device);
-    uint32_t (*look)(struct device *device);                       /* how many packets are there, or whether there are any */
-    uint32_t (*fetch)(struct device *device, uint32_t most);       /* takes at most so many, uses them, and returns how many */
-    void (*give)(struct device *device);                           /* sends what waits, and reports what the card has completed */
-    alignas(APART) unsigned long interrupts; /* from here on used by the interrupt thread */
-    alignas(APART) struct fq_handle limit;   /* from here on used by the poller */
+    uint32_t (*look)(struct device *device);                       /* returns how many packets there are, or 1 if there are any */
+    uint32_t (*fetch)(struct device *device, uint32_t most);       /* takes at most this many packets, processes them, and returns how many */
+    void (*give)(struct device *device);                           /* sends frames that wait, and reports what the card has completed */
+    alignas(APART) unsigned long interrupts; /* the fields from here on are written by the interrupt thread */
+    alignas(APART) struct fq_handle limit;   /* the fields from here on are written by the poller */
     struct fq_tx_watchdog watchdog;
     unsigned long granted, missed, disabled, polls, packets, full, answered, sent, done, held;
 };
@@ -46,7 +46,7 @@ static atomic_bool ended;
 static int wake, card_events, poller_events;
 static unsigned long runs, squeezed;
 
-/* With status 69 if the kernel lacks it, or refuses it. */
+/* Ends the program; with status 69 if the kernel lacks a feature or denies it. */
 static inline void die(const char *what) {
     const int status = errno == EPERM || errno == EAFNOSUPPORT ? 69 : 1;
     fprintf(stderr, "%s: %s\n", what, strerror(errno));
@@ -135,7 +135,7 @@ static inline uint32_t fetch_from(struct device *device, uint32_t most) {
     return count;
 }
 
-/* Does what is due, until a run ends; returns false if nothing is. */
+/* Does what the driver asks for until a run ends; returns false if there is nothing to do. */
 static inline bool run(void) {
     struct fq_todo todo = FQ_TODO_INIT;
     while (report_interrupts(), fq_driver_next(&driver, &todo), todo.what != FQ_TODO_SLEEP) {
@@ -152,7 +152,7 @@ static inline bool run(void) {
     return false;
 }
 
-/* Opens or stops a device; returns whether it is done. A stop that has begun ends first. */
+/* Makes a step to open or stop a device; returns whether that is done. A stop that has begun is finished first. */
 static inline bool step(struct device *device, bool on) {
     struct fq_device_shown shown = {.size = sizeof shown};
     const uint32_t said = on ? fq_driver_open(&driver, device->id) : fq_driver_stop(&driver, device->id);
@@ -161,8 +161,7 @@ static inline bool step(struct device *device, bool on) {
     return shown.state == (on ? FQ_DEVICE_OPEN : FQ_DEVICE_CLOSED);
 }
 
-/* Runs until the end is wanted, all devices are closed, and all answers are sent. There is no interrupt for completed
- * sends. */
+/* Runs until the program has to end, all devices are closed and all answers are sent. There is no interrupt for completed sends. */
 static inline void poller(const char *name) {
     enum wanted told = OFF;
     for (bool more = true, there = false, complete = true;;) {
@@ -185,7 +184,7 @@ static inline void poller(const char *name) {
 
 /* ---- Start and end. */
 
-/* SIGHUP stops and opens in turn, SIGINT ends. */
+/* Handles a signal: SIGHUP stops and opens in turn, SIGINT ends the program. */
 static inline void tell(int signal) {
     const int kept = errno;
     if (signal == SIGHUP) atomic_fetch_xor(&wanted, OFF);
@@ -209,7 +208,7 @@ static inline void open_driver(void) {
     signal(SIGINT, tell), signal(SIGTERM, tell), signal(SIGHUP, tell);
 }
 
-/* Makes a limit for this many frames, which allows at least this many bytes. */
+/* Opens a device, with a limit that allows at least this many bytes. */
 static inline void open_device(struct device *device, uint32_t frames, uint32_t least) {
     must("limit", fq_tx_new(&device->limit, frames, least, 1879048192, HOLD_MS, now_ms()), FQ_OK);
     device->id = count_of_devices;
@@ -217,7 +216,7 @@ static inline void open_device(struct device *device, uint32_t frames, uint32_t 
     arm(device, EPOLL_CTL_ADD, false);
 }
 
-/* Prints what it counted, in two lines. */
+/* Prints the device's counts, in two lines. */
 static inline void close_device(struct device *device) {
     struct fq_tx_shown shown;
     must("state", fq_tx_state(&device->limit, &shown), FQ_OK);

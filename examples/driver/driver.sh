@@ -4,13 +4,13 @@
 . "$(dirname "${BASH_SOURCE[0]}")/../tap/device.sh"
 patience=${PATIENCE:-120}
 
-# over NEED [WHY]: the driver can't run here without it.
+# over NEED [WHY]: ends the script, because the driver can't run here without NEED
 over() {
     echo "$name: this needs $1${2:+, $2}" >&2
     exit 69
 }
 
-# make_spaces NAME SPACE ..: the first one has the load, in `space`.
+# make_spaces NAME SPACE ..: makes network namespaces; the first one has the load, and its name is in `space`
 make_spaces() {
     name=$1 spaces=("${@:2}") space=$2
     [ "$(id -u)" = 0 ] || over root
@@ -24,7 +24,7 @@ make_spaces() {
     space=$2
 }
 
-# The processes in them end first.
+# the processes in the namespaces end first
 remove_spaces() {
     local process each
     for each in "${spaces[@]}"; do
@@ -71,7 +71,8 @@ pings() {
     check "$1 pings are answered" answered "$1" "$said"
 }
 
-# start COMMAND ..: the driver, which ends with status 69 if the kernel lacks or refuses what is in `kernel`
+# start COMMAND ..: starts the driver; skips the test if it ends with status 69, because the kernel lacks or denies what is in
+# `kernel`
 start() {
     : > "$scratch/err"
     "$@" > "$scratch/out" 2>> "$scratch/err" &
@@ -84,8 +85,8 @@ start() {
 }
 has_begun() { told on 1 || has_ended "$driver"; }
 
-# Pings, a second of UDP both ways, ten disables and enables under load, pings, and SIGINT; `tx` and `rx` are the counts of the
-# other end.
+# drive: pings, a second of UDP both ways, ten disables and enables under load, pings, and SIGINT; `tx` and `rx` are the counts
+# of the other end
 drive() {
     local turn load
     pings 3000 1400 16

@@ -34,7 +34,7 @@ struct Sender {
     uint64_t sent = 0;
 };
 
-/* A burst, and the next one after a gap. */
+/* Sends a burst, and schedules the next one after a gap. */
 static void Burst(Sender *sender) {
     if (Simulator::Now() >= sender->until) return;
     for (uint32_t i = 0; i < BURST; i++) {
@@ -53,7 +53,7 @@ static Ptr<QueueLimits> MakeLimits(const std::string &whose) {
     return factory.Create<QueueLimits>();
 }
 
-/* A sender with its link to a card of the receiver. */
+/* Connects a sender by its link to a card of the receiver. */
 static void Connect(Sender &sender, uint32_t number, Ptr<Node> receiver, Receiver *processor, Ptr<QueueLimits> limits,
                     std::ostream *calls) {
     NodeContainer node(1);
@@ -82,7 +82,7 @@ static double Microseconds(std::vector<int64_t> &latencies, size_t percent) {
     return static_cast<double>(latencies[(latencies.size() - 1) * percent / 100]) / 1000;
 }
 
-/* Shares are of the time until nothing more happens. */
+/* Prints the row. Percentages are of the time until nothing more happens. */
 static void Print(const Settings &settings, uint32_t load, const std::vector<Sender> &senders, Counts &counts, Time length) {
     uint64_t sent = 0, dropped = 0, stops = 0;
     int64_t limit = 0;

@@ -18,7 +18,7 @@ struct Pair {
     std::mt19937 random{4711};
 };
 
-/* A call, and the next one a random time later. */
+/* Makes a call on both limits, and schedules the next one after a random time. */
 static void call(Pair *pair) {
     const uint32_t dice = pair->random();
     pair->made++;

@@ -1,4 +1,4 @@
-/* Queue limits of ns-3 (ns3::QueueLimits) by this library's, and both compared. */
+/* This library's queue limit as a queue limit of ns-3 (ns3::QueueLimits), and a comparison of the two. */
 #ifndef FINTAQUSH_NS3_LIMITS_H
 #define FINTAQUSH_NS3_LIMITS_H
 
@@ -10,14 +10,14 @@
 #include <ns3/queue-limits.h>
 #include <ns3/simulator.h>
 
-/* Ends the program if a call returns what isn't possible here. */
+/* Ends the program if a call returns a status that isn't possible here. */
 inline void must(const char *what, uint32_t said, uint32_t wanted = FQ_OK) {
     if (said == wanted) return;
     std::cerr << what << ": " << fq_status_name(said) << "\n";
     std::exit(1);
 }
 
-/* The library's limit as one of ns-3. Its times are of any clock: here they are ns-3's nanoseconds. */
+/* The library's limit as a queue limit of ns-3. Its clock may be any: here it is ns-3's, in nanoseconds. */
 class FintaqushLimits : public ns3::QueueLimits {
   public:
     FintaqushLimits(uint32_t min, uint32_t max, ns3::Time hold) {
@@ -36,7 +36,7 @@ class FintaqushLimits : public ns3::QueueLimits {
     fq_dql dql;
 };
 
-/* A limit whose calls are counted and, if a stream is given, written, each with the bytes available after it. */
+/* A queue limit that counts its calls and, if there is a stream, writes each call with the bytes available after it. */
 class ToldLimits : public ns3::QueueLimits {
   public:
     ToldLimits(ns3::Ptr<ns3::QueueLimits> limits, std::ostream *calls) : limits(limits), calls(calls) {}
@@ -56,7 +56,7 @@ class ToldLimits : public ns3::QueueLimits {
         tell("completed", count);
     }
 
-    /* The bytes available are the limit minus those in flight. */
+    /* Returns the limit: the bytes available plus those in flight. */
     int64_t Limit() const { return limits->Available() + in_flight; }
     uint64_t Stops() const { return stops; }
 

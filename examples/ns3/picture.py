@@ -6,7 +6,8 @@ import matplotlib
 matplotlib.use("Agg")
 from matplotlib.figure import Figure
 
-# Each a budget and napi_defer_hard_irqs, its name, its colour, its mark, and the width of its line: equal curves show through each other.
+# For each setting (a budget and napi_defer_hard_irqs): its name, its colour, its mark, and the width of its line, so that equal curves show
+# through each other.
 SETTINGS = {("0", "0"): ("interrupts without polling", "#757575", "o", 1.5), ("16", "0"): ("budget 16", "#4fb894", "s", 5),
             ("300", "0"): ("budget 300", "#b85000", "^", 1.5), ("300", "2"): ("budget 300, deferral by 100 \u00b5s", "#5b55a5", "D", 1.5)}
 PANELS = (("latency, 99th percentile, ms", lambda row: float(row["p99_us"]) / 1000),

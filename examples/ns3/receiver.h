@@ -23,7 +23,7 @@
 enum : uint32_t { CONTROLLER = 0, CARD = 1, SOFTIRQ = 2 };
 enum : uint32_t { RING = 256, WEIGHT = 64, WINDOW = 65535, SOCKET = 512 };
 
-/* What each piece of work takes: made up, of the order of a small machine's. */
+/* The time that each kind of work takes. The values are made up, of the order of those of a small machine. */
 static const ns3::Time INTERRUPT = ns3::MicroSeconds(4), POLL = ns3::MicroSeconds(1);
 static const ns3::Time PACKET = ns3::MicroSeconds(1), USE = ns3::MicroSeconds(2);
 /* The time limit of a run (netdev_budget_usecs). */
@@ -38,20 +38,20 @@ struct Settings {
 struct Card {
     fq_handle ring = FQ_NONE;
     fq_napi napi = fq_napi_new(CONTROLLER);
-    std::vector<ns3::Ptr<const ns3::Packet>> slots{RING + 1}; /* of the ring, and of the packet that is polled */
-    std::vector<int64_t> came = std::vector<int64_t>(RING + 1); /* in ns */
+    std::vector<ns3::Ptr<const ns3::Packet>> slots{RING + 1}; /* the packets in the ring, and the one that a poll processes */
+    std::vector<int64_t> came = std::vector<int64_t>(RING + 1); /* the arrival times of the packets, in ns */
     uint64_t next = 0, arrived = 0, dropped = 0, interrupts = 0, polls = 0;
-    std::vector<int64_t> waits; /* until each was delivered */
-    uint32_t waiting = 0; /* packets in its ring */
-    uint32_t deferrals = 0; /* still left */
+    std::vector<int64_t> waits; /* the wait of each packet until it was delivered */
+    uint32_t waiting = 0; /* how many packets are in the ring */
+    uint32_t deferrals = 0; /* how often the interrupt may still be deferred */
     bool raised = false, masked = false, fired = false;
 };
 
 struct Counts {
     uint64_t arrived = 0, ring_full = 0, socket_full = 0, used = 0, interrupts = 0, timers = 0;
-    uint64_t runs = 0, polls = 0, work = 0, squeezed = 0, late = 0, most = 0; /* most: of a run's work */
+    uint64_t runs = 0, polls = 0, work = 0, squeezed = 0, late = 0, most = 0; /* most: the greatest work of a run */
     ns3::Time interrupting, polling, using_, end;
-    std::vector<int64_t> latencies, waits; /* from the sender's socket, and from the card, to the end of its use, in ns */
+    std::vector<int64_t> latencies, waits; /* for each packet used, in ns: from the sender's socket, and from its arrival at the card, to the end of its use */
 };
 
 class Receiver {
@@ -70,7 +70,7 @@ class Receiver {
         for (Card &card : cards) must("free", fq_free(&card.ring));
     }
 
-    /* A packet comes to a card, after the work that ends and the timers that expire at this time. */
+    /* Handles the arrival of a packet at a card, after the work that ends and the timers that expire at this time. */
     bool Arrive(size_t at, ns3::Ptr<const ns3::Packet> packet) {
         ns3::Simulator::ScheduleNow([this, at, copy = ns3::Ptr<const ns3::Packet>(packet->Copy())] {
             ns3::Simulator::ScheduleNow([this, at, copy] { Put(at, copy); });
@@ -78,7 +78,7 @@ class Receiver {
         return true;
     }
 
-    /* What napi_machine reports, with each wait in place of their percentiles. */
+    /* Prints what napi_machine reports, with each wait in place of the percentiles. */
     void Print(std::ostream &out) const {
         const auto list = [&out](const std::vector<int64_t> &waits) {
             for (int64_t wait : waits) out << ' ' << wait;
@@ -107,7 +107,7 @@ class Receiver {
         int64_t born, came;
     };
 
-    /* Into the ring of a card, which interrupts unless that is masked. */
+    /* Puts a packet into the ring of a card, which interrupts unless it is masked. */
     void Put(size_t at, ns3::Ptr<const ns3::Packet> packet) {
         Card &card = cards[at];
         counts.arrived++;
@@ -130,7 +130,7 @@ class Receiver {
         Disturb();
     }
 
-    /* An idle processor starts work, and a packet's use is interrupted if a card requires it. */
+    /* Starts work on an idle processor, or interrupts a packet's use, if a card requires it. */
     void Disturb() {
         const ns3::Time now = ns3::Simulator::Now();
         if (!work) counts.end = now;
@@ -145,7 +145,7 @@ class Receiver {
 
     static bool Asks(const Card &card) { return card.raised || card.fired; }
 
-    /* Takes up the first work that there is. */
+    /* Starts the first work that is possible. */
     void TakeUp() {
         work = nullptr;
         const auto asking = std::find_if(cards.begin(), cards.end(), Asks);
@@ -161,7 +161,7 @@ class Receiver {
         Use(USE);
     }
 
-    /* Work of this length, which is added to this sum; its effect at the end may start more of it. */
+    /* Starts work of this length, which is added to this sum. The function is called at its end, and may start more work. */
     void After(ns3::Time length, ns3::Time &sum, std::function<void()> then) {
         work = &sum;
         began = ns3::Simulator::Now();
@@ -212,7 +212,7 @@ class Receiver {
         After(POLL, counts.polling, [this, id] { NextPacket(id, 0); });
     }
 
-    /* Packet after packet, until the weight or an empty ring. */
+    /* Processes the packets of a poll, one after the other, until the weight is used up or the ring is empty. */
     void NextPacket(uint32_t id, uint32_t count) {
         if (count == WEIGHT || !cards[id].waiting) return must("polled", fq_run_polled(&list, count, EndPoll(cards[id], count)));
         After(PACKET, counts.polling, [this, id, count, number = Take(cards[id])] {
@@ -221,7 +221,8 @@ class Receiver {
         });
     }
 
-    /* napi_complete_done and the driver after it, or the whole weight: then it is polled again after the others. */
+    /* Ends a poll: napi_complete_done and the driver's part after it; after the whole weight the card is polled again, after the others.
+     * */
     fq_next EndPoll(Card &card, uint32_t count) {
         if (count == WEIGHT) {
             must("hand", fq_napi_hand(&card.napi, SOFTIRQ, FQ_LIST));
@@ -232,13 +233,13 @@ class Receiver {
         return FQ_NEXT_GONE;
     }
 
-    /* Whether the card stays masked, and a timer asks for the next poll. */
+    /* Returns whether the card stays masked, and a timer requests the next poll. */
     bool IsDeferred(Card &card, uint32_t count) {
         if (count) card.deferrals = settings.defer_hard_irqs;
         if (!card.deferrals) return false;
         card.deferrals--;
         if (!settings.gro_flush_timeout.IsStrictlyPositive()) return false;
-        /* after the work that ends at that time */
+        /* after work that ends at the same time */
         ns3::Simulator::Schedule(settings.gro_flush_timeout, [this, &card] {
             ns3::Simulator::ScheduleNow([this, &card] {
                 card.fired = true;
@@ -248,7 +249,7 @@ class Receiver {
         return true;
     }
 
-    /* A run that only time ended is late, and squeezed, as the kernel counts both. */
+    /* Ends the run. A run that ended only because of its time is counted as late and as squeezed, as in the kernel. */
     void EndRun(bool is_over) {
         fq_run_report report;
         must("end", fq_run_end(&list, &report));
@@ -262,7 +263,7 @@ class Receiver {
         TakeUp();
     }
 
-    /* The rest of the application's use of a packet, or the whole. */
+    /* Starts the application's use of a packet, or continues it. */
     void Use(ns3::Time length) {
         rest = ns3::Time(0);
         use_left = length;
@@ -282,7 +283,7 @@ class Receiver {
         return packet.number;
     }
 
-    /* Into the application's socket: the time when the packet was sent follows the headers of IP and UDP. */
+    /* Delivers a packet to the application's socket. The time when it was sent is after the headers of IP and UDP. */
     void Deliver(Card &card, uint64_t number) {
         uint8_t head[36];
         int64_t born;
@@ -299,9 +300,9 @@ class Receiver {
     fq_handle list = FQ_NONE;
     std::ostream *arrivals;
     std::deque<Waiting> socket;
-    ns3::Time *work = nullptr; /* the sum to which the present work is added */
+    ns3::Time *work = nullptr; /* the sum to which the time of the work in progress is added */
     ns3::EventId work_end;
-    ns3::Time began, run_began, use_left, rest; /* rest: of an interrupted use */
+    ns3::Time began, run_began, use_left, rest; /* rest: what is left of an interrupted use */
     Waiting in_use{};
     bool running = false;
 };

@@ -12,7 +12,7 @@ to=$(readlink -f "$to")
 [ $# -gt 0 ] || set -- 25000 50000 75000 100000 125000 150000 175000 200000 225000 250000 275000 300000 325000 350000 375000 400000
 "$here/build.sh" "$to"
 
-# Each a budget, napi_defer_hard_irqs, and gro_flush_timeout in ns.
+# Each line is a budget, napi_defer_hard_irqs, and gro_flush_timeout in ns.
 settings=('0 0 0' '16 0 0' '64 0 0' '300 0 0' '300 2 100000')
 "$to/bottleneck" --head=1 > "$to/bottleneck.new"
 for setting in "${settings[@]}"; do

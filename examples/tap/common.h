@@ -1,4 +1,4 @@
-/* What all parts of the driver use: how it ends after an error, its clock, and its trace. */
+/* What all parts of the driver share: how it ends after an error, its clock, and its trace. */
 #ifndef COMMON_H
 #define COMMON_H
 
@@ -30,7 +30,7 @@ static inline uint64_t now_ns(void) {
 
 static inline uint64_t now_ms(void) { return now_ns() / 1000000; }
 
-/* The trace that is written, if there is one: by one thread, so its order is the order of the events. */
+/* The trace that is written, if there is one. Only one thread writes it, so its rows are in the order of the events. */
 struct trace {
     FILE *file;
     unsigned long rows;

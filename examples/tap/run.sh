@@ -21,7 +21,7 @@ scratch=$(mktemp -d)
 trap 'remove_device; rm -rf "$scratch"' EXIT
 built=${BUILT:-$scratch}
 [ -n "${BUILT:-}" ] || "$here/build.sh" "$built" || exit
-# A trace has at most 100000 rows, so the load is gentle then.
+# A trace has at most 100000 rows, so with a trace the load is smaller.
 under_load=(udp 7 0 600)
 [ -z "$trace" ] || under_load=(rate 200 1000000 600)
 
@@ -68,7 +68,8 @@ check 'answered = sent + failed + dropped' [ "$(is answered)" = "$(($(is sent) +
 check 'nothing is in flight' [ "$(is in_flight)" = 0 ]
 if [ -n "$trace" ]; then
     "$here/../../replay" "$trace" > "$scratch/report" || wrong=1
-    # of NAME: the number after it in the replay's line of the device, of its requests, of its sends, and in the last one
+    # of NAME: the numbers after this name in the replay's line of the device, of its requests, of its sends, and in the last
+    # line
     of() { awk -v name="$1" '$1 != "softirq" { for (i = 1; i < NF; i++) if ($i == name) found = $(i + 1) } END { print found }' <(grep -e "^$2 " "$scratch/report"); }
     same() {
         echo "the replay: $(of arrived device) $(of dropped device) $(of polled device) $(of left device) $(of polls device) $(of granted napi)" \

@@ -1,5 +1,5 @@
-/* What a device sends: frames that wait (as in the kernel's queue discipline), and before them those that the card has,
- * under a byte queue limit. The card is slow if it has a rate: it takes frames at a timer's ticks. */
+/* The sending side of a device: the frames that wait, as in the kernel's queue discipline, and before them those that the card has, under
+ * a byte queue limit. If the card has a rate, it sends frames only at the ticks of a timer. */
 #ifndef SENDER_H
 #define SENDER_H
 
@@ -11,14 +11,14 @@ enum { SLOTS = 1024 };
 
 struct sender {
     struct fq_dql limit;
-    bool stopped; /* allowed by the limit */
+    bool stopped; /* whether the limit has stopped the queue */
     int card;
-    size_t device, places; /* the card has at most this many frames */
+    size_t device, places; /* device: how many frames the card has; places: how many it may have */
     uint8_t (*frames)[FRAME];
     uint32_t bytes[SLOTS];
     uint64_t first, given, behind; /* the card has the frames from first on, those from given on wait, and the next one goes
                                     * to `behind` */
-    uint64_t credit;               /* what the card may take by its rate, in bits times the nanoseconds of a second */
+    uint64_t credit;               /* how much the card may send by its rate, in bits times the nanoseconds of a second */
     unsigned long answered, sent, failed, dropped, held;
     struct trace *trace;
 };
@@ -32,7 +32,7 @@ static inline void sender_open(struct sender *sender, int card, size_t device, s
     must("limit", fq_dql_init(&sender->limit, 0, 1879048192, 1000, moment), FQ_OK);
 }
 
-/* Queues a frame after the others; if too many wait, it is dropped. */
+/* Queues a frame after the others; if too many wait, the frame is dropped. */
 static inline void sender_put(struct sender *sender, const uint8_t *frame, uint32_t bytes) {
     sender->answered++;
     if (sender->behind - sender->first == SLOTS) {
@@ -43,7 +43,7 @@ static inline void sender_put(struct sender *sender, const uint8_t *frame, uint3
     sender->bytes[sender->behind++ % SLOTS] = bytes;
 }
 
-/* Gives frames that wait to the card, until the limit stops the queue or the card is full (netdev_tx_sent_queue). */
+/* Passes frames that wait to the card, until the limit stops the queue or the card is full (netdev_tx_sent_queue). */
 static inline void sender_give(struct sender *sender) {
     while (sender->given < sender->behind) {
         const uint32_t bytes = sender->bytes[sender->given % SLOTS];
@@ -73,7 +73,7 @@ static inline void sender_done(struct sender *sender, uint32_t count) {
     row(sender->trace, moment, sender->device, "done", count);
 }
 
-/* A card without a rate sends all at once. */
+/* Lets a card without a rate send all its frames at once. */
 static inline void sender_flush(struct sender *sender) {
     for (sender_give(sender); sender->first < sender->given; sender_give(sender)) sender_done(sender, (uint32_t)(sender->given - sender->first));
 }

@@ -22,7 +22,7 @@ failed() {
 # The processor time of the driver's threads, in ns.
 spent() { cat "/proc/$driver/task/"*/schedstat | awk '{ sum += $1 } END { printf "%.0f\n", sum }'; }
 
-# flood BYTES: packets per second and ns per packet, over one second
+# flood BYTES: prints packets per second and ns per packet, over one second
 flood() {
     local packets time
     packets=$(counter tx_packets) time=$(spent)

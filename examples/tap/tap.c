@@ -26,12 +26,12 @@ enum { STOP = QUEUES, WAKE, TIMER };
 struct queue {
     int tap;
     size_t number;
-    uint8_t (*frames)[FRAME]; /* for what the ring holds, what a poll returned, and the frame that is being read, in turn */
-    alignas(128) struct fq_handle ring; /* the input of its ring; from here on used by the card thread */
+    uint8_t (*frames)[FRAME]; /* frames for what the ring holds, what a poll returned, and the frame that is being read; used in a circle */
+    alignas(128) struct fq_handle ring; /* the input of its ring; the fields from here on are used by the card thread */
     uint64_t next;
     unsigned long read, full;
-    _Atomic uint64_t put; /* packets in its ring so far, which the poller reads too */
-    alignas(128) struct fq_handle out; /* the poll end; from here on used by the poller */
+    _Atomic uint64_t put; /* how many packets were put into its ring; the poller reads this too */
+    alignas(128) struct fq_handle out; /* the poll end of its ring; the fields from here on are used by the poller */
     uint64_t taken;
     unsigned long granted, missed, disabled, packets, polls, again, drained;
     struct sender sender;
@@ -56,7 +56,7 @@ static void watch(int events, int operation, int file, uint32_t what, uint32_t n
     if (epoll_ctl(events, operation, file, &(struct epoll_event){.events = what, .data.u32 = number})) die("epoll_ctl");
 }
 
-/* Enables the device's interrupt: with --mask until it interrupts. */
+/* Arms epoll for the device; with --mask for one event only, so that the device's interrupt is off after it. */
 static void arm(struct queue *queue, int operation) {
     watch(card_events, operation, queue->tap, EPOLLIN | (set.mask ? EPOLLONESHOT : 0), (uint32_t)queue->number);
 }
@@ -67,13 +67,14 @@ static void report(struct queue *queue) {
     if (said != FQ_MISSED && said != FQ_DISABLED) must("interrupt", said, FQ_GRANTED);
 }
 
-/* With one thread each interrupt is reported at once. The card thread raises a bit, and wakes the poller. */
+/* Handles an interrupt. With one thread, it is reported at once; otherwise the card thread sets a bit and wakes the poller. */
 static void interrupt(struct queue *queue) {
     if (set.one) report(queue);
     else if (fq_word_raise(&interrupted, (uint32_t)queue->number)) raise_event(wake);
 }
 
-/* The card: frames go into the ring, each with an interrupt or, with --mask, one for all. With --direct the poll reads them. */
+/* The card: reads frames into the ring, each with an interrupt; with --mask one interrupt for all. With --direct it only
+ * interrupts, and the poll reads the frames. */
 static void card(struct queue *queue) {
     for (int i = 0; i < BURST && !set.direct; i++) {
         const ssize_t got = read(queue->tap, queue->frames[queue->next], FRAME);
@@ -104,7 +105,7 @@ static void send_answers(struct queue *queue) {
     else sender_flush(&queue->sender);
 }
 
-/* Reads frames from the device, and uses them. */
+/* Reads frames from the device, and processes them. */
 static size_t read_all(struct queue *queue, size_t most) {
     size_t count = 0;
     for (ssize_t got; count < most && (got = read(queue->tap, queue->frames[0], FRAME)) > 0; count++) use(queue, queue->frames[0], (uint32_t)got);
@@ -121,7 +122,7 @@ static size_t poll_ring(struct queue *queue, size_t most) {
     return count;
 }
 
-/* A poll; it is followed by another one if an interrupt was missed. */
+/* Makes a poll; if an interrupt was missed, another poll follows. */
 static uint32_t fetch(struct queue *queue, uint32_t most) {
     struct fq_device_shown shown = {.size = sizeof shown};
     must("show", fq_driver_show(&driver, (uint32_t)queue->number, &shown), FQ_OK);
@@ -131,8 +132,9 @@ static uint32_t fetch(struct queue *queue, uint32_t most) {
     return (uint32_t)count;
 }
 
-/* Does what is due, until a run ends; returns false if nothing is. What is still in the device epoll reports when it is armed. A trace has
- * no row for a look: what came while a queue was stopped is polled after the next packet there. */
+/* Does what the driver asks for until a run ends; returns false if there is nothing to do. Frames that are still in the device
+ * are reported by epoll when it is armed. A trace has no row for a look, so packets that arrived while a queue was stopped are
+ * polled after the next packet there. */
 static bool run(void) {
     struct fq_todo todo = FQ_TODO_INIT;
     for (uint64_t bits = fq_word_take(&interrupted); bits; bits &= bits - 1) report(&queues[__builtin_ctzll(bits)]);
@@ -220,7 +222,7 @@ static void open_queue(struct queue *queue, size_t number, uint64_t moment) {
     row(&trace, moment, number + 1, "open", set.ring);
 }
 
-/* Takes what is left in the ring of a closed queue, and sends what waits. */
+/* Takes the packets that are left in the ring of a closed queue, and sends the frames that wait. */
 static void drain(struct queue *queue) {
     struct fq_packet packets[WEIGHT];
     size_t count;
@@ -239,7 +241,7 @@ static void close_queue(struct queue *queue) {
     close(queue->tap);
 }
 
-/* Two lines: what arrived, and what was sent. */
+/* Prints two lines: what arrived, and what was sent. */
 static void print(void) {
     struct queue sum = {0};
     uint32_t limit = 0, in_flight = 0;

@@ -26,7 +26,7 @@ enum { IOVA = 0x10000000 }; /* the address at which the card sees its memory */
 
 struct queue {
     uint16_t number, size;
-    uint16_t posted, seen; /* how many descriptors the card was given, and how many it returned, modulo 2^16 */
+    uint16_t posted, seen; /* how many descriptors the card was given, and how many of those that it returned were read, modulo 2^16 */
     struct vring_desc *desc;
     struct vring_avail *avail;
     struct vring_used *used;
@@ -36,7 +36,7 @@ struct queue {
 
 struct card {
     int device;
-    uint8_t *memory; /* what the card may read and write */
+    uint8_t *memory; /* the memory that the card may read and write */
     size_t room, given;
     volatile struct virtio_pci_common_cfg *common;
     uint8_t *notify;
@@ -105,7 +105,7 @@ static inline void find_registers(struct card *card) {
     need(card->common && card->notify, "registers of virtio 1");
 }
 
-/* Opens the card at a PCI address (0000:00:05.0), which vfio-pci has, with this much memory that the card can access. */
+/* Opens the card at a PCI address (0000:00:05.0), which is bound to vfio-pci, with this much memory that the card can access. */
 static inline void card_open(struct card *card, const char *address, size_t room) {
     char path[128], link[128] = "";
     snprintf(path, sizeof path, "/sys/bus/pci/devices/%s/iommu_group", address);
@@ -133,7 +133,7 @@ static inline void card_reset(struct card *card) {
     while (card->common->device_status) usleep(1000);
 }
 
-/* Resets the card, and accepts only those of its features without which it doesn't work. */
+/* Resets the card, and accepts only the features that it can't work without. */
 static inline void card_begin(struct card *card) {
     volatile struct virtio_pci_common_cfg *common = card->common;
     const uint32_t taken[2] = {0, 1u << (VIRTIO_F_VERSION_1 - 32) | 1u << (VIRTIO_F_ACCESS_PLATFORM - 32)};
@@ -149,7 +149,7 @@ static inline void card_begin(struct card *card) {
     common->msix_config = VIRTIO_MSI_NO_VECTOR;
 }
 
-/* Interrupt i of the card (MSI-X) is the event of queue i. */
+/* Sets up interrupts: interrupt i of the card (MSI-X) signals the event of queue i. */
 static inline void card_interrupts(struct card *card) {
     int events[QUEUES];
     union { struct vfio_irq_set set; uint8_t bytes[sizeof(struct vfio_irq_set) + sizeof events]; } all = {.set = {.argsz = sizeof all,
@@ -181,7 +181,7 @@ static inline void card_queue(struct card *card, uint16_t number) {
 
 /* ---- A queue's rings. */
 
-/* A descriptor belongs to the card from the next publish on. */
+/* Gives a descriptor to the card, which sees it from the next publish on. */
 static inline void queue_post(struct queue *queue, uint16_t which, uint64_t address, uint32_t bytes) {
     queue->desc[which] = (struct vring_desc){.addr = address, .len = bytes, .flags = queue->number == RX ? VRING_DESC_F_WRITE : 0};
     queue->avail->ring[queue->posted++ % queue->size] = which;
@@ -194,7 +194,7 @@ static inline void queue_publish(struct queue *queue) {
     if (!(__atomic_load_n(&queue->used->flags, __ATOMIC_RELAXED) & VRING_USED_F_NO_NOTIFY)) *queue->doorbell = queue->number;
 }
 
-/* How many descriptors were returned and not read yet. */
+/* Returns how many descriptors were returned by the card and not read yet. */
 static inline uint16_t queue_back(const struct queue *queue) {
     return (uint16_t)(__atomic_load_n(&queue->used->idx, __ATOMIC_ACQUIRE) - queue->seen);
 }
@@ -206,7 +206,7 @@ static inline struct vring_used_elem queue_next(struct queue *queue) {
     return next;
 }
 
-/* ---- A queue's interrupt. The card sees a mask with a delay. Whoever looks after an unmask finds what came before it. */
+/* ---- A queue's interrupt. The card sees a mask with a delay. A look after an unmask finds what came before the unmask. */
 
 static inline void queue_flags(struct queue *queue, uint16_t flags) { __atomic_store_n(&queue->avail->flags, flags, __ATOMIC_RELAXED); }
 static inline void queue_mask(struct queue *queue) { queue_flags(queue, VRING_AVAIL_F_NO_INTERRUPT); }

@@ -5,7 +5,7 @@ set -uo pipefail
 unset CDPATH
 . "$(dirname "$(readlink -f "${BASH_SOURCE[0]}")")/vm.sh"
 
-# numbers WHAT: interrupts of receive and transmit, and polls, since the start
+# numbers WHAT: prints the interrupts of receive and transmit, and the polls, since the start
 numbers() {
     case $1 in
     driver) counts | awk '/^[rt]x / { print $3; polls += $11 } END { print polls }' ;;
@@ -15,7 +15,7 @@ numbers() {
     esac
 }
 
-# row WHAT NAME OPTION ..: under that load
+# row WHAT NAME OPTION ..: prints the row of WHAT under the load NAME with these options
 row() {
     local what=$1 name=$2 before after rx tx
     shift 2

@@ -20,8 +20,8 @@ enum wanted { ON, OFF, END };
 /* A queue, and its counts. Fields of different threads are 128 bytes apart. */
 struct side {
     struct queue *queue;
-    alignas(128) atomic_ulong interrupts; /* the interrupt thread's */
-    alignas(128) unsigned long granted, missed, disabled, polls, packets, full; /* the poller's */
+    alignas(128) atomic_ulong interrupts; /* written by the interrupt thread */
+    alignas(128) unsigned long granted, missed, disabled, polls, packets, full; /* written by the poller */
 };
 
 static struct card card;
@@ -29,9 +29,9 @@ static struct side sides[QUEUES];
 static struct fq_handle driver, tx;
 static alignas(128) struct fq_word interrupted; /* a bit for each queue that has interrupted */
 static atomic_int wanted;
-static atomic_bool asked; /* for the counts */
+static atomic_bool asked; /* a request to print the counts */
 static int wake, stop;
-static uint8_t *buffers; /* one for each descriptor that receives */
+static uint8_t *buffers; /* one buffer for each descriptor that receives */
 static uint8_t *slots;   /* answers, in turn: the card has those from first on, those from given on wait, and the next one
                           * goes to `behind` */
 static uint32_t lengths[SLOTS];
@@ -84,7 +84,7 @@ static void *interrupts(void *at) {
 
 static uint8_t *slot(uint64_t number) { return slots + number % SLOTS * BUFFER; }
 
-/* Gives answers that wait to the card, until the limit stops the queue or the card is full (netdev_tx_sent_queue). */
+/* Passes replies that wait to the card, until the limit stops the queue or the card is full (netdev_tx_sent_queue). */
 static void send_answers(struct queue *queue) {
     const uint64_t before = given;
     for (; given < behind; given++) {
@@ -99,7 +99,8 @@ static void send_answers(struct queue *queue) {
     if (given != before) queue_publish(queue);
 }
 
-/* Handles a frame after the card's header: its answer, if it has one, waits to be sent. If no slot is free, it is dropped. */
+/* Handles a frame, which follows the card's header: its reply, if it has one, waits to be sent. If no slot is free, it is
+ * dropped. */
 static void use(const uint8_t *frame, uint32_t bytes) {
     uint8_t *to = slot(behind);
     if (behind - first == SLOTS || bytes <= HEAD || bytes > BUFFER) {
@@ -124,7 +125,7 @@ static uint32_t receive(struct queue *queue) {
     return count;
 }
 
-/* Completes what the card has sent (netdev_tx_completed_queue). */
+/* Completes the frames that the card has sent (netdev_tx_completed_queue). */
 static uint32_t complete(struct queue *queue) {
     uint32_t count = 0;
     for (; count < WEIGHT && queue_back(queue); count++) disorder += queue_next(queue).id != (first + count) % queue->size;
@@ -140,7 +141,7 @@ static uint32_t fetch(struct side *side) {
     return count;
 }
 
-/* Does what is due, until a run ends; returns false if nothing is. */
+/* Does what the driver asks for until a run ends; returns false if there is nothing to do. */
 static bool run(void) {
     struct fq_todo todo = FQ_TODO_INIT;
     while (report_interrupts(), fq_driver_next(&driver, &todo), todo.what != FQ_TODO_SLEEP) {
@@ -172,7 +173,7 @@ static bool control(bool on) {
     return there;
 }
 
-/* A line for each queue, and one for all. While packets flow they are approximate. */
+/* Prints a line for each queue, and one for all. While packets flow, the counts are approximate. */
 static void print(void) {
     struct fq_tx_shown state;
     must("state", fq_tx_state(&tx, &state), FQ_OK);
@@ -186,7 +187,7 @@ static void print(void) {
     fflush(stdout);
 }
 
-/* A new request is read once the last one is done, as an open waits for a stop. */
+/* The poller. A new request to open or stop is read after the last one is done, because an open has to wait for a stop. */
 static void *poller(void *at) {
     struct pollfd file = {wake, POLLIN, 0};
     uint64_t count;

@@ -47,7 +47,7 @@ make_initramfs() {
     (cd "$root" && find . | cpio -o -H newc --quiet) > "$scratch/initramfs"
 }
 
-# boot PROGRAM ..: with these in /bin. What the machine writes goes to $scratch/console.
+# boot PROGRAM ..: boots the machine with these programs in /bin. What it writes goes to $scratch/console.
 boot() {
     local words='console=ttyS0 quiet loglevel=3 panic=-1 no_timer_check intel_iommu=on iommu=pt'
     make_initramfs "$@"
@@ -65,8 +65,8 @@ boot() {
 }
 has_booted() { wrote 'GUEST ready' 1 || has_ended "$machine"; }
 
-# open_machine: builds the driver, and boots a machine in which vfio-pci has the card; status 69 if there is nothing to make it
-# from.
+# open_machine: builds the driver, and boots a machine in which the card is bound to vfio-pci; status 69 if something that it
+# needs is missing.
 open_machine() {
     local program
     for program in qemu-system-x86_64 busybox kmod cpio; do
@@ -87,7 +87,7 @@ open_machine() {
 # wrote PATTERN COUNT: whether at least this many lines of the console match it
 wrote() { [ "$(tr -d '\r' < "$scratch/console" | grep -c -x -e "$1")" -ge "$2" ]; }
 
-# guest COMMAND: runs it there, and prints what it wrote; its status
+# guest COMMAND: runs the command in the machine, prints what it wrote, and returns its status
 guest() {
     local lines commands
     lines=$(wc -l < "$scratch/console") commands=$(grep -c '^GUEST ' "$scratch/console")
@@ -96,17 +96,17 @@ guest() {
     tail -n +$((lines + 1)) "$scratch/console" | tr -d '\r' | awk '/^GUEST / { status = $2; exit } { print } END { exit status }'
 }
 
-# start_driver: its link is up afterwards
+# start_driver: starts the driver; its link is up afterwards
 start_driver() {
     guest "virtio $address > /out &"
     patience=120 wait_for wrote 'virtio: on' 1 || { cat "$scratch/console"; exit 1; }
     ip -n "$space" link set fq0 up
 }
 
-# counts: what the driver prints
+# counts: prints the driver's counts
 counts() { guest 'kill -USR1 $!; sleep 1; tail -n 3 /out'; }
 
-# card QUEUE: how many descriptors the card returned, modulo 2^16, by the host's side (QEMU's monitor)
+# card QUEUE: prints how many descriptors the card returned, modulo 2^16, as the host's side sees it (QEMU's monitor)
 card() {
     local answers
     answers=$(grep -c used_idx: "$scratch/monitor")

@@ -14,7 +14,7 @@
 
 enum { FRAMES = 2048, FRAME = 2048 }; /* each ring has room for every frame, so none is ever full */
 
-/* A ring whose other end is the kernel's; `at` is ours. */
+/* A ring that is shared with the kernel, which has its other end; `at` is our position. */
 struct ring {
     uint32_t *producer, *consumer, *flags, at;
     void *places;
@@ -23,7 +23,7 @@ struct ring {
 static struct device device;
 static uint8_t *memory;
 static struct ring fill, completion, rx, tx;
-static struct xdp_desc waiting[FRAMES]; /* from first on, up to `behind`: the answers that wait for the limit */
+static struct xdp_desc waiting[FRAMES]; /* from index `first` up to `behind`: the replies that wait until the limit allows them */
 static uint64_t first, behind;
 static unsigned long kicks;
 
@@ -35,7 +35,7 @@ static int bpf(int command, union bpf_attr *attributes) {
     return said;
 }
 
-/* The program of the device: received packets go to the socket. It stays until this process ends. */
+/* Attaches a program to the device that passes received packets to the socket. It stays attached until this process ends. */
 static void attach(unsigned index) {
     union bpf_attr map = {.map_type = BPF_MAP_TYPE_XSKMAP, .key_size = 4, .value_size = 4, .max_entries = 1};
     const int file = bpf(BPF_MAP_CREATE, &map);
@@ -58,7 +58,7 @@ static struct ring map_ring(const struct xdp_ring_offset *offsets, size_t size, 
     return (struct ring){(uint32_t *)(at + offsets->producer), (uint32_t *)(at + offsets->consumer), (uint32_t *)(at + offsets->flags), 0, at + offsets->desc};
 }
 
-/* The kernel may fill a frame again. */
+/* Gives a frame back to the kernel, which may fill it again. */
 static void refill(uint64_t address) { ((uint64_t *)fill.places)[fill.at++ % FRAMES] = address & ~(uint64_t)(FRAME - 1); }
 
 static void publish(uint32_t *end, uint32_t at) { __atomic_store_n(end, at, __ATOMIC_RELEASE); }
@@ -89,7 +89,7 @@ static void mask(struct device *at) { arm(at, EPOLL_CTL_MOD, false); }
 static void unmask(struct device *at) { arm(at, EPOLL_CTL_MOD, true); }
 static uint32_t look(struct device *at) { return (void)at, produced(&rx); }
 
-/* What the kernel has sent, by its ring of completions; returns whether there was any. */
+/* Completes what the kernel has sent, as its completion ring says; returns whether there was any. */
 static bool complete(void) {
     const uint32_t count = produced(&completion);
     for (uint32_t i = 0; i < count; i++) refill(((uint64_t *)completion.places)[completion.at++ % FRAMES]);
@@ -98,7 +98,7 @@ static bool complete(void) {
     return count > 0;
 }
 
-/* The kernel sends a few frames for each call, or none if it has too many of this socket in flight. */
+/* Makes the kernel send: it sends a few frames for each call, or none if it has too many of this socket in flight. */
 static void kick(void) {
     uint32_t before;
     do {
@@ -108,7 +108,7 @@ static void kick(void) {
     } while ((sendto(device.event, NULL, 0, MSG_DONTWAIT, NULL, 0) >= 0 || errno == EAGAIN) && __atomic_load_n(tx.consumer, __ATOMIC_ACQUIRE) != before);
 }
 
-/* Gives frames to the kernel as the limit allows; and again, if the kernel completed some at once. */
+/* Passes frames to the kernel as the limit allows; tries again if the kernel has completed some meanwhile. */
 static void give(struct device *at) {
     do {
         while (first != behind && may_send(at, waiting[first % FRAMES].len)) ((struct xdp_desc *)tx.places)[tx.at++ % FRAMES] = waiting[first++ % FRAMES];

@@ -46,7 +46,7 @@ class Status(enum.IntEnum):
 
 
 class Kind(enum.IntEnum):
-    """The queue for a scheduled instance: a poll list, or its own thread's."""
+    """The queue for a scheduled instance: a poll list, or the queue of its own thread."""
     LIST = 0
     THREAD = 1
 
@@ -78,8 +78,8 @@ class DeviceState(enum.IntEnum):
 
 
 class Word(enum.IntFlag):
-    """The bits of a state word: the kernel's NAPI_STATE_.., and two of the library: on a list (QUEUED) or handed to its thread
-    (TO_THREAD), and not taken yet. LISTED and WITH_THREAD are deprecated names of these two; the kernel's own NAPI_STATE_LISTED
+    """The bits of a state word: the kernel's NAPI_STATE_.., and two of the library: the instance is on a list (QUEUED) or waits for its
+    thread (TO_THREAD), and wasn't taken yet. LISTED and WITH_THREAD are deprecated names of these two; the kernel's own NAPI_STATE_LISTED
     is another bit, 4, which isn't here."""
     SCHED = 1 << 0
     MISSED = 1 << 1
@@ -106,13 +106,13 @@ class Fault(ValueError):
 
     @property
     def message(self) -> str:
-        """What the status says in words."""
+        """The message of the status."""
         from . import _library  # which raises this
         return _library.message(self.status)
 
 
 class TraceFault(Fault):
-    """A trace can't be replayed: the error's number and name, and the row, as described in docs/FORMATS.md."""
+    """A trace can't be replayed: the error's number, its name, and the row that it names, as described in docs/FORMATS.md."""
 
     NAMES = ("?", "BadHeader", "BadFields", "BadNumber", "BadEvent", "OutOfRange", "UnknownDevice", "OpenTwice", "WrongState", "TooManyRows",
              "ReadFailed", "OutOfMemory", "Pending")
@@ -126,7 +126,8 @@ class TraceFault(Fault):
 
 
 class ArrivalsFault(Fault):
-    """Bytes aren't arrivals: the error's number and the row, as described in docs/FORMATS.md; the text is the message of napi_machine."""
+    """Bytes aren't arrivals: the error's number, and the row that it names, as described in docs/FORMATS.md; the text is the message of
+    napi_machine."""
 
     def __init__(self, status: Status, number: int, row: int, text: str) -> None:
         super().__init__(status, number, row, text)

@@ -10,8 +10,8 @@ from ._objects import RunReport, _Owned
 
 
 class Todo:
-    """What has to be done: mask or unmask the card of `device`, look whether it has packets, or fetch at most `most` of them; `run` is
-    the report of a run that ended."""
+    """An action: mask or unmask the card of `device`, look whether it has packets, or fetch at most `most` of them; `run` is the report of
+    a run that ended."""
 
     def __init__(self) -> None:
         self._raw = c.Todo(ctypes.sizeof(c.Todo))
@@ -34,8 +34,8 @@ class Todo:
 
 
 class Cards(Protocol):
-    """The cards of a driver, by the numbers of their devices. `look` returns whether a card has packets; `fetch` takes packets from it,
-    at most so many, delivers them, and returns how many."""
+    """The cards of a driver, by the numbers of their devices. `look` returns whether a card has packets; `fetch` takes packets from it, at
+    most this many, delivers them, and returns how many."""
 
     def mask(self, device: int) -> object: ...
     def unmask(self, device: int) -> object: ...
@@ -44,7 +44,7 @@ class Cards(Protocol):
 
 
 class DeviceShown(NamedTuple):
-    """The state of a device: whether a poll is requested, and an interrupt came meanwhile; its polls, and the packets of these."""
+    """The state of a device: whether a poll is requested, and whether an interrupt came meanwhile; its polls, and the packets of these."""
     state: DeviceState
     scheduled: bool
     missed: bool
@@ -53,8 +53,8 @@ class DeviceShown(NamedTuple):
 
 
 class Driver(_Owned):
-    """The driver of 1 to 64 devices, all closed at first: their instances, the poll list and the runs over it. Any order of calls is
-    safe: what isn't due returns False and changes nothing. BAD_COUNT, BAD_WEIGHT, BAD_BUDGET."""
+    """The driver of 1 to 64 devices, all closed at first: their instances, the poll list and the runs over it. Calls may come in any order:
+    one that isn't due returns False and changes nothing. BAD_COUNT, BAD_WEIGHT, BAD_BUDGET."""
 
     def __init__(self, devices: int, budget: int = 300, weight: int = 64, window: int = 1024) -> None:
         super().__init__(c.driver_new, devices, budget, weight, window)
@@ -73,20 +73,20 @@ class Driver(_Owned):
         return Status(c.driver_interrupt(self._at, device))
 
     def next(self) -> Todo:
-        """Returns what has to be done now. What isn't reported is said again."""
+        """Returns what has to be done now. An action that isn't reported is returned again."""
         todo = Todo()
         c.driver_next(self._at, todo._raw)
         return todo
 
     def done(self, todo: Todo, packets: int = 0) -> bool:
-        """Reports that it was done, with the packets of a look or a fetch. Returns False if the driver doesn't wait for this report any
-        more. BAD_WORK if a fetch took more than `most`."""
+        """Reports that an action was done, with the packets of a look or a fetch. Returns False if the driver doesn't wait for this report
+        any more. BAD_WORK if a fetch took more than `most`."""
         todo._raw.packets = c.number(packets, "packets")
         return bool(c.driver_done(self._at, todo._raw) == Status.OK)
 
     def step(self, cards: Cards) -> What:
-        """Does one thing at a card, reports it, and returns what was done; SLEEP if nothing has to be, ENDED if a run ended. If a call
-        raises, nothing is reported, and the same is due again."""
+        """Does one action at a card, reports it, and returns it; SLEEP if there is nothing to do, ENDED if a run ended. If a call raises,
+        nothing is reported, and the same action is due again."""
         todo, packets = self.next(), 0
         what = todo.what
         if what is What.MASK:

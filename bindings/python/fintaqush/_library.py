@@ -1,4 +1,4 @@
-"""The shared library: where it is, its structs and calls, and a check that it has them as declared here."""
+"""The shared library: where it is, its structs and calls, and a check that the library has them as they are declared here."""
 from __future__ import annotations
 
 import ctypes
@@ -18,7 +18,7 @@ DECLARED: dict[str, tuple[Any, dict[str, Any]]] = {}  # each call's result type 
 
 
 class Missing(ImportError):
-    """The library is missing, or another one. If it isn't caught, it prints one line."""
+    """The library is missing, or is another version. If this isn't caught, it prints one line."""
 
 
 def _one_line(kind: type[BaseException], fault: BaseException, trace: TracebackType | None, others: Any = sys.excepthook) -> None:
@@ -110,13 +110,13 @@ class MachineRan(ctypes.Structure):
     _fields_ = [("size", size), ("length", size), ("row", u64), ("fault", u32), ("setting", u32), ("message", ctypes.c_char * 64)]
 
 
-# The structs whose size the library returns, by their numbers in `enum fq_struct`; then all structs.
+# The structs whose size the library returns, by their numbers in `enum fq_struct`; then a list of all structs.
 NUMBERS = {Handle: 0, Dql: 1, DqlMade: 2, Napi: 3, Packet: 4, Counts: 5, RingShown: 7, TxShown: 8, Answers: 9, RunReport: 10, Todo: 11,
            DeviceShown: 12}
 STRUCTS = {*NUMBERS, Settings, Replayed, MachineSettings, MachineRan}
 
 try:
-    # A short call keeps the interpreter's lock, and a long one releases it.
+    # A short call keeps the interpreter's lock; a long one releases it.
     _short, _long = ctypes.PyDLL(place()), ctypes.CDLL(place())
 except OSError as error:
     raise missing(error) from None
@@ -235,7 +235,7 @@ def message(status: int) -> str:
 
 
 def differences() -> Iterator[str]:
-    """The structs that differ in the library: by their sizes, and by calls with known results."""
+    """Yields the structs that differ in the library, found by their sizes and by calls with known results."""
     yield from (f"the size of {kind.__name__}" for kind, at in NUMBERS.items() if ctypes.sizeof(kind) != struct_size(at))
     limit, refused, state = dql_new(0, 9, 1000, 0), dql_new(2, 1, 1000, 0), napi_new(7)
     dql_queued(limit.dql, 5)

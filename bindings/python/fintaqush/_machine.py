@@ -1,4 +1,5 @@
-"""The receiving machine in time (napi_machine), with its report as objects. docs/FORMATS.md describes arrivals and report."""
+"""A machine that receives packets over simulated time (napi_machine), with its report as objects. docs/FORMATS.md describes arrivals and
+report."""
 from __future__ import annotations
 
 import ctypes
@@ -19,7 +20,8 @@ class Waits(NamedTuple):
 
 
 class Queue(NamedTuple):
-    """A queue at which a packet arrived; with one queue per device, the device. `waits` are from arrival to delivery by a poll."""
+    """A queue at which a packet arrived; with one queue per device, its number is the device's. `waits` are from arrival to delivery by a
+    poll."""
     number: int
     arrived: int
     dropped: int
@@ -30,7 +32,7 @@ class Queue(NamedTuple):
 
 
 class Times(NamedTuple):
-    """The time of a processor up to the end of its last work, in ns, and what took it."""
+    """The time of a processor in ns up to the end of its last work, and how it was spent."""
     end: int
     interrupt: int
     poll: int
@@ -108,12 +110,12 @@ def _text_of(arrivals: bytes, settings: c.MachineSettings) -> str:
 
 
 def _fields(words: list[str]) -> dict[str, int]:
-    """The numbers of a line by name."""
+    """Returns the numbers of a line, by name."""
     return {name: int(word) for name, word in zip(words[::2], words[1::2])}
 
 
 def _with_waits(words: list[str]) -> tuple[dict[str, int], Waits]:
-    """The numbers of a line, and its waits, which are its last ones."""
+    """Returns the numbers of a line by name, and the waits, which are its last numbers."""
     return _fields(words[:-12]), Waits(**_fields(words[-12:]))
 
 

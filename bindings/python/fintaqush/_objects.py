@@ -47,8 +47,8 @@ class _One:
 
 
 class Limit(_One):
-    """A byte queue limit between min and max, with the hold time hold_ms (`dql_init`). Times are milliseconds of a clock that
-    you choose. BAD_BOUNDS: min above max, or max above 1879048192."""
+    """A byte queue limit between min and max, with the hold time hold_ms (`dql_init`). Times are milliseconds of a clock that you choose.
+    Raises BAD_BOUNDS if min is above max, or max is above 1879048192."""
 
     def __init__(self, min: int = 0, max: int = 1879048192, hold_ms: int = 1000, now_ms: int = 0) -> None:
         made = c.dql_new(min, max, hold_ms, now_ms)
@@ -56,7 +56,7 @@ class Limit(_One):
         self._dql = made.dql
 
     def queued(self, count: int) -> None:
-        """Adds count bytes that were given to the device (`dql_queued`). TOO_LARGE, TOO_MUCH_IN_FLIGHT."""
+        """Adds count bytes that were sent to the device (`dql_queued`). TOO_LARGE, TOO_MUCH_IN_FLIGHT."""
         c.dql_queued(self._dql, count)
 
     def completed(self, count: int, now_ms: int) -> None:
@@ -74,7 +74,7 @@ class Limit(_One):
 
     @property
     def avail(self) -> int:
-        """The bytes that may still be given to the device (`dql_avail`); if negative, the queue has to be stopped."""
+        """The bytes that may still be sent to the device (`dql_avail`); if negative, the queue has to be stopped."""
         return int(c.dql_avail(self._dql))
 
     @property
@@ -84,14 +84,14 @@ class Limit(_One):
 
 
 class Napi(_One):
-    """An instance of one thread (`struct napi_struct`), disabled at first. A caller is a number, 0 by default; the controller's
-    is given here. A call that isn't allowed in the state raises NOT_ALLOWED, and changes nothing."""
+    """An instance of one thread (`struct napi_struct`), disabled at first. A caller is a number, 0 by default; the controller's number is
+    an argument here. A call that isn't allowed in the state raises NOT_ALLOWED, and changes nothing."""
 
     def __init__(self, controller: int = 0) -> None:
         self._state = c.napi_new(controller)
 
     def schedule(self, who: int = 0) -> Status:
-        """Requests a poll (`napi_schedule_prep`): returns GRANTED, and the caller has to hand it over; MISSED, or DISABLED."""
+        """Requests a poll (`napi_schedule_prep`): returns GRANTED, and the caller has to queue the instance; MISSED; or DISABLED."""
         return Status(c.napi_schedule(self._state, who))
 
     def hand(self, who: int = 0, kind: Kind = Kind.LIST) -> None:
@@ -99,17 +99,17 @@ class Napi(_One):
         c.napi_hand(self._state, who, kind)
 
     def take(self, who: int = 0, kind: Kind = Kind.LIST) -> bool:
-        """Takes it from the list or as its thread; returns False if it isn't there. BAD_KIND."""
+        """Takes the instance from the list or as its thread; returns False if it isn't there. BAD_KIND."""
         return bool(c.napi_take(self._state, who, kind) == Status.TAKEN)
 
     def complete(self, who: int = 0) -> Status:
-        """Ends a poll (`napi_complete_done`): returns RELEASED; AGAIN, and the caller has to hand it over; HELD for a busy
+        """Ends a poll (`napi_complete_done`): returns RELEASED; AGAIN, and the caller has to queue the instance again; HELD for a busy
         poller. NOT_ALLOWED."""
         return Status(c.napi_complete(self._state, who))
 
     def end(self, full: bool, who: int = 0) -> Next | None:
-        """Ends a poll as the kernel does (`__napi_poll`), and returns what to pass to the run. After a full poll, which returned the whole
-        weight, the instance is on the list again, or stays with its thread (None: poll again), unless a disable is pending. Any other
+        """Ends a poll as the kernel does (`__napi_poll`), and returns what to pass to the run. After a full poll, one that returned the
+        whole weight, the instance is on the list again, or stays with its thread (None: poll again), unless a disable is pending. Any other
         poll is completed, and queued again if a request was missed; after AGAIN_THREAD its thread has to poll. Returns None for a busy
         poller too. NOT_ALLOWED."""
         next = c.u32()
@@ -128,7 +128,7 @@ class Napi(_One):
         c.napi_set_threaded(self._state, who, threaded)
 
     def enable(self, threaded: bool = False, who: int = 0) -> None:
-        """For the controller: enables the instance (`napi_enable`). Schedule once after it: what was requested before isn't polled.
+        """For the controller: enables the instance (`napi_enable`). Call schedule once after it, because an earlier request isn't polled.
         NOT_ALLOWED."""
         c.napi_enable(self._state, who, threaded)
 
@@ -137,11 +137,12 @@ class Napi(_One):
         c.napi_mark_disable(self._state, who)
 
     def take_disable(self, who: int = 0) -> bool:
-        """The second step, to be repeated until it returns True; False if a caller owns the instance. NOT_ALLOWED."""
+        """For the controller, the second step of `napi_disable`, to be repeated until it returns True; False if a caller owns the instance.
+        NOT_ALLOWED."""
         return bool(c.napi_take_disable(self._state, who) == Status.TAKEN)
 
     def unmark(self, who: int = 0) -> None:
-        """The third step: clears the mark. NOT_ALLOWED."""
+        """For the controller, the third step of `napi_disable`: clears the mark. NOT_ALLOWED."""
         c.napi_unmark(self._state, who)
 
     @property
@@ -151,7 +152,7 @@ class Napi(_One):
 
 
 class _Owned(_One):
-    """An object on the library's heap, which is freed with this one."""
+    """An object on the library's heap, which is freed together with this object."""
 
     def __init__(self, make: Callable[..., Any], *values: int) -> None:
         self._at = c.Handle()
@@ -180,7 +181,7 @@ class Ring(_Owned):
 
     @property
     def counts(self) -> Counts:
-        """The counts of its polls so far."""
+        """The counts of the ring's polls so far."""
         counts = c.Counts()
         c.count(self._at, counts)
         return Counts(counts.polls, counts.packets, counts.bytes)
@@ -194,8 +195,8 @@ class TxRing(_Owned):
         super().__init__(c.tx_new, capacity, min, max, hold_ms, now_ms)
 
     def send(self, bytes: int) -> Status:
-        """Gives a packet to the device (`netdev_tx_sent_queue`): OK; or, if nothing is sent, STOPPED by the limit, or FULL. TOO_LARGE,
-        TOO_MUCH_IN_FLIGHT."""
+        """Sends a packet to the device (`netdev_tx_sent_queue`): returns OK; or, if nothing is sent, STOPPED by the limit, or FULL.
+        TOO_LARGE, TOO_MUCH_IN_FLIGHT."""
         return Status(c.tx_send(self._at, bytes))
 
     def done(self, count: int, now_ms: int) -> bool:
@@ -211,17 +212,17 @@ class TxRing(_Owned):
 
 
 class List(_Owned):
-    """A poll list: numbers of devices, which runs poll in order."""
+    """A poll list: the numbers of devices, which runs poll in order."""
 
     def __init__(self) -> None:
         super().__init__(c.list_new)
 
     def push(self, id: int) -> bool:
-        """Appends a number to the list; returns False if list and run hold 64. IN_USE: it is in the list already."""
+        """Appends a number to the list; returns False if the list and its run hold 64. IN_USE if it is in the list already."""
         return bool(c.list_push(self._at, id) == Status.OK)
 
     def __len__(self) -> int:
-        """How many numbers list and run hold."""
+        """How many numbers the list and its run hold."""
         count = c.u32()
         c.list_len(self._at, count)
         return count.value

@@ -1,4 +1,4 @@
-"""What tools/raising.py has, for the package in a checkout. scripts/install.sh puts a copy of that file in place of this one."""
+"""Imports what tools/raising.py has, for the package in a checkout. scripts/install.sh puts a copy of that file in place of this one."""
 from __future__ import annotations
 
 import importlib.util

@@ -51,8 +51,7 @@ class Device(NamedTuple):
 
 
 class Report(NamedTuple):
-    """A report: what each row did that polls, the devices by number, the poll list, the sums over the softirq runs, and the
-    text."""
+    """A report: what each row did that polled, the devices by number, the poll list, the sums over the softirq runs, and the text."""
     turns: list[Turn]
     devices: dict[int, Device]
     listed: list[int]
@@ -64,8 +63,8 @@ class Report(NamedTuple):
 
 
 def replay(trace: bytes, budget: int = 300, weight: int = 64, window: int = 1024, raised: bool = False) -> Report:
-    """Replays the bytes of a trace (napi_replay --mode=serial); with `raised`, with the runs that `raise_runs` adds, and the rows of
-    the report are those of its trace. TraceFault; BAD_WEIGHT, otherwise BAD_BUDGET."""
+    """Replays the bytes of a trace (napi_replay --mode=serial). With `raised`, the runs that `raise_runs` adds are made too, and rows in
+    the report count in that longer trace. TraceFault; BAD_WEIGHT, otherwise BAD_BUDGET."""
     if raised:
         trace = raise_runs(trace, budget, weight, window)
     return _report_of(_text_of(trace, _settings(trace, budget, weight, window)))
@@ -73,7 +72,7 @@ def replay(trace: bytes, budget: int = 300, weight: int = 64, window: int = 1024
 
 def raise_runs(trace: bytes, budget: int = 300, weight: int = 64, window: int = 1024, restarts: int | None = None) -> bytes:
     """Adds to a trace the runs that the kernel would make with these settings (fintaqush raise), at most `restarts` after a row, and
-    returns its bytes. Errors are those of `replay`; also ValueError, if there would be more than 100000 rows."""
+    returns its bytes. Errors are those of `replay`, and ValueError if there would be more than 100000 rows."""
     settings = _settings(trace, budget, weight, window)
 
     def play(rows: bytes) -> str:
@@ -111,7 +110,7 @@ def _text_of(trace: bytes, settings: c.Settings) -> str:
 
 
 def _fields(words: list[str], **kinds: Callable[[int], Any]) -> dict[str, Any]:
-    """The numbers of a line by name, some converted."""
+    """Returns the numbers of a line by name, some of them converted."""
     return {name: kinds.get(name, int)(int(word)) for name, word in zip(words[::2], words[1::2])}
 
 

@@ -1,4 +1,4 @@
-"""Instances that threads share: the ring's input, the controller, and the seats, which are the callers."""
+"""Instances that threads share: the ring's input, the controller, and the callers, which are called seats."""
 from __future__ import annotations
 
 from typing import Any, Callable, NamedTuple
@@ -27,7 +27,7 @@ def _decided(call: Callable[..., Any], *values: Any) -> Status:
 
 
 class _Part(_Owned):
-    """A part of an instance that the library has made."""
+    """A part of an instance, which the library has made."""
 
     def __init__(self, at: c.Handle) -> None:
         self._at = at
@@ -49,10 +49,10 @@ class Input(_Part):
 
 
 class Seat(_Part):
-    """A caller. A call that isn't allowed in its state raises NOT_ALLOWED, and changes nothing."""
+    """A caller of a shared instance. A call that isn't allowed in its state raises NOT_ALLOWED, and changes nothing."""
 
     def schedule(self) -> Status:
-        """Requests a poll (`napi_schedule_prep`): returns GRANTED, and the caller has to hand it over; MISSED, or DISABLED."""
+        """Requests a poll (`napi_schedule_prep`): returns GRANTED, and the caller has to queue the instance; MISSED; or DISABLED."""
         return _decided(c.seat_schedule, self._at)
 
     def hand(self, kind: Kind = Kind.LIST) -> None:
@@ -60,8 +60,9 @@ class Seat(_Part):
         c.seat_hand(self._at, kind)
 
     def request(self, mask: Callable[[], object] = lambda: None) -> tuple[Status, Next]:
-        """Requests a poll (`napi_schedule`). If it is granted, masks the card and queues the instance by the state word; after AGAIN
-        its number has to be listed, after AGAIN_THREAD its thread has to poll. If it is MISSED or DISABLED, the second result is GONE."""
+        """Requests a poll (`napi_schedule`). If the request is granted, masks the card and queues the instance as the state word says;
+        after AGAIN its number has to be listed, after AGAIN_THREAD its thread has to poll. If it is MISSED or DISABLED, the second result
+        is GONE."""
         said = self.schedule()
         if said is not Status.GRANTED:
             return said, Next.GONE
@@ -88,11 +89,13 @@ class Seat(_Part):
         c.seat_requeue(self._at)
 
     def complete(self) -> Status:
-        """Ends a poll (`napi_complete_done`): returns RELEASED; AGAIN, and the caller has to hand it over; HELD for a busy poller."""
+        """Ends a poll (`napi_complete_done`): returns RELEASED; AGAIN, and the caller has to queue the instance again; HELD for a busy
+        poller."""
         return _decided(c.seat_complete, self._at)
 
     def end(self, full: bool) -> Next | None:
-        """Ends a poll as the kernel does (`__napi_poll`), like `fq_seat_end`: returns what to pass to the run, or None: keep polling."""
+        """Ends a poll as the kernel does (`__napi_poll`), like `fq_seat_end`: returns what to pass to the run, or None if the caller keeps
+        polling."""
         word = self.word
         if full and not word & (Word.DISABLE | Word.IN_BUSY_POLL):
             if Word.SCHED_THREADED in word:
@@ -144,11 +147,12 @@ class Control(_Part):
 
     def enable(self, threaded: bool = False) -> None:
         """Enables the instance (`napi_enable`). Request a poll once after it (`Seat.request`), or enable by `open`: an earlier request
-        isn't polled, and a masked card would hang for ever."""
+        isn't polled, and a masked card would wait forever."""
         _decided(c.control_enable, self._at, threaded)
 
     def open(self, seat: Seat, threaded: bool = False, mask: Callable[[], object] = lambda: None) -> tuple[Status, Next]:
-        """Opens a driver's instance: enables it, and requests a poll once by a seat at rest. Returns what `Seat.request` returns."""
+        """Opens a driver's instance: enables it, and requests a poll once by a seat that owns nothing. Returns what `Seat.request`
+        returns."""
         self.enable(threaded)
         return seat.request(mask)
 
@@ -157,7 +161,7 @@ class Control(_Part):
         c.control_mark(self._at)
 
     def try_take(self) -> bool:
-        """The second step, to be repeated between polls until it returns True: the instance is off; False if a caller owns it."""
+        """The second step, to be repeated between polls until it returns True: then the instance is disabled; False if a caller owns it."""
         return _decided(c.control_try_take, self._at) is Status.TAKEN
 
 

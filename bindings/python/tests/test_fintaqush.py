@@ -1,4 +1,5 @@
-"""The package fintaqush. Expected values are from include/fintaqush.h, docs/FORMATS.md, examples/ and the outputs of examples/c."""
+"""Tests of the package fintaqush. Expected values are from include/fintaqush.h, docs/FORMATS.md, examples/ and the outputs of
+examples/c."""
 import copy
 import ctypes
 import inspect
@@ -28,7 +29,7 @@ def header_name(kind):
 
 
 def c_type(kind):
-    """A type as the header writes it, without `const`; of a size and a number of 64 bits ctypes knows one type."""
+    """Returns a type as the header writes it, without `const`; ctypes has only one type for a size and a number of 64 bits."""
     if kind in _library.STRUCTS:
         return f"struct {header_name(kind)}"
     if hasattr(kind, "contents"):
@@ -53,7 +54,7 @@ class TestHeader(unittest.TestCase):
         self.assertIn(f'#define FQ_VERSION "{fintaqush.__version__}"\n', HEADER)
 
     def test_calls(self):
-        """Each call that is declared has the header's result and arguments."""
+        """Each call that is declared here has the header's result and arguments."""
         self.assertGreater(len(_library.DECLARED), 30)
         for name, (answer, arguments) in _library.DECLARED.items():
             said, told = re.search(rf"^(?:FQ_\w+ )?((?:struct |enum )?\w+) fq_{name}\((.*)\);", HEADER, re.M).groups()
@@ -302,7 +303,7 @@ class TestShared(Refusals):
         self.refused(Status.BAD_CAPACITY, shared, 0)
 
     def test_threads(self):
-        """Each packet is polled once and in order: one thread has the input and an interrupt's seat, another polls."""
+        """Each packet is polled once and in order: one thread has the input and the seat of an interrupt handler, another one polls."""
         input, control, (interrupts, poller) = shared(64)
         polled, due, packets = [], threading.Semaphore(0), 2000
 
@@ -334,7 +335,7 @@ class TestShared(Refusals):
 
 class TestRuns(Refusals):
     def test_four_devices(self):
-        """As examples/c/run.c."""
+        """The same as examples/c/run.c."""
         left, lines, polls, softirq = [150, 3, 64, 0], [], [], List()
         for device in range(4):
             softirq.push(device)
@@ -363,7 +364,7 @@ class TestRuns(Refusals):
         self.assertEqual(len(softirq), 64)
 
     def wrecked(self, fault, poll):
-        """After a run whose poll of device 2 of three fails, the list has the others, and runs again."""
+        """Checks that after a run in which the poll of device 2 of three fails, the list has the others, and can be run again."""
         softirq = List()
         for device in 1, 2, 3:
             softirq.push(device)
@@ -406,7 +407,7 @@ class TestRuns(Refusals):
 
 
 class Card:
-    """A card with interrupts by edges: what arrives while it is masked causes none."""
+    """A card with edge-triggered interrupts: packets that arrive while it is masked raise none."""
 
     def __init__(self):
         self.masked, self.waiting, self.taken = True, 0, 0
@@ -517,7 +518,7 @@ class TestMachine(Refusals):
 
 class TestRaising(Refusals):
     def test_recorded_bursts_lose_no_packet(self):
-        """As tests/tools/test_raise.py: with the runs that the kernel would make all packets are polled."""
+        """As in tests/tools/test_raise.py: with the runs that the kernel would make, all packets are polled."""
         trace = (TOP / "examples/linux-veth-bursts.csv").read_bytes()
         plain, raised = replay(trace, 16, 8), replay(trace, 16, 8, raised=True)
         self.assertEqual((plain.work, sum(device.dropped for device in plain.devices.values())), (8441, 5582))
@@ -555,7 +556,7 @@ class TestReplay(Refusals):
         self.assertEqual((report.listed, report.runs, report.polls, report.work, report.squeezed), ([], 1, 2, 2, 0))
 
     def test_settings(self):
-        """Of the README: the kernel counted 55 squeezed runs at a budget of 64."""
+        """The recording of README.md: the kernel counted 55 squeezed runs at a budget of 64."""
         trace = (TOP / "examples/linux-veth-small-budget.csv").read_bytes()
         report = replay(trace, budget=64)
         self.assertEqual((len(report.devices), report.runs, report.polls, report.work, report.squeezed), (12, 544, 961, 15647, 55))
@@ -564,7 +565,7 @@ class TestReplay(Refusals):
         self.refused(Status.BAD_BUDGET, replay, trace, window=0)
 
     def test_all_examples(self):
-        """Objects are as tools/reports.py reads the text."""
+        """The objects are equal to what tools/reports.py reads from the text."""
         traces = sorted((TOP / "examples").glob("*.csv"))
         self.assertGreater(len(traces), 5)
         for trace in traces:
@@ -591,7 +592,7 @@ class TestReplay(Refusals):
             self.assertEqual(([turn._asdict() for turn in report.turns], report.listed), (turns, listed))
 
     def test_a_long_report(self):
-        """Longer than the buffer that is tried first."""
+        """The report is longer than the buffer that is tried first."""
         rows = "0,1,open,1\n" + "".join(f"0,{device},open,1\n" for device in range(2, 17)) + "0,0,softirq,0\n" * 99000
         report = replay(("moment,device,event,value\n" + rows).encode())
         self.assertEqual((len(report.turns), report.runs, len(report.devices)), (99000, 99000, 16))

@@ -53,7 +53,7 @@ fn poll_all(packets: u64, mut caller: Caller) -> (bool, Caller) {
     (true, caller)
 }
 
-// The poller takes and completes an instance that is on the list when a disable is requested.
+// Disables the instance. If it is on the list when the disable is requested, the poller takes and completes it.
 fn disable(mut marked: Control<Marked>, mut poller: Caller) -> Control<Off> {
     loop {
         marked = match marked.try_take() {

@@ -8,9 +8,9 @@ use crate::words::Next;
 /// The result of one attempt to schedule.
 #[derive(Debug)]
 pub enum TryPrep {
-    /// The caller owns the instance, and has to hand it over (`napi_schedule_prep` returns true).
+    /// The caller owns the instance, and has to queue it (`napi_schedule_prep` returns true).
     Granted(Granted),
-    /// A poll is requested already, and another one follows; none while the controller owns it.
+    /// A poll is requested already, and another one follows it, unless the controller owns the instance.
     Missed(Caller),
     /// A disable is pending: no poll was requested.
     Disabled(Caller),
@@ -21,9 +21,9 @@ pub enum TryPrep {
 /// The result of a schedule.
 #[derive(Debug)]
 pub enum Sched {
-    /// The caller owns the instance, and has to hand it over (`napi_schedule_prep` returns true).
+    /// The caller owns the instance, and has to queue it (`napi_schedule_prep` returns true).
     Granted(Granted),
-    /// A poll is requested already, and another one follows; none while the controller owns it.
+    /// A poll is requested already, and another one follows it, unless the controller owns the instance.
     Missed(Caller),
     /// A disable is pending: no poll was requested.
     Disabled(Caller),
@@ -34,7 +34,7 @@ pub enum Sched {
 pub enum TryDone {
     /// No caller owns the instance any more (`napi_complete_done` returns true).
     Released(Caller),
-    /// A poll was requested meanwhile: the caller still owns the instance, and has to hand it over again.
+    /// A poll was requested meanwhile: the caller still owns the instance, and has to queue it again.
     Again(Granted),
     /// Another thread interfered: nothing is decided.
     Changed(Polling),
@@ -45,7 +45,7 @@ pub enum TryDone {
 pub enum Completed {
     /// No caller owns the instance any more (`napi_complete_done` returns true).
     Released(Caller),
-    /// A poll was requested meanwhile: the caller still owns the instance, and has to hand it over again.
+    /// A poll was requested meanwhile: the caller still owns the instance, and has to queue it again.
     Again(Granted),
 }
 
@@ -53,9 +53,9 @@ pub enum Completed {
 #[derive(Debug)]
 #[must_use = "a poller that is dropped polls no more"]
 pub enum End {
-    /// The caller, which owns nothing, and how the poll ended, for a run.
+    /// The caller, which owns nothing now, and how the poll ended, for a run.
     Over(Caller, Next),
-    /// A full poll by a thread, which polls again at once.
+    /// The poll was a full one by a thread, which polls again at once.
     Held(Polling),
 }
 

@@ -86,7 +86,7 @@ impl Caller {
         }
     }
 
-    /// An interrupt: schedules, and hands the instance over if it is granted.
+    /// Handles an interrupt: requests a poll, and queues the instance if the request is granted.
     pub fn interrupt(&mut self, kind: Kind) -> Prep {
         // SAFETY: only this caller has the handle.
         let said = unsafe { sys::fq_seat_interrupt(self.at.raw(), kind.number()) };
@@ -96,8 +96,9 @@ impl Caller {
         }
     }
 
-    /// The same, with [`mask`](Card::mask) between the grant and the hand-over, where the kernel masks: after the hand-over a
-    /// faster poller could unmask first, and the card would stay masked.
+    /// Like [`interrupt`](Caller::interrupt), with [`mask`](Card::mask) between the grant and the queueing, where the kernel
+    /// masks. If the card were masked after the queueing, a faster poller might have unmasked it before, and it would stay
+    /// masked.
     ///
     /// If `mask` panics, the instance is never polled again.
     pub fn interrupt_masked(&mut self, kind: Kind, card: &mut impl Card) -> Prep {
@@ -119,14 +120,14 @@ impl Caller {
         prep
     }
 
-    /// Requests a poll (`napi_schedule`), for an interrupt, a timer or a driver's open, and hands the
-    /// instance over as the state word says. With [`Prep::Granted`], [`Next::Again`] says where to:
-    /// the number must be listed, or the thread woken. Otherwise it is [`Next::Gone`].
+    /// Requests a poll (`napi_schedule`), for an interrupt, a timer or a driver's open. If the request is granted, queues the
+    /// instance as the state word says. After [`Prep::Granted`], [`Next::Again`] says where it was queued: the number has to be
+    /// listed, or the thread has to be woken. Otherwise the second result is [`Next::Gone`].
     pub fn request(&mut self) -> (Prep, Next) {
         self.request_and(|| {})
     }
 
-    /// Like [`request`](Caller::request), with [`mask`](Card::mask) between the grant and the queuing.
+    /// Like [`request`](Caller::request), with [`mask`](Card::mask) between the grant and the queueing.
     ///
     /// If `mask` panics, the instance is never polled again.
     pub fn request_masked(&mut self, card: &mut impl Card) -> (Prep, Next) {
@@ -135,7 +136,7 @@ impl Caller {
 
     fn request_and(&mut self, mask: impl FnOnce()) -> (Prep, Next) {
         let prep = loop {
-            // SAFETY: the handle is this caller's alone.
+            // SAFETY: only this caller has the handle.
             let said = unsafe { sys::fq_seat_schedule(self.at.raw()) };
             if let Some(prep) = Prep::of("seat_schedule", said) {
                 break prep;
@@ -146,7 +147,7 @@ impl Caller {
         }
         mask();
         let mut next = sys::FQ_NEXT_GONE;
-        // SAFETY: the handle is this caller's alone, and the number lies elsewhere.
+        // SAFETY: only this caller has the handle, and the number is elsewhere.
         match unsafe { sys::fq_seat_hand_again(self.at.raw(), &mut next) } {
             sys::FQ_OK => (prep, Next::of("seat_hand_again", next)),
             said => unexpected("seat_hand_again", said),
@@ -208,7 +209,7 @@ impl Caller {
     }
 }
 
-/// A caller that was granted the instance, and has to hand it over: otherwise it is never polled again.
+/// A caller that was granted the instance, and has to queue it: otherwise the instance is never polled again.
 #[derive(Debug)]
 #[must_use = "an instance that is granted and not handed over is polled by nobody"]
 pub struct Granted {

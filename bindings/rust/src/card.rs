@@ -1,16 +1,16 @@
-//! What the functions that end a poll do with its card.
+//! The card of an instance, as the functions that end a poll use it.
 
 /// A card whose interrupt is masked while its instance is polled.
 pub trait Card {
-    /// Masks its interrupt.
+    /// Masks the card's interrupt.
     fn mask(&mut self);
-    /// Unmasks its interrupt.
+    /// Unmasks the card's interrupt.
     fn unmask(&mut self);
 }
 
 /// A card that can be checked for packets.
 pub trait Look: Card {
-    /// Returns whether there is something to poll. A fence comes before it.
+    /// Returns whether there is something to poll. A memory fence precedes the call.
     fn look(&mut self) -> bool;
 }
 

@@ -37,7 +37,7 @@ impl Mode for Marked {}
 
 /// The controller of an instance: the driver's open and stop.
 ///
-/// What is enabled can't be enabled again:
+/// An instance that is enabled can't be enabled again:
 ///
 /// ```compile_fail,E0599
 /// use fintaqush::{Control, On};
@@ -78,9 +78,9 @@ impl Control<Off> {
         }
     }
 
-    /// Enables the instance, and retries until an attempt decides (`napi_enable`). Packets that arrived while it was disabled
-    /// are polled after the next schedule: request a poll once after it, or enable by [`open`](Control::open). Otherwise a card
-    /// that is masked, with a full ring, would wait for ever.
+    /// Enables the instance, and retries until an attempt decides (`napi_enable`). Request a poll once after it, or enable by
+    /// [`open`](Control::open): packets that arrived while the instance was disabled are polled only after the next request.
+    /// Without one, a masked card with a full ring would wait forever.
     pub fn enable(self, threaded: bool) -> Control<On> {
         let mut control = self;
         loop {
@@ -91,8 +91,8 @@ impl Control<Off> {
         }
     }
 
-    /// A driver's open: enables, and asks once by this caller, with [`mask`](Card::mask) where that
-    /// is granted. The answers are those of [`request_masked`](Caller::request_masked).
+    /// Opens the device of a driver: enables the instance, and requests a poll once by this caller, with [`mask`](Card::mask)
+    /// if the request is granted. Returns what [`request_masked`](Caller::request_masked) returns.
     pub fn open(
         self,
         threaded: bool,

@@ -4,7 +4,7 @@ use crate::sys;
 use std::cell::Cell;
 use std::marker::PhantomData;
 
-/// A byte queue limit (`lib/dynamic_queue_limits.c`). Moments are milliseconds of the user's clock.
+/// A byte queue limit (`lib/dynamic_queue_limits.c`). Times are milliseconds of the user's clock.
 ///
 /// ```
 /// use fintaqush::{Dql, Fault};
@@ -31,7 +31,7 @@ use std::marker::PhantomData;
 #[derive(Debug)]
 pub struct Dql {
     raw: sys::fq_dql,
-    // one call at a time
+    // not `Sync`: one call at a time
     by_one: PhantomData<Cell<()>>,
 }
 
@@ -48,7 +48,7 @@ impl Dql {
         })
     }
 
-    /// Adds an object of `count` bytes that was given to the device (`dql_queued`). Fails with [`TOO_LARGE`](Fault::TOO_LARGE)
+    /// Adds an object of `count` bytes that was sent to the device (`dql_queued`). Fails with [`TOO_LARGE`](Fault::TOO_LARGE)
     /// or [`TOO_MUCH_IN_FLIGHT`](Fault::TOO_MUCH_IN_FLIGHT).
     pub fn queued(&mut self, count: u32) -> Result<(), Fault> {
         // SAFETY: the library made the limit, and only this call borrows it.
@@ -74,7 +74,7 @@ impl Dql {
         unsafe { sys::fq_dql_limit(&self.raw) }
     }
 
-    /// The bytes that may still be given to the device (`dql_avail`); if negative, the queue has to be stopped.
+    /// The bytes that may still be sent to the device (`dql_avail`); if negative, the queue has to be stopped.
     pub fn avail(&self) -> i64 {
         // SAFETY: as in `limit`.
         unsafe { sys::fq_dql_avail(&self.raw) }

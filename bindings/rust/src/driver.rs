@@ -9,26 +9,26 @@ use crate::words::Prep;
 /// What a driver has to do next.
 #[derive(Clone, Copy, Debug, PartialEq, Eq)]
 pub enum What {
-    /// Nothing, until the next interrupt, open or stop.
+    /// Do nothing until the next interrupt, open or stop.
     Sleep,
     /// Mask the interrupt of the card of this device.
     Mask(u32),
-    /// Unmask it.
+    /// Unmask the interrupt of the card of this device.
     Unmask(u32),
     /// Look whether the card of this device has packets, and report how many, or 1 if it has any.
     Look(u32),
-    /// Take packets from a card and deliver them, and report how many.
+    /// Take packets from the card of this device and deliver them, and report how many.
     Fetch {
         /// The number of the device.
         device: u32,
         /// The most packets that may be taken.
         most: u32,
     },
-    /// A run ended (`net_rx_action`): do other work first if there is some.
+    /// A run ended (`net_rx_action`): do other work first, if there is some.
     Ended(RunReport),
 }
 
-/// A thing that has to be done, for a report by [`Driver::done`].
+/// An action that has to be done, and then reported by [`Driver::done`].
 #[derive(Clone, Copy, Debug, PartialEq, Eq)]
 pub struct Todo {
     raw: sys::fq_todo,
@@ -39,7 +39,7 @@ impl Todo {
         raw: sys::FQ_TODO_INIT,
     };
 
-    /// What it is.
+    /// Returns the action.
     pub fn what(&self) -> What {
         let sys::fq_todo { device, most, .. } = self.raw;
         match self.raw.what {
@@ -58,7 +58,7 @@ impl Todo {
 pub trait Cards {
     /// Masks the interrupt of a card.
     fn mask(&mut self, device: u32);
-    /// Unmasks it.
+    /// Unmasks the interrupt of a card.
     fn unmask(&mut self, device: u32);
     /// Returns whether a card has packets.
     fn look(&mut self, device: u32) -> bool;
@@ -69,34 +69,35 @@ pub trait Cards {
 /// Whether a device is open.
 #[derive(Clone, Copy, Debug, PartialEq, Eq)]
 pub enum DeviceState {
-    /// It is closed, and its card is masked.
+    /// The device is closed, and its card is masked.
     Closed,
-    /// It is open.
+    /// The device is open.
     Open,
-    /// It is being stopped.
+    /// The device is being stopped.
     Stopping,
 }
 
 /// The state of a device, and the counts of its polls. Each count saturates.
 #[derive(Clone, Copy, Debug, PartialEq, Eq)]
 pub struct DeviceShown {
-    /// Whether it is open.
+    /// Whether the device is open.
     pub state: DeviceState,
-    /// A poll is requested, and isn't completed (`NAPI_STATE_SCHED`).
+    /// Whether a poll is requested and isn't completed (`NAPI_STATE_SCHED`).
     pub scheduled: bool,
-    /// An interrupt came meanwhile (`NAPI_STATE_MISSED`).
+    /// Whether an interrupt came meanwhile (`NAPI_STATE_MISSED`).
     pub missed: bool,
     /// Fetches that were reported.
     pub polls: u64,
-    /// The packets of these.
+    /// The packets of these fetches.
     pub packets: u64,
 }
 
-/// The driver of up to 64 devices on one thread: their instances, the poll list and the runs over it. It says what has to be done
-/// at a card, and the caller reports that it was done.
+/// The driver of up to 64 devices on one thread: their instances, the poll list and the runs over it. It returns what has to be
+/// done at a card, and the caller reports that it was done.
 ///
-/// Any order of calls is safe: what isn't due fails with [`NOT_DUE`](Fault::NOT_DUE) and changes nothing. It says to sleep only if
-/// each card of an open device was unmasked, was looked at after that and had no packets, and no poll is requested.
+/// Calls may come in any order: what isn't due fails with [`NOT_DUE`](Fault::NOT_DUE) and changes nothing. The driver returns
+/// [`What::Sleep`] only if the card of each open device was unmasked, was looked at after that and had no packets, and no poll
+/// is requested.
 ///
 /// ```
 /// use fintaqush::{Cards, Driver, Fault, Weight, What};
@@ -151,7 +152,7 @@ impl Driver {
         Ok(Driver { at })
     }
 
-    /// Opens a closed device (`napi_enable`). Fails with [`NOT_DUE`](Fault::NOT_DUE) if it isn't closed, with
+    /// Opens a closed device (`napi_enable`). Fails with [`NOT_DUE`](Fault::NOT_DUE) if it isn't closed, and with
     /// [`BAD_DEVICE`](Fault::BAD_DEVICE).
     pub fn open(&mut self, device: u32) -> Result<(), Fault> {
         // SAFETY: only this driver has the handle.
@@ -159,7 +160,7 @@ impl Driver {
     }
 
     /// Stops an open device (`napi_disable`): polls that were requested are made, its card is masked, and then it is closed.
-    /// Fails with [`NOT_DUE`](Fault::NOT_DUE) if it isn't open, with [`BAD_DEVICE`](Fault::BAD_DEVICE).
+    /// Fails with [`NOT_DUE`](Fault::NOT_DUE) if it isn't open, and with [`BAD_DEVICE`](Fault::BAD_DEVICE).
     pub fn stop(&mut self, device: u32) -> Result<(), Fault> {
         // SAFETY: only this driver has the handle.
         Fault::unless_made(unsafe { sys::fq_driver_stop(self.at.raw(), device) })
@@ -175,31 +176,31 @@ impl Driver {
         }
     }
 
-    /// Returns what has to be done now. What isn't reported is said again.
+    /// Returns what has to be done now. An action that isn't reported is returned again.
     pub fn next(&mut self) -> Todo {
         let mut todo = Todo::NONE;
-        // SAFETY: only this driver has the handle, and what is to be done is elsewhere.
+        // SAFETY: only this driver has the handle, and `todo` is elsewhere.
         match unsafe { sys::fq_driver_next(self.at.raw(), &mut todo.raw) } {
             sys::FQ_OK => todo,
             said => unexpected("driver_next", said),
         }
     }
 
-    /// Reports that it was done, with the packets of a look or a fetch. Nothing is reported if it fails: with
-    /// [`NOT_DUE`](Fault::NOT_DUE) if the driver doesn't wait for this report any more, because of an interrupt, an open, a stop or
-    /// an earlier report; with [`BAD_WORK`](Fault::BAD_WORK) if a fetch took too many packets.
+    /// Reports that an action was done, with the packets of a look or a fetch. Nothing is reported if it fails: with
+    /// [`NOT_DUE`](Fault::NOT_DUE) if the driver doesn't wait for this report any more, because of an interrupt, an open, a
+    /// stop or an earlier report; with [`BAD_WORK`](Fault::BAD_WORK) if a fetch took too many packets.
     pub fn done(&mut self, todo: Todo, packets: u32) -> Result<(), Fault> {
         let raw = sys::fq_todo {
             packets,
             ..todo.raw
         };
-        // SAFETY: only this driver has the handle, and what was done is elsewhere.
+        // SAFETY: only this driver has the handle, and `todo` is elsewhere.
         Fault::unless_made(unsafe { sys::fq_driver_done(self.at.raw(), &raw) })
     }
 
-    /// Does one thing at a card, reports it, and returns what was done; [`What::Sleep`] if nothing has to be, [`What::Ended`] if a run
-    /// ended. If a call of the card panics, nothing is reported, and the same is due again; so it is if a fetch returns too many
-    /// packets.
+    /// Does one action at a card, reports it, and returns it; returns [`What::Sleep`] if there is nothing to do,
+    /// [`What::Ended`] if a run ended. If a call of the card panics, or a fetch returns too many packets, nothing is reported,
+    /// and the same action is due again.
     pub fn step<C: Cards>(&mut self, cards: &mut C) -> What {
         let todo = self.next();
         let what = todo.what();
@@ -220,7 +221,7 @@ impl Driver {
         what
     }
 
-    /// The state of a device, and the counts of its polls. Fails with [`BAD_DEVICE`](Fault::BAD_DEVICE).
+    /// Returns the state of a device, and the counts of its polls. Fails with [`BAD_DEVICE`](Fault::BAD_DEVICE).
     pub fn shown(&mut self, device: u32) -> Result<DeviceShown, Fault> {
         let mut shown = sys::fq_device_shown {
             size: std::mem::size_of::<sys::fq_device_shown>(),

@@ -16,11 +16,11 @@ use std::fmt;
 pub struct Fault(u32);
 
 impl Fault {
-    /// Limit: the least is greater than the greatest, or that one over 1879048192.
+    /// Limit: the least is greater than the greatest, or the greatest is over 1879048192.
     pub const BAD_BOUNDS: Fault = Fault(sys::FQ_BAD_BOUNDS);
     /// Limit: an object of more than 268435455 bytes.
     pub const TOO_LARGE: Fault = Fault(sys::FQ_TOO_LARGE);
-    /// Limit: more than it can count would be in flight.
+    /// Limit: more than 1073741823 bytes would be in flight.
     pub const TOO_MUCH_IN_FLIGHT: Fault = Fault(sys::FQ_TOO_MUCH_IN_FLIGHT);
     /// Limit: more bytes completed than are in flight.
     pub const MORE_THAN_QUEUED: Fault = Fault(sys::FQ_MORE_THAN_QUEUED);
@@ -30,7 +30,7 @@ impl Fault {
     pub const STOPPED: Fault = Fault(sys::FQ_STOPPED);
     /// Transmit ring: more packets complete than it holds.
     pub const MORE_THAN_SENT: Fault = Fault(sys::FQ_MORE_THAN_SENT);
-    /// Driver: this isn't due, and nothing has changed.
+    /// Driver: this action isn't due, and nothing has changed.
     pub const NOT_DUE: Fault = Fault(sys::FQ_NOT_DUE);
     /// The call isn't allowed in the object's state.
     pub const NOT_ALLOWED: Fault = Fault(sys::FQ_NOT_ALLOWED);
@@ -38,42 +38,42 @@ impl Fault {
     pub const IN_USE: Fault = Fault(sys::FQ_IN_USE);
     /// Out of memory.
     pub const OUT_OF_MEMORY: Fault = Fault(sys::FQ_OUT_OF_MEMORY);
-    /// A receive or a transmit ring has a capacity of 1 to 65536.
+    /// The capacity of a receive or a transmit ring isn't 1 to 65536.
     pub const BAD_CAPACITY: Fault = Fault(sys::FQ_BAD_CAPACITY);
-    /// A weight is 1 to 64.
+    /// A weight isn't 1 to 64.
     pub const BAD_WEIGHT: Fault = Fault(sys::FQ_BAD_WEIGHT);
-    /// A run's budget and window are 1 to 65535.
+    /// The budget or the window of a run isn't 1 to 65535.
     pub const BAD_BUDGET: Fault = Fault(sys::FQ_BAD_BUDGET);
-    /// A shared instance has 2 to 8 callers, a driver 1 to 64 devices.
+    /// The number of callers of a shared instance isn't 2 to 8, or that of devices of a driver isn't 1 to 64.
     pub const BAD_COUNT: Fault = Fault(sys::FQ_BAD_COUNT);
     /// Run, driver: a poll reported more packets than the weight.
     pub const BAD_WORK: Fault = Fault(sys::FQ_BAD_WORK);
-    /// Driver: not a number of one of its devices.
+    /// Driver: it has no device with this number.
     pub const BAD_DEVICE: Fault = Fault(sys::FQ_BAD_DEVICE);
-    /// Machine: a struct doesn't have its size.
+    /// Machine: the `size` of a struct isn't right.
     pub const BAD_SIZE: Fault = Fault(sys::FQ_BAD_SIZE);
 
-    /// Its number.
+    /// Returns its number.
     pub fn number(self) -> u32 {
         self.0
     }
 
-    /// Its name, as `"FQ_FULL"`.
+    /// Returns its name, for example `"FQ_FULL"`.
     pub fn name(self) -> &'static str {
         sys::fq_status_name(self.0)
     }
 
-    /// What it says in words, as `"a weight is 1 to 64 packets"`.
+    /// Returns its message, for example `"a weight is 1 to 64 packets"`.
     pub fn message(self) -> String {
         let mut text = vec![0; sys::FQ_MESSAGE_ROOM];
         let (to, room) = (text.as_mut_ptr().cast(), text.len());
-        // SAFETY: the array has so many bytes, and is this call's alone.
+        // SAFETY: the array has this many bytes, and only this call uses it.
         let length = unsafe { sys::fq_status_message(self.0, to, room) };
         text.truncate(length);
         String::from_utf8_lossy(&text).into_owned()
     }
 
-    // The result of a call that succeeds if it returns `FQ_OK`.
+    // Returns `Ok` if the status is `FQ_OK`, otherwise the error.
     pub(crate) fn unless_made(status: u32) -> Result<(), Fault> {
         match status {
             sys::FQ_OK => Ok(()),
@@ -96,7 +96,7 @@ impl fmt::Debug for Fault {
 
 impl Error for Fault {}
 
-// A number that the header doesn't name for this call: library and header aren't of the same version.
+// Panics, because the header doesn't name this number for the call: library and header are of different versions.
 #[cold]
 pub(crate) fn unexpected(call: &str, status: u32) -> ! {
     panic!(

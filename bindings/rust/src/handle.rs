@@ -1,4 +1,4 @@
-//! Objects that the library has on the heap.
+//! Objects of the library on the heap.
 use crate::fault::unexpected;
 use crate::packets::{Answers, Counts, RingShown};
 use crate::sys;
@@ -14,7 +14,7 @@ pub(crate) struct Handle(sys::fq_handle);
 unsafe impl Send for Handle {}
 
 impl Handle {
-    // A handle to nothing.
+    // A handle without an object.
     pub(crate) const NONE: Handle = Handle(sys::FQ_NONE);
 
     // Reads the state word, for a caller.
@@ -57,7 +57,7 @@ impl Handle {
         }
     }
 
-    // The handle for a call, which alone uses it, because nothing here is copied.
+    // Returns the pointer for a call. Only that call uses the handle, because handles aren't copied.
     pub(crate) fn raw(&mut self) -> *mut sys::fq_handle {
         &mut self.0
     }

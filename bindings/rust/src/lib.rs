@@ -11,14 +11,14 @@
 //! - [`Word`]: pending bits, which other threads raise for a list's poller.
 //! - [`TxRing`]: a transmit ring under a byte queue limit.
 //! - [`List`]: a poll list, and runs over it.
-//! - [`Driver`]: the driver of up to 64 devices on one thread, which says what has to be done at a card.
+//! - [`Driver`]: the driver of up to 64 devices on one thread, which returns what has to be done at a card.
 //! - [`replay`]: the whole replay of a trace, on one thread.
-//! - [`machine`](fn@machine): the receiving machine, from arrivals to latencies.
+//! - [`machine`](fn@machine): a machine that receives packets over simulated time, from arrivals to latencies.
 //!
-//! Every value may be sent to another thread, and none but a [`Word`] may be used by two at a time
-//! (`Send`, not `Sync`): the library wants one call at a time on an object.
+//! Every value may be sent to another thread. Only a [`Word`] may be used by two threads at a time; all others are `Send` but
+//! not `Sync`, because the library allows one call at a time on an object.
 //!
-//! One instance, a request for a poll that is granted, one that is missed, and two polls:
+//! An example: one instance, a request for a poll that is granted, one that is missed, and two polls:
 //!
 //! ```
 //! use fintaqush::{Done, Kind, Prep, SerialNapi};

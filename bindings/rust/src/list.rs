@@ -39,7 +39,7 @@ impl List {
         Fault::unless_made(unsafe { sys::fq_list_push(self.at.raw(), id) })
     }
 
-    /// How many numbers it holds, including those of a run over it.
+    /// Returns how many numbers the list holds, including those of a run over it.
     pub fn len(&mut self) -> usize {
         let mut len = 0;
         // SAFETY: only this list has the handle, and the number is elsewhere.
@@ -49,17 +49,17 @@ impl List {
         }
     }
 
-    /// Returns whether it is empty.
+    /// Returns whether the list is empty.
     pub fn is_empty(&mut self) -> bool {
         self.len() == 0
     }
 
-    /// Makes a run (`net_rx_action`): polls the listed devices in order, until the list is empty or budget or window is used
-    /// up. Budget (packets) and window (polls) are 1 to 65535: otherwise it fails with [`BAD_BUDGET`](Fault::BAD_BUDGET).
+    /// Makes a run (`net_rx_action`): polls the listed devices in order, until the list is empty, or the budget (packets) or
+    /// the window (polls) is used up. Fails with [`BAD_BUDGET`](Fault::BAD_BUDGET) unless both are 1 to 65535.
     ///
-    /// `poll` polls the device with that number, and may list others. If it returns more packets than the weight, the run ends
-    /// with [`BAD_WORK`](Fault::BAD_WORK); if it asks to be listed again though it has listed itself, with
-    /// [`IN_USE`](Fault::IN_USE). If it panics, the run ends too: the device's own request isn't listed, all others are.
+    /// `poll` polls the device with that number, and may list others. The run ends with [`BAD_WORK`](Fault::BAD_WORK) if it
+    /// returns more packets than the weight, and with [`IN_USE`](Fault::IN_USE) if it asks to be listed again although it has
+    /// listed itself. If it panics, the run ends too: that device isn't listed again, all others are.
     pub fn run<F>(
         &mut self,
         budget: u32,
@@ -79,7 +79,7 @@ impl List {
     }
 }
 
-/// A list in a run, to which a poll may push.
+/// A list during a run, to which a poll may push.
 #[derive(Debug)]
 pub struct Pushes<'l> {
     list: &'l mut List,
@@ -133,7 +133,7 @@ impl<'l> Run<'l> {
 }
 
 impl Drop for Run<'_> {
-    // Each call fails, and changes nothing, if there is nothing left to end.
+    // each call fails, and changes nothing, if there is nothing left to end
     fn drop(&mut self) {
         let _ = self.polled(Polled {
             work: 0,

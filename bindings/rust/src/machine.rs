@@ -1,4 +1,4 @@
-//! The receiving machine in time.
+//! A machine that receives packets over simulated time.
 use crate::fault::Fault;
 use crate::sys;
 use std::error::Error;
@@ -50,14 +50,14 @@ pub enum MachineFault {
     Arrivals {
         /// The number of the error, 1 to 8.
         fault: u32,
-        /// The row that it names, counted from 1; 0 if it names none.
+        /// The row that the error names, counted from 1; 0 if it names none.
         row: u64,
-        /// Its message, as `napi_machine` prints it.
+        /// The message of the error, as `napi_machine` prints it.
         message: String,
     },
     /// The setting with this number is out of its range: 1 for `processors`, 2 for `queues`, and so on.
     Setting(u32),
-    /// [`OUT_OF_MEMORY`](Fault::OUT_OF_MEMORY), or a `size` that isn't the struct's.
+    /// The call failed with [`OUT_OF_MEMORY`](Fault::OUT_OF_MEMORY), or because `size` isn't that of the struct.
     Refused(Fault),
 }
 
@@ -73,7 +73,7 @@ impl fmt::Display for MachineFault {
 
 impl Error for MachineFault {}
 
-/// The report of the machine for arrivals, as `napi_machine` writes it: which latency, which drops, which processor time.
+/// Returns the report of the machine for arrivals, as `napi_machine` writes it: latencies, drops, processor time.
 ///
 /// ```
 /// use fintaqush::{machine, MachineFault, MachineSettings};
@@ -98,7 +98,7 @@ pub fn machine(arrivals: &[u8], settings: &MachineSettings) -> Result<Vec<u8>, M
         message: [0; 64],
     };
     loop {
-        // SAFETY: each pointer leads to as many bytes as are given, and no two to the same.
+        // SAFETY: each pointer leads to as many bytes as its length says, and they don't overlap.
         let said = unsafe {
             sys::fq_machine(
                 settings,

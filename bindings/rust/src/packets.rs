@@ -7,7 +7,7 @@ use std::fmt;
 pub use crate::sys::fq_packet as Packet;
 /// The counts of a ring's polls.
 pub use crate::sys::fq_counts as Counts;
-/// What is counted of a whole ring.
+/// The counts of the results of a caller's calls.
 pub use crate::sys::fq_answers as Answers;
 pub use crate::sys::fq_ring_shown as RingShown;
 pub use crate::sys::fq_totals as Totals;
@@ -17,7 +17,7 @@ pub use crate::sys::fq_totals as Totals;
 pub struct Weight(usize);
 
 impl Weight {
-    /// The greatest, which is the kernel's default (`NAPI_POLL_WEIGHT`): 64.
+    /// The greatest weight, 64, which is the kernel's default (`NAPI_POLL_WEIGHT`).
     pub const MAX: Weight = Weight(64);
 
     /// Returns the weight of a number from 1 to 64. Otherwise it fails with [`BAD_WEIGHT`](Fault::BAD_WEIGHT).
@@ -28,7 +28,7 @@ impl Weight {
         }
     }
 
-    /// The number.
+    /// Returns the number.
     pub fn get(self) -> usize {
         self.0
     }
@@ -50,7 +50,7 @@ impl Batch {
         }
     }
 
-    /// The packets of the last poll into it.
+    /// Returns the packets of the last poll into this buffer.
     pub fn as_slice(&self) -> &[Packet] {
         &self.packets[..self.count]
     }

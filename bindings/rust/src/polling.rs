@@ -9,9 +9,10 @@ use crate::sys;
 use crate::words::{Kind, Next};
 use std::sync::atomic::{fence, Ordering};
 
-/// A caller that polls the instance. A poll of the whole weight is requeued, any other completed.
+/// A caller that polls the instance. After a poll of the whole weight it requeues the instance, after any other poll it
+/// completes it.
 ///
-/// Once it has completed, it polls no more:
+/// After it has completed, it can't poll any more:
 ///
 /// ```compile_fail,E0382
 /// use fintaqush::{Batch, Completed, Polling, Weight};
@@ -57,8 +58,8 @@ impl Polling {
         }
     }
 
-    /// Ends the poll as the kernel does (`__napi_poll`): after a full one, which used its whole weight, if no disable is
-    /// pending, the instance is requeued, or stays with its thread; otherwise it is completed, and handed over again if a
+    /// Ends the poll as the kernel does (`__napi_poll`). After a full poll, which used its whole weight, the instance is
+    /// requeued, or stays with its thread, unless a disable is pending. Otherwise it is completed, and queued again if a
     /// request was missed. After [`Next::Again`] of [`Kind::Thread`] wake its thread, also after a poll from the list.
     pub fn end(mut self, full: bool) -> End {
         let mut next = 0;
@@ -70,9 +71,10 @@ impl Polling {
         }
     }
 
-    /// Ends the poll of a card that can be checked for packets: like [`end`](Polling::end); if that releases the instance, it
-    /// unmasks, checks, and if there are packets requests a poll itself, masks and hands over. Without this check an
-    /// edge-triggered interrupt could be lost. It may hand over to the thread: wake it then, as after [`end`](Polling::end).
+    /// Ends the poll of a card that can be checked for packets. Like [`end`](Polling::end); and if that releases the instance,
+    /// it unmasks the card and looks, and if there are packets it requests a poll itself, masks the card and queues the
+    /// instance. Without this look an edge-triggered interrupt could be lost. The instance may be queued for its thread: wake
+    /// it then, as after [`end`](Polling::end).
     pub fn end_watched(self, full: bool, card: &mut impl Look) -> End {
         let caller = match self.end(full) {
             End::Over(caller, Next::Gone) => caller,
@@ -92,9 +94,9 @@ impl Polling {
         }
     }
 
-    /// Ends the poll of a card that can't be checked, with `work` packets so far: unmasks while it still polls, polls the rest
-    /// of the weight, which it adds to `work`, and ends like [`end`](Polling::end). The card is masked if one more poll
-    /// follows.
+    /// Ends the poll of a card that can't be checked, after `work` packets. If that is below the weight, it unmasks the card
+    /// while it still polls, polls the rest of the weight, adds that to `work`, and ends like [`end`](Polling::end). The card
+    /// is masked if one more poll follows.
     pub fn end_unmasked(self, card: &mut impl Poll, weight: Weight, work: &mut usize) -> End {
         if *work < weight.get() {
             card.unmask();
@@ -139,7 +141,7 @@ impl Polling {
     }
 }
 
-// Hands over to the thread if `FQ_BIT_THREADED` is set, otherwise to the list.
+// Queues the instance for its thread if `FQ_BIT_THREADED` is set, otherwise on the list.
 fn hand_again(mut granted: Granted) -> End {
     let kind = match granted.look() & sys::FQ_BIT_THREADED {
         0 => Kind::List,
@@ -152,7 +154,7 @@ fn hand_again(mut granted: Granted) -> End {
 pub(crate) fn poll<'b>(at: &mut Handle, weight: Weight, batch: &'b mut Batch) -> &'b [Packet] {
     let at = at.raw();
     batch.filled_by(|out, len, count| {
-        // SAFETY: only this call has the handle, the packets and the count, each at a different place.
+        // SAFETY: only this call has the handle, the packets and the count, and they don't overlap.
         unsafe { sys::fq_seat_poll(at, weight.get(), out, len, count) }
     })
 }

@@ -25,10 +25,10 @@ pub enum NoReport {
     Trace {
         /// The number of the error, 1 to 12.
         fault: u32,
-        /// The row that it names, counted from 1; 0 if it names none.
+        /// The row that the error names, counted from 1; 0 if it names none.
         row: u32,
     },
-    /// [`BAD_WEIGHT`](Fault::BAD_WEIGHT), [`BAD_BUDGET`](Fault::BAD_BUDGET) or
+    /// The call failed with [`BAD_WEIGHT`](Fault::BAD_WEIGHT), [`BAD_BUDGET`](Fault::BAD_BUDGET) or
     /// [`OUT_OF_MEMORY`](Fault::OUT_OF_MEMORY).
     Refused(Fault),
 }
@@ -47,7 +47,7 @@ impl fmt::Display for NoReport {
 
 impl Error for NoReport {}
 
-/// The report of a trace, as `napi_replay --mode=serial` writes it.
+/// Returns the report of a trace, as `napi_replay --mode=serial` writes it.
 ///
 /// ```
 /// use fintaqush::{replay, NoReport, Settings};
@@ -64,7 +64,7 @@ pub fn replay(trace: &[u8], settings: &Settings) -> Result<Vec<u8>, NoReport> {
     let mut report = vec![0; 4096];
     loop {
         let mut replayed = sys::fq_replayed::default();
-        // SAFETY: each pointer leads to as many bytes as are given, and no two to the same.
+        // SAFETY: each pointer leads to as many bytes as its length says, and they don't overlap.
         let said = unsafe {
             sys::fq_replay(
                 settings,

@@ -4,8 +4,7 @@ use crate::handle::Handle;
 use crate::packets::{Batch, Counts, Packet, RingShown, Totals, Weight};
 use crate::sys;
 
-/// A receive ring without an instance. Packets that lie in it when it is dropped are the user's
-/// loss.
+/// A receive ring without an instance. Packets that are in it when it is dropped are lost.
 ///
 /// ```
 /// use fintaqush::{Batch, Fault, Packet, Ring, Weight};
@@ -65,7 +64,7 @@ impl Ring {
         poll(&mut self.at, weight, batch)
     }
 
-    /// Its capacity, and how many packets were put.
+    /// Returns its capacity, and how many packets were put.
     pub fn shown(&mut self) -> RingShown {
         self.at.shown()
     }
@@ -75,7 +74,7 @@ impl Ring {
         self.at.counts()
     }
 
-    /// Its two ends, each for a thread of its own. [`OUT_OF_MEMORY`](Fault::OUT_OF_MEMORY).
+    /// Returns its two ends, each for a thread of its own. Fails with [`OUT_OF_MEMORY`](Fault::OUT_OF_MEMORY).
     ///
     /// ```
     /// use fintaqush::{Batch, Fault, Packet, Ring, Weight};
@@ -91,7 +90,7 @@ impl Ring {
     /// ```
     pub fn split(mut self) -> Result<(Input, Output), Fault> {
         let mut out = Handle::NONE;
-        // SAFETY: only this call has both handles, each at a different place.
+        // SAFETY: only this call has both handles, which don't overlap.
         Fault::unless_made(unsafe { sys::fq_ring_split(self.at.raw(), out.raw()) })?;
         Ok((Input { at: self.at }, Output { at: out }))
     }
@@ -125,14 +124,14 @@ impl Output {
     }
 }
 
-/// The producer's end of a ring, of an instance's or of one that was split.
+/// The producer's end of a ring that belongs to an instance or that was split.
 #[derive(Debug)]
 pub struct Input {
     pub(crate) at: Handle,
 }
 
 impl Input {
-    /// Its capacity, and how many packets were put.
+    /// Returns its capacity, and how many packets were put.
     pub fn shown(&mut self) -> RingShown {
         self.at.shown()
     }
@@ -145,8 +144,8 @@ impl Input {
         put(&mut self.at, packet)
     }
 
-    /// Puts as many of the first packets as fit at the end of the ring, and returns how many. A poll sees all of them at once;
-    /// what each thread sees then is as for [`put`](Input::put).
+    /// Puts as many of the first packets as fit at the end of the ring, and returns how many. A poll sees all of them at once.
+    /// What each thread then sees is as for [`put`](Input::put).
     pub fn put_all(&mut self, packets: &[Packet]) -> usize {
         put_all(&mut self.at, packets)
     }
@@ -155,7 +154,7 @@ impl Input {
 fn poll<'b>(ring: &mut Handle, weight: Weight, batch: &'b mut Batch) -> &'b [Packet] {
     let at = ring.raw();
     batch.filled_by(|out, len, count| {
-        // SAFETY: only this call has the handle, the packets and the count, each at a different place.
+        // SAFETY: only this call has the handle, the packets and the count, and they don't overlap.
         unsafe { sys::fq_ring_poll(at, weight.get(), out, len, count) }
     })
 }

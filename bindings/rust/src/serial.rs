@@ -5,17 +5,17 @@ use crate::words::{Done, Kind, Next, Prep};
 use std::cell::Cell;
 use std::marker::PhantomData;
 
-/// An instance of one thread (`struct napi_struct`). Every caller has a number, and the controller's is given when the instance
-/// is made. A call that isn't allowed in the state fails with [`NOT_ALLOWED`](Fault::NOT_ALLOWED) and changes nothing.
+/// An instance of one thread (`struct napi_struct`). Every caller has a number; the controller's number is an argument when the
+/// instance is made. A call that isn't allowed in the state fails with [`NOT_ALLOWED`](Fault::NOT_ALLOWED) and changes nothing.
 #[derive(Clone, Debug)]
 pub struct SerialNapi {
     raw: sys::fq_napi,
-    // one call at a time
+    // not `Sync`: one call at a time
     by_one: PhantomData<Cell<()>>,
 }
 
 impl SerialNapi {
-    /// Returns a new instance (`netif_napi_add`): disabled.
+    /// Returns a new instance, which is disabled (`netif_napi_add`).
     pub fn new(controller: u32) -> SerialNapi {
         SerialNapi {
             // SAFETY: it takes only a number.
@@ -40,7 +40,7 @@ impl SerialNapi {
         Fault::unless_made(unsafe { sys::fq_napi_hand(&mut self.raw, who, kind.number()) })
     }
 
-    /// Takes it from the list or as its thread; returns false if it isn't there.
+    /// Takes the instance from the list or as its thread; returns false if it isn't there.
     pub fn take(&mut self, who: u32, kind: Kind) -> bool {
         // SAFETY: only this call borrows the instance.
         let said = unsafe { sys::fq_napi_take(&mut self.raw, who, kind.number()) };
@@ -59,13 +59,13 @@ impl SerialNapi {
         }
     }
 
-    /// Ends a poll as the kernel does (`__napi_poll`): after a full one, which gave its whole weight,
-    /// the instance is on the list again, or stays with its thread, unless a disable is pending; else
-    /// it is completed, and handed over again where a request was missed. `None`: the caller polls on.
-    /// After [`Next::Again`] of [`Kind::Thread`] its thread is to be woken.
+    /// Ends a poll as the kernel does (`__napi_poll`). After a full poll, which used its whole weight, the instance is on the
+    /// list again, or stays with its thread, unless a disable is pending. Otherwise it is completed, and queued again if a
+    /// request was missed. Returns `None` if the caller keeps polling. After [`Next::Again`] of [`Kind::Thread`] wake its
+    /// thread.
     pub fn end(&mut self, who: u32, full: bool) -> Result<Option<Next>, Fault> {
         let mut next = sys::FQ_NEXT_GONE;
-        // SAFETY: the instance is borrowed by this call alone, and the number lies elsewhere.
+        // SAFETY: only this call borrows the instance, and the number is elsewhere.
         match unsafe { sys::fq_napi_end(&mut self.raw, who, full, &mut next) } {
             sys::FQ_OK => Ok(Some(Next::of("napi_end", next))),
             sys::FQ_HELD => Ok(None),
@@ -116,14 +116,14 @@ impl SerialNapi {
         Fault::unless_made(unsafe { sys::fq_napi_unmark(&mut self.raw, who) })
     }
 
-    /// For the controller: enables the instance (`napi_enable`). [`schedule`](SerialNapi::schedule) once after it: what was
-    /// requested before isn't polled.
+    /// For the controller: enables the instance (`napi_enable`). Call [`schedule`](SerialNapi::schedule) once after it, because
+    /// an earlier request isn't polled.
     pub fn enable(&mut self, who: u32, threaded: bool) -> Result<(), Fault> {
         // SAFETY: only this call borrows the instance.
         Fault::unless_made(unsafe { sys::fq_napi_enable(&mut self.raw, who, threaded) })
     }
 
-    /// The state word, a sum of the [`sys`] constants `FQ_BIT_..`.
+    /// Returns the state word, a sum of the [`sys`] constants `FQ_BIT_..`.
     pub fn word(&self) -> u64 {
         // SAFETY: the library only reads it; no other thread does, because it isn't `Sync`.
         unsafe { sys::fq_napi_word(&self.raw) }

@@ -31,9 +31,9 @@ use crate::sys;
 pub struct Shared<const CALLERS: usize> {
     /// The input end of its ring.
     pub input: Input,
-    /// Its controller. The instance is disabled.
+    /// The controller of the instance, which is disabled.
     pub control: Control<Off>,
-    /// Its callers, which own nothing yet.
+    /// The callers of the instance, which own nothing yet.
     pub callers: [Caller; CALLERS],
 }
 
@@ -45,8 +45,8 @@ impl<const CALLERS: usize> Shared<CALLERS> {
         let mut control = Handle::NONE;
         let mut seats = [Handle::NONE; CALLERS];
         let first = seats.as_mut_ptr().cast::<sys::fq_handle>();
-        // SAFETY: only this call has the handles, each at a different place; a `Handle` is a `fq_handle` and nothing else, and
-        // their number is given.
+        // SAFETY: only this call has the handles, which don't overlap; a `Handle` is a `fq_handle` and nothing else, and their
+        // number is passed.
         Fault::unless_made(unsafe {
             sys::fq_shared_new(ring.at.raw(), control.raw(), first, CALLERS)
         })?;
@@ -58,13 +58,13 @@ impl<const CALLERS: usize> Shared<CALLERS> {
     }
 }
 
-/// A new instance without a ring, for a card that polls its own: its controller, and its callers, 2 to 8. A
+/// A new instance without a ring, for a card that the driver polls itself: its controller, and its callers, 2 to 8. A
 /// [`poll`](crate::Polling::poll) returns no packets there.
 #[derive(Debug)]
 pub struct Bare<const CALLERS: usize> {
-    /// Its controller. The instance is disabled.
+    /// The controller of the instance, which is disabled.
     pub control: Control<Off>,
-    /// Its callers, which own nothing yet.
+    /// The callers of the instance, which own nothing yet.
     pub callers: [Caller; CALLERS],
 }
 

@@ -1,5 +1,5 @@
-//! `include/fintaqush.h` word for word: its numbers, structs and functions. The header says what each does, and what it
-//! requires of its caller; the other modules meet that.
+//! `include/fintaqush.h` in Rust: its numbers, structs and functions. The header says what each does, and what it requires of
+//! its caller; the other modules of this crate meet that.
 #![allow(non_camel_case_types)]
 
 use std::os::raw::{c_char, c_void};
@@ -12,7 +12,7 @@ macro_rules! statuses {
             pub const $name: u32 = $number;
         )*
 
-        /// The name of a status, as "FQ_GRANTED"; "?" for a number that isn't one.
+        /// Returns the name of a status, for example "FQ_GRANTED"; "?" for an unknown number.
         pub fn fq_status_name(status: u32) -> &'static str {
             match status {
                 $($number => stringify!($name),)*
@@ -62,7 +62,7 @@ statuses! {
     FQ_BAD_ARRIVALS = 124,
 }
 
-/// Room for each text of the library, with the 0 after it.
+/// The size of an array that has room for each text of the library and a terminating 0.
 pub const FQ_MESSAGE_ROOM: usize = 96;
 
 /// The number of `struct fq_handle` for [`fq_struct_size`].
@@ -92,9 +92,9 @@ pub const FQ_STRUCT_TODO: u32 = 11;
 /// The number of `struct fq_device_shown` for [`fq_struct_size`].
 pub const FQ_STRUCT_DEVICE_SHOWN: u32 = 12;
 
-/// `FQ_LIST` of `enum fq_kind`: handed to a poll list.
+/// `FQ_LIST` of `enum fq_kind`: on a poll list.
 pub const FQ_LIST: u32 = 0;
-/// `FQ_THREAD` of `enum fq_kind`: handed to the instance's own thread.
+/// `FQ_THREAD` of `enum fq_kind`: for the instance's own thread.
 pub const FQ_THREAD: u32 = 1;
 
 /// `FQ_NEXT_GONE` of `enum fq_next`.
@@ -144,12 +144,13 @@ pub const FQ_BIT_THREADED: u64 = 1 << 8;
 pub const FQ_BIT_SCHED_THREADED: u64 = 1 << 9;
 /// The library's own: the instance is on a list, and wasn't taken yet.
 pub const FQ_BIT_QUEUED: u64 = 1 << 32;
-/// The library's own: the instance was handed to its thread, and wasn't taken yet.
+/// The library's own: the instance is queued for its thread, and wasn't taken yet.
 pub const FQ_BIT_TO_THREAD: u64 = 1 << 33;
-/// A name of [`FQ_BIT_QUEUED`] for older programs. The kernel's `NAPI_STATE_LISTED` is another flag, bit 4, which isn't here.
+/// A deprecated name of [`FQ_BIT_QUEUED`], for older programs. The kernel's `NAPI_STATE_LISTED` is another flag, bit 4, which
+/// isn't here.
 #[deprecated(note = "use FQ_BIT_QUEUED")]
 pub const FQ_BIT_LISTED: u64 = FQ_BIT_QUEUED;
-/// A name of [`FQ_BIT_TO_THREAD`] for older programs.
+/// A deprecated name of [`FQ_BIT_TO_THREAD`], for older programs.
 #[deprecated(note = "use FQ_BIT_TO_THREAD")]
 pub const FQ_BIT_WITH_THREAD: u64 = FQ_BIT_TO_THREAD;
 
@@ -167,7 +168,7 @@ pub struct fq_dql {
 #[repr(C)]
 #[derive(Debug)]
 pub struct fq_dql_made {
-    /// The limit; zeros if the call failed.
+    /// The limit; all zero if the call failed.
     pub dql: fq_dql,
     /// `FQ_OK` or `FQ_BAD_BOUNDS`.
     pub status: u32,
@@ -191,7 +192,7 @@ pub struct fq_napi {
     pub threaded: u8,
     /// `NAPI_STATE_SCHED_THREADED`.
     pub sched_threaded: u8,
-    /// 0 no owner, 1 granted, 2 listed, 3 to its thread, 4 polled, otherwise the controller.
+    /// 0 no owner, 1 granted, 2 on the list, 3 waits for its thread, 4 polled, otherwise owned by the controller.
     pub place: u8,
     /// The number of its owner.
     pub owner: u32,
@@ -207,7 +208,7 @@ pub struct fq_handle {
     pub(crate) private_at: *mut c_void,
 }
 
-/// A handle to nothing.
+/// A handle without an object.
 pub const FQ_NONE: fq_handle = fq_handle {
     private_set: false,
     private_at: std::ptr::null_mut(),
@@ -217,7 +218,7 @@ pub const FQ_NONE: fq_handle = fq_handle {
 #[repr(C)]
 #[derive(Clone, Copy, Debug, Default, PartialEq, Eq)]
 pub struct fq_packet {
-    /// A number that the user chooses: an index, a pointer.
+    /// A number that the user chooses, for example an index or a pointer.
     pub number: u64,
     /// Its size in bytes.
     pub bytes: u32,
@@ -231,7 +232,7 @@ pub struct fq_counts {
     pub polls: u64,
     /// The packets that they returned.
     pub packets: u64,
-    /// The bytes of these.
+    /// The bytes of these packets.
     pub bytes: u64,
 }
 
@@ -253,7 +254,7 @@ pub struct fq_totals {
 #[repr(C)]
 #[derive(Clone, Copy, Debug, Default, PartialEq, Eq)]
 pub struct fq_ring_shown {
-    /// The packets that were put so far; it saturates.
+    /// The packets that were put so far; the count saturates.
     pub put: u64,
     /// How many packets the ring can hold.
     pub places: usize,
@@ -275,7 +276,7 @@ pub struct fq_answers {
     pub again: u64,
     /// Completions of a busy poller.
     pub held: u64,
-    /// Attempts of any call that decided nothing.
+    /// Attempts of any call that decided nothing, because another thread interfered.
     pub changed: u64,
 }
 
@@ -285,7 +286,7 @@ pub struct fq_answers {
 pub struct fq_tx_shown {
     /// The bytes of all packets ever sent, modulo 2^32.
     pub queued: u32,
-    /// The bytes of all that are complete, modulo 2^32.
+    /// The bytes of all packets that are complete, modulo 2^32.
     pub completed: u32,
     /// The limit in bytes.
     pub limit: u32,
@@ -295,14 +296,14 @@ pub struct fq_tx_shown {
     pub stopped: bool,
 }
 
-/// A word of pending bits, for other threads than a list's poller.
+/// A word of pending bits, which other threads than a list's poller may set.
 #[repr(C)]
 #[derive(Debug, Default)]
 pub struct fq_word {
     private_bits: AtomicU64,
 }
 
-/// What a driver's timer keeps for a transmit ring, all 0 at first.
+/// What a driver's watchdog timer keeps for a transmit ring; all 0 at first.
 #[repr(C)]
 #[derive(Clone, Copy, Debug, Default, PartialEq, Eq)]
 pub struct fq_tx_watchdog {
@@ -329,21 +330,21 @@ pub struct fq_run_report {
 pub struct fq_todo {
     /// The size of this struct.
     pub size: usize,
-    /// Which thing this is; 0: none.
+    /// The number under which to report it; 0 if there is nothing to report.
     pub number: u64,
-    /// A number of `enum fq_what`.
+    /// What has to be done, a number of `enum fq_what`.
     pub what: u32,
     /// The device.
     pub device: u32,
     /// The packets that a fetch may take.
     pub most: u32,
-    /// The packets of a look or a fetch, for the report.
+    /// The packets of a look or a fetch, set for the report.
     pub packets: u32,
     /// The report of a run that ended.
     pub run: fq_run_report,
 }
 
-/// Nothing to do, with the size.
+/// A struct that says that there is nothing to do, with its size set.
 pub const FQ_TODO_INIT: fq_todo = fq_todo {
     size: std::mem::size_of::<fq_todo>(),
     number: 0,
@@ -364,15 +365,15 @@ pub const FQ_TODO_INIT: fq_todo = fq_todo {
 pub struct fq_device_shown {
     /// The size of this struct.
     pub size: usize,
-    /// A number of `enum fq_device_state`.
+    /// The device's state, a number of `enum fq_device_state`.
     pub state: u32,
-    /// A poll is requested, and isn't completed.
+    /// Whether a poll is requested and isn't completed.
     pub scheduled: bool,
-    /// An interrupt came meanwhile.
+    /// Whether an interrupt came meanwhile.
     pub missed: bool,
     /// Fetches that were reported.
     pub polls: u64,
-    /// The packets of these.
+    /// The packets of these fetches.
     pub packets: u64,
 }
 
@@ -414,39 +415,39 @@ pub struct fq_machine_settings {
     pub ring: u32,
     /// Packets that a processor's socket holds, 1 to 65536.
     pub socket: u32,
-    /// Flag: the backlog of a processor.
+    /// Flag: queues are processors' backlogs (`process_backlog`).
     pub backlog: u32,
-    /// Packets that a run polls, 0 to 65535; 0: an interrupt for each packet.
+    /// Packets that a run polls before it is squeezed, 0 to 65535; 0 means an interrupt for each packet.
     pub budget: u32,
     /// Packets that one poll takes at most, 1 to 64.
     pub weight: u32,
-    /// Polls that a run makes, 1 to 65535.
+    /// Polls that a run makes before it is squeezed, 1 to 65535.
     pub window: u32,
-    /// The time after which a run ends, from 1.
+    /// The time after which a run is squeezed, 1 or more.
     pub time_limit: u32,
-    /// The time from a packet to its interrupt.
+    /// How long a card delays its interrupt.
     pub rx_nsecs: u32,
-    /// Packets at which the interrupt comes earlier, 0 to 65535.
+    /// Packets at which the interrupt comes before that time, 0 to 65535.
     pub rx_frames: u32,
-    /// Polls without packets before interrupts are enabled again, 0 to 65535.
+    /// How often a queue stays masked after a poll, 0 to 65535 (`napi_defer_hard_irqs`).
     pub defer_hard_irqs: u32,
-    /// The time between such polls.
+    /// The time until such a queue is polled again (`gro_flush_timeout`).
     pub gro_flush_timeout: u32,
-    /// Flag: threads poll.
+    /// Flag: each queue is polled by its own thread.
     pub threaded: u32,
     /// Flag: the application has a processor of its own.
     pub apart: u32,
-    /// What waking the application there takes.
+    /// The time to wake the application on its own processor.
     pub app_wake: u32,
-    /// What an interrupt takes.
+    /// The time of an interrupt.
     pub interrupt: u32,
-    /// What a poll takes without its packets.
+    /// The time of a poll before its first packet.
     pub poll: u32,
-    /// What a packet takes in a poll.
+    /// The time of each packet of a poll.
     pub packet: u32,
-    /// What the application takes for a packet.
+    /// The time that the application takes for a packet.
     pub use_time: u32,
-    /// What waking an idle processor takes.
+    /// The time to wake an idle processor.
     pub wake: u32,
 }
 
@@ -462,13 +463,13 @@ pub struct fq_machine_ran {
     pub row: u64,
     /// The number of that fault; 0 if they have none.
     pub fault: u32,
-    /// The setting that is out of its range, from 1; 0 if none is.
+    /// The setting that is out of its range, counted from 1; 0 if none is.
     pub setting: u32,
-    /// The message of that fault, with a 0 after it.
+    /// The message of that fault, with a terminating 0.
     pub message: [c_char; 64],
 }
 
-#[allow(missing_docs)] // include/fintaqush.h is the reference
+#[allow(missing_docs)] // include/fintaqush.h documents them
 extern "C" {
     pub fn fq_version(to: *mut c_char, room: usize) -> usize;
     pub fn fq_status_text(status: u32, to: *mut c_char, room: usize) -> usize;
@@ -618,9 +619,9 @@ extern "C" {
     ) -> u32;
 }
 
-// What the header defines inline.
+// The inline functions of the header.
 
-/// The name of a trace's error, as "BadHeader"; "?" for a number that isn't one.
+/// Returns the name of a trace's error, for example "BadHeader"; "?" for an unknown number.
 pub fn fq_fault_name(fault: u32) -> &'static str {
     match fault {
         1 => "BadHeader",
@@ -641,51 +642,51 @@ pub fn fq_fault_name(fault: u32) -> &'static str {
 
 /// Writes a new limit into the caller's struct.
 ///
-/// # Safety `dql` leads to memory of its type.
+/// # Safety `dql` points to memory of its type.
 pub unsafe fn fq_dql_init(dql: *mut fq_dql, min: u32, max: u32, hold_ms: u64, now_ms: u64) -> u32 {
-    // SAFETY: it takes only numbers.
+    // SAFETY: the call takes only numbers.
     let made = unsafe { fq_dql_new(min, max, hold_ms, now_ms) };
-    // SAFETY: the caller says where it leads; what was there needs no drop.
+    // SAFETY: the caller ensures where it points; the old content needs no drop.
     unsafe { dql.write(made.dql) };
     made.status
 }
 
-/// The limit, read in place.
+/// Returns the limit, read in place without a call.
 ///
 /// # Safety
-/// `dql` leads to a limit.
+/// `dql` points to a limit.
 pub unsafe fn fq_dql_limit_here(dql: *const fq_dql) -> u32 {
-    // SAFETY: as the caller says.
+    // SAFETY: as the caller ensures.
     unsafe { (*dql).private_a[3] }
 }
 
-/// The bytes in flight, read in place.
+/// Returns the bytes in flight, read in place without a call.
 ///
 /// # Safety
-/// `dql` leads to a limit.
+/// `dql` points to a limit.
 pub unsafe fn fq_dql_in_flight_here(dql: *const fq_dql) -> u32 {
     // SAFETY: as the caller says.
     unsafe { (*dql).private_a[0].wrapping_sub((*dql).private_a[1]) }
 }
 
-/// The bytes that may still be given to the device, read in place.
+/// Returns the bytes that may still be sent to the device, read in place without a call.
 ///
-/// # Safety `dql` leads to a limit.
+/// # Safety `dql` points to a limit.
 pub unsafe fn fq_dql_avail_here(dql: *const fq_dql) -> i64 {
     // SAFETY: as the caller says.
     unsafe { i64::from(fq_dql_limit_here(dql)) - i64::from(fq_dql_in_flight_here(dql)) }
 }
 
-/// Raises a bit, 0 to 63, and returns whether the word was 0.
+/// Sets a bit, 0 to 63, and returns whether the word was 0.
 ///
-/// # Safety `word` leads to a word.
+/// # Safety `word` points to a word.
 pub unsafe fn fq_word_raise(word: *mut fq_word, bit: u32) -> bool {
     // SAFETY: as the caller says.
     let bits = unsafe { &(*word).private_bits };
     bits.fetch_or(1 << (bit & 63), Ordering::SeqCst) == 0
 }
 
-/// Returns whether a bit is raised.
+/// Returns whether any bit is set.
 ///
 /// # Safety As for [`fq_word_raise`].
 pub unsafe fn fq_word_any(word: *const fq_word) -> bool {
@@ -693,7 +694,7 @@ pub unsafe fn fq_word_any(word: *const fq_word) -> bool {
     unsafe { (*word).private_bits.load(Ordering::SeqCst) != 0 }
 }
 
-/// Takes all bits, which are 0 then.
+/// Returns all bits, and sets the word to 0.
 ///
 /// # Safety As for [`fq_word_raise`].
 pub unsafe fn fq_word_take(word: *mut fq_word) -> u64 {
@@ -701,9 +702,9 @@ pub unsafe fn fq_word_take(word: *mut fq_word) -> u64 {
     unsafe { (*word).private_bits.swap(0, Ordering::SeqCst) }
 }
 
-/// Checks a transmit ring in each tick of a timer: whether it has been stopped, with no byte completed, for this long.
+/// Checks a transmit ring at each tick of a timer: whether it has been stopped, with no byte completed, for this long.
 ///
-/// # Safety As for [`fq_tx_state`]; the watchdog and the result are elsewhere.
+/// # Safety As for [`fq_tx_state`]; the watchdog and the result don't overlap with it.
 pub unsafe fn fq_tx_watch(
     tx: *mut fq_handle,
     watchdog: *mut fq_tx_watchdog,
@@ -759,7 +760,7 @@ pub unsafe fn fq_control_step(control: *mut fq_handle, on: bool, threaded: bool)
     }
 }
 
-/// An interrupt: schedules, retries until an attempt decides, and hands over if the instance was granted.
+/// Handles an interrupt: schedules, retries until an attempt decides, and queues the instance if it was granted.
 ///
 /// # Safety As for [`fq_seat_schedule`] and [`fq_seat_hand`].
 pub unsafe fn fq_seat_interrupt(seat: *mut fq_handle, kind: u32) -> u32 {
@@ -780,7 +781,7 @@ pub unsafe fn fq_seat_interrupt(seat: *mut fq_handle, kind: u32) -> u32 {
     }
 }
 
-/// Hands over an instance that was granted: to its thread if `FQ_BIT_THREADED` is set, otherwise to the list.
+/// Queues an instance that was granted: for its thread if `FQ_BIT_THREADED` is set, otherwise on the list.
 ///
 /// # Safety As for [`fq_seat_look`], whose word is `next` here.
 pub unsafe fn fq_seat_hand_again(seat: *mut fq_handle, next: *mut u32) -> u32 {
@@ -803,8 +804,8 @@ pub unsafe fn fq_seat_hand_again(seat: *mut fq_handle, next: *mut u32) -> u32 {
     }
 }
 
-/// Ends a poll as the kernel does: after a full one, if no disable is pending, the instance goes on the list again, or stays
-/// with its thread (`FQ_HELD`); otherwise it is completed, and handed over again if a request was missed.
+/// Ends a poll as the kernel does: after a full poll, if no disable is pending, the instance goes on the list again, or stays
+/// with its thread (`FQ_HELD`); otherwise it is completed, and queued again if a request was missed.
 ///
 /// # Safety As for [`fq_seat_look`], whose word is `next` here.
 pub unsafe fn fq_seat_end(seat: *mut fq_handle, full: bool, next: *mut u32) -> u32 {
@@ -832,7 +833,7 @@ pub unsafe fn fq_seat_end(seat: *mut fq_handle, full: bool, next: *mut u32) -> u
     }
 }
 
-// SAFETY: of the caller, as for `fq_seat_end`.
+// SAFETY: the caller ensures it, as for `fq_seat_end`.
 unsafe fn end_full(seat: *mut fq_handle, is_thread: bool, next: *mut u32) -> u32 {
     if is_thread {
         let mut counts = fq_counts::default();

@@ -9,9 +9,9 @@ pub use crate::sys::fq_tx_shown as TxState;
 /// What a timer keeps for a transmit ring that it watches; `TxWatchdog::default()` at first.
 pub use crate::sys::fq_tx_watchdog as TxWatchdog;
 
-/// A transmit ring (`netdev_tx_sent_queue`, `netdev_tx_completed_queue`): the sizes of the packets
-/// that were sent and aren't complete, in order, under a byte queue limit that stops the queue and
-/// starts it again. Moments are milliseconds of the user's clock.
+/// A transmit ring (`netdev_tx_sent_queue`, `netdev_tx_completed_queue`): the sizes of the packets that were sent and aren't
+/// complete, in order, under a byte queue limit that stops the queue and starts it again. Times are milliseconds of the user's
+/// clock.
 ///
 /// ```
 /// use fintaqush::{Fault, TxRing};
@@ -77,7 +77,7 @@ impl TxRing {
         }
     }
 
-    /// Its state.
+    /// Returns the state of the ring.
     pub fn state(&mut self) -> TxState {
         let mut state = TxState::default();
         // SAFETY: only this ring has the handle, and the state is elsewhere.

@@ -22,7 +22,7 @@ impl Word {
         unsafe { sys::fq_word_raise(self.raw(), bit) }
     }
 
-    /// Takes all bits, which are 0 then.
+    /// Takes all bits: returns the word, and sets it to 0.
     pub fn take(&self) -> u64 {
         // SAFETY: as for `raise`.
         unsafe { sys::fq_word_take(self.raw()) }

@@ -1,4 +1,4 @@
-//! Replies and choices that several kinds of calls share.
+//! Replies and choices that several kinds of calls have in common.
 use crate::fault::unexpected;
 use crate::sys;
 
@@ -23,16 +23,16 @@ impl Kind {
 /// The reply to a request for a poll (`napi_schedule_prep`).
 #[derive(Clone, Copy, Debug, PartialEq, Eq)]
 pub enum Prep {
-    /// The instance was granted.
+    /// The caller owns the instance, and has to queue it.
     Granted,
-    /// A poll is requested already, and another one follows; none while the controller owns it.
+    /// A poll is requested already, and another one follows it, unless the controller owns the instance.
     Missed,
     /// A disable is pending: no poll was requested.
     Disabled,
 }
 
 impl Prep {
-    // Returns the reply, or `None` for the number of an attempt that decided nothing.
+    // Returns the reply, or `None` for the status of an attempt that decided nothing.
     pub(crate) fn of(call: &str, status: u32) -> Option<Prep> {
         match status {
             sys::FQ_GRANTED => Some(Prep::Granted),
@@ -49,22 +49,22 @@ impl Prep {
 pub enum Done {
     /// No caller owns the instance any more.
     Released,
-    /// A request was missed: the caller still owns the instance, and has to hand it over again.
+    /// A request was missed: the caller still owns the instance, and has to queue it again.
     Again,
-    /// It is busy polled, and the caller keeps polling.
+    /// The instance is busy polled, and the caller keeps polling.
     Held,
 }
 
 /// How a poll of a run ended.
 #[derive(Clone, Copy, Debug, PartialEq, Eq)]
 pub enum Next {
-    /// Its device isn't on the list any more.
+    /// The device isn't on the list any more.
     Gone,
-    /// A request was missed: it was handed over again, to the list or to its thread.
+    /// A request was missed: the instance was queued again, on the list or for its thread.
     Again(Kind),
-    /// It used its whole weight, and is polled again after all others.
+    /// The poll used its whole weight, and the device is polled again after all others.
     Repoll,
-    /// It wasn't on the list.
+    /// The device wasn't on the list.
     Absent,
 }
 

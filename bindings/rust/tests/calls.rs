@@ -1,4 +1,4 @@
-//! The safe calls, on worked cases: what each kind of value does, and what fails.
+//! Tests of the safe calls, on cases worked by hand: what each kind of value does, and which calls fail.
 use fintaqush::sys::{FQ_BIT_DISABLE, FQ_BIT_NPSVC, FQ_BIT_QUEUED, FQ_BIT_SCHED, FQ_BIT_THREADED};
 use fintaqush::*;
 use std::fmt::Write;
@@ -16,7 +16,7 @@ fn numbers(packets: &[Packet]) -> Vec<u64> {
     packets.iter().map(|packet| packet.number).collect()
 }
 
-// An instance of two callers, enabled.
+// Returns an enabled instance with two callers.
 fn enabled(capacity: usize) -> (Input, Control<On>, Caller, Caller) {
     let Shared {
         input,
@@ -66,7 +66,7 @@ fn a_limit_refuses_and_stays() {
     for _ in 0..4 {
         limit.queued(268_435_455).unwrap();
     }
-    // 1073741823 bytes may be in flight: three more than these four
+    // 1073741823 bytes may be in flight: three more than the four objects so far
     limit.queued(3).unwrap();
     assert_eq!(limit.queued(1), Err(Fault::TOO_MUCH_IN_FLIGHT));
     assert_eq!(
@@ -241,7 +241,7 @@ fn a_disable_waits_for_the_poller_and_refuses_requests() {
         TryTake::Taken(off) => off,
         other => panic!("{other:?}"),
     };
-    // while it is disabled a request is missed, and no poll follows
+    // while the instance is disabled, a request is missed and no poll follows
     assert!(matches!(interrupts.schedule(), Sched::Missed(_)));
     drop(off.enable(false));
 }
@@ -273,7 +273,7 @@ fn what_is_dropped_is_given_up() {
     input.put(packet(1)).unwrap();
     assert_eq!(interrupts.interrupt(Kind::List), Prep::Granted);
     drop(take(poller));
-    // its poller is gone, so it is never polled again
+    // the instance's poller is gone, so it is never polled again
     assert_eq!(interrupts.interrupt(Kind::List), Prep::Missed);
     assert!(interrupts.take(Kind::List).is_err());
     assert!(matches!(on.mark().try_take(), TryTake::Busy(_)));
@@ -299,7 +299,7 @@ fn values_go_to_threads() {
 
 struct Device {
     napi: SerialNapi,
-    // packets in its ring
+    // the packets in the card's ring
     left: u32,
 }
 
@@ -364,7 +364,7 @@ const GONE: Polled = Polled {
     next: Next::Gone,
 };
 
-// The numbers that the list holds.
+// Returns the numbers that the list holds.
 fn listed(list: &mut List) -> Vec<u32> {
     let mut ids = Vec::new();
     let report = list.run(1, Weight::MAX, 65535, |_, id| {
@@ -717,7 +717,7 @@ fn the_structs_have_the_sizes_that_the_library_tells() {
     assert_eq!(told(FQ_STRUCT_DEVICE_SHOWN + 1), 0);
 }
 
-// A card with interrupts by edges: what arrives while it is masked causes none.
+// A card with edge-triggered interrupts: packets that arrive while it is masked raise none.
 #[derive(Default)]
 struct EdgeCard {
     open: bool,

@@ -1,5 +1,5 @@
-//! Times pairs of `queued` and `completed` on a `Dql`: counts go to standard output, the time to standard error. The argument
-//! is the number of pairs. `bench/limits.sh` compares it with a plain fold over the same rules.
+//! Times pairs of `queued` and `completed` on a `Dql`. Counts go to standard output, the time to standard error. The argument
+//! is the number of pairs. `bench/limits.sh` compares the time with that of the same rules as a plain function.
 #![tactic(auto)]
 
 mod pattern;

@@ -1,4 +1,4 @@
-//! The pattern of calls: phases in which the queue starves and phases in which it holds more than it needs.
+//! The sequence of calls: phases in which the queue starves, and phases in which it holds more than it needs.
 
 use dql_core::{Dql, DqlFault, MAX_LIMIT};
 
@@ -21,9 +21,9 @@ pub struct LimitCounts {
     pub limit: u32,
 }
 
-/// Queues an object and completes bytes, this many times: ever larger objects, and all that is in flight, in a phase that
-/// starves the queue; small objects, and a quarter of what is in flight, in a phase with slack. One pair in nine raises the
-/// limit and one in 64 lowers it.
+/// Queues an object and completes bytes, this many times. In a phase that starves the queue, objects grow, and everything in
+/// flight completes. In a phase with slack, objects are small, and a quarter of what is in flight completes. One pair in nine
+/// raises the limit, and one in 64 lowers it.
 pub fn run_pairs(pairs: u64) -> Result<LimitCounts, DqlFault> {
     let mut dql = Dql::new(0, MAX_LIMIT, HOLD, 0)?;
     let mut limits = 0u64;

@@ -1,7 +1,7 @@
-//! Times packets on their way from one thread to another: through an instance that both share, where each packet comes with a
-//! request for a poll, and through a bare ring of `rtrb`, which the second thread reads all the time. Counts go to standard
-//! output, the times to standard error. The argument is the number of packets. `bench/pair.sh` compares both times with those
-//! of a queue with a mutex in C++.
+//! Times packets that go from one thread to another. They go through an instance that both threads share, with a request for a
+//! poll for each packet; and through a bare ring of `rtrb`, from which the second thread reads all the time. Counts go to
+//! standard output, the times to standard error. The argument is the number of packets. `bench/pair.sh` compares both times
+//! with those of a queue with a mutex in C++.
 #![tactic(auto)]
 
 mod plain;

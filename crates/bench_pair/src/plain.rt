@@ -48,7 +48,8 @@ pub fn pass_plainly<R: Threads + Wait + Copy + Drop + Send>(
     packets: u64,
 ) -> Result<ReceivedCounts> {
     let (producer, consumer) = RingBuffer::new(alloc, PLACES)?;
-    // If no thread can be started, the second closure is called first, and waits forever once the ring is full.
+    // If no thread can be started, `join` calls the second closure before the first, and it waits forever once the ring is
+    // full.
     let (tally, ()) = join(
         &rt,
         move || -> ReceivedCounts { take_all(&rt, consumer, packets) },

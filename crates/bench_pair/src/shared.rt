@@ -76,7 +76,8 @@ fn add_all(tally: &mut ReceivedCounts, batch: &Batch) {
     }
 }
 
-// The poller: polls whenever the instance is on the list, until the interrupt thread has ended and it isn't there any more.
+// The poller: polls whenever the instance is on the list, until the interrupt thread has ended and the instance isn't on the
+// list any more.
 fn poll_all(
     rt: &impl Wait,
     napi: &Napi,
@@ -121,7 +122,8 @@ fn serve<R: Threads + Wait + Copy + Drop + Send>(
     let end = &ended;
     let first = DropBomb::new(rt, first);
     let poller = DropBomb::new(rt, poller);
-    // If no thread can be started, the second closure is called first, and waits forever once the ring is full.
+    // If no thread can be started, `join` calls the second closure before the first, and it waits forever once the ring is
+    // full.
     let ((poller, tally), first) = join(
         &rt,
         move || -> (Caller, ReceivedCounts)

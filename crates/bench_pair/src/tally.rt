@@ -1,16 +1,16 @@
-//! What arrives at the other thread.
+//! What arrives at the second thread.
 
 use rx_ring::Packet;
 
 /// The capacity of each ring.
 pub const PLACES: usize = 1024;
 
-/// The counts of what arrived. They wrap.
+/// The counts of the packets that arrived. They wrap.
 #[derive(Clone, Copy)]
 pub struct ReceivedCounts {
     /// The packets that arrived in order.
     pub in_turn: u64,
-    /// The bytes of all.
+    /// The bytes of all packets.
     pub bytes: u64,
 }
 

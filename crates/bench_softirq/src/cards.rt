@@ -1,4 +1,4 @@
-//! The devices, and the bench that polls them. It states nothing about its polls.
+//! The devices, and the bench that polls them. The bench declares no relation for its polls.
 
 ghost use Rattle.std.specs.Prelude.{◌≡◌, ◌≤◌, false};
 ghost use Rattle.napi_model.specs.Serial.{state_of};
@@ -16,7 +16,7 @@ pub const DEVICES: u32 = 16;
 // The capacity of a device's ring.
 const PLACES: usize = 256;
 
-// The callers of an instance.
+// The numbers of an instance's callers.
 const INTERRUPT: u32 = 0;
 
 const POLLER: u32 = 1;
@@ -71,7 +71,7 @@ impl Card {
     }
 }
 
-/// The devices, with the batch into which their packets are polled.
+/// The devices, and the batch to which their packets are polled.
 #[derive(Drop)]
 pub struct Cards {
     cards: Vec<Card>,

@@ -1,7 +1,7 @@
-//! Times runs of the softirq over 16 devices, for 1, 8, 64 and 256 packets in the ring of each: counts go to standard output,
-//! the times to standard error. The argument is the number of rounds: in each, the devices' interrupts fill their rings, and
-//! only the runs that empty them are timed. `bench/softirq.sh` prints the time per packet, compared with the same runs in plain
-//! C++.
+//! Times runs of the softirq over 16 devices, for 1, 8, 64 and 256 packets in the ring of each device: counts go to standard
+//! output, the times to standard error. The argument is the number of rounds: in each, the devices' interrupts fill their
+//! rings, and only the runs that empty them are timed. `bench/softirq.sh` prints the time per packet, compared with the same
+//! runs in plain C++.
 #![tactic(auto)]
 
 mod cards;

@@ -7,14 +7,15 @@ use rx_ring::Packet;
 use std::alloc::Global;
 use std::time::{Clock, Instant};
 
-// The kernel's defaults (`net.core.netdev_budget`, `NAPI_POLL_WEIGHT`), and a number of polls in place of its 2 ms.
+// The kernel's defaults (`net.core.netdev_budget`, `NAPI_POLL_WEIGHT`), and a number of polls in place of its time limit of 2
+// ms.
 const BUDGET: u32 = 300;
 
 const WEIGHT: u32 = 64;
 
 const WINDOW: u32 = 1024;
 
-// More runs than a round has: each but the last uses up its budget.
+// More runs than a round ever needs: each run but the last uses up its budget.
 const MOST_RUNS: u32 = 64;
 
 /// The time and the counts of the runs. The counts wrap.
@@ -24,9 +25,9 @@ pub struct SoftirqTimes {
     pub nanos: u128,
     /// The runs.
     pub runs: u64,
-    /// Their polls.
+    /// The polls of these runs.
     pub polls: u64,
-    /// The packets that these processed.
+    /// The packets that these polls processed.
     pub work: u64,
     /// The runs that were squeezed.
     pub squeezed: u64,
@@ -73,7 +74,7 @@ fn empty(cards: &mut Cards, list: &mut PlainList, spent: &mut SoftirqTimes) {
     }
 }
 
-/// Fills and empties the rings this many times.
+/// Fills the rings and empties them again, this many times.
 pub fn time_runs(
     rt: &impl Clock,
     alloc: Global,

@@ -1,8 +1,8 @@
 //! Times cycles of an instance by its state word: schedule, queue on the list, take, move the context out of its slot and back,
-//! complete. Once by one thread, once while a second thread schedules all the time, and once by one thread with the typed
-//! calls, which are based on these steps; and cycles of busy polling by the typed calls. What is the same each time goes to
-//! standard output, times and the rest to standard error. The argument is the number of cycles. `bench/word.sh` compares it
-//! with the same cycles in plain C++.
+//! complete. It times them three times: by one thread; while a second thread schedules all the time; and by one thread with the
+//! typed calls, which are based on these steps. Then it times cycles of busy polling by the typed calls. Counts that are the
+//! same in each run go to standard output, times and other counts to standard error. The argument is the number of cycles.
+//! `bench/word.sh` compares the times with those of the same cycles in plain C++.
 #![tactic(auto)]
 
 mod opened;

@@ -1,4 +1,4 @@
-//! A table that was enabled, with two passes that hold nothing.
+//! A table whose instance is enabled, with two passes that own nothing.
 ghost use Rattle.std.specs.Prelude.{IfSome};
 ghost use Rattle.bench_word.specs.Ready.{IsReady};
 ghost use Rattle.napi_word.specs.Passes.{IsNewPass};
@@ -8,7 +8,7 @@ use napi_word::{Pass, StateTable};
 use rx_ring::RxCtx;
 use std::alloc::Global;
 
-/// An instance, and the passes of two callers and its controller.
+/// A state table, and the passes of its two callers and its controller.
 #[derive(Drop)]
 pub struct OpenedWord {
     /// The instance's state word, and the slot of its poll context.
@@ -45,13 +45,14 @@ impl OpenedWord {
         })
     }
 
-    /// Makes a table of three passes, and enables it by the last of them. Returns `None` if an allocation fails.
+    /// Returns a table with three passes, whose instance was enabled by the last of them. Returns `None` if an allocation
+    /// fails.
     pub fn enabled(alloc: Global, ctx: RxCtx) -> Option<OpenedWord>
         ensures poller { IfSome result (λ o. IsReady o.table o.poller) }
         ensures scheduler { IfSome result (λ o. IsReady o.table o.scheduler) }
     {
         let mut opened = OpenedWord::new(alloc, ctx)?;
-        // A new instance has SCHED and NPSVC.
+        // the state word 9 of a new instance: SCHED and NPSVC are set
         let disabled = decode(9)?;
         opened
             .table

@@ -8,7 +8,7 @@ use napi_word::{Pass, StateTable};
 use std::sync::atomic::{AtomicBool, Ordering};
 use std::thread::{Threads, join};
 
-// How many schedules the second thread makes at most for each cycle of the first.
+// The greatest number of schedules that the second thread makes for each cycle of the first.
 const SCHEDULES: u64 = 1000;
 
 /// The counts of the cycles. They wrap.
@@ -16,9 +16,9 @@ const SCHEDULES: u64 = 1000;
 pub struct Tally {
     /// The polls.
     pub polls: u64,
-    /// How many of them completed with a request missed, so that another one follows.
+    /// The polls that completed after a missed request, so that another poll follows.
     pub again: u64,
-    /// The exchanges of the word that failed, because another step changed it.
+    /// The compare-exchanges of the word that failed, because another step changed it.
     pub lost: u64,
 }
 
@@ -37,8 +37,8 @@ fn schedule(table: &StateTable, pass: &mut Pass, tally: &mut Tally)
     }
 }
 
-// Ends a poll. At most one exchange fails: once MISSED is set, a schedule changes nothing more. If both failed, the instance
-// would go back on the list.
+// Ends a poll. At most one compare-exchange can fail: once MISSED is set, a schedule changes nothing more. If two failed, the
+// instance would go back on the list.
 fn complete(table: &StateTable, pass: &mut Pass, tally: &mut Tally)
     requires ready { IsReady table.now pass.old }
     requires polls { PassPolls false pass.old }
@@ -93,7 +93,7 @@ pub fn make_turns(table: &StateTable, pass: &mut Pass, turns: u64) -> Tally
     tally
 }
 
-// Schedules until `over` is set, at most `most` times.
+// Schedules until `over` is set, but at most `most` times.
 fn keep_scheduling(table: &StateTable, pass: &mut Pass, most: u64, over: &AtomicBool)
     requires { IsReady table.now pass.old }
 {

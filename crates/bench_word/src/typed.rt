@@ -1,4 +1,4 @@
-//! The same cycles by the typed calls, which are based on the steps, and cycles of busy polling.
+//! The same cycles with the typed calls, which are based on these steps, and cycles of busy polling.
 ghost use Rattle.napi_calls.specs.Instance.{IsSeatOf};
 
 use crate::turns::Tally;
@@ -15,7 +15,7 @@ use std::sync::Wait;
 pub enum Round {
     /// From the list, on which a schedule puts the instance.
     Listed,
-    /// By busy polling: a completion that is held, the stop, and a completion.
+    /// By busy polling: a completion that returns Held, the stop, and a completion.
     Busy,
 }
 
@@ -34,7 +34,7 @@ fn schedule(napi: &Napi, caller: Caller, tally: &mut Tally) -> Caller
     }
 }
 
-// Ends a poll. If two attempts failed, the instance would go back on the list.
+// Ends a poll. If two attempts fail, the instance goes back on the list.
 fn complete(napi: &Napi, mut polling: Polling, tally: &mut Tally) -> Caller
     requires { IsSeatOf napi.now polling.pass }
     ensures { IsSeatOf napi.now result.pass }

@@ -1,4 +1,4 @@
-//! The counts of a run's packets.
+//! The counts of the packets of a run.
 
 use crate::load::Share;
 use rx_ring::Totals;
@@ -6,7 +6,7 @@ use rx_ring::Totals;
 /// The packets of all devices.
 #[derive(Clone, Copy, Default)]
 pub struct Count {
-    /// Packets that were put into their rings.
+    /// Packets that were put into the rings.
     pub packets: u64,
     /// Packets that arrived and were neither polled nor left.
     pub lost: u64,
@@ -17,8 +17,8 @@ pub struct Count {
 }
 
 impl Count {
-    /// Counts one device's packets. If as many were polled and left as arrived, but their bytes differ, one was lost and
-    /// another doubled: all packets of a device have different sizes.
+    /// Counts the packets of one device. If as many were polled and left as arrived, but their bytes differ, one was lost and
+    /// another one doubled: all packets of a device have different sizes.
     pub fn add(&mut self, share: Share, totals: Totals) {
         let counted = totals.polled.saturating_add(totals.left);
         let mistaken = u64::from(counted == share.packets && totals.bytes != share.bytes);

@@ -4,7 +4,7 @@ use poll_engine::Gate;
 use std::thread;
 use std::time::{Clock, Duration};
 
-/// Delays the worker of device 1 before its first act.
+/// A gate that delays the worker of device 1 before its first act.
 #[derive(Drop)]
 pub struct HoldsFirst<R> {
     rt: R,

@@ -12,7 +12,7 @@ use std::alloc::{AllocError, Global};
 use std::env::Args;
 use std::time::Duration;
 
-// After this many packets a device is disabled and enabled, and switches between its thread and the list.
+// After every so many packets, a device is disabled, switched between its thread and the list, and enabled again.
 const PERIOD: u64 = 1000;
 
 // The greatest capacity of a ring.
@@ -33,12 +33,12 @@ pub struct Load {
     ghost room: { packets ≤ devices * 65536 },
 }
 
-/// One device's share of the packets.
+/// The packets of one device.
 #[derive(Clone, Copy)]
 pub struct Share {
     /// The number of packets.
     pub packets: u64,
-    /// Their bytes.
+    /// The bytes of these packets.
     pub bytes: u64,
 }
 
@@ -48,8 +48,8 @@ fn number(words: &mut Args<Global>, name: &'static str) -> Result<u64> {
     word.as_str().parse().context(name)
 }
 
-// Returns the acts of a device. Every so many packets it is disabled, set to be polled by its thread or from the list, and
-// enabled.
+// Returns the acts of a device. After every `PERIOD` packets it is disabled, switched between its thread and the list, and
+// enabled again.
 fn acts(alloc: Global, packets: u64) -> Result<Vec<Act>, AllocError>
     requires { packets ≤ 65536 }
 {

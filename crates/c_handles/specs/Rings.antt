@@ -59,7 +59,7 @@ pub record IsAfterPut (before : Ring) (packets : List Packet) (after : Ring) : T
   pub put : put_list after.input.end ≡ put_list before.input.end ++ packets
   pub ctx : after.ctx ≡ before.ctx
 
--- the same for a ring whose poll end isn't in this object
+-- the packets were put, for a ring whose poll end isn't in this object
 pub record IsAfterInput (before : RingInput) (packets : List Packet) (after : RingInput) : Type 0 where
   pub ring : SameIn before.end after.end
   pub put : put_list after.end ≡ put_list before.end ++ packets

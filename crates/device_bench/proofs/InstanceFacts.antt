@@ -59,7 +59,7 @@ pub does-carried : {A : Type 0} (plan : Plan ℕ A) (d : DeviceView) (a : A) (e 
     → (a ≡ (carried_out plan d).0) × (e ≡ (carried_out plan d).1)
 does-carried plan d a e done = carried plan done.0 a d e done.2 done.1
 
--- the same for two plans, one after the other
+-- two plans, one after the other, have the result of executing both on the device alone
 pub carried-then : {A B : Type 0} (plan : Plan ℕ A) (next : A → Plan ℕ B) (d : DeviceView)
     → carried_out (plan >>= next) d ≡ (let done = carried_out plan d in carried_out (next done.0) done.1)
 unfolding carried_out

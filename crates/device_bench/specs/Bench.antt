@@ -50,7 +50,7 @@ abbrev pub thread_polls_of : ℕ → ℕ → Option DeviceView → List Once
 thread_polls_of weight most None = []
 thread_polls_of weight most (Some d) = (polled_by_thread most weight d).0
 
--- the same for the polling of a device by its thread
+-- the polling of a device by its thread, as a function of the devices: its polls, and the devices afterwards
 abbrev pub thread_polled_at : BenchDevices → ℕ → ℕ → ℕ → BenchDevices
 thread_polled_at devices number weight most = changed (λ d. (polled_by_thread most weight d).1) number devices
 
@@ -68,7 +68,7 @@ AreThreadPolls {B} devices shows waiting polls =
     (before after : B) (number weight most : ℕ) (all : List Once) → polls before number weight most all after
     → IsThreadPolls devices shows waiting before number weight most all after
 
--- the same for busy polling
+-- busy polling of a device, as a function of the devices: its report, and the devices afterwards
 abbrev pub busy_report_of : ℕ → ℕ → Option DeviceView → BusyReport
 busy_report_of weight rounds None = no_report
 busy_report_of weight rounds (Some d) = (polled_busily rounds weight d).0

@@ -64,7 +64,7 @@ pub record IsSideClosed (side : ReceiveView) (end : ClosedSide) : Type 0 where
   pub held : List Packet
   pub put : put_list input ≡ front ++ held
   pub held_is : bytes_each held ≡ side.packets
-  -- the poll context, which has received all of them
+  -- the poll context, which has received all packets that were put
   pub last : RxCtx
   pub same : SameCtx ctx last
   pub polled : received_list last ≡ put_list input

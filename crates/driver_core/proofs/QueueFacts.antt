@@ -136,7 +136,7 @@ next_keeps devices list after run run' rests a repoll q =
       size = omega (arith, sizes, idle-length, ap (λ (xs : List ℕ). length xs) repoll, q.size, held-is run, held-is run');
     }
 
--- the same if the budget or the window may be used up
+-- the run goes on or ends, depending on whether its budget or window is used up
 pub advance_keeps : (devices : List DriverDevice) (list after : List ℕ) (run run' : PollingRun) (answer : Option ℕ) → run.asked ≡ None
     → (has_spent run ≡ true → (answer ≡ None) × (run' ≡ run) × (after ≡ list))
     → (has_spent run ≡ false → Asks all_held OwnPushes NothingBehind HasListRoom run list answer run'.own after)

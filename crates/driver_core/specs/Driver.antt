@@ -70,7 +70,7 @@ pub record PutsDevice (id : ℕ) (to : DriverDevice) (before after : Driver) : T
   pub same : SameRun before after
   pub said : (said_of after ≡ said_of before) ⊎ (said_of after ≡ None)
 
--- the same; and if the device is listed now, it is the last one on the list
+-- the device with this number is replaced; and if it is listed now, it is the last one on the list
 pub record PutsOnList (id : ℕ) (to : DriverDevice) (before after : Driver) : Type 0 where
   pub devices : driver_devices after ≡ slice_set (driver_devices before) id to
   pub list : after.list ≡ before.list ++ (if stage_is_listed to.stage then id ∷ [] else [])

@@ -1,4 +1,4 @@
-//! Each call once, by hand.
+//! Each call once, in tests worked by hand.
 
 use driver_core::{Driver, DriverDevice, Limits, NotDue, PollCounts, Refused, Stage, Todo, What};
 use napi_model::Prep;
@@ -10,7 +10,7 @@ const LIMITS: Limits = Limits {
     window: 10,
 };
 
-// A device is opened, has packets, is polled and stopped.
+// a device is opened, has packets, is polled and stopped
 #[test]
 fn one_device(rt: HostRuntime) -> Result<(), Fail> {
     let mut driver = Driver::new(rt.alloc(), 2, LIMITS)?;
@@ -50,7 +50,7 @@ fn one_device(rt: HostRuntime) -> Result<(), Fail> {
     Ok(())
 }
 
-// A device that has no packets is stopped.
+// a device without packets is stopped
 #[test]
 fn a_stop(rt: HostRuntime) -> Result<(), Fail> {
     let mut driver = Driver::new(rt.alloc(), 1, LIMITS)?;

@@ -1,4 +1,4 @@
-//! A card, the driver of it, and the thread that does what the driver says.
+//! A test bench: a card, its driver, and the thread that does what the driver asks for.
 
 ghost use Rattle.std.specs.Prelude.{◌≡◌, length, IfOk};
 ghost use Rattle.driver_core.specs.Driver.{driver_devices};
@@ -6,56 +6,56 @@ ghost use Rattle.driver_core.specs.Driver.{driver_devices};
 use driver_core::{Driver, DriverDevice, Limits, Stage, What};
 use std::alloc::{AllocError, Global};
 
-/// A card that interrupts when a packet arrives, and loses that interrupt while it is masked.
+/// A model of a card. It interrupts when a packet arrives, and loses that interrupt while it is masked.
 #[derive(Clone, Copy, PartialEq, Eq, PartialOrd, Ord, Debug)]
 pub struct TestCard {
     /// The packets that are still to arrive.
     pub to_come: u32,
-    /// The packets that it has.
+    /// The packets that the card has.
     pub packets: u32,
-    /// Its interrupt is masked.
+    /// Whether its interrupt is masked.
     pub masked: bool,
-    /// It has an interrupt that isn't reported to the driver yet.
+    /// Whether it has raised an interrupt that isn't reported to the driver yet.
     pub interrupting: bool,
 }
 
-/// What the thread is about: what the driver said, done or not.
+/// What the thread is doing: what the driver asked for, done or not yet.
 #[derive(Clone, Copy, PartialEq, Eq, PartialOrd, Ord, Debug)]
 pub enum Hand {
-    /// Nothing: the driver is to be asked.
+    /// Nothing: it calls the driver next.
     Free,
-    /// It is to mask the card.
+    /// It has to mask the card.
     ToMask,
-    /// It is to unmask the card.
+    /// It has to unmask the card.
     ToUnmask,
-    /// It is to look at the card.
+    /// It has to look at the card.
     ToLook,
-    /// It is to take so many packets at most.
+    /// It has to take packets from the card, at most this many.
     ToFetch(u32),
-    /// It masked the card.
+    /// It has masked the card.
     Masked,
-    /// It unmasked the card.
+    /// It has unmasked the card.
     Unmasked,
-    /// It looked, and saw packets or none.
+    /// It has looked at the card; true if it saw packets.
     Saw(bool),
-    /// It took so many packets.
+    /// It has taken this many packets.
     Took(u32),
 }
 
-/// One step of the card, of the thread, or an open or stop of the device. Each may come between any two others.
+/// One step of the card or of the thread, or an open or stop of the device. The steps may come in any order.
 #[derive(Clone, Copy, PartialEq, Eq, Debug)]
 pub enum DriverStep {
     /// A packet arrives at the card.
     Arrive,
     /// The card's interrupt is reported to the driver.
     Interrupt,
-    /// The driver says what is to be done next.
+    /// The thread calls the driver, which returns what to do.
     Say,
-    /// The thread does it at the card.
+    /// The thread does that at the card.
     Act,
-    /// The thread reports that it is done.
+    /// The thread reports that it did it.
     Report,
-    /// The thread forgets what it was about, done or not, and asks again.
+    /// The thread forgets what it was doing, done or not, and calls the driver again.
     Forget,
     /// The device is opened.
     Open,
@@ -63,7 +63,7 @@ pub enum DriverStep {
     Stop,
 }
 
-/// Each step.
+/// All steps.
 pub const STEPS: [DriverStep; 8] = [
     DriverStep::Arrive,
     DriverStep::Interrupt,
@@ -75,19 +75,19 @@ pub const STEPS: [DriverStep; 8] = [
     DriverStep::Stop,
 ];
 
-/// What a run did so far.
+/// The counts of a run so far.
 #[derive(Clone, Copy, PartialEq, Eq, PartialOrd, Ord, Debug)]
 pub struct RunSoFar {
-    /// Its polls.
+    /// The polls of the run.
     pub polls: u32,
-    /// Their packets.
+    /// The packets of these polls.
     pub packets: u32,
-    /// A poll used its whole weight, and the device is to be polled again.
+    /// Whether a poll used its whole weight, so that its device is polled again.
     pub repolled: bool,
 }
 
 impl RunSoFar {
-    /// A run that made no poll.
+    /// The counts of a run before its first poll.
     const NONE: RunSoFar = RunSoFar {
         polls: 0,
         packets: 0,
@@ -95,7 +95,7 @@ impl RunSoFar {
     };
 }
 
-/// The state of a bench: two benches in the same state go on alike.
+/// The state of a test bench. Two benches in the same state behave alike from then on.
 #[derive(Clone, Copy, PartialEq, Eq, PartialOrd, Ord, Debug)]
 pub struct DriverState {
     device: DriverDevice,
@@ -106,32 +106,32 @@ pub struct DriverState {
     sleeps: bool,
 }
 
-/// A driver of one device, its card, and its thread.
+/// A driver of one device, the device's card, and the thread that drives it.
 #[derive(Drop)]
 pub struct DriverBench {
     /// The driver under test.
     pub driver: Driver,
-    /// Its card.
+    /// The card.
     pub card: TestCard,
-    /// What its thread is about.
+    /// What the thread is doing.
     pub hand: Hand,
-    // The number of that, and an older one.
+    // The number of the driver's last request, and an older one.
     number: u64,
     old: u64,
     /// How often the device may still be stopped.
     pub stops: u32,
     /// The packets that were taken from the card.
     pub taken: u32,
-    /// The run under way, if one is.
+    /// The counts of the run in progress, if there is one.
     pub run: Option<RunSoFar>,
     weight: u32,
-    /// The driver said that nothing is to be done, and nothing happened since.
+    /// Whether the driver returned that there is nothing to do, and nothing has happened since.
     pub sleeps: bool,
     ghost one: { length (driver_devices driver) ≡ 1 },
 }
 
 impl DriverBench {
-    /// A closed device. So many packets are to arrive, and it may be stopped so often.
+    /// Returns a bench with a closed device. This many packets will arrive, and the device may be stopped this many times.
     pub fn new(
         alloc: Global,
         limits: Limits,
@@ -230,7 +230,7 @@ impl DriverBench {
             }
             _ => return false,
         };
-        // It may not be due any more.
+        // the report may not be due any more, which is no error here
         let _ = self.driver.done(self.number, packets);
         self.hand = Hand::Free;
         true
@@ -253,7 +253,8 @@ impl DriverBench {
         !is_free
     }
 
-    /// Reports under a number that isn't due any more, if there is one. Returns whether that was refused and changed nothing.
+    /// Reports under an old number, which isn't due any more, if there is one. Returns whether the report was rejected and
+    /// changed nothing.
     pub fn refuses_old(&mut self) -> bool {
         if self.old == 0 || self.old == self.number {
             return true;
@@ -274,7 +275,8 @@ impl DriverBench {
         true
     }
 
-    /// Its state. Packets that were taken are those that aren't in the card and aren't to come.
+    /// Returns the state of the bench. The packets taken needn't be part of it: they are those that are neither in the card nor
+    /// still to come.
     pub fn state(&self) -> DriverState {
         DriverState {
             device: self.driver.device(0),

@@ -1,4 +1,4 @@
-//! Each interleaving of a card, the thread that drives it, and stops, over the driver itself.
+//! Each interleaving of a card, the thread that drives it, and stops of the device, with the real driver.
 
 use crate::card::{DriverBench, DriverState, DriverStep, STEPS};
 use driver_core::{Limits, Stage};
@@ -14,7 +14,7 @@ const LIMITS: Limits = Limits {
     window: 2,
 };
 
-// The bench that these steps lead to.
+// Returns the bench after these steps.
 fn bench_after(
     alloc: Global,
     packets: u32,
@@ -28,8 +28,8 @@ fn bench_after(
     Ok(bench)
 }
 
-// While it sleeps the device is closed and masked, or the card is unmasked and has no packets, or an interrupt
-// that isn't reported yet.
+// Checks the sleep: the device is closed and masked; or its card is unmasked, and has no packets or has an interrupt that isn't
+// reported yet.
 fn check_sleep(rt: &impl Abort, bench: &DriverBench) {
     if !bench.sleeps {
         return;
@@ -45,7 +45,7 @@ fn check_sleep(rt: &impl Abort, bench: &DriverBench) {
     }
 }
 
-// With nothing more arriving, the thread takes all packets and sleeps.
+// Checks that, if no more packets arrive, the thread takes all packets and then sleeps.
 fn check_drains(rt: &impl Abort, mut bench: DriverBench) {
     for _ in 0..100 {
         if bench.sleeps && !bench.card.interrupting {
@@ -65,7 +65,7 @@ fn check_drains(rt: &impl Abort, mut bench: DriverBench) {
     );
 }
 
-/// What an exploration met.
+/// The counts of the states that an exploration visited.
 #[derive(Clone, Copy)]
 struct Met {
     states: usize,
@@ -73,7 +73,7 @@ struct Met {
     ends: u32,
 }
 
-// Each state that so many packets and stops lead to.
+// Visits each state that is possible with this many packets and stops.
 fn explore(rt: &impl Abort, alloc: Global, packets: u32, stops: u32) -> Result<Met, Fail> {
     let mut seen: BTreeSet<DriverState> = BTreeSet::new(alloc);
     let mut paths: VecDeque<Vec<DriverStep>> = VecDeque::new(alloc);

@@ -1,4 +1,4 @@
-//! Tests of a driver: its calls, and each interleaving of a card, a thread that drives it and stops.
+//! Tests of a driver: its calls, and each interleaving of a card, the thread that drives it, and stops.
 #![tactic(auto)]
 
 #[cfg(test)]

@@ -59,7 +59,7 @@ after_take true weight card =
 unfoldable pub card_polled : ℕ → CardView → Once × CardView
 card_polled weight card = after_take (take_reply kind.List card.napi) weight card
 
--- a poll of the bench: another number than the card's is absent
+-- a poll by the bench: a number other than the card's isn't on the list
 abbrev pub CardPolls : StatedBench → ℕ → ℕ → Once → StatedBench → Type 0
 CardPolls before id weight once after =
     (once ≡ (if id == CARD then (card_polled weight (card_view before.card)).0 else record { work = 0; next = next.Absent }))

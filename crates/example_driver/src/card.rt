@@ -1,4 +1,4 @@
-//! The card: two rings, an instance, and what its interrupts do.
+//! A network card in a simulation: two rings, an instance, and what its interrupt handlers do.
 
 ghost use Rattle.std.specs.Prelude.{◌≡◌, false};
 ghost use Rattle.rx_ring.specs.Ends.{IsOneRing};
@@ -12,7 +12,7 @@ use rx_ring::{Batch, Packet, RxCtx, RxIn, ring};
 use std::alloc::Global;
 use tx_ring::{TxRing, TxState};
 
-/// The callers of the instance. On one thread a caller's number only says who owns it.
+/// The numbers of the instance's callers. On one thread a number only says who owns the instance.
 pub(crate) const INTERRUPT: u32 = 0;
 
 pub(crate) const POLLER: u32 = 1;
@@ -37,7 +37,7 @@ pub(crate) struct Card {
 
 /// A bench that drives one card.
 pub(crate) trait CardDriver: Bench {
-    /// The card.
+    /// Returns the card.
     fn card(&mut self) -> &mut Card;
 }
 

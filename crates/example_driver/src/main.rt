@@ -1,6 +1,6 @@
 //! A network card in a simulation: packets arrive in bursts, runs of the softirq poll them, and packets are sent under a queue
-//! limit. `card.rt` is the card; it is driven once by a bench that states nothing about its polls (`quiet.rt`), and once by one
-//! that states them as equations (`stated.rt`). Both print the same.
+//! limit. `card.rt` is the card; it is polled once by a bench that declares nothing about its polls (`quiet.rt`), and once by
+//! one that states them as equations (`stated.rt`). Both print the same.
 #![tactic(auto)]
 
 mod card;
@@ -13,7 +13,8 @@ use crate::stated::StatedBench;
 use anyhow::Result;
 use poll_engine::{PlainList, PollList, run_softirq};
 
-/// The settings of a run (`net.core.netdev_budget`, `NAPI_POLL_WEIGHT`, and a number of polls in place of the kernel's 2 ms).
+/// The settings of a run (`net.core.netdev_budget`, `NAPI_POLL_WEIGHT`, and a number of polls in place of the kernel's time
+/// limit of 2 ms).
 const BUDGET: u32 = 128;
 
 const WEIGHT: u32 = 64;

@@ -1,7 +1,7 @@
-//! A bench that states nothing about its polls. What holds for every run is proved without it: which numbers are polled and in
-//! which order, that polls and work keep to budget, weight and window, and what the list holds afterwards. What a poll does
-//! isn't checked: one that returns `Gone` and leaves the instance scheduled is accepted too, and the card is never polled
-//! again.
+//! A bench that declares nothing about its polls. What holds for every run is proved without that: which numbers are polled and
+//! in which order, that polls and work keep within budget, weight and window, and what the list holds afterwards. What a poll
+//! does isn't checked: a poll that returns `Gone` but leaves the instance scheduled is accepted too, and then the card is never
+//! polled again.
 
 use crate::card::{CARD, Card, CardDriver, POLLER};
 use napi_model::{Done, Kind};

@@ -1,5 +1,5 @@
-//! A bench that states its polls as equations: the outcome of a poll and the card after it are functions of the card and the
-//! weight (`specs/Polled.antt`). The prover rejects a poll that returns `Gone` without completing.
+//! A bench that declares its polls as equations: the outcome of a poll and the card after it are functions of the card and the
+//! weight (`specs/Polled.antt`). So the prover rejects a poll that returns `Gone` without completing.
 
 ghost use Rattle.std.specs.Prelude.{◌≡◌, ◌≤◌, ◌==◌, length};
 ghost use Rattle.napi_model.specs.Serial.{state_of};
@@ -20,8 +20,8 @@ pub(crate) struct StatedBench {
 }
 
 impl Card {
-    // Takes the next packets. `beside` lets the ends of the ring meet, so that these are all that the ring holds, up to the
-    // weight.
+    // Takes the next packets. `beside` lets the ends of the ring meet, so the poll finds everything that the ring holds, up to
+    // the weight.
     fn poll_ring(&mut self, weight: u32) -> u32
         requires { IsWeight weight }
         ensures card { card_view self.new ≡ received weight (card_view self.old) }
@@ -31,7 +31,7 @@ impl Card {
         self.ctx.poll(weight as usize, &mut self.batch) as u32
     }
 
-    // Ends a poll.
+    // Ends a poll; `is_whole` says whether it used its whole weight.
     fn end_poll(&mut self, is_whole: bool) -> Next
         requires { (state_of self.old.napi).place ≡ Polling POLLER }
         ensures next { result ≡ (card_ended is_whole (card_view self.old)).0 }

@@ -4,7 +4,7 @@
 use anyhow::Result;
 use napi_model::{Done, Kind, Prep, SerialNapi};
 
-// Each caller of an instance has a number; the controller's is named when the instance is made.
+// Each caller of an instance has a number. The controller's number is an argument when the instance is made.
 const INTERRUPT: u32 = 0;
 
 const POLLER: u32 = 1;

@@ -1,4 +1,5 @@
-//! What the interrupts, the poller and the controller do. Each function takes a seat of the instance, and returns it.
+//! What the interrupt handlers, the poller and the controller do. Each function takes a caller or the controller of the
+//! instance (a linear value, called a seat), and returns it.
 ghost use Rattle.rx_ring.specs.Ends.{SameIn};
 ghost use Rattle.napi_calls.specs.Instance.{IsSeatOf};
 
@@ -24,8 +25,8 @@ fn ask(rt: &impl Wait, napi: &Napi, caller: Caller) -> Caller
     }
 }
 
-/// The controller enables the instance, and then requests a poll once, as a caller of its own: requests for what arrived while
-/// the instance was disabled failed, and these packets would stay in the ring until the next request.
+/// Enables the instance, and then requests a poll once, as a caller of its own. Requests for packets that arrived while the
+/// instance was disabled have failed, and without this request those packets would stay in the ring until the next one arrives.
 pub(crate) fn open(
     rt: &impl Wait,
     napi: &Napi,
@@ -86,8 +87,8 @@ fn poll(rt: &impl Wait, napi: &Napi, mut polling: Polling, batch: &mut Batch) ->
     }
 }
 
-/// The poller: polls whenever the instance is on the list, until both interrupts have ended and it isn't there any more. It
-/// finds their last requests, because it first reads whether they have ended.
+/// The poller: polls whenever the instance is on the list, until both interrupts have ended and the instance isn't on the list
+/// any more. It reads whether they have ended before it looks at the list, so it doesn't overlook their last requests.
 pub(crate) fn poll_all(rt: &impl Wait, napi: &Napi, mut caller: Caller, ended: &AtomicU64) -> Caller
     requires { IsSeatOf napi.now caller.pass }
     ensures { IsSeatOf napi.now result.pass }

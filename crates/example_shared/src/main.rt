@@ -3,8 +3,9 @@
 //! requests. Then the card is reset: as many packets arrive while the controller owns the instance, so that all their requests
 //! fail. However the threads are scheduled, every packet is polled before the program ends.
 //!
-//! `handlers.rt` has what each thread does; here the instance is made, served and closed. A seat of the instance (`Caller`,
-//! `Control`) is linear: it goes to its thread in a `DropBomb`, comes back as the thread's result, and goes to `close`.
+//! `handlers.rt` has what each thread does; here the instance is made, used and closed. A caller or the controller of the
+//! instance (`Caller`, `Control`) is a linear value, called a seat: it goes to its thread in a `DropBomb`, is returned as the
+//! thread's result, and is passed to `close`.
 #![tactic(auto)]
 
 ghost use Rattle.rx_ring.specs.Ends.{SameIn};
@@ -21,7 +22,7 @@ use std::sync::Wait;
 use std::sync::atomic::AtomicU64;
 use std::thread::{Threads, join};
 
-// The capacity of the ring: no packet is dropped.
+// The capacity of the ring, which is large enough that no packet is dropped.
 const PLACES: usize = 1024;
 
 // Runs both interrupts and the poller, each in its own thread, until all packets are polled.
@@ -43,7 +44,7 @@ fn serve<R: Threads + Wait + Copy + Drop + Send>(
     let first = DropBomb::new(rt, first);
     let second = DropBomb::new(rt, second);
     let poller = DropBomb::new(rt, poller);
-    // If no thread can be started, the second closure is called first: so the poller comes after both interrupts.
+    // If no thread can be started, `join` calls the second closure before the first: so the poller runs after both interrupts.
     let (poller, (first, second)) = join(
         &rt,
         move || -> Caller
@@ -90,7 +91,7 @@ fn reset(
     ensures input { SameIn input result.2 }
 {
     let (first, poller, own) = seats;
-    // The second interrupt has nothing to do.
+    // the second interrupt has nothing to do
     let ended = AtomicU64::new(1);
     let control = control.disable(rt, napi);
     let (first, input) = receive(rt, napi, first, input, &ended);

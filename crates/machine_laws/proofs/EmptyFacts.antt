@@ -241,7 +241,7 @@ calm-full s now given full = record {
   deferrals = λ d. rw full refl;
 }
 
--- the same for each queue of the processor
+-- the count of empty polls stays within its bound for each queue of the processor
 fews-polled : (s : MachineSettings) (m n count now given : ℕ) (ds : QueueViews) → ((m == n) ≡ true → scheduled_at (at n ds) ≡ 1)
     → Few s count (at n ds) → (given == s.weight) ≡ false
     → Few s (if m == n then (if given == 0 then count + 1 else 0) else count) (at n (changed (queue_polled now given s) m ds))

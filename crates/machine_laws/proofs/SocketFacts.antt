@@ -130,7 +130,7 @@ pub record Holds (xs : List ℕ) (r : ℕ) (v : WaitsView) (p : ProcessorView) :
   pub refused : p.application.refused ≡ r
   pub waits : p.application.waits ≡ v
 
--- the same, if a packet is in use; then no other use was interrupted
+-- a packet is in use, and these are the packets still to use; then no other use was interrupted
 pub record Uses (xs : List ℕ) (r : ℕ) (v : WaitsView) (p : ProcessorView) : Type 0 where
   pub items : used_by p.work ++ (resting p.rest ++ p.application.socket.items) ≡ xs
   pub refused : p.application.refused ≡ r

@@ -628,7 +628,7 @@ kept-again : (phase : Phase) (b : Bool) → is_masked phase ≡ false → PhaseK
 kept-again phase true never = kept-same phase
 kept-again phase false never = kept-raised phase never
 
--- the same on a machine without polling
+-- after an interrupt on a machine without polling, a queue is scheduled exactly if its number occurs once
 even-again : (s : MachineSettings) (n m : ℕ) (p : ProcessorView) → is_polling s ≡ false → Even s n 0 p
     → Even s n 0 (record p { devices = changed raised_again m p.devices })
 unfolding map_at

@@ -65,7 +65,7 @@ pub record Base (s : MachineSettings) (t : ℕ) (p : ProcessorView) : Type 0 whe
   pub socket : Served s t p.application.socket.items
   pub rest : Left s t p.rest
 
--- the same; and if no queue asks for an interrupt, no time was spent on waking up
+-- no work is in progress; and if no queue asks for an interrupt, no time was spent on waking up
 pub record Calm (s : MachineSettings) (t : ℕ) (p : ProcessorView) : Type 0 where
   pub base : Base s t p
   pub low : position asks_at p.devices ≡ None → p.clock ≡ t
@@ -426,7 +426,7 @@ ready-ended s t p h busy late plain =
 
 -- ---- when a use or an idle time is interrupted
 
--- the same at a later time, if nothing happens before that
+-- the invariant still holds at a later time, if nothing happens before that
 timed-later : (s : MachineSettings) (t u : ℕ) (p : ProcessorView) → Timed s t p → t ≤ u → NotBefore u p → Timed s u p
 timed-later s t u p h less before = record {
   settings = h.settings;

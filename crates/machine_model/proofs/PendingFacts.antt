@@ -191,7 +191,7 @@ renewed n old (Some r) None own is named other = rw is refl
 renewed n old (Some r) (Some a) own is named other =
     let here = named a refl in let one = rw is at other in rw is (grind (arith, common_steps, here, one))
 
--- the same if the first one was that of the queue, and still is
+-- if the queue's timer was the first of all timers and still is, the first timer stays the same
 stays-by : (rest was : Option Timer) → earlier rest (earlier rest was) ≡ earlier rest was
 stays-by None None = refl
 stays-by None (Some a) = refl
@@ -275,7 +275,7 @@ changed-kept f xs n x d e below found some is old new now after now_is kept =
           (after f xs (now_is ∙ change) kept.1),
     )
 
--- the same if its phase is unchanged
+-- what has to be shown for all queues is the same if the changed queue's phase stays the same
 pub phase-kept : (xs : QueueViews) (n : ℕ) (x : Option QueueView) (d e : QueueView) (old : Pending)
     → n < length xs
     → x ≡ slice_index_or xs n x

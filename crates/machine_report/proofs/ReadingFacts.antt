@@ -35,7 +35,7 @@ one-in state p left between reads =
     shorter [] e short = cc (sym (next-end state between) ∙ e)
     shorter (x ∷ xs) e short = omega arith
 
--- the same, after the reader has read a record
+-- the remaining records, after the reader has read one
 more-in : {R : Type 0} (remaining : R → Option (List ℕ)) (reader after : Reader R) (fields : List (List ℕ)) (left : List ℕ)
     → ends_at_end (reader_state reader) ≡ false
     → ReadsNext remaining (next_record default_config (reader_state reader) [] [] left) true fields after

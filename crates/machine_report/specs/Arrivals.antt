@@ -56,7 +56,7 @@ arrival_in_range s n last row =
     then (if nat_le last row.moment then Ok (record { moment = row.moment; device = queue }) else Err (Falls n))
     else Err (OutOfRange n)
 
--- the same from the bytes of the fields, which have to be numbers
+-- the arrival of row n from the bytes of its fields, which have to be numbers
 unfoldable pub arrival_of_fields : MachineSettings → ℕ → ℕ → Option ArrivalFields → Result Arrival MachineFault
 arrival_of_fields s n last None = Err (BadFields n)
 arrival_of_fields s n last (Some four) =

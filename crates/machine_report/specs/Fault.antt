@@ -41,7 +41,7 @@ IsMachineOutOfMemory fault = (fault ≡ OutOfMemory) × IsTraceOutOfMemory
 abbrev pub IsArrivalReadFailure : MachineFault → Type 0
 IsArrivalReadFailure fault = ((fault ≡ ReadFailed) × (HasFailed ⊎ IsEndless)) ⊎ IsMachineOutOfMemory fault
 
--- the same, or the writer failed
+-- the error isn't in the arrivals: the reader, an allocation or the writer failed, or there were more rows than can be counted
 abbrev pub IsMachineOutside : MachineFault → Type 0
 IsMachineOutside fault = IsArrivalReadFailure fault ⊎ ((fault ≡ OutputFailed) × HasStopped)
 

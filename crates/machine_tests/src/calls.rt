@@ -1,4 +1,4 @@
-//! The options, arrivals one by one, a machine by its calls, and a run without arrivals.
+//! Tests of the options, of arrivals one by one, of a machine by its calls, and of a run without arrivals.
 
 use machine::{
     Arrival, Arrivals, Machine, MachineFault, MachineSettings, WordFault, fault_line, parse_words,
@@ -7,10 +7,10 @@ use machine::{
 use std::alloc::Global;
 use std::test::Fail;
 
-// The last row's moment decreases.
+// In the last row, the moment decreases.
 const ARRIVALS: &str = "moment,device,bytes\n5,1,100\n5,2,60\n4,1,60\n";
 
-// Flows of one to twenty digits, the last of them 10^20 - 1.
+// Flows of one to twenty digits; the last one is 10^20 - 1.
 const FLOWS: &str =
     "moment,device,bytes,flow\n5,1,100,0\n6,2,60,5\n7,1,60,99999999999999999999\n8,1,60\n";
 
@@ -99,7 +99,7 @@ const REFUSED: [&str; 35] = [
     "--help",
 ];
 
-// What these arguments ask for.
+// Returns the machine that these arguments ask for.
 fn parse(alloc: Global, words: &[&str]) -> Result<Result<MachineSettings, WordFault>, Fail> {
     let mut given = Vec::new(alloc);
     for word in words {

@@ -1,4 +1,4 @@
-//! Tests of the machine, from another crate as its users are: what no contract says, with readers and writers that fail.
+//! Tests of the machine, made like the code of a user of the crate: what no contract says, and readers and writers that fail.
 #![tactic(auto)]
 
 #[cfg(test)]

@@ -1,18 +1,18 @@
-//! Whole runs, and each error of arrivals.
+//! Tests of whole runs, and of each error of arrivals.
 
 use machine::{MachineFault, MachineSettings, fault_line, parse_words, run_machine, status};
 use std::alloc::Global;
 use std::test::Fail;
 use test_ends::{FailingReader, FailingWriter};
 
-// Worked by hand from the rules of docs/FORMATS.md.
+// Arrivals whose report is worked by hand, by the rules of docs/FORMATS.md.
 const ARRIVALS: &str = "moment,device,bytes\n0,1,100\n0,1,100\n500,2,60\n9000,1,60\n";
 
-// The same arrivals in two flows of each device.
+// The same arrivals, in two flows for each device.
 const FLOWS: &str =
     "moment,device,bytes,flow\n0,1,100,0\n0,1,100,1\n500,2,60,7\n9000,1,60,18446744073709551617\n";
 
-// Packets that come while the card's timer runs.
+// Packets that arrive while the card's timer runs.
 const COALESCED: &str = "moment,device,bytes\n0,1,100\n3000,1,100\n4000,1,100\n9000,1,100\n";
 
 const APART: [&str; 2] = ["--apart=1", "--app-wake=3000"];
@@ -49,7 +49,7 @@ time 0 end 132000 interrupt 4000 poll 5000 use 120000 idle 3000
 total devices 1 arrived 4 dropped 0 polled 4 refused 0 used 4
 ";
 
-// From tests/machine_model.py.
+// The report as tests/machine_model.py computes it.
 const SMALL_SOCKET: &str =
     "device 1 arrived 3 dropped 0 polled 3 interrupts 1 polls 1 mean 8000 wait50 10000 wait90 10992 wait99 10992 wait999 10992 most 11000
 device 2 arrived 1 dropped 0 polled 1 interrupts 1 polls 1 mean 13500 wait50 13488 wait90 13488 wait99 13488 wait999 13488 most 13500
@@ -59,7 +59,7 @@ application 0 end 73000 wakes 1 use 60000 idle 10000
 total devices 2 arrived 4 dropped 0 polled 4 refused 2 used 2
 ";
 
-// From tests/machine_model.py.
+// The report as tests/machine_model.py computes it.
 const FLOWS_REPORT: &str =
     "device 1 arrived 1 dropped 0 polled 1 interrupts 1 polls 1 mean 6000 wait50 6000 wait90 6000 wait99 6000 wait999 6000 most 6000
 device 2 arrived 2 dropped 0 polled 2 interrupts 1 polls 1 mean 6000 wait50 2000 wait90 10000 wait99 10000 wait999 10000 most 10000

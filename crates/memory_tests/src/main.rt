@@ -1,5 +1,5 @@
-//! Makes each call that allocates, and checks the state after a failure: the error is out of memory, and the call succeeds when
-//! it is made again. `tests/refusals.sh` makes each allocation of this program fail in turn.
+//! Makes each call that allocates, and checks the state after a failed allocation: the error is out of memory, and the call
+//! succeeds when it is made again. `tests/refusals.sh` makes each allocation of this program fail in turn.
 #![tactic(auto)]
 
 mod benches;
@@ -11,12 +11,12 @@ mod workers;
 use anyhow::Result;
 use poll_engine::WorkFault;
 
-// The end of a line: whether an allocation of the call failed once.
+// Returns the end of an output line: whether an allocation of the call failed once.
 const fn once(refused: bool) -> &'static str {
     if refused { ", refused once" } else { "" }
 }
 
-// The end of a line: whether a run failed once, by an allocation or by the start of a thread.
+// Returns the end of an output line: whether a run failed once, by an allocation or by the start of a thread.
 const fn once_by(fault: Option<WorkFault>) -> &'static str {
     match fault {
         None => "",

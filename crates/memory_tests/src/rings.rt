@@ -22,7 +22,7 @@ const PACKET: Packet = Packet {
     bytes: 60,
 };
 
-// A ring with a packet in it.
+// Returns a ring with a packet in it.
 fn filled(alloc: Global) -> Result<(RxIn, RxCtx)> {
     let (mut input, ctx) = match ring(alloc, 4) {
         Ok(ends) => ends,
@@ -64,7 +64,7 @@ fn gives_packet(mut ctx: RxCtx) -> bool {
     batch.as_slice() == [PACKET].as_slice()
 }
 
-// Closes a table with all its passes, and returns whether its context comes back.
+// Closes a table with all its passes, and returns whether that returns its context.
 fn ended(table: StateTable, passes: Vec<Pass>) -> bool
     requires passes { (k : ℕ) (p : Pass) → slice_get passes.items k ≡ Some p → IsPassOf table p }
     requires count { length passes.items ≡ controller_of_table table + 1 }

@@ -1,4 +1,5 @@
-//! If an allocation of a run fails, no device acts, and if the start of a thread fails, the others stop.
+//! Runs that are stopped: if an allocation of a run fails, no device acts; if the start of a thread fails, the other threads
+//! stop.
 
 ghost use Rattle.std.specs.Prelude.{IfOk, vec_items};
 ghost use Rattle.std.specs.List.{All};
@@ -14,10 +15,10 @@ use std::thread::Threads;
 
 const ACTS: u32 = 10;
 
-// How often a delayed act looks whether the other device has come. A failure comes long before.
+// How often a delayed act checks whether the other device has come. A failure comes long before that.
 const LOOKS: u32 = 500_000;
 
-/// A device of ten acts that do nothing, which counts them.
+/// A device with ten acts that do nothing, which counts them.
 #[derive(Drop)]
 struct Counting<'a> {
     made: &'a AtomicU32,
@@ -42,7 +43,7 @@ impl Device for Counting<'_> {
     }
 }
 
-/// Delays the first act of device 1 until device 2 reaches its own, but not forever.
+/// A gate that delays the first act of device 1 until device 2 reaches its own first act, but not forever.
 #[derive(Drop)]
 struct HoldsFirstThread {
     came: AtomicU32,
@@ -101,7 +102,7 @@ fn count<R: Threads + Wait + Sync>(rt: &R, alloc: Global) -> Result<(u32, Option
     Ok((made[0].load(Ordering::SeqCst), fault))
 }
 
-// Returns the error of the first run, if there is one. Another run succeeds then.
+// Returns the error of the first run, if there is one. After an error, another run succeeds.
 pub(crate) fn acts_are_stopped<R: Threads + Wait + Sync>(
     rt: &R,
     alloc: Global,

@@ -28,7 +28,7 @@ pub(crate) fn trace_is_read(alloc: Global) -> Result<bool> {
     Ok(refused)
 }
 
-// Makes the device, and returns whether an allocation failed once.
+// Creates the device, and returns whether an allocation failed once.
 fn device_is_made(alloc: Global, trace: &Trace) -> Result<bool> {
     let opening = opening_of(trace.rows(), 2);
     ensure!(opening.is_some(), "the device isn't opened");

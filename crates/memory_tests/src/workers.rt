@@ -1,4 +1,5 @@
-//! A run of workers. The program that makes its allocations fail counts the threads that were started and not joined.
+//! A run of workers. The tool that makes this program's allocations fail also counts the threads that were started and not
+//! joined.
 
 ghost use Rattle.std.specs.Prelude.{IfOk, IsTrue, vec_items};
 ghost use Rattle.std.specs.List.{All};
@@ -19,7 +20,7 @@ const ARRIVAL: Act = Act::Arrive(Packet {
     bytes: 60,
 });
 
-// Two devices, each with a packet and its own thread.
+// Returns two stations, each with a packet and its own thread.
 fn try_stations(alloc: Global) -> Result<Vec<Station<ActList>>, AllocError>
     ensures { IfOk result (λ v. All IsStation (vec_items v)) }
 {
@@ -45,7 +46,7 @@ fn stations(alloc: Global) -> Result<Vec<Station<ActList>>, AllocError>
     }
 }
 
-// A run by two pollers; otherwise its error: an allocation or the start of a thread.
+// Runs the stations by two pollers. Returns the error if an allocation or the start of a thread fails.
 fn run<R: Threads + Wait + Sync>(
     rt: &R,
     alloc: Global,
@@ -60,7 +61,7 @@ fn run<R: Threads + Wait + Sync>(
     }
 }
 
-// Returns whether both devices are there, and the packet of each was polled.
+// Returns whether both devices were returned, and the packet of each was polled.
 fn are_polled(done: Vec<Finished<ActList>>) -> bool {
     if done.len() != 2 {
         return false;
@@ -73,7 +74,7 @@ fn are_polled(done: Vec<Finished<ActList>>) -> bool {
     true
 }
 
-// Returns the error of the first run, if there is one. Another run succeeds then.
+// Returns the error of the first run, if there is one. After an error, another run succeeds.
 pub(crate) fn workers_are_run<R: Threads + Wait + Sync>(
     rt: &R,
     alloc: Global,

@@ -2,8 +2,9 @@
 //!
 //! [`Napi::new`] makes an instance over a receive ring's poll context, disabled, with its callers and its controller. A
 //! [`Caller`] requests polls and takes the instance to poll it; a [`Granted`] caller has to queue it; [`Polling`] has the poll
-//! context, and so has [`Busy`], which busy polls; [`Control`] enables and disables the instance. Each is a seat for one
-//! thread, and linear: it goes into the next call, and at last into [`close`].
+//! context, and so has [`Busy`], which busy polls; [`Control`] enables and disables the instance. Each has a caller's pass of
+//! the instance's state table (a seat), is used by one thread, and is linear: it goes into the next call, and at last into
+//! [`close`].
 //!
 //! Every call is a few atomic steps on one word, without a lock. However the threads are scheduled, these steps form one legal
 //! history of the one-thread object of `napi_model`. In `specs/`, `Seats` defines what each value shows of that history, `Made`

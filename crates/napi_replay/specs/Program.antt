@@ -40,6 +40,6 @@ RanIn R Serial s input = Unit
 RanIn R Shared s input = RanShared s input
 RanIn R Threads s input = RanBy R (λ by. Unit {0}) s input
 
--- the same, for the mode and the settings that the arguments ask for
+-- the rows were processed in the mode and with the settings that the arguments ask for
 abbrev pub Ran : Type 0 → List Text → Option (List ℕ) → Type 0
 Ran R words input = (asked : ReplayMode × ReplaySettings) × AskForReplay words (Some asked) × RanIn R asked.0 asked.1 input

@@ -70,7 +70,7 @@ gave device (Some before) (Some after) =
     if before.polls == after.polls then [] else codes " " ++ (decimal device ++ (codes ":" ++ decimal (after.polled - before.polled)))
 gave device before after = []
 
--- the same for each device that row n + 1 polled
+-- how many packets each device processed that row n + 1 polled
 abbrev pub gave_in : ReplaySettings → List Row → ℕ → ℕ → List ℕ
 gave_in s rows n device = gave device (counts_after s rows n device) (counts_after s rows (n + 1) device)
 
@@ -85,7 +85,7 @@ line_after s rows n (Some row) =
     poll_fields (n + 1) row (is_used_after rows (n + 1) row.device) (counts_after s rows (n + 1) row.device) (polled_after s rows (n + 1))
     ++ (list_fields s rows n ++ codes "\n")
 
--- the same, if this row has a line
+-- the line of this row, if it has one
 abbrev pub part_after : ReplaySettings → ℕ → List Row → ℕ → Option Row → List ℕ
 part_after s every rows n row = if (n + 1) % every == 0 then line_after s rows n row else []
 

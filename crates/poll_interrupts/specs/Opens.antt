@@ -46,7 +46,8 @@ module _ {D : Type 0} where
     pub ring : IsInputOf loose.rx placed.napi
     pub home : IsHome placed
 
-  -- the same; and the instance's own thread, if it has one, waits by the waker that stays with the caller
+  -- the parts belong to one instance; and the instance's own thread, if it has one, waits by the waker that stays with the
+  -- caller
   pub record IsSideOf (loose : Loose D) (placed : Placed) : Type 0 where
     pub part : IsPartOf loose placed
     pub name : loose.number ≤ 16

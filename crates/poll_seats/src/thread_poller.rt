@@ -18,7 +18,7 @@ use std::sync::Wait;
 /// One instance as its own thread polls it, if the instance has a thread (`napi_threaded_poll`).
 #[derive(Drop)]
 pub struct ThreadPoller<'p, 'n, R: Wait + Drop> {
-    /// The runtime, which waits.
+    /// The runtime, by which a push waits if the list is full.
     pub rt: R,
     /// The handle that polls as the instance's thread. It has a waker if the instance has a thread.
     pub seat: DropBomb<R, PollHandle<'n>>,

@@ -107,7 +107,8 @@ each_set P Q xs i y within were new others long k d low =
     let below : k < length xs = omega (arith, low, long) in
     each_set_at P Q xs i y within new others k d (eqb k i) refl below (were k d below)
 
--- two properties of the items at the same index hold together
+-- if each item of the first list has P, and two lists are related by R, each item of the second one is related to an item with
+-- P
 pub each_zip : {A B : Type 0} (P : ℕ → A → Type 0) (R : A → B → Type 0) (xs : List A) (ys : List B) → AllZip R xs ys → EachAt P xs
     → EachAt (λ k y. (x : A) × P k x × R x y) ys
 each_zip P R [] [] zip each k d low = absurd (omega (arith, low))

@@ -1,4 +1,5 @@
-//! What can be made for a range of counts can be made for each of them, if allocations succeed: no contract can say that.
+//! Tests of all counts in a range: whatever can be made for a range of counts can be made for each of them, if allocations
+//! succeed. No contract can say that.
 
 ghost use Rattle.std.specs.Prelude.{◌≤◌, IfOk, IsTrue, vec_items};
 ghost use Rattle.std.specs.List.{All};
@@ -20,7 +21,7 @@ const PACKET: Packet = Packet {
     bytes: 60,
 };
 
-// An instance of 2 to 8 callers, which is closed again.
+// an instance with 2 to 8 callers can be made, and closed again
 #[test]
 fn instances_of_each_count(rt: HostRuntime) -> Result<(), Fail> {
     for callers in 2..9u32 {
@@ -38,7 +39,7 @@ fn instances_of_each_count(rt: HostRuntime) -> Result<(), Fail> {
     Ok(())
 }
 
-// A list with 1 to 64 ends, each of which pushes once.
+// a list with 1 to 64 ends can be made, and each end can push once
 #[test]
 fn lists_of_each_count(rt: HostRuntime) -> Result<(), Fail> {
     for pushers in 1..65u32 {
@@ -54,7 +55,7 @@ fn lists_of_each_count(rt: HostRuntime) -> Result<(), Fail> {
     Ok(())
 }
 
-// A ring of a small, an odd and the greatest capacity takes exactly that many packets.
+// a ring of a small, an odd and the greatest capacity takes exactly that many packets
 #[test]
 fn rings_of_odd_capacities(rt: HostRuntime) -> Result<(), Fail> {
     for capacity in [
@@ -86,7 +87,7 @@ fn stations_of(alloc: Global, count: u32) -> Result<Vec<Station<ActList>>, Alloc
     Ok(stations)
 }
 
-// Returns how many of this many stations are run by this many pollers.
+// Returns how many of this many stations were run by this many pollers.
 fn run_idle<R: Threads + Wait + Sync>(
     rt: &R,
     alloc: Global,
@@ -103,7 +104,7 @@ fn run_idle<R: Threads + Wait + Sync>(
     Ok(run_workers(rt, alloc, stations, pollers, 300, 64, 1024, &OpenGate)?.len())
 }
 
-// Runs of 1 to 16 stations, by one poller and by 1 to 8.
+// 1 to 16 stations can be run by one poller, and by 1 to 8 pollers
 #[test]
 fn runs_of_each_count(rt: HostRuntime) -> Result<(), Fail> {
     for count in 1..17u32 {

@@ -1,5 +1,5 @@
-//! Tests of poll lists, of runs, of the polling of a shared instance, and of each count for which something is made. There are only
-//! tests here.
+//! Tests of poll lists, of runs, of the polling of a shared instance, and of each count for which something can be made. The
+//! crate has only tests.
 #![tactic(auto)]
 
 #[cfg(test)]

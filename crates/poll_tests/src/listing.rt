@@ -1,4 +1,4 @@
-//! The poll list to which several threads push.
+//! Tests of the poll list to which several threads push.
 
 ghost use Rattle.std.specs.Prelude.{◌≡◌, [], ◌∷◌, IfOk};
 ghost use Rattle.poll_engine.specs.SharedLists.{IsInOf, IsNewList, in_hand, pushed_by};
@@ -37,7 +37,7 @@ fn spliced<R: Wait>(list: &mut SharedList<R>) -> SoftList
     soft
 }
 
-/// Returns a list of one number.
+/// Returns a list with one number.
 fn only(id: u32) -> SoftList
     ensures { result ≡ id ∷ [] }
 {
@@ -46,8 +46,8 @@ fn only(id: u32) -> SoftList
     soft
 }
 
-// An end fills the queue of 64 entries. A push of the poller's own doesn't wait: the poller keeps the queue's first entry
-// itself.
+// an end fills the queue of 64 entries; a push at the poller's own end doesn't wait then, because the poller holds the queue's
+// first entry itself
 #[test]
 fn a_poller_never_waits_for_itself(rt: HostRuntime) -> Result<(), Fail> {
     let (mut list, mut first, _second) = two_ended(&rt, rt.alloc())?;
@@ -61,7 +61,7 @@ fn a_poller_never_waits_for_itself(rt: HostRuntime) -> Result<(), Fail> {
     Ok(())
 }
 
-// The program `memory_tests` tests failing allocations.
+// the program `memory_tests` tests failing allocations
 #[test]
 fn each_end_pushes(rt: HostRuntime) -> Result<(), Fail> {
     let (mut list, mut ins) = shared_list(&rt, rt.alloc(), 3)?;
@@ -124,7 +124,7 @@ fn ends_with_what_is_left(rt: HostRuntime) -> Result<(), Fail> {
     Ok(())
 }
 
-/// A thread's pushes: this many numbers, from this one on.
+/// Pushes this many numbers in a thread, from this one on.
 fn push_many<R: Wait>(mut end: ListIn<R>, from: u32, count: u32) -> ListIn<R> {
     for k in 0..count {
         end.push(from.saturating_add(k));
@@ -132,7 +132,7 @@ fn push_many<R: Wait>(mut end: ListIn<R>, from: u32, count: u32) -> ListIn<R> {
     end
 }
 
-// The queue has room for 64, so each pusher waits for the poller time and again.
+// the queue has room for 64 numbers, so each pusher waits for the poller many times
 #[test]
 fn two_threads_push_each_number_once(rt: HostRuntime) -> Result<(), Fail> {
     let (mut list, first, second) = two_ended(rt, rt.alloc())?;
@@ -168,7 +168,7 @@ fn two_threads_push_each_number_once(rt: HostRuntime) -> Result<(), Fail> {
     Ok(())
 }
 
-/// A poller's thread: takes this many numbers, and counts those that arrive in order from 0 on.
+/// Takes this many numbers in the poller's thread, and counts those that arrive in order, from 0 on.
 fn take_many<R: Wait + Drop>(rt: R, mut list: SharedList<R>, count: u32) -> u32 {
     let mut taken = 0u32;
     let mut in_turn = 0u32;
@@ -187,7 +187,7 @@ fn take_many<R: Wait + Drop>(rt: R, mut list: SharedList<R>, count: u32) -> u32 
     in_turn
 }
 
-// The poller's end can be sent to another thread too.
+// the poller's end can also be sent to another thread
 #[test]
 fn a_poller_in_its_own_thread(rt: HostRuntime) -> Result<(), Fail> {
     let (list, mut first, _second) = two_ended(rt, rt.alloc())?;

@@ -1,4 +1,4 @@
-//! Errors of capacity: a ring of capacity 0, and one push more than a list can hold.
+//! Tests of errors of capacity: a ring of capacity 0, and one push more than a list can hold.
 
 use poll_engine::SoftList;
 use rx_ring::{RingFault, ring};
@@ -9,7 +9,7 @@ fn a_ring_has_a_place(rt: HostRuntime) {
     assert_eq!(rt; ring(rt.alloc(), 0).err(), Some(RingFault::BadCapacity));
 }
 
-// The 65th push returns the number, and the list is unchanged.
+// the 65th push returns its number, and the list is unchanged
 #[test]
 fn a_list_has_64_places(rt: HostRuntime) {
     let mut list = SoftList::new();

@@ -1,4 +1,4 @@
-//! Worked runs of the polling of a shared instance; the state words are those of docs/FORMATS.md.
+//! Tests of the polling of a shared instance, worked by hand. The state words are those of docs/FORMATS.md.
 
 ghost use Rattle.std.specs.Prelude.{◌≡◌, ℕ, slice_get, Some};
 ghost use Rattle.rx_ring.specs.declared.ends.RxCtx.{RxCtx};
@@ -162,7 +162,8 @@ fn an_instance_on_the_list_that_is_being_disabled(rt: HostRuntime) -> Result<(),
     Ok(())
 }
 
-/// The thread makes at most this many polls of weight 2, of three packets: its report, and what it leaves to the list.
+/// Polls three packets by the thread, with at most this many polls of weight 2. Returns the report, and what is left on the
+/// list.
 fn play_by_thread<R: Abort + Wait>(rt: &R, alloc: Global, most: u32, want: ThreadReport, left: Once)
     requires { IsMost most }
 {

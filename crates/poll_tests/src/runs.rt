@@ -7,7 +7,7 @@ use poll_engine::{
 use rx_ring::Packet;
 use std::test::Fail;
 
-/// Cards with this many packets in all.
+/// Cards with this many packets in all, as a bench.
 #[derive(Drop)]
 struct RunCards {
     /// The packets that no poll returned.
@@ -111,7 +111,7 @@ fn a_device_tells_its_acts(rt: HostRuntime) -> Result<(), Fail> {
     Ok(())
 }
 
-// Polls by number in each way: one trait bound is enough.
+// Polls in each of the three ways, for any bench.
 fn poll_in_each_way<B: Bench>(bench: &mut B) -> (Once, ThreadReport, BusyReport) {
     let once = bench.poll_once(1, 2);
     let by_thread = bench.poll_thread(1, 3, 1024);

@@ -51,7 +51,7 @@ pub record Outcome (R D G : Type 0) : Type 0 where
   pub loose : DropBomb R (Loose D)
 
 module _ {R D G : Type 0} where
-  -- the same for all instances, in order, each with the next handle of its poller
+  -- what the threads hold of all instances, in order, each with the next handle of its poller
   pub record AreLeftBy (workers : List (InterruptWorker R D G)) (seats : List (Vec (DropBomb R PollHandle)))
       (threads : List (Poller R G (ThreadPoller R))) (loose : List (DropBomb R (Loose D))) : Type 0 where
     pub all : List (Outcome R D G)

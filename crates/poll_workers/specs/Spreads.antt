@@ -82,7 +82,7 @@ module _ {R : Type 0} where
       pub list : IsEndOf lists (poller_by (length wakers) job.handler.number) job.list
       pub waker : IsAt wakers (poller_by (length wakers) job.handler.number) job.handler.poller.now
 
-    -- the same for the thread of an instance
+    -- the thread poller of an instance pushes on the list of its station's poller, and wakes that poller
     pub record IsWiredSide (side : Poller R G (ThreadPoller R)) : Type 0 where
       pub list : IsEndOf lists (poller_by (length wakers) side.served.seat.value.number) side.served.list
       pub waker : IsAt wakers (poller_by (length wakers) side.served.seat.value.number) side.served.poller.now
@@ -121,7 +121,7 @@ module _ {R G : Type 0} where
     pub new : (ends : ℕ) × IsNewList ends poller.served.list
     pub seats_are : vec_items poller.served.bench.seats ≡ seats
 
-  -- the same for all of this many pollers, each with its own handles
+  -- all of this many pollers have what they need, each with its own handles
   abbrev pub ArePollers : RunContext R G → List Waker → ℕ → List (DropBomb R PollHandle) → List (Poller R G (ListPoller R)) → Type 0
   ArePollers context wakers pollers seats =
       EachAt (λ k poller. IsPoller context wakers (filter (λ (s : DropBomb R PollHandle). is_own k pollers s.value.number) seats) k poller)

@@ -82,7 +82,7 @@ rows-fault s n (row ∷ rows) w fault e = by (is_early row.event row.device w) (
     by true rest e = let is : fault ≡ Pending n = cc e in (n, is)
     by false rest e = rest e
 
--- the same holds for their report
+-- the only error of a report is an early enable too
 report_written : (s : ReplaySettings) (version : ℕ) (rows : List Row) → serial_report s version rows ≡ Err OutputFailed → ⊥
 report_written s version rows e = by (after_all_rows s rows) refl e
   where

@@ -46,7 +46,7 @@ pub(crate) fn replay_in<P: Threads + Wait + Sync, R: Read + Drop, W: Write>(
 
 #[test]
 fn failing_reads(rt: HostRuntime) {
-    // The end is read only once, although both `csv` and the reader of plain rows read to it.
+    // the end is read only once, although both `csv` and the reader of plain rows read up to it
     let reads = ONE_PACKET.len() as u32 + 1;
     for (mode, wanted) in MODES {
         for before in 0..reads + 2 {
@@ -103,7 +103,7 @@ fn failing_writes(rt: HostRuntime) {
     }
 }
 
-// After an error of the trace nothing is written: the writer would fail.
+// after an error of the trace nothing is written, or the writer would fail
 #[test]
 fn faulty_traces(rt: HostRuntime) {
     for (mode, _) in MODES {
@@ -124,7 +124,7 @@ fn faulty_traces(rt: HostRuntime) {
     }
 }
 
-// The status is that of the error even if its message can't be written.
+// the exit status is that of the error, even if its message can't be written
 #[test]
 fn failing_errors(rt: HostRuntime) {
     let fault = ProgramFault::Run(ReplayFault::Trace(TraceFault::BadHeader));

@@ -1,4 +1,4 @@
-//! Tests of whole replays, from another crate like those of its users: what no contract says, with readers and writers that fail.
+//! Tests of whole replays, made like the code of a user of the crate: what no contract says, and readers and writers that fail.
 #![tactic(auto)]
 
 #[cfg(test)]

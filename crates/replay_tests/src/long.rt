@@ -1,4 +1,4 @@
-//! Inputs of any length: what is read of them, and that no length is an error.
+//! Inputs of any length: how much of them is read, and that no length is an error.
 
 use crate::failing::{MODES, replay_in};
 use device_model::{TraceFault, read_trace};
@@ -6,10 +6,10 @@ use replay::{ReplayFault, ReplaySettings};
 use std::test::Fail;
 use test_ends::LongReader;
 
-// More than a reader's buffer holds, many times. `tests/inputs.sh` tries the built program with 70 MB.
+// Many times more than a reader's buffer holds. `tests/inputs.sh` tries the built program with 70 MB.
 const LONG: u64 = 1_000_000;
 
-// The reader is asked for the header, 100001 rows and what one read ahead takes, and for no more.
+// the reader is asked for the header, for 100001 rows and what one read ahead takes, and for no more
 #[test]
 fn endless_input(rt: HostRuntime) {
     let mut given = 0;
@@ -25,7 +25,7 @@ fn endless_input(rt: HostRuntime) {
     assert!(rt; most <= given && given <= most + 16_384, "{given} bytes");
 }
 
-// Empty lines are no records, however many there are.
+// empty lines aren't records, however many there are
 #[test]
 fn long_blank(rt: HostRuntime) -> Result<(), Fail> {
     for (mode, report) in MODES {
@@ -68,7 +68,7 @@ const FRONTS: [(&[u8], TraceFault); 4] = [
     (b"moment,device,event,value,", TraceFault::BadHeader),
 ];
 
-// A field of any length is the error of its row.
+// a field of any length is an error of its row
 #[test]
 fn long_fields(rt: HostRuntime) {
     for (front, fault) in FRONTS {

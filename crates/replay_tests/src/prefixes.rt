@@ -1,4 +1,5 @@
-//! Every prefix of a trace's bytes in each mode: the error of the row that it cuts off, or the report of the rows that it has.
+//! Every prefix of a trace's bytes, in each mode: the result is the error of the row that is cut off, or the report of the
+//! whole rows.
 
 use crate::failing::{MODES, replay_in};
 use crate::worked::{ONE, joined};
@@ -11,7 +12,7 @@ use std::test::Fail;
 use std::thread::Threads;
 use test_ends::HEADER;
 
-// 129 packets, a run, a disable, and a run: rows 2 to 130, 131, 132 and 133.
+// Rows 2 to 130 are 129 packets; then come a run, a disable, and a run: rows 131, 132 and 133.
 const ROWS: [(u32, &str); 4] = [
     ONE,
     (1, "0,1,open,256\n"),
@@ -19,7 +20,7 @@ const ROWS: [(u32, &str); 4] = [
     (1, "2,0,softirq,0\n3,1,disable,0\n4,0,softirq,0\n"),
 ];
 
-// After the first run.
+// The report after the first run.
 const ONE_RUN: &str = "softirq 131 polls 1 work 64 squeezed 0
 device 1 on arrived 129 dropped 0 polled 64 bytes 6400 left 65 polls 1
 napi 1 granted 1 missed 128 disabled 0 again 0 released 0 word 4294967299
@@ -27,7 +28,7 @@ list 1
 total devices 1 runs 1 polls 1 work 64 squeezed 0
 ";
 
-// After the disable, which is pending.
+// The report after the disable, which is pending.
 const TO_BE_DISABLED: &str = "softirq 131 polls 1 work 64 squeezed 0
 device 1 pending arrived 129 dropped 0 polled 64 bytes 6400 left 65 polls 1
 napi 1 granted 1 missed 128 disabled 0 again 0 released 0 word 4294967303
@@ -43,7 +44,8 @@ list
 total devices 1 runs 2 polls 3 work 129 squeezed 0
 ";
 
-// The last line of a prefix: its row (0 is the header), and how much of it there is: bytes, commas, bytes after the last comma.
+// The last line of a prefix: its row (0 is the header), and how much of it there is: the bytes, the commas, and the bytes after
+// the last comma.
 #[derive(Clone, Copy)]
 struct Last {
     row: u32,
@@ -89,7 +91,8 @@ impl Last {
         }
     }
 
-    // A header that is cut off isn't one; a row needs four fields, and its value a digit.
+    // Returns the error of the last line. A header that is cut off is no header; a row needs four fields, and its value at
+    // least one digit.
     fn fault(self) -> Option<TraceFault> {
         let Last { row, bytes, .. } = self;
         if row == 0 {
@@ -105,17 +108,17 @@ impl Last {
         (self.behind == 0).then_some(TraceFault::BadNumber { row })
     }
 
-    // How many rows there are. An empty line isn't one.
+    // Returns the number of rows. An empty line isn't one.
     fn rows(self) -> u32 {
         self.row.saturating_sub(u32::from(self.bytes == 0))
     }
 
-    // How many packets there are.
+    // Returns the number of packets.
     fn packets(self) -> u32 {
         self.rows().saturating_sub(1).min(129)
     }
 
-    // The bytes of the packets: a value that is cut off is 1 or 10.
+    // Returns the bytes of the packets. The value 100 may be cut off to 1 or 10.
     fn packet_bytes(self) -> u32 {
         let packets = self.packets();
         let missing = match self.behind {
@@ -127,7 +130,8 @@ impl Last {
     }
 }
 
-// The first packet's request is granted, and those after it are missed: the instance is on the list.
+// Returns the report's lines of a device that waits on the list: the first packet's request is granted, and those after it are
+// missed.
 fn waiting(alloc: Global, packets: u32) -> Result<String, AllocError> {
     let (granted, word, list) = match packets {
         0 => (0, 0u64, ""),
@@ -211,7 +215,7 @@ fn threads(rt: HostRuntime) -> Result<(), Fail> {
     every_prefix(&rt, rt.alloc(), ReplayMode::Threads)
 }
 
-// A byte that begins no character isn't an event.
+// a byte that begins no character isn't the name of an event
 #[test]
 fn byte_255(rt: HostRuntime) {
     let text = b"moment,device,event,value\n0,1,open,4\n0,1,\xff,4\n";

@@ -109,7 +109,7 @@ fn front_of(alloc: Global, rows: &str, count: usize) -> Result<String, AllocErro
     Ok(text)
 }
 
-// Both modes have the same bytes or the same error after each row of each trace.
+// both modes have the same report or the same error after each row of each trace
 #[test]
 fn shared_as_serial_behind_each_row(rt: HostRuntime) -> Result<(), Fail> {
     for trace in &TRACES {
@@ -139,7 +139,7 @@ fn shared_as_serial_behind_each_row(rt: HostRuntime) -> Result<(), Fail> {
     Ok(())
 }
 
-// A fault in mid-trace ends the bench, with a packet in a ring and a disable that is pending, and is answered.
+// after an error within a trace, the bench is ended (with a packet in a ring and a pending disable), and the error is returned
 #[test]
 fn fault_in_mid_trace(rt: HostRuntime) {
     let text = "moment,device,event,value\n0,1,open,4\n1,1,rx,100\n2,1,disable,0\n3,1,enable,0\n";

@@ -20,7 +20,7 @@ fn parse(alloc: Global, words: &[&str]) -> Result<(ReplayMode, ReplaySettings), 
     parse_words(alloc, given.as_slice())
 }
 
-// Returns the result if the arguments ask for these numbers.
+// Checks that the arguments ask for these numbers, in serial mode.
 fn serial(
     pollers: u32,
     budget: u32,

@@ -1,5 +1,5 @@
-//! Traces with the result of each mode, worked by hand: the report, or the message of the error. They are read from memory, and
-//! the reports are written to memory.
+//! Traces with their results in each mode, worked by hand: the report, or the message of the error. They are read from memory,
+//! and the reports are written to memory.
 
 use crate::failing::{MODES, replay_in};
 use replay::{ReplayFault, ReplayMode, ReplaySettings, fault_line, status};
@@ -10,8 +10,8 @@ use std::test::Fail;
 use std::thread::Threads;
 use test_ends::HEADER;
 
-// A trace, each text repeated as often as given, replayed with this budget and this window. With threads the report shows only
-// arrivals and the transmit side.
+// A trace, in which each text is repeated as often as its number says, replayed with this budget and this window. In threads
+// mode the report shows only arrivals and the transmit side.
 #[derive(Drop)]
 struct Case {
     name: &'static str,
@@ -22,7 +22,7 @@ struct Case {
     with_threads: &'static str,
 }
 
-// The first records of the two versions.
+// The first records of the two versions of the format.
 pub(crate) const ONE: (u32, &str) = (1, HEADER);
 
 const TWO: (u32, &str) = (1, "moment,device,event,value,2\n");
@@ -390,7 +390,7 @@ total devices 1 runs 1 polls 1 work 1 squeezed 0
     },
 ];
 
-// Errors of the trace, which are the same in every mode.
+// Errors of the trace, which are the same in all modes.
 const FAULTS: [(&[(u32, &str)], &str); 15] = [
     (
         &[ONE, (1, "0,1,open,4\n1,1,enable,0\n")],
@@ -461,7 +461,7 @@ pub(crate) fn joined(alloc: Global, trace: &[(u32, &str)]) -> Result<String, All
     Ok(text)
 }
 
-// Returns whether this is the result: the report, or the message of the error, with its status, and nothing written.
+// Returns whether a replay had this result: the report; or the message and the status of the error, and nothing written.
 fn answers(
     alloc: Global,
     answer: Result<(), ReplayFault>,
@@ -480,7 +480,7 @@ fn answers(
     Ok(report.is_empty() && line.as_str() == wanted && status(&fault) == number)
 }
 
-// Replays the trace in this mode by this many pollers.
+// Replays the trace in this mode, with this many pollers.
 fn play<P: Abort + Threads + Wait + Sync>(
     rt: &P,
     alloc: Global,

@@ -173,7 +173,7 @@ ends-of answers rows (d ∷ ds) (s ∷ ss) (e ∷ es) accepted few of enough fin
 pub none-small : (stations : List (Station Script)) → small_fault stations ≡ None → find is_small stations ≡ None
 none-small stations h = grind (arith, common_steps)
 
--- the same for the result of the whole run
+-- the result of the whole run has the properties of each station's result
 pub ends-if-ok : (answers : ℕ → ℕ → Bool → Type 0) (rows : List Row) (stations : List (Station Script))
     (answered : Result (Vec (Finished Script)) ReplayFault)
     → AcceptedAfter [] rows → length rows ≤ 100000

@@ -11,7 +11,7 @@ pub const HEADER: &str = "moment,device,event,value\n";
 /// One packet, polled by a softirq.
 pub const ONE_PACKET: &str = "moment,device,event,value\n0,1,open,4\n1,1,rx,100\n2,0,softirq,0\n";
 
-/// Its report on one thread, and over instances that threads could share.
+/// The report of that packet by one thread, with and without shared instances.
 pub const ONE_PACKET_REPORT: &str = "softirq 3 polls 1 work 1 squeezed 0
 device 1 on arrived 1 dropped 0 polled 1 bytes 100 left 0 polls 1
 napi 1 granted 1 missed 0 disabled 0 again 0 released 1 word 0
@@ -19,10 +19,10 @@ list
 total devices 1 runs 1 polls 1 work 1 squeezed 0
 ";
 
-/// Its report with threads.
+/// The report of that packet with threads.
 pub const ONE_PACKET_THREADS: &str = "device 1 arrived 1 bytes 100\ntotal devices 1\n";
 
-/// Returns one byte at a time, and fails at one of its reads.
+/// A reader that returns one byte at a time, and fails at one of its reads.
 #[derive(Drop)]
 pub struct FailingReader {
     bytes: &'static [u8],
@@ -54,7 +54,7 @@ impl Read for FailingReader {
     }
 }
 
-/// Takes one byte at a time, and fails at one of its writes.
+/// A writer that takes one byte at a time, and fails at one of its writes.
 #[derive(Drop)]
 pub struct FailingWriter {
     /// The bytes that were written.
@@ -90,7 +90,7 @@ impl Write for FailingWriter {
     }
 }
 
-/// Returns a first part, and then the same bytes again and again, this many in all.
+/// A reader that returns a first part, and then the same bytes again and again, up to this many bytes in all.
 #[derive(Drop)]
 pub struct LongReader<'a> {
     /// The first part.

@@ -1,4 +1,5 @@
-//! A program that uses only `driver_core`: the loop of a driver, over any cards. It passes on what a sleep promises.
+//! A program that uses only `driver_core`: the loop of a driver, over any cards. Its contract repeats what the driver promises
+//! about a sleep.
 
 ghost use Rattle.std.specs.Prelude.{◌≡◌, ◌≤◌, IfOk, true, length};
 ghost use Rattle.driver_core.specs.Driver.{IsDue, driver_devices};
@@ -17,12 +18,12 @@ pub trait LoopCard {
     /// Returns whether its ring has packets.
     fn has_packets(&mut self) -> bool;
 
-    /// Takes packets from its ring, at most so many, and delivers them. Returns how many.
+    /// Takes packets from its ring, at most this many, and delivers them. Returns how many it took.
     fn fetch(&mut self, most: u32) -> u32
         ensures { result ≤ most };
 }
 
-// Does what the driver says. Returns whether that is nothing.
+// Does what the driver asks for. Returns whether there was nothing to do.
 fn act<C: LoopCard>(driver: &mut Driver, cards: &mut [C]) -> Result<bool, Refused>
     requires { length (driver_devices driver.old) ≡ length cards.old }
     ensures sleep { IfOk result (λ sleeps. sleeps ≡ true → IsDue driver.new Sleep) }
@@ -48,8 +49,8 @@ fn act<C: LoopCard>(driver: &mut Driver, cards: &mut [C]) -> Result<bool, Refuse
     Ok(false)
 }
 
-/// Does what the driver says until it says to sleep, at most so many times. Returns whether it may sleep: then each device is at
-/// rest, and nothing is on the poll list.
+/// Does what the driver asks for until there is nothing to do, but at most this many times. Returns whether it may sleep: then
+/// each device is at rest, and nothing is on the poll list.
 pub fn drive<C: LoopCard>(driver: &mut Driver, cards: &mut [C], most: u32) -> Result<bool, Refused>
     requires { length (driver_devices driver.old) ≡ length cards.old }
     ensures { IfOk result (λ sleeps. sleeps ≡ true → IsDue driver.new Sleep) }

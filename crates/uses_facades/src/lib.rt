@@ -1,5 +1,5 @@
-//! A user of each of the eleven facades, a file for each, with clauses of its own: what a facade promises is enough to prove them. No file
-//! names another crate than its facade and `std`.
+//! A user of each of the eleven facades, with a file for each. Its own contracts are proved from what the facade promises. A
+//! file names only its facade and `std`.
 #![tactic(auto)]
 
 pub mod driver_loop;

@@ -1,5 +1,5 @@
-//! A program that uses only `poll_engine`: its own bench, with its own relation for the polls, and a run over it, whose
-//! contract is that of `run_softirq`.
+//! A program that uses only `poll_engine`: a bench of its own that declares its polls, and a run over it with the contract of
+//! `run_softirq`.
 
 ghost use Rattle.std.specs.Prelude.{◌≤◌, List};
 ghost use Rattle.poll_engine.specs.Plain.{NothingBehind, OwnPushes, all_held};

@@ -1,5 +1,5 @@
-//! A program that uses only `napi_calls`: its contract states that the controller's seat still belongs to its instance, how the
-//! instance's history continues, which deliveries it still knows, and which state the type of the controller implies.
+//! A program that uses only `napi_calls`: its contract states that the controller still belongs to its instance, how the
+//! instance's history continues, which deliveries the controller knows, and which state its type implies.
 
 ghost use Rattle.std.specs.Prelude.{◌≡◌, false};
 ghost use mathlib.Core.List.{IsPrefix};

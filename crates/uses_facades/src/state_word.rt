@@ -7,7 +7,8 @@ ghost use Rattle.napi_word.specs.Slot.{stays};
 
 use napi_word::{Pass, StateTable};
 
-/// Returns whether a request for a poll may be tried now. If a disable is pending, this step was the failed request.
+/// Returns whether a request for a poll may be tried now. If a disable is pending it may not, and this step counts as the
+/// failed request.
 pub fn may_ask(table: &StateTable, pass: &mut Pass) -> bool
     requires { IsPassOf table.now pass.old }
     ensures pass { IsPassOf table.now pass.new }

@@ -1,5 +1,5 @@
 //! A program that uses only `tx_ring`: its contract is about the transmit queue that a ring represents, and about the first
-//! reason why a packet can't be sent.
+//! reason for which a packet can't be sent.
 
 ghost use Rattle.std.specs.Prelude.{◌≡◌, ◌↔◌, None, true};
 ghost use Rattle.tx_ring.specs.Queue.{TransmitQueue, after_send, send_fault};

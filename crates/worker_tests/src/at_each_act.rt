@@ -1,4 +1,4 @@
-//! Gates that are asked at each act, and a gate that must not be asked.
+//! Tests with gates that are called at each act, and with a gate that must not be called.
 
 use crate::threads::{settings_of, text_of};
 use poll_engine::Gate;
@@ -12,10 +12,10 @@ use std::thread::Threads;
 
 const ACTS: u32 = 50;
 
-/// Lets devices 1 and 2 continue at an act once the other one has reached its own act with that number.
+/// A gate that lets devices 1 and 2 continue at an act only after the other one has reached its own act with that number.
 #[derive(Drop)]
 struct MeetsAtEachAct {
-    // The acts that each device reached, a bit each.
+    // A bit for each act that a device has reached.
     came: [AtomicU64; 2],
 }
 
@@ -47,7 +47,7 @@ impl Gate for MeetsAtEachAct {
     }
 }
 
-// An implementation that makes all acts on one thread, or runs one device after the other, gets a closed gate.
+// a run that made all acts on one thread, or ran one device after the other, would find the gate closed
 #[test]
 fn devices_meet_at_each_of_50_acts(rt: HostRuntime) -> Result<(), Fail> {
     let rows = [
@@ -81,7 +81,7 @@ fn devices_meet_at_each_of_50_acts(rt: HostRuntime) -> Result<(), Fail> {
     Ok(())
 }
 
-/// A gate that is never open, and counts how often it is asked.
+/// A gate that always returns false, and counts how often it is called.
 #[derive(Drop)]
 struct CountsAsked {
     asked: AtomicU32,
@@ -94,7 +94,7 @@ impl Gate for CountsAsked {
     }
 }
 
-// The error of these rows with such a gate, and whether the gate was asked. Nothing is written.
+// Returns the error of a replay of these rows with such a gate, and whether the gate was called. Nothing is written.
 fn shut_out<P: Threads + Wait + Sync>(
     rt: &P,
     alloc: Global,
@@ -113,7 +113,7 @@ fn shut_out<P: Threads + Wait + Sync>(
     Ok((answer.err(), gate.asked.load(Ordering::SeqCst) != 0))
 }
 
-// The error of a ring that is too small names the device with the lowest number, and comes before any gate is asked.
+// the error of a ring that is too small names the device with the lowest number, and comes before any gate is called
 #[test]
 fn a_ring_is_too_small_before_any_gate(rt: HostRuntime) -> Result<(), Fail> {
     let opened = (1, "0,2,open,4\n0,1,open,1\n0,3,open,1\n");

@@ -1,4 +1,4 @@
-//! Runs of workers and pollers. Gates show that they run concurrently.
+//! Tests of runs of workers and pollers. Their gates show that the threads run concurrently.
 
 ghost use Rattle.std.specs.Prelude.{◌≡◌, ◌≤◌, ◌∷◌, ◌++◌, [], IfOk, IsTrue};
 ghost use Rattle.std.specs.List.{All};
@@ -18,7 +18,7 @@ use std::test::Fail;
 use std::thread;
 use std::thread::Threads;
 
-// Adds this many packets of 100 bytes.
+// Adds the arrivals of this many packets of 100 bytes.
 fn receive(acts: &mut Vec<Act>, packets: u64) -> Result<(), AllocError> {
     for number in 0..packets {
         acts.push(Act::Arrive(Packet { number, bytes: 100 }))?;
@@ -45,10 +45,10 @@ where
     run_workers(rt, alloc, stations, pollers, 300, 64, 1024, gate)
 }
 
-/// How often a gate looks before it gives up: some seconds, so that a run that would wait forever ends.
+/// How often a gate checks before it gives up: some seconds, so that a run that would otherwise wait forever ends.
 pub(crate) const LOOKS: u32 = 20_000_000;
 
-/// Each of these two waits at its act until the other reaches its own, but not forever.
+/// A gate at which each of two threads waits at its act until the other reaches its own act, but not forever.
 #[derive(Drop)]
 pub(crate) struct Together {
     first: (u32, u32),
@@ -94,7 +94,7 @@ impl Gate for Together {
     }
 }
 
-/// A gate that is closed at one act of one worker.
+/// A gate that returns false at one act of one worker.
 #[derive(Drop)]
 pub(crate) struct ShutAt {
     /// The worker.
@@ -109,8 +109,8 @@ impl Gate for ShutAt {
     }
 }
 
-/// Delays a poller at its start until a worker has reached its disable, and some time more. The worker may reach its next act
-/// only after the poller was released.
+/// A gate that delays a poller at its start until a worker has reached its disable, and some time more. The worker may reach
+/// its next act only after the poller was released.
 #[derive(Drop)]
 pub(crate) struct HoldsPoller {
     poller: u32,
@@ -187,7 +187,7 @@ fn with(
     Ok(stations)
 }
 
-// Two devices with this many packets each, the first one with its own thread if wanted.
+// Returns two devices with this many packets each; `thread` says whether the first one has its own thread.
 fn two(alloc: Global, packets: u64, thread: bool) -> Result<Vec<Station<ActList>>, AllocError>
     ensures all { IfOk result (λ v. All IsStation v.items) }
     ensures numbers { IfOk result (λ v. numbers_of v.items ≡ 2 ∷ 1 ∷ []) }
@@ -200,7 +200,7 @@ fn two(alloc: Global, packets: u64, thread: bool) -> Result<Vec<Station<ActList>
     with(stations, 1, 1000, thread, first)
 }
 
-// 500 packets, a disable, an enable, and 500 packets more.
+// Returns the acts: 500 packets, a disable, an enable, and 500 packets more.
 fn twice_500(alloc: Global) -> Result<Vec<Act>, AllocError> {
     let mut acts = Vec::new(alloc);
     receive(&mut acts, 500)?;
@@ -222,7 +222,7 @@ fn run_twice_500<R: Threads + Wait + Sync>(
     Ok(run(rt, alloc, stations, pollers, &OpenGate)?)
 }
 
-// The totals of each device's ring: the packets put, those polled plus those left, and all their bytes.
+// Checks the totals of each device's ring: the packets put, those polled plus those left, and the bytes of all.
 fn add_totals(rt: &impl Abort, done: &[Finished<ActList>], packets: u64) {
     for finished in done {
         let totals = finished.totals;
@@ -252,7 +252,7 @@ fn each_packet_is_polled_or_left(rt: HostRuntime) -> Result<(), Fail> {
     Ok(())
 }
 
-// A worker's last disable waits for the polls that its packets requested.
+// the last disable of a worker waits for the polls that its packets requested
 #[test]
 fn what_was_put_is_polled(rt: HostRuntime) -> Result<(), Fail> {
     for thread in [false, true] {
@@ -267,7 +267,7 @@ fn what_was_put_is_polled(rt: HostRuntime) -> Result<(), Fail> {
     Ok(())
 }
 
-// Two workers at the same act, a worker and its poller, a worker and its own thread: each waits for the other.
+// two workers at the same act, a worker and its poller, a worker and the instance's own thread: each waits for the other
 #[test]
 fn threads_run_side_by_side(rt: HostRuntime) -> Result<(), Fail> {
     for (first, second) in [
@@ -285,7 +285,7 @@ fn threads_run_side_by_side(rt: HostRuntime) -> Result<(), Fail> {
     Ok(())
 }
 
-// Wherever the gate is closed, the run ends and says so.
+// wherever the gate returns false, the run ends with that error
 #[test]
 fn a_gate_shuts_the_run(rt: HostRuntime) -> Result<(), Fail> {
     for (worker, act) in [(1, 0), (1, 1), (2, 7), (1, 10), (100, 0), (201, 0)] {
@@ -296,7 +296,7 @@ fn a_gate_shuts_the_run(rt: HostRuntime) -> Result<(), Fail> {
     Ok(())
 }
 
-// A second station with the same number is an error.
+// a second station with the same number is found
 #[test]
 fn numbers_are_told_apart(rt: HostRuntime) -> Result<(), Fail> {
     let stations = two(rt.alloc(), 0, false)?;
@@ -306,7 +306,7 @@ fn numbers_are_told_apart(rt: HostRuntime) -> Result<(), Fail> {
     Ok(())
 }
 
-// Each error has its number and its text.
+// each error has its number and its text
 #[test]
 fn faults_are_told(rt: HostRuntime) -> Result<(), Fail> {
     for (fault, number, text) in [
@@ -320,7 +320,7 @@ fn faults_are_told(rt: HostRuntime) -> Result<(), Fail> {
     Ok(())
 }
 
-// A packet arrives and the device is disabled while its poller waits at the gate: the disable waits for the poll.
+// a packet arrives and the device is disabled while its poller waits at the gate: the disable waits for the poll
 #[test]
 fn a_disable_waits_for_a_poller_at_the_gate(rt: HostRuntime) -> Result<(), Fail> {
     for (poller, thread) in [(100, false), (201, true)] {
@@ -340,7 +340,7 @@ fn a_disable_waits_for_a_poller_at_the_gate(rt: HostRuntime) -> Result<(), Fail>
     Ok(())
 }
 
-/// Delays a poller as that gate does, and then is closed for it.
+/// A gate that delays a poller in that way, and then returns false for it.
 #[derive(Drop)]
 struct ShutsPoller(HoldsPoller);
 
@@ -350,7 +350,7 @@ impl Gate for ShutsPoller {
     }
 }
 
-// If the gate is closed for a poller, or for a thread, it still polls what was put before: a disable waits for that.
+// a poller or a thread for which the gate returned false still polls what was put before: a disable waits for that
 #[test]
 fn a_poller_goes_on_behind_a_shut_gate(rt: HostRuntime) -> Result<(), Fail> {
     for (poller, thread) in [(100, false), (201, true)] {

@@ -1,4 +1,5 @@
-//! Tests of runs with threads of their own for devices and pollers, looked at by gates, from another crate as their users are.
+//! Tests of runs with separate threads for devices and pollers, which gates observe. They are made like the code of a user of
+//! the crate.
 #![tactic(auto)]
 
 #[cfg(test)]

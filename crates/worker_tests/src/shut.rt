@@ -1,4 +1,4 @@
-//! What is still done after a gate is closed.
+//! Tests of what is still done after a gate has returned false.
 
 ghost use Rattle.std.specs.Prelude.{◌≡◌, ◌≤◌, ◌∷◌, ◌++◌, [], IfOk};
 ghost use Rattle.std.specs.List.{All};
@@ -16,7 +16,7 @@ const ACTS: u32 = 10;
 
 const HALF: u32 = 5;
 
-/// A device of ten acts that do nothing, which counts them.
+/// A device with ten acts that do nothing, which counts them.
 #[derive(Drop)]
 struct Counting<'a> {
     made: &'a AtomicU32,
@@ -41,7 +41,7 @@ impl Device for Counting<'_> {
     }
 }
 
-// Adds one more device, with its own thread, which counts its acts there.
+// Adds one more device with its own thread, which counts its acts in this variable.
 fn with<'a>(
     mut stations: Vec<Station<Counting<'a>>>,
     number: u32,
@@ -62,7 +62,7 @@ fn with<'a>(
     Ok(stations)
 }
 
-// Devices 1 and 2.
+// Returns devices 1 and 2.
 fn two<'a>(
     alloc: Global,
     first: &'a AtomicU32,
@@ -75,7 +75,7 @@ fn two<'a>(
     with(stations, 2, second)
 }
 
-// The acts before the closed gate are made, and none from there on.
+// the acts before the gate returns false are made, and none from there on
 #[test]
 fn no_act_is_made_behind_a_shut_gate(rt: HostRuntime) -> Result<(), Fail> {
     for act in 0..ACTS {
@@ -90,7 +90,7 @@ fn no_act_is_made_behind_a_shut_gate(rt: HostRuntime) -> Result<(), Fail> {
     Ok(())
 }
 
-/// Closes at the first act of worker 1. Worker 2 reaches its own only some time later.
+/// A gate that returns false at the first act of worker 1. Worker 2 reaches its own first act only some time later.
 #[derive(Drop)]
 struct ShutFirst {
     shut: AtomicU32,
@@ -109,7 +109,7 @@ impl Gate for ShutFirst {
     }
 }
 
-// A worker that is at an act while the gate is closed for another makes no further one.
+// a worker that waits at an act while the gate returns false for another worker makes no further act
 #[test]
 fn a_shut_gate_stops_the_others(rt: HostRuntime) -> Result<(), Fail> {
     let made = [AtomicU32::new(0), AtomicU32::new(0)];
@@ -124,8 +124,8 @@ fn a_shut_gate_stops_the_others(rt: HostRuntime) -> Result<(), Fail> {
     Ok(())
 }
 
-/// Closes when one of the pollers starts, after worker 1 has made half of its acts. The worker makes its next act only some
-/// time later.
+/// A gate that returns false when one of the pollers starts, after worker 1 has made half of its acts. The worker reaches its
+/// next act only some time later.
 #[derive(Drop)]
 struct ShutStart {
     starts: u32,
@@ -148,7 +148,7 @@ impl Gate for ShutStart {
     }
 }
 
-// Nor is a further act made if the gate is closed for a poller, or for a thread.
+// no further act is made if the gate returns false for a poller or for a thread
 #[test]
 fn a_gate_shut_for_a_poller_stops_the_workers(rt: HostRuntime) -> Result<(), Fail> {
     for starts in [100, 201] {
@@ -166,7 +166,7 @@ fn a_gate_shut_for_a_poller_stops_the_workers(rt: HostRuntime) -> Result<(), Fai
     Ok(())
 }
 
-// With an open gate each act is made once.
+// if the gate always returns true, each act is made once
 #[test]
 fn each_act_is_made_once(rt: HostRuntime) -> Result<(), Fail> {
     let made = [AtomicU32::new(0), AtomicU32::new(0)];

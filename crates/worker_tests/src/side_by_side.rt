@@ -1,4 +1,4 @@
-//! Two devices with threads, observed by gates at each of their acts: packets, a disable, an enable, and packets.
+//! Tests with two devices in threads, observed by gates at each of their acts: packets, a disable, an enable, and packets.
 
 use crate::gates::{HoldsPoller, ShutAt, Together};
 use crate::threads::{settings_of, text_of};
@@ -27,7 +27,7 @@ const DISABLE: u32 = 4;
 const REPORT: &str =
     "device 1 arrived 8 bytes 800\ndevice 2 arrived 8 bytes 480\ntotal devices 2\n";
 
-// Runs the rows with this gate: they have their report, and of each device eight packets are polled or left.
+// Runs the rows with this gate, and checks that the report is theirs and that of each device eight packets are polled or left.
 fn reports<P: Threads + Wait + Sync, G: Gate + Sync>(
     rt: &P,
     alloc: Global,
@@ -48,7 +48,7 @@ fn reports<P: Threads + Wait + Sync, G: Gate + Sync>(
     Ok(packets && report.as_slice() == REPORT.as_bytes())
 }
 
-// An implementation that runs one device after the other, or all of them on one thread, gets a closed gate here.
+// a run that ran one device after the other, or all of them on one thread, would find the gate closed
 #[test]
 fn workers_meet_at_all_their_acts(rt: HostRuntime) -> Result<(), Fail> {
     for pollers in [1, 2] {
@@ -65,7 +65,7 @@ fn workers_meet_at_all_their_acts(rt: HostRuntime) -> Result<(), Fail> {
     Ok(())
 }
 
-// The poller of each device starts at the same time as each act up to the disable, which waits for it.
+// the poller of each device starts at the same time as each act up to the disable, which waits for it
 #[test]
 fn pollers_meet_workers(rt: HostRuntime) -> Result<(), Fail> {
     for (pollers, device, poller) in [(1, 1, 100), (1, 2, 100), (2, 1, 100), (2, 2, 101)] {
@@ -80,7 +80,7 @@ fn pollers_meet_workers(rt: HostRuntime) -> Result<(), Fail> {
     Ok(())
 }
 
-// The disable of each device waits for its poller, and the enable comes after it.
+// the disable of each device waits for its poller, and the enable comes after it
 #[test]
 fn a_disable_waits_and_the_enable_follows(rt: HostRuntime) -> Result<(), Fail> {
     for (pollers, device, poller) in [(1, 1, 100), (1, 2, 100), (2, 1, 100), (2, 2, 101)] {
@@ -93,7 +93,7 @@ fn a_disable_waits_and_the_enable_follows(rt: HostRuntime) -> Result<(), Fail> {
     Ok(())
 }
 
-// At whichever act the gate is closed, and at the start of each poller, the run ends, and nothing is written.
+// wherever the gate returns false, at an act or at the start of a poller, the run ends and nothing is written
 #[test]
 fn a_gate_is_shut_at_each_act(rt: HostRuntime) -> Result<(), Fail> {
     let text = text_of(rt.alloc(), &ROWS)?;

@@ -1,4 +1,4 @@
-//! Replays with threads: what is polled, and the result of a closed gate.
+//! Tests of replays with threads: what is polled, and the result if the gate returns false.
 
 use device_model::ScriptDevice;
 use poll_engine::{Finished, Gate, OpenGate};
@@ -11,7 +11,8 @@ use std::thread::Threads;
 /// The first record of a trace.
 pub(crate) const HEADER: &str = "moment,device,event,value\n";
 
-// A trace without its header, each text repeated as often as given, its report, and the packets of each device.
+// A trace without its header, in which each text is repeated as often as its number says, its report, and the packets of each
+// device.
 #[derive(Drop)]
 struct Case {
     name: &'static str,
@@ -53,7 +54,7 @@ total devices 2
     },
 ];
 
-/// The text of these rows below a header.
+/// Returns the text of these rows below a header.
 pub(crate) fn text_of(alloc: Global, rows: &[(u32, &str)]) -> Result<String, AllocError> {
     let mut text = String::from_str(alloc, HEADER)?;
     for (times, row) in rows {
@@ -77,7 +78,7 @@ fn run_case<P: Threads + Wait + Sync>(
     Ok((report, ends))
 }
 
-/// Returns settings of this many pollers, with this budget, weight and window.
+/// Returns settings with this many pollers and this budget, weight and window.
 pub(crate) fn settings_of(
     pollers: u32,
     budget: u32,
@@ -87,7 +88,7 @@ pub(crate) fn settings_of(
     Ok(ReplaySettings::new(pollers, budget, weight, window).ok_or("in range")?)
 }
 
-// The report is the same for every number of pollers, and for every budget, weight and window.
+// the report is the same for every number of pollers, and for every budget, weight and window
 #[test]
 fn reports(rt: HostRuntime) -> Result<(), Fail> {
     for (pollers, budget, weight, window) in [
@@ -125,7 +126,7 @@ const SIXTY_THREE: Case = Case {
     packets: &[(1, 63)],
 };
 
-// The last disable waits for the polls that the packets requested.
+// the last disable waits for the polls that the packets requested
 #[test]
 fn packets_are_polled(rt: HostRuntime) -> Result<(), Fail> {
     for pollers in [1, 2, 8] {
@@ -141,7 +142,7 @@ fn packets_are_polled(rt: HostRuntime) -> Result<(), Fail> {
     Ok(())
 }
 
-/// A gate that is never open.
+/// A gate that always returns false.
 #[derive(Drop)]
 struct ShutGate;
 

@@ -2,7 +2,7 @@ use Rattle.std.proofs.Common.{◌≡◌, List, [], ◌∷◌, ◌++◌, length, 
 use Rattle.napi_word.specs.declared.table.Pass.{Pass}
 use Rattle.bench_word.proofs.opened.OpenedWord.new.Goals as goal
 
--- three were popped of three, so none is left
+-- three elements were popped from a list of three, so none is left
 popped : (xs : List Pass) (a b d : Pass) → length (((xs ++ a ∷ []) ++ b ∷ []) ++ d ∷ []) ≡ 3 → xs ≡ []
 popped [] a b d e = refl
 popped (x ∷ xs) a b d e =
