@@ -14,7 +14,7 @@ folder=$2
 shift 2
 kept=$top/out/linux-$version
 
-# download: gets the package from where apt has it, or from the backports.
+# download: downloads the package by apt, from its release or from the backports.
 download() {
     local key=/usr/share/keyrings/debian-archive-keyring.gpg quick=(-o Acquire::http::Timeout=20) own
     timeout 900 apt-get "${quick[@]}" download "linux-source-$version" > fetch.log 2>&1 && return

@@ -75,8 +75,8 @@ class Line:
 
 
 def cost_line(points, known, source):
-    """Fits the line over polls (packets, ns). Fails if the line explains none of the variation, or hardly any with a slope whose interval
-    includes 0."""
+    """Fits the line over polls (packets, ns). Fails if the line explains none of the variation, or if it explains hardly any and its
+    slope's interval includes 0."""
     start, slope, kept = fitted(points, known)
     count, mean_x = len(kept), sum(x for x, _ in kept) / len(kept)
     mean_y = sum(y for _, y in kept) / count

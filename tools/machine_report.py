@@ -69,7 +69,7 @@ def lines_of(report):
 
 
 def values_of(report):
-    """Returns the results of a report that a row has. Waits are those of the device or processor with the greatest one; shares are of all
+    """Returns the results of a report, for a row of a table. Waits are those of the device or processor with the greatest one; shares are of all
     processors' time; `use_percent` is of the applications' time if these have processors of their own."""
     lines = lines_of(report)
     values = {name: lines["total"][0][name] for name in TOTALS}

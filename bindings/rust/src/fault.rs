@@ -44,7 +44,7 @@ impl Fault {
     pub const BAD_WEIGHT: Fault = Fault(sys::FQ_BAD_WEIGHT);
     /// The budget or the window of a run isn't 1 to 65535.
     pub const BAD_BUDGET: Fault = Fault(sys::FQ_BAD_BUDGET);
-    /// The number of callers of a shared instance isn't 2 to 8, or that of devices of a driver isn't 1 to 64.
+    /// A shared instance doesn't have 2 to 8 callers, or a driver doesn't have 1 to 64 devices.
     pub const BAD_COUNT: Fault = Fault(sys::FQ_BAD_COUNT);
     /// Run, driver: a poll reported more packets than the weight.
     pub const BAD_WORK: Fault = Fault(sys::FQ_BAD_WORK);

@@ -206,7 +206,7 @@ works-goes s t placed away uses a w awake below = by a.socket.items refl
       full = λ waking. cc waking;
     }
 
--- ---- it advances
+-- ---- the application works over time
 
 over-parts : (t : ℕ) (a : ApplicationView) → is_use_over t a ≡ true → (is_awake a.activity ≡ true) × (a.end ≤ t)
 over-parts t a over = let parts = and_parts (is_awake a.activity) (nat_le a.end t) over in (parts.0, leb-true a.end t parts.1)

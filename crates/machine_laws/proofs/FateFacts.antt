@@ -410,7 +410,7 @@ at-arrived Q s moment capacity m n ds here apart =
     (here same))
     (λ other. subst (λ (o : Option QueueView). Q false o) (sym (with-apart capacity m n ds other)) (apart other))
 
--- what has to be shown about a queue for which a packet arrives: with room and without
+-- what has to be shown about a queue for which a packet arrives, both if the ring has room and if it is full
 pub packet-by : (Q : Bool → QueueView → Type 0) (moment : ℕ) (s : MachineSettings) (d : QueueView)
     → (let e : QueueView = record d { counts = record d.counts { arrived = saturated (d.counts.arrived + 1) } } in
     let f : QueueView = record e { ring = d.ring ++ moment ∷ [] } in

@@ -9,11 +9,13 @@ ghost use Rattle.replay_args.specs.declared.args.WordFault.TheVariants.{OutOfMem
 ghost use Rattle.poll_runs.specs.Ranges.{IsWeight, IsWindow};
 
 use crate::settings::{
-    MOST_BUDGET, MOST_DEFERRALS, MOST_FRAMES, MOST_PLACES, MOST_PROCESSORS, MOST_QUEUES, MOST_TIME,
-    MOST_WEIGHT, MOST_WINDOW, MachineSettings,
+    MOST_DEFERRALS, MOST_FRAMES, MOST_PLACES, MOST_PROCESSORS, MOST_QUEUES, MOST_TIME,
+    MachineSettings,
 };
 use clap::ArgMatches;
-use replay_args::{WordFault, option_number, read_options, with_name};
+use replay_args::{
+    MOST_BUDGET, MOST_WEIGHT, MOST_WINDOW, WordFault, option_number, read_options, with_name,
+};
 use std::alloc::Global;
 
 // The names of the options.

@@ -10,15 +10,6 @@ pub const MOST_QUEUES: u32 = 64;
 /// The greatest capacity of a ring or a socket, in packets.
 pub const MOST_PLACES: u32 = 65536;
 
-/// The greatest budget of a run.
-pub const MOST_BUDGET: u32 = 65535;
-
-/// The greatest weight of a poll.
-pub const MOST_WEIGHT: u32 = 64;
-
-/// The greatest window of a run.
-pub const MOST_WINDOW: u32 = 65535;
-
 /// The most frames that a card waits for before it interrupts.
 pub const MOST_FRAMES: u32 = 65535;
 

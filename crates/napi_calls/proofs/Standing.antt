@@ -30,7 +30,7 @@ free_by : (c : ℕ) (p : Place) (b : Bool) → is_owner c p ≡ b → own_place 
 free_by c p true is e = ap (is_owner c) (sym (ap (λ (b : Bool). cond b p Nobody) is) ∙ e)
 free_by c p false is e = is
 
--- an owner's own place is the place itself
+-- an owner sees its own place unchanged
 pub own_self : (c : ℕ) → own_place c (Control c) ≡ Control c
 own_self c = ap (λ (b : Bool). cond b (Control c) Nobody) (eq-eqb c c refl)
 

@@ -3,6 +3,7 @@
 ghost use Rattle.std.specs.Prelude.{◌≡◌, ◌≤◌, IsSome, None};
 ghost use Rattle.std.specs.Option.{ForSome};
 ghost use Rattle.napi_calls.specs.Instance.{IsSeatOf};
+ghost use Rattle.poll_runs.specs.Ranges.{IsMost, IsWeight};
 
 use napi_calls::{Caller, Napi};
 use napi_model::Kind;
@@ -64,7 +65,7 @@ impl<'n> PollHandle<'n> {
 
     /// Polls the instance once, if it is on the list. If the poll queues it for its thread, the thread is woken.
     pub(crate) fn poll<R: Wait>(&mut self, rt: &R, weight: u32, batch: &mut Batch) -> Once
-        requires weight { (1 ≤ weight) × (weight ≤ 64) }
+        requires weight { IsWeight weight }
         ensures same { IsSameSeat self.old self.new }
         ensures polls { Polls (is_some self.old.thread) weight self.old.caller result
             batch.new.items self.new.caller }
@@ -101,8 +102,8 @@ impl<'n> PollHandle<'n> {
         most: u32,
         batch: &mut Batch,
     ) -> ThreadReport
-        requires weight { (1 ≤ weight) × (weight ≤ 64) }
-        requires most { (1 ≤ most) × (most ≤ 131072) }
+        requires weight { IsWeight weight }
+        requires most { IsMost most }
         ensures same { IsSameSeat self.old self.new }
         ensures polls { PollsByThread weight most self.old.caller result batch.new.items
             self.new.caller }
