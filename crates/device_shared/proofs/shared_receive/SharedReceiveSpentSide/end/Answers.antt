@@ -11,8 +11,8 @@ empty-requires g c =
     ring_closed i.napi s i.input i.held i.capacity i.seen w control.pass c.disable-poller.ensures.later c.close-ctx.result control.state.ctx
     c.close-ctx.ensures.ctx control.has.ring
 
-pub finish-requires : goal.finish-requires
-finish-requires g c =
+pub finish-totals-requires : goal.finish-totals-requires
+finish-totals-requires g c =
     let i = c.self.inside in
     let s = c.in-Some.seats in
     let w = whole_in i.napi i.seats s i.input i.held i.capacity i.seen c.in-Some.is c.self.invariant.0 in
@@ -37,4 +37,4 @@ returns g c =
     c.args.self (side_in i.seats s i.input i.capacity c.args.self c.in-Some.is c.self.view_is)
 
 pub invariant_of-result : goal.invariant_of-result
-invariant_of-result c = record { closed = ∣ (c.close-ctx.result, grind (arith, common_steps)) ∣₁ }
+invariant_of-result g c = record { closed = ∣ (c.close-ctx.result, grind (arith, common_steps)) ∣₁ }
