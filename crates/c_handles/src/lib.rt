@@ -1,4 +1,4 @@
-//! The objects of C's handles: what a handle refers to, how its object is taken out for a call and put back, and the effect of
+//! The objects of C's handles: what a handle refers to, how its object is lent to a call or taken out, and the effect of
 //! calls on a seat, a controller and a poll list in every state. The exports are in `napi_c`.
 #![tactic(auto)]
 
