@@ -7,6 +7,7 @@ pub mod Rings
 pub mod Transmits
 pub mod Seats
 pub mod Lists
+pub mod Loans
 pub mod Runs
 pub mod Tries
 pub mod SeatCalls

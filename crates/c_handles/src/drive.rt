@@ -94,28 +94,21 @@ fn todo_run_in(what: What) -> FqRunReport
     }
 }
 
-// Returns what the driver asks for, as the struct for C.
-fn todo_in(size: usize, todo: Todo) -> FqTodo
-    ensures { result ≡ todo_in size todo.number todo.what }
+// Sets `todo` to what the driver asks for, as the struct for C.
+fn say(driver: &mut Driver, todo: &mut FqTodo)
+    ensures { Says todo.old.size driver.old todo.new driver.new }
 {
-    let (device, most) = where_in(todo.what);
-    FqTodo {
-        size,
-        number: todo.number,
-        what: what_in(todo.what),
-        device,
-        most,
-        packets: 0,
-        run: todo_run_in(todo.what),
-    }
-}
-
-// Returns the next action of a driver, as the struct for C.
-fn say(driver: &mut Driver, size: usize) -> FqTodo
-    ensures { Says size driver.old result driver.new }
-{
-    let todo = driver.next();
-    todo_in(size, todo)
+    let Todo { number, what } = driver.next();
+    let (device, most) = where_in(what);
+    let run = todo_run_in(what);
+    todo.number = number;
+    todo.what = what_in(what);
+    todo.device = device;
+    todo.most = most;
+    todo.packets = 0;
+    todo.run.polls = run.polls;
+    todo.run.work = run.work;
+    todo.run.squeezed = run.squeezed;
 }
 
 /// Sets `todo` to the next action (`Driver::next`).
@@ -125,7 +118,7 @@ pub fn next(driver: &mut Driver, todo: &mut FqTodo) -> u32
     if todo.size < size_of::<FqTodo>() {
         return status::BAD_SIZE;
     }
-    *todo = say(driver, todo.size);
+    say(driver, todo);
     status::OK
 }
 

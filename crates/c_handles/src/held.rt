@@ -26,6 +26,11 @@ impl Model for OwnedPtr {
 unsafe impl Send for OwnedPtr {}
 
 impl OwnedPtr {
+    ghost use Rattle.std.specs.Prelude.{◌≡◌, Some, None, is_some, true};
+    ghost use Rattle.std.specs.Borrow.{sem};
+    ghost use Rattle.c_handles.specs.Loans.{LendsHeld};
+    ghost use Rattle.c_handles.specs.declared.body.Object.{Object};
+
     /// Returns an owning pointer with the fields of a box.
     #[inline]
     pub fn of_parts(parts: RawBox<Object, Global>) -> OwnedPtr
@@ -49,6 +54,16 @@ impl OwnedPtr {
             ptr: ptr as *mut Object,
             alloc,
         }
+    }
+
+    /// Lends the value; there is one.
+    #[inline]
+    pub fn as_mut(&mut self) -> &mut Object
+        requires { is_some self.old.body ≡ true }
+        ensures* writes_back { sem 𝓛 (LendsHeld self.entry result) }
+        ensures value { self.old.body ≡ Some result.now }
+    {
+        unsafe { &mut *(self.ptr as *mut Object) }
     }
 
     /// Returns a pointer that owns nothing.

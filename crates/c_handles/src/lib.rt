@@ -1,5 +1,5 @@
-//! The objects of C's handles: what a handle refers to, how its object is taken out for a call and put back, and the effect of
-//! calls on the callers and the controller of a shared instance and on a poll list, in every state. In C a caller of a shared
+//! The objects of C's handles: what a handle refers to, how its object is lent to a call or taken out, and the effect of calls
+//! on the callers and the controller of a shared instance and on a poll list, in every state. In C a caller of a shared
 //! instance is called a seat (`fq_seat_..`), and names here follow that. The exports are in `napi_c`.
 #![tactic(auto)]
 

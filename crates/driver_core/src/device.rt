@@ -94,19 +94,7 @@ impl DriverDevice {
         }
     }
 
-    // Returns the reply to an interrupt of its card.
-    pub(crate) fn reply(self) -> Prep
-        ensures { result ≡ schedule_reply (napi_of self) }
-    {
-        match self.stage {
-            Stage::Closed | Stage::Masking(false) | Stage::Listed(false) => Prep::Missed,
-            Stage::Masking(true) | Stage::Listed(true) | Stage::Closing => Prep::Disabled,
-            Stage::Unmasking | Stage::Looking | Stage::Armed => Prep::Granted,
-        }
-    }
-
-    /// Returns whether a poll was requested and isn't completed (`NAPI_STATE_SCHED`); a closed device counts too, as in the
-    /// kernel.
+    /// Returns whether a poll was requested and isn't completed (`NAPI_STATE_SCHED`); also for a closed device, as in the kernel.
     pub fn is_scheduled(self) -> bool
         ensures { result ≡ stage_is_scheduled self.stage }
     {
@@ -127,16 +115,22 @@ impl DriverDevice {
     }
 
     // Returns the device after an interrupt of its card.
-    pub(crate) fn interrupted(self) -> DriverDevice
-        ensures { result ≡ after_interrupt self }
+    pub(crate) fn interrupted(self) -> (DriverDevice, Prep)
+        ensures device { result.0 ≡ after_interrupt self }
+        ensures reply { result.1 ≡ schedule_reply (napi_of self) }
     {
         match self.stage {
-            Stage::Closed | Stage::Masking(false) | Stage::Listed(false) => DriverDevice {
-                missed: true,
-                ..self
-            },
-            Stage::Masking(true) | Stage::Listed(true) | Stage::Closing => self,
-            Stage::Unmasking | Stage::Looking | Stage::Armed => self.to(Stage::Masking(false)),
+            Stage::Closed | Stage::Masking(false) | Stage::Listed(false) => {
+                let missed = DriverDevice {
+                    missed: true,
+                    ..self
+                };
+                (missed, Prep::Missed)
+            }
+            Stage::Masking(true) | Stage::Listed(true) | Stage::Closing => (self, Prep::Disabled),
+            Stage::Unmasking | Stage::Looking | Stage::Armed => {
+                (self.to(Stage::Masking(false)), Prep::Granted)
+            }
         }
     }
 

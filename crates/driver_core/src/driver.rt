@@ -119,9 +119,9 @@ impl Driver {
         ensures puts { PutsDevice device (after_interrupt (device_of self.old device)) self.old
             self.new }
     {
-        let before = self.devices.get(device);
-        self.put(device, before.interrupted());
-        before.reply()
+        let (after, reply) = self.devices.get(device).interrupted();
+        self.put(device, after);
+        reply
     }
 
     /// Opens a device that is closed (`napi_enable`).

@@ -1,6 +1,5 @@
 -- The message, the number and the exit status of each error. See docs/FORMATS.md, "Arrivals".
-use Rattle.std.specs.Prelude.{◌≡◌, ◌≢◌, ◌⊎◌, ℕ, List, ◌++◌, Option, Some, codes, decimal}
-use Rattle.std.specs.Io.KnownBytes.{Keeps}
+use Rattle.std.specs.Prelude.{◌≡◌, ◌⊎◌, ℕ, List, ◌++◌, codes, decimal}
 use Rattle.device_rows.specs.Failures.{HasFailed, IsTraceOutOfMemory}
 use Rattle.machine_report.specs.Endless.{IsEndless}
 use Rattle.machine_report.specs.declared.fault.MachineFault.{MachineFault}
@@ -44,11 +43,3 @@ IsArrivalReadFailure fault = ((fault ≡ ReadFailed) × (HasFailed ⊎ IsEndless
 -- the error isn't in the arrivals: the reader, an allocation or the writer failed, or there were more rows than can be counted
 abbrev pub IsMachineOutside : MachineFault → Type 0
 IsMachineOutside fault = IsArrivalReadFailure fault ⊎ ((fault ≡ OutputFailed) × HasStopped)
-
--- an error is the first one in the bytes read, or it isn't in them
-abbrev pub IsMachineFaultBy : (MachineFault → Type 0) → (List ℕ → MachineFault → Type 0) → Option (List ℕ) → MachineFault → Type 0
-IsMachineFaultBy IsOutside IsFault input fault = (bytes : List ℕ) → input ≡ Some bytes → IsOutside fault ⊎ IsFault bytes fault
-
--- nothing was written, unless the output failed
-abbrev pub LeavesAsItWas : Option (List ℕ) → Option (List ℕ) → MachineFault → Type 0
-LeavesAsItWas old new fault = fault ≢ OutputFailed → Keeps old new

@@ -9,8 +9,9 @@ ghost use Rattle.device_rows.specs.Block.{Holds, left_remaining};
 ghost use Rattle.device_rows.specs.Source.{HasCause, IsOpen, StandsAt};
 ghost use Rattle.device_rows.specs.Trace.{records_of};
 ghost use Rattle.machine_report.specs.Arrivals.{IsInRange, arrivals_of};
-ghost use Rattle.machine_report.specs.Fault.{IsMachineFaultBy, IsArrivalReadFailure};
+ghost use Rattle.machine_report.specs.Fault.{IsArrivalReadFailure};
 ghost use Rattle.machine_report.specs.Reading.{IsByRecords, IsOpenAt, IsTitled, LeavesSame, LeftAt, TakesPlain, records_in};
+ghost use Rattle.replay_text.specs.Written.{IsFaultBy};
 
 use crate::arrival::{Arrival, arrival_of, is_title};
 use crate::fault::MachineFault;
@@ -86,7 +87,7 @@ fn rows_of<R: Read + Drop>(
     ensures opened { IfOk result IsOpenAt }
     ensures title { IfOk result (λ rows. (bytes : List ℕ) → R.remaining source ≡ Some bytes
         → IsTitled R.remaining settings.now rows (arrivals_of settings.now (records_of bytes))) }
-    ensures fault { IfErr result (IsMachineFaultBy IsArrivalReadFailure
+    ensures fault { IfErr result (IsFaultBy IsArrivalReadFailure
         (λ bytes fault. arrivals_of settings.now (records_of bytes) ≡ Err fault)
         (R.remaining source)) }
 {
@@ -165,10 +166,11 @@ impl<R: Read + Drop> Arrivals<R> {
     ghost use Rattle.std.specs.Prelude.{◌≡◌, ◌≤◌, ◌+◌, ◌∷◌, ◌++◌, ◌⊎◌, [], ℕ, List, None, Some, Err, IfErr, IfOk, IfSome, OnOk, Result};
     ghost use Rattle.device_rows.specs.Trace.{records_of};
     ghost use Rattle.machine_report.specs.Arrivals.{IsInRange, arrivals_of};
-    ghost use Rattle.machine_report.specs.Fault.{IsMachineFaultBy, IsArrivalReadFailure};
+    ghost use Rattle.machine_report.specs.Fault.{IsArrivalReadFailure};
     ghost use Rattle.machine_report.specs.Reading.{GivesNextArrival, HasGiven, IsByRecords, IsOpenAt};
     ghost use Rattle.machine_report.specs.declared.arrival.Arrival.{Arrival};
     ghost use Rattle.machine_report.specs.declared.fault.MachineFault.{MachineFault};
+    ghost use Rattle.replay_text.specs.Written.{IsFaultBy};
 
     /// Reads the header of a text of arrivals, for a machine with these settings.
     ///
@@ -185,7 +187,7 @@ impl<R: Read + Drop> Arrivals<R> {
         ensures settings { IfOk result (λ arrivals. arrivals.settings ≡ settings.now) }
         ensures start { IfOk result (λ arrivals. (bytes : List ℕ) → R.remaining source ≡ Some bytes
             → HasGiven R.remaining arrivals [] (arrivals_of settings.now (records_of bytes))) }
-        ensures fault { IfErr result (IsMachineFaultBy IsArrivalReadFailure
+        ensures fault { IfErr result (IsFaultBy IsArrivalReadFailure
             (λ bytes fault. arrivals_of settings.now (records_of bytes) ≡ Err fault)
             (R.remaining source)) }
     {

@@ -2,12 +2,12 @@
 
 ghost use Rattle.std.specs.Prelude.{◌≡◌, ◌≤◌, ◌⊎◌, ℕ, [], List, Some, Ok, Err, IfErr, IfOk, OnOk, Result, length, string_bytes};
 ghost use Rattle.machine_report.specs.Answer.{IsArrivalsFault, IsReportOf, TakesArrivals};
-ghost use Rattle.machine_report.specs.Fault.{IsMachineFaultBy, IsMachineOutside, IsArrivalReadFailure, LeavesAsItWas};
+ghost use Rattle.machine_report.specs.Fault.{IsArrivalReadFailure, IsMachineOutside};
 ghost use Rattle.machine_report.specs.Reading.{HasGiven, IsOpenAt};
 ghost use Rattle.machine_report.specs.declared.arrival.Arrival.{Arrival};
 ghost use Rattle.machine_report.specs.declared.fault.MachineFault.{MachineFault};
 ghost use Rattle.machine_report.specs.declared.fault.MachineFault.TheVariants.{OutputFailed};
-ghost use Rattle.replay_text.specs.Written.{Writes, WritesPart};
+ghost use Rattle.replay_text.specs.Written.{IsFaultBy, LeavesBy, Writes};
 
 use crate::arrivals::Arrivals;
 use crate::fault::MachineFault;
@@ -53,8 +53,7 @@ fn text_of_all<R: Read + Drop>(
     ensures text { IfOk result (λ text. (bytes : List ℕ) → R.remaining reader ≡ Some bytes
         → IsReportOf settings.now bytes (string_bytes text)) }
     ensures fault { IfErr result
-        (IsMachineFaultBy IsArrivalReadFailure (IsArrivalsFault settings.now)
-        (R.remaining reader)) }
+        (IsFaultBy IsArrivalReadFailure (IsArrivalsFault settings.now) (R.remaining reader)) }
 {
     let mut machine = Machine::new(alloc, settings)?;
     let mut arrivals = Arrivals::new(alloc, reader, settings)?;
@@ -79,15 +78,12 @@ pub fn run_machine<R: Read + Drop, W: Write>(
     ensures written { OnOk result (Writes (IsReportOf settings.now)
         (R.remaining reader) (W.contents writer.old) (W.contents writer.new)) }
 
-    // If the output failed, the bytes read have a report, of which only a part was written.
-    ensures cut { result ≡ Err OutputFailed → WritesPart (IsReportOf settings.now)
-        (R.remaining reader) (W.contents writer.old) (W.contents writer.new) }
-
     // An error is the first one in the bytes read, unless the reader, an allocation or the writer failed.
     ensures fault { IfErr result
-        (IsMachineFaultBy IsMachineOutside (IsArrivalsFault settings.now) (R.remaining reader)) }
-    ensures untouched { IfErr result
-        (LeavesAsItWas (W.contents writer.old) (W.contents writer.new)) }
+        (IsFaultBy IsMachineOutside (IsArrivalsFault settings.now) (R.remaining reader)) }
+    // If the output failed, the bytes read have a report, of which only a part was written. After each other error nothing was.
+    ensures output { IfErr result (LeavesBy OutputFailed (IsReportOf settings.now)
+        (R.remaining reader) (W.contents writer.old) (W.contents writer.new)) }
 {
     match text_of_all(alloc, reader, settings) {
         Ok(text) => write_text(writer, &text).map_err(|_| MachineFault::OutputFailed),

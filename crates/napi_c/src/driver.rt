@@ -74,15 +74,13 @@ fn open_in(at: &mut Object, device: u32) -> u32
 
 /// Opens a device, like `Driver::open`.
 #[unsafe(no_mangle)]
-pub extern "C" fn fq_driver_open(alloc: Global, handle: &mut FqHandle, device: u32) -> u32
+pub extern "C" fn fq_driver_open(handle: &mut FqHandle, device: u32) -> u32
     ensures { DriverMakes (IsDriverOpen device) handle.old result handle.new }
 {
-    let Some(mut boxed) = handle.take(alloc) else {
+    if !handle.is_set() {
         return status::BAD_HANDLE;
-    };
-    let status = open_in(&mut *boxed, device);
-    handle.put(boxed);
-    status
+    }
+    open_in(handle.held.as_mut(), device)
 }
 
 fn stop_in(at: &mut Object, device: u32) -> u32
@@ -96,15 +94,13 @@ fn stop_in(at: &mut Object, device: u32) -> u32
 
 /// Stops a device, like `Driver::stop`.
 #[unsafe(no_mangle)]
-pub extern "C" fn fq_driver_stop(alloc: Global, handle: &mut FqHandle, device: u32) -> u32
+pub extern "C" fn fq_driver_stop(handle: &mut FqHandle, device: u32) -> u32
     ensures { DriverMakes (IsDriverStop device) handle.old result handle.new }
 {
-    let Some(mut boxed) = handle.take(alloc) else {
+    if !handle.is_set() {
         return status::BAD_HANDLE;
-    };
-    let status = stop_in(&mut *boxed, device);
-    handle.put(boxed);
-    status
+    }
+    stop_in(handle.held.as_mut(), device)
 }
 
 fn interrupt_in(at: &mut Object, device: u32) -> u32
@@ -118,15 +114,13 @@ fn interrupt_in(at: &mut Object, device: u32) -> u32
 
 /// Reports an interrupt of a device's card, like `Driver::interrupt`.
 #[unsafe(no_mangle)]
-pub extern "C" fn fq_driver_interrupt(alloc: Global, handle: &mut FqHandle, device: u32) -> u32
+pub extern "C" fn fq_driver_interrupt(handle: &mut FqHandle, device: u32) -> u32
     ensures { DriverMakes (IsDriverInterrupt device) handle.old result handle.new }
 {
-    let Some(mut boxed) = handle.take(alloc) else {
+    if !handle.is_set() {
         return status::BAD_HANDLE;
-    };
-    let status = interrupt_in(&mut *boxed, device);
-    handle.put(boxed);
-    status
+    }
+    interrupt_in(handle.held.as_mut(), device)
 }
 
 // Sets `todo` to sleep, for a handle without a driver: there is nothing to do.
@@ -151,16 +145,14 @@ fn next_in(at: &mut Object, todo: &mut FqTodo) -> u32
 
 /// Sets `todo` to the next action, like `Driver::next`.
 #[unsafe(no_mangle)]
-pub extern "C" fn fq_driver_next(alloc: Global, handle: &mut FqHandle, todo: &mut FqTodo) -> u32
+pub extern "C" fn fq_driver_next(handle: &mut FqHandle, todo: &mut FqTodo) -> u32
     ensures makes { DriverMakes (IsDriverNext todo.old todo.new) handle.old result handle.new }
     ensures none { result ≡ BAD_HANDLE → todo.new ≡ record todo.old { number = 0; what = 0 } }
 {
-    let Some(mut boxed) = handle.take(alloc) else {
+    if !handle.is_set() {
         return sleeps(todo);
-    };
-    let status = next_in(&mut *boxed, todo);
-    handle.put(boxed);
-    status
+    }
+    next_in(handle.held.as_mut(), todo)
 }
 
 fn done_in(at: &mut Object, todo: &FqTodo) -> u32
@@ -174,15 +166,13 @@ fn done_in(at: &mut Object, todo: &FqTodo) -> u32
 
 /// Reports that an action was done, like `Driver::done`.
 #[unsafe(no_mangle)]
-pub extern "C" fn fq_driver_done(alloc: Global, handle: &mut FqHandle, todo: &FqTodo) -> u32
+pub extern "C" fn fq_driver_done(handle: &mut FqHandle, todo: &FqTodo) -> u32
     ensures { DriverMakes (IsDriverDone todo.now) handle.old result handle.new }
 {
-    let Some(mut boxed) = handle.take(alloc) else {
+    if !handle.is_set() {
         return status::BAD_HANDLE;
-    };
-    let status = done_in(&mut *boxed, todo);
-    handle.put(boxed);
-    status
+    }
+    done_in(handle.held.as_mut(), todo)
 }
 
 fn show_in(at: &Object, device: u32, shown: &mut FqDeviceShown) -> u32
@@ -198,7 +188,6 @@ fn show_in(at: &Object, device: u32, shown: &mut FqDeviceShown) -> u32
 /// Sets the state and the counts of a device.
 #[unsafe(no_mangle)]
 pub extern "C" fn fq_driver_show(
-    alloc: Global,
     handle: &mut FqHandle,
     device: u32,
     shown: &mut FqDeviceShown,
@@ -207,10 +196,8 @@ pub extern "C" fn fq_driver_show(
         handle.new }
     ensures none { result ≢ OK → shown.new ≡ shown.old }
 {
-    let Some(boxed) = handle.take(alloc) else {
+    if !handle.is_set() {
         return status::BAD_HANDLE;
-    };
-    let status = show_in(&*boxed, device, shown);
-    handle.put(boxed);
-    status
+    }
+    show_in(handle.held.as_mut(), device, shown)
 }

@@ -10,7 +10,7 @@ ghost use Rattle.c_handles.specs.Status.{OK, BAD_HANDLE, IN_USE, OUT_OF_MEMORY, 
 ghost use Rattle.c_handles.specs.Rings.{HasInput, LeadsTo, LeadsToItsInput, LeadsToRing, IsRingWith, IsInputWith, LeadsToInput, IsCtxWith, LeadsToCtx, IsNewRing, IsAfterPut, IsAfterInput, IsAfterPoll, burst_in, burst_status};
 
 use c_handles::{FqHandle, Object, Ring, RingInput, status};
-use rx_ring::{Batch, MAX_WEIGHT, Packet, ring};
+use rx_ring::{MAX_WEIGHT, Packet, ring};
 use std::alloc::Global;
 
 /// Like `rx_ring::ring`.
@@ -47,7 +47,7 @@ pub extern "C" fn fq_ring_new(alloc: Global, handle: &mut FqHandle, capacity: us
 
 /// Like `RxIn::put`.
 #[unsafe(no_mangle)]
-pub extern "C" fn fq_ring_put(alloc: Global, handle: &mut FqHandle, number: u64, bytes: u32) -> u32
+pub extern "C" fn fq_ring_put(handle: &mut FqHandle, number: u64, bytes: u32) -> u32
     ensures ok { (r : Ring) → LeadsTo handle.old r → result ≡ OK
         → LeadsToRing
         (IsAfterPut r (record { number = number; bytes = bytes } ∷ [])) handle.new.held.body }
@@ -59,12 +59,10 @@ pub extern "C" fn fq_ring_put(alloc: Global, handle: &mut FqHandle, number: u64,
     ensures other { ((i : RingInput) → ¬ LeadsToItsInput i handle.old.held.body)
         → (result ≡ BAD_HANDLE) × (handle.new.held.body ≡ handle.old.held.body) }
 {
-    let Some(mut body) = handle.take(alloc) else {
+    if !handle.is_set() {
         return status::BAD_HANDLE;
-    };
-    let status = put_into(&mut *body, Packet { number, bytes });
-    handle.put(body);
-    status
+    }
+    put_into(handle.held.as_mut(), Packet { number, bytes })
 }
 
 fn put_into(body: &mut Object, packet: Packet) -> u32
@@ -87,7 +85,6 @@ fn put_into(body: &mut Object, packet: Packet) -> u32
 /// Like `RxIn::put_all`: sets `count` to how many of the packets were put, the first ones.
 #[unsafe(no_mangle)]
 pub extern "C" fn fq_ring_put_all(
-    alloc: Global,
     handle: &mut FqHandle,
     packets: &[Packet],
     count: &mut usize,
@@ -105,12 +102,10 @@ pub extern "C" fn fq_ring_put_all(
         → (handle.new.held.body ≡ handle.old.held.body) × (count.new ≡ 0) }
 {
     *count = 0;
-    let Some(mut body) = handle.take(alloc) else {
+    if !handle.is_set() {
         return status::BAD_HANDLE;
-    };
-    let status = put_all_into(&mut *body, packets, count);
-    handle.put(body);
-    status
+    }
+    put_all_into(handle.held.as_mut(), packets, count)
 }
 
 fn put_all_into(body: &mut Object, packets: &[Packet], count: &mut usize) -> u32
@@ -141,7 +136,6 @@ fn put_all_into(body: &mut Object, packets: &[Packet], count: &mut usize) -> u32
 /// Like `RxCtx::poll`, into an array: sets `count`; the packets are the first `count` elements.
 #[unsafe(no_mangle)]
 pub extern "C" fn fq_ring_poll(
-    alloc: Global,
     handle: &mut FqHandle,
     weight: usize,
     out: &mut [Packet],
@@ -166,38 +160,28 @@ pub extern "C" fn fq_ring_poll(
     if out.len() < weight {
         return status::NO_ROOM;
     }
-    let Some(mut body) = handle.take(alloc) else {
+    if !handle.is_set() {
         return status::BAD_HANDLE;
-    };
-    let mut batch = Batch::new();
-    let status = poll_into(&mut *body, weight, &mut batch);
-    handle.put(body);
-    if status == status::OK {
-        let given = batch.as_slice();
-        out[..given.len()].copy_from_slice(given);
-        *count = given.len();
     }
-    status
+    poll_into(handle.held.as_mut(), weight, out, count)
 }
 
-fn poll_into(body: &mut Object, weight: usize, batch: &mut Batch) -> u32
-    requires { (1 ≤ weight) × (weight ≤ 64) }
+fn poll_into(body: &mut Object, weight: usize, out: &mut [Packet], count: &mut usize) -> u32
+    requires weight { (1 ≤ weight) × (weight ≤ 64) }
+    requires room { weight ≤ length out.old }
+    requires none { count.old ≡ 0 }
     ensures ok { (r : Ring) → body.old ≡ variant.Ring r → result ≡ OK
-        → IsRingWith (IsAfterPoll weight r batch.new.items) body.new }
+        → IsRingWith (IsAfterPoll weight r (take count.new out.new)) body.new }
     ensures context { (c : RxCtx) → body.old ≡ variant.Ctx c → result ≡ OK
-        → IsCtxWith (λ d. GivesNext weight c d batch.new.items) body.new }
-    ensures room { result ≡ OK → length batch.new.items ≤ weight }
-    ensures only { result ≢ OK → (result ≡ BAD_HANDLE) × (body.new ≡ body.old) }
+        → IsCtxWith (λ d. GivesNext weight c d (take count.new out.new)) body.new }
+    ensures work { (count.new ≤ weight) × (count.new ≤ length out.new) }
+    ensures only { result ≢ OK → (result ≡ BAD_HANDLE) × (body.new ≡ body.old)
+        × (count.new ≡ 0) × (out.new ≡ out.old) }
 {
-    match body {
-        Object::Ring(ring) => {
-            ring.ctx.poll(weight, batch);
-            status::OK
-        }
-        Object::Ctx(ctx) => {
-            ctx.poll(weight, batch);
-            status::OK
-        }
-        _ => status::BAD_HANDLE,
-    }
+    *count = match body {
+        Object::Ring(ring) => ring.ctx.poll_into(weight, out),
+        Object::Ctx(ctx) => ctx.poll_into(weight, out),
+        _ => return status::BAD_HANDLE,
+    };
+    status::OK
 }
