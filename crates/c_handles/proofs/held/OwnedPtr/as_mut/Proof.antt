@@ -4,7 +4,7 @@ use Rattle.std_alloc.proofs.BoxSteps.{Form.{D, R, τ, word, handle}, Steps.{box_
 use Rattle.std.proofs.alloc.Calls.{token}
 use Rattle.c_handles.{specs.{declared.{body.Object.Object, held.OwnedPtr.OwnedPtr}, contracts.held.OwnedPtr.as_mut.Key.name as #self}}
 use Rattle.c_handles.{specs.Loans.{with_body}, proofs.{AsBox.E, There.there}}
-use mathlib.Core.{Path.{◌≡◌, refl, sym}, List.{List, [], ◌∷◌, ◌++◌}}
+use mathlib.Core.{Path.{◌≡◌, refl}, List.{List, [], ◌∷◌, ◌++◌}}
 use seplogic.Ra.Ura.{Ura}
 use mir.{Syntax.{Body, named, place, copy, assign, rv_opd, seq, return}, Val.{Val, vptr}, Raw.{raw as bare}}
 use base.{Fraction.full_share, Logic.{SProp, ent, sep, id⊢}, Fml.{Lft, GName, Share, Fml, ftrue, flft, fsep}}
