@@ -33,7 +33,8 @@ fn replay_in<H: Threads + Wait + Sync, R: Read + Drop, W: Write>(
         (R.remaining input) (W.contents output.old) (W.contents output.new)) }
     ensures run { OnOk result (RanIn (Bor H) asked.now.0 asked.now.1 (R.remaining input)) }
     ensures fault { IfErr result (IsFaultOn (AnswersReplay asked.now) (R.remaining input)) }
-    ensures output { IfErr result (LeavesText (λ bytes text. AnswersReplay asked.now bytes (Ok text))
+    ensures output { IfErr result
+        (LeavesText (λ bytes text. AnswersReplay asked.now bytes (Ok text))
         (R.remaining input) (W.contents output.old) (W.contents output.new)) }
 {
     let (mode, settings) = *asked;
