@@ -1,19 +1,19 @@
 //! The whole program as a function of its arguments, its input and its two outputs.
 
-ghost use Rattle.std.specs.Prelude.{◌≡◌, ◌≢◌, map, string_bytes};
+ghost use Rattle.std.specs.Prelude.{◌≡◌, ◌≢◌, IfErr, Ok, OnOk, map, string_bytes};
 ghost use Rattle.std.specs.Io.KnownBytes.{Keeps};
 ghost use Rattle.std.specs.Process.{exit_status};
 ghost use Rattle.std.specs.Borrow.{Bor};
-ghost use Rattle.napi_replay.specs.Program.{AnswersReplay, AskForReplay, Ran};
+ghost use Rattle.napi_replay.specs.Program.{AnswersReplay, AskForReplay, Ran, RanIn};
 ghost use Rattle.replay_text.specs.Fault.{replay_fault_line, replay_fault_status};
-ghost use Rattle.replay_text.specs.Program.{FailedBy, IsTextBy};
-ghost use Rattle.replay_text.specs.Written.{Writes};
+ghost use Rattle.replay_text.specs.Program.{FailedBy, IsFaultOn, IsTextBy};
+ghost use Rattle.replay_text.specs.Written.{LeavesText, Writes};
 ghost use Rattle.replay_text.specs.declared.fault.ReplayFault.TheVariants.{OutputFailed};
 
 use poll_workers::OpenGate;
-use replay_args::{ReplayMode, ReplaySettings, WordFault, parse_words};
+use replay_args::{ReplayMode, ReplaySettings, parse_words};
 use replay_rows::replay_serial;
-use replay_text::{Program, ReplayFault, run_asked};
+use replay_text::{ProgramFault, ReplayFault, end_by};
 use replay_threads::{replay_shared, replay_threads};
 use std::alloc::Global;
 use std::io::{Read, Write};
@@ -21,55 +21,35 @@ use std::process::ExitCode;
 use std::sync::Wait;
 use std::thread::Threads;
 
-// A replay in each mode, with what starts its threads.
-#[derive(Drop)]
-struct ReplayProgram<'a, H> {
-    rt: &'a H,
-}
-
-impl<H: Threads + Wait + Sync> Program for ReplayProgram<'_, H> {
-    ghost use Rattle.std.specs.Borrow.{Bor};
-    ghost use Rattle.napi_replay.specs.Program.{AnswersReplay, AskForReplay, RanIn};
-
-    type Settings = (ReplayMode, ReplaySettings);
-
-    type Fault = ReplayFault;
-
-    ghost asks = { AskForReplay };
-
-    ghost answers = { AnswersReplay };
-
-    ghost ran = { λ asked. RanIn (Bor H) asked.0 asked.1 };
-
-    fn parse(
-        &self,
-        alloc: Global,
-        words: &[String],
-    ) -> Result<(ReplayMode, ReplaySettings), WordFault> {
-        parse_words(alloc, words)
-    }
-
-    fn run<R: Read + Drop, W: Write>(
-        &self,
-        alloc: Global,
-        asked: &(ReplayMode, ReplaySettings),
-        input: R,
-        output: &mut W,
-    ) -> Result<(), ReplayFault> {
-        let (mode, settings) = *asked;
-        match mode {
-            ReplayMode::Serial => replay_serial(alloc, input, output, &settings),
-            ReplayMode::Shared => match replay_shared(self.rt, alloc, input, output, &settings) {
-                Ok(_) => Ok(()),
-                Err(fault) => Err(fault),
-            },
-            ReplayMode::Threads => {
-                match replay_threads(self.rt, alloc, input, output, &settings, &OpenGate) {
-                    Ok(_) => Ok(()),
-                    Err(fault) => Err(fault),
-                }
-            }
-        }
+// Replays the input in a mode. No impl of `Program`, because there a type's bound `Sync` isn't known.
+fn replay_in<H: Threads + Wait + Sync, R: Read + Drop, W: Write>(
+    rt: &H,
+    alloc: Global,
+    asked: &(ReplayMode, ReplaySettings),
+    input: R,
+    output: &mut W,
+) -> Result<(), ReplayFault>
+    ensures written { OnOk result (Writes (λ bytes text. AnswersReplay asked.now bytes (Ok text))
+        (R.remaining input) (W.contents output.old) (W.contents output.new)) }
+    ensures run { OnOk result (RanIn (Bor H) asked.now.0 asked.now.1 (R.remaining input)) }
+    ensures fault { IfErr result (IsFaultOn (AnswersReplay asked.now) (R.remaining input)) }
+    ensures output { IfErr result
+        (LeavesText (λ bytes text. AnswersReplay asked.now bytes (Ok text))
+        (R.remaining input) (W.contents output.old) (W.contents output.new)) }
+{
+    let (mode, settings) = *asked;
+    match mode {
+        ReplayMode::Serial => replay_serial(alloc, input, output, &settings),
+        ReplayMode::Shared => match replay_shared(rt, alloc, input, output, &settings) {
+            Ok(_) => Ok(()),
+            Err(fault) => Err(fault),
+        },
+        ReplayMode::Threads => match replay_threads(
+            rt, alloc, input, output, &settings, &OpenGate,
+        ) {
+            Ok(_) => Ok(()),
+            Err(fault) => Err(fault),
+        },
     }
 }
 
@@ -100,5 +80,11 @@ pub fn run_program<H: Threads + Wait + Sync, R: Read + Drop, W: Write, E: Write>
         (R.remaining input) (W.contents output.old) (W.contents output.new)
         (E.contents errors.old) (E.contents errors.new) (exit_status result) }
 {
-    run_asked(&ReplayProgram { rt }, alloc, words, input, output, errors)
+    match parse_words(alloc, words) {
+        Ok(asked) => match replay_in(rt, alloc, &asked, input, output) {
+            Ok(()) => ExitCode::SUCCESS,
+            Err(fault) => end_by(alloc, &ProgramFault::Run(fault), errors),
+        },
+        Err(fault) => end_by(alloc, &ProgramFault::<ReplayFault>::Args(fault), errors),
+    }
 }
