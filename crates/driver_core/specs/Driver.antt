@@ -1,6 +1,6 @@
 -- The state of a driver, and what it asks the caller to do.
-use Rattle.std.specs.Prelude.{◌≡◌, ◌⊎◌, ◌≤◌, ◌<◌, ◌+◌, ℕ, Bool, true, false, List, [], ◌∷◌, ◌++◌, length, replicate, slice_set, Option}
-use Rattle.std.specs.Prelude.{Some, None, ◌==◌, nat_lt, if◌then◌else◌, slice_index_or}
+use Rattle.std.specs.Prelude.{◌≡◌, ◌≢◌, ◌⊎◌, ◌≤◌, ◌<◌, ◌+◌, ℕ, Bool, true, false, List, [], ◌∷◌, ◌++◌, length, replicate}
+use Rattle.std.specs.Prelude.{slice_set, Option, Some, None, ◌==◌, nat_lt, if◌then◌else◌, slice_index_or}
 use Rattle.std.specs.List.{All}
 use Rattle.poll_runs.specs.{Laws.IsPlainRun, declared.run.RunReport.RunReport}
 use Rattle.driver_core.specs.declared.limits.Limits.{Limits}
@@ -69,6 +69,9 @@ pub record PutsDevice (id : ℕ) (to : DriverDevice) (before after : Driver) : T
   pub list : after.list ≡ before.list
   pub same : SameRun before after
   pub said : (said_of after ≡ said_of before) ⊎ (said_of after ≡ None)
+  -- an action that is still due stays asked for
+  pub stays : (k : ℕ) (chore : Chore) → said_of before ≡ Some (k, chore) → (k ≢ id) ⊎ (chore_at to.stage ≡ Some chore)
+      → said_of after ≡ said_of before
 
 -- the device with this number is replaced; and if it is listed now, it is the last one on the list
 pub record PutsOnList (id : ℕ) (to : DriverDevice) (before after : Driver) : Type 0 where

@@ -27,6 +27,8 @@ pub(crate) fn still_due(
     ensures kept { (result ≡ said) ⊎ (result ≡ None) }
     ensures due { (id : ℕ) (chore : Chore) → result ≡ Some (id, chore)
         → (id ≢ device) ⊎ (chore_at to.stage ≡ Some chore) }
+    ensures stays { (id : ℕ) (chore : Chore) → said ≡ Some (id, chore)
+        → (id ≢ device) ⊎ (chore_at to.stage ≡ Some chore) → result ≡ said }
 {
     let Some((id, chore)) = said else {
         return None;
