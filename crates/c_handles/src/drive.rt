@@ -2,7 +2,7 @@
 
 ghost use Rattle.std.specs.Prelude.{◌≡◌, length, nat_lt};
 ghost use Rattle.driver_core.specs.Driver.{driver_devices};
-ghost use Rattle.c_handles.specs.Drivers.{device_in, most_in, reply_status, todo_run_in, shown_of, device_state_in, todo_in, what_in, IsDriverDone, IsDriverInterrupt, IsDriverNext, IsDriverOpen, IsTodoReport, IsDriverShow, IsDriverStop, Says};
+ghost use Rattle.c_handles.specs.Drivers.{device_in, most_in, reply_status, todo_run_in, shown_of, device_state_in, todo_in, what_in, IsDriverDone, IsDriverInterrupt, IsDriverNext, IsDriverOpen, IsDriverStep, IsTodoReport, IsDriverShow, IsDriverStop, Says, report_status};
 
 use crate::lister::FqRunReport;
 use crate::status;
@@ -94,11 +94,11 @@ fn todo_run_in(what: What) -> FqRunReport
     }
 }
 
-// Sets `todo` to what the driver asks for, as the struct for C.
-fn say(driver: &mut Driver, todo: &mut FqTodo)
-    ensures { Says todo.old.size driver.old todo.new driver.new }
+// Sets `todo` to this action, as the struct for C.
+fn set(todo: &mut FqTodo, next: Todo)
+    ensures { todo.new ≡ todo_in todo.old.size next.number next.what }
 {
-    let Todo { number, what } = driver.next();
+    let Todo { number, what } = next;
     let (device, most) = where_in(what);
     let run = todo_run_in(what);
     todo.number = number;
@@ -109,6 +109,14 @@ fn say(driver: &mut Driver, todo: &mut FqTodo)
     todo.run.polls = run.polls;
     todo.run.work = run.work;
     todo.run.squeezed = run.squeezed;
+}
+
+// Sets `todo` to what the driver asks for.
+fn say(driver: &mut Driver, todo: &mut FqTodo)
+    ensures { Says todo.old.size driver.old todo.new driver.new }
+{
+    let next = driver.next();
+    set(todo, next);
 }
 
 /// Sets `todo` to the next action (`Driver::next`).
@@ -122,18 +130,23 @@ pub fn next(driver: &mut Driver, todo: &mut FqTodo) -> u32
     status::OK
 }
 
+// Returns the status of the report of an action with this number.
+fn report_status(number: u64, reported: Result<(), Refused>) -> u32
+    ensures { result ≡ report_status number reported }
+{
+    match reported {
+        Ok(()) => status::OK,
+        Err(Refused::TooMany) => status::BAD_WORK,
+        Err(Refused::NotDue) => { if number == 0 { status::OK } else { status::NOT_DUE } }
+    }
+}
+
 // Reports that the action with this number was done; 0 reports nothing.
 fn report(driver: &mut Driver, number: u64, packets: u32) -> u32
     ensures { IsTodoReport number packets driver.old result driver.new }
 {
-    if number == 0 {
-        return status::OK;
-    }
-    match driver.done(number, packets) {
-        Ok(()) => status::OK,
-        Err(Refused::NotDue) => status::NOT_DUE,
-        Err(Refused::TooMany) => status::BAD_WORK,
-    }
+    let reported = driver.done(number, packets);
+    report_status(number, reported)
 }
 
 /// Reports that the action in `todo` was done (`Driver::done`).
@@ -144,6 +157,23 @@ pub fn done(driver: &mut Driver, todo: &FqTodo) -> u32
         return status::BAD_SIZE;
     }
     report(driver, todo.number, todo.packets)
+}
+
+/// Reports that the action in `todo` was done, unless its number is 0, and sets `todo` to the next one (`Driver::step`).
+pub fn step(driver: &mut Driver, todo: &mut FqTodo) -> u32
+    ensures { IsDriverStep todo.old todo.new driver.old result driver.new }
+{
+    if todo.size < size_of::<FqTodo>() {
+        return status::BAD_SIZE;
+    }
+    let number = todo.number;
+    let (reported, next) = driver.step(number, todo.packets);
+    let answer = report_status(number, reported);
+    if answer == status::BAD_WORK {
+        return answer;
+    }
+    set(todo, next);
+    answer
 }
 
 fn has_device(driver: &Driver, device: u32) -> bool

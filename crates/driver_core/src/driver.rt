@@ -54,7 +54,7 @@ impl Driver {
     ghost use Rattle.driver_core.specs.Counts.{count_one_poll};
     ghost use Rattle.driver_core.specs.Device.{chore_at, after_interrupt, stage_is_listed, after_open, after_stop, MayStop};
     ghost use Rattle.driver_core.specs.Steps.{napi_of};
-    ghost use Rattle.driver_core.specs.Driver.{poll_counts_of, device_of, driver_devices, said_number_of, polled_device, poll_of, said_of, stage_of, is_running, driver_limits, list_of, AreClosed, Ends, DoesChore, IsDue, IsDriverReport, AwaitsNothing, IsIdle, IsNumberedTodo, IsReport, IsRunning, PutsDevice, Reports};
+    ghost use Rattle.driver_core.specs.Driver.{poll_counts_of, device_of, driver_devices, said_number_of, polled_device, poll_of, said_of, stage_of, is_running, driver_limits, list_of, AreClosed, Ends, DoesChore, IsDue, IsDriverReport, AwaitsNothing, IsIdle, IsNumberedTodo, IsReport, IsRunning, IsStep, PutsDevice, Reports};
 
     /// Creates a driver of this many devices, at most 64, all closed.
     pub fn new(alloc: Global, devices: u32, limits: Limits) -> Result<Driver, AllocError>
@@ -357,5 +357,16 @@ impl Driver {
         }
         self.begin();
         self.advance()
+    }
+
+    /// Reports that the action with this number was done, and returns what the caller has to do next: [`done`](Driver::done) and
+    /// then [`next`](Driver::next) in one call. Number 0 reports nothing, so that report fails with `NotDue`. If the report
+    /// fails, nothing has changed, and the caller gets what `next` returns then.
+    pub fn step(&mut self, number: u64, packets: u32) -> (Result<(), Refused>, Todo)
+        ensures { IsStep number packets self.old result.0 result.1 self.new }
+    {
+        let reported = self.done(number, packets);
+        let todo = self.next();
+        (reported, todo)
     }
 }
