@@ -1,10 +1,10 @@
 -- The status of a report, and what it means.
 use Rattle.std.specs.Prelude.{⊤}
-use Rattle.std.proofs.Common.{◌≡◌, ◌≢◌, ◌⊎◌, ◌∙◌, ◌<◌, ◌≤◌, inl, inr, ℕ, true, false, is_some, Option, Result, Ok, Err, refl, sym, ap, arith, rules}
+use Rattle.std.proofs.Common.{◌≡◌, ◌≢◌, ◌⊎◌, ◌∙◌, ◌<◌, ◌≤◌, inl, inr, ℕ, true, false, is_some, Option, Result, Ok, Err, refl, sym, ap, subst, arith, rules}
 use Rattle.std.proofs.lemmas.Bool.Decides.{eqb_tells}
 use Rattle.driver_core.specs.{Driver.{AwaitsNothing, IsDone, IsNext, IsStep, polled_device}, declared.{driver.Driver.Driver, todo.Todo.Todo}}
 use Rattle.driver_core.specs.declared.todo.Refused.{Refused, TheVariants.{NotDue, TooMany}}
-use Rattle.c_handles.specs.{Drivers.{IsDriverDone, IsDriverStep, IsTodoReport, Says, report_status, todo_in}, declared.drive.FqTodo.FqTodo}
+use Rattle.c_handles.specs.{Drivers.{IsDriverNext, IsDriverStep, IsTodoReport, MakesStep, Says, report_status, todo_in}, declared.drive.FqTodo.FqTodo}
 use Rattle.c_handles.specs.Status.{OK, NOT_DUE, BAD_SIZE, BAD_WORK}
 
 -- no report is due under number 0
@@ -63,31 +63,92 @@ refused_keeps number packets d e todo h =
     cc both in
     (h.asks.again busy).0 ∙ back
 
-refused_same : (number packets : ℕ) (d e : Driver) (reported : Result ⊤ Refused) (todo : Todo) → IsStep number packets d reported todo e
-    → report_status number reported ≡ BAD_WORK → e ≡ d
-refused_same number packets d e (Ok done) todo h bad = absurd (omega (arith, bad))
-refused_same number packets d e (Err TooMany) todo h bad = refused_keeps number packets d e todo h
-refused_same number packets d e (Err NotDue) todo h bad = elim (eqb_tells number 0) [
-  | inl is ↦ absurd (omega (arith, rw is.0 at bad))
-  | inr is ↦ absurd (omega (arith, rw is.0 at bad))
+not_many : (number : ℕ) → report_status number (Err NotDue) ≡ BAD_WORK → ⊥
+not_many number bad = elim (eqb_tells number 0) [
+  | inl is ↦ let no : OK ≡ BAD_WORK = rw is.0 at bad in absurd (omega (arith, no))
+  | inr is ↦ let no : NOT_DUE ≡ BAD_WORK = rw is.0 at bad in absurd (omega (arith, no))
 ]
 
-not_bad_size : (n : ℕ) → (n ≡ OK) ⊎ (n ≡ NOT_DUE) ⊎ (n ≡ BAD_WORK) → n ≡ BAD_SIZE → ⊥
-not_bad_size n h bad = grind arith
+says : (size : ℕ) (after : FqTodo) (b e : Driver) (todo : Todo) → IsNext b todo e → after ≡ todo_in size todo.number todo.what
+    → Says size b after e
+says size after b e todo next is = rw is (record {
+  what = todo.what;
+  said = refl;
+  due = next.due;
+  number = next.number;
+  again = next.again;
+  devices = next.devices;
+  counts = next.counts;
+})
 
-step_done : (before : FqTodo) (d b : Driver) (reported : Result ⊤ Refused) → 48 ≤ before.size
-    → IsDone before.number before.packets d reported b → IsDriverDone before d (report_status before.number reported) b
-step_done before d b reported large h =
-    let report = todo_report before.number before.packets d b reported h in
-    let not_bad = not_bad_size (report_status before.number reported) report.status in
+pub makes_step : (number : ℕ) (before after : FqTodo) (d e : Driver) (reported : Result ⊤ Refused) (todo : Todo)
+    → IsStep number before.packets d reported todo e
+    → (reported ≢ Err TooMany → after ≡ todo_in before.size todo.number todo.what)
+    → (reported ≡ Err TooMany → after ≡ before)
+    → MakesStep number before after d (report_status number reported) e
+makes_step number before after d e (Ok done) todo h takes kept = record {
+  between = h.between;
+  reports = todo_report number before.packets d h.between (Ok done) h.reports;
+  says = λ _. says before.size after h.between e todo h.asks (takes (λ bad. cc bad));
+  kept = λ bad. absurd (omega (arith, bad));
+}
+makes_step number before after d e (Err NotDue) todo h takes kept = record {
+  between = h.between;
+  reports = todo_report number before.packets d h.between (Err NotDue) h.reports;
+  says = λ _. says before.size after h.between e todo h.asks (takes (λ bad. cc bad));
+  kept = λ bad. absurd (not_many number bad);
+}
+makes_step number before after d e (Err TooMany) todo h takes kept = record {
+  between = h.between;
+  reports = todo_report number before.packets d h.between (Err TooMany) h.reports;
+  says = λ bad. absurd (bad refl);
+  kept = λ _. (kept refl, refused_keeps number before.packets d e todo h);
+}
+
+-- under number 0 nothing is reported
+pub next_made : (before after : FqTodo) (d : Driver) (n : ℕ) (e : Driver) → 48 ≤ before.size → MakesStep 0 before after d n e
+    → IsDriverNext before after d n e
+next_made before after d n e large h =
+    let none = h.reports.none refl in
+    let ok : n ≡ OK = none.0 in
+    let same : h.between ≡ d = none.1 in
     record {
-      size = (λ bad. absurd (not_bad bad), λ small. absurd (omega (arith, small, large)));
-      reported = λ _. report;
-      kept = λ bad. absurd (not_bad bad);
+      size = (λ bad. absurd (omega (arith, bad, ok)), λ small. absurd (omega (arith, small, large)));
+      status = inl ok;
+      says = λ _. subst (λ (b : Driver). Says before.size b after e) same (h.says (λ bad. absurd (omega (arith, bad, ok))));
+      kept = λ bad. absurd (omega (arith, bad, ok));
     }
 
+not_bad_size : (n : ℕ) → (n ≡ OK) ⊎ (n ≡ NOT_DUE) ⊎ (n ≡ BAD_WORK) → n ≡ BAD_SIZE → ⊥
+not_bad_size n (inl is) bad = absurd (omega (arith, is, bad))
+not_bad_size n (inr (inl is)) bad = absurd (omega (arith, is, bad))
+not_bad_size n (inr (inr is)) bad = absurd (omega (arith, is, bad))
+
 step_status : (n : ℕ) → (n ≡ OK) ⊎ (n ≡ NOT_DUE) ⊎ (n ≡ BAD_WORK) → (n ≡ OK) ⊎ (n ≡ NOT_DUE) ⊎ (n ≡ BAD_WORK) ⊎ (n ≡ BAD_SIZE)
-step_status n h = grind arith
+step_status n (inl is) = inl is
+step_status n (inr (inl is)) = inr (inl is)
+step_status n (inr (inr is)) = inr (inr (inl is))
+
+pub step_made : (before after : FqTodo) (d : Driver) (n : ℕ) (e : Driver) → 48 ≤ before.size → MakesStep before.number before after d n e
+    → IsDriverStep before after d n e
+step_made before after d n e large h =
+    let good = not_bad_size n h.reports.status in
+    record {
+      between = h.between;
+      reports = record {
+        size = (λ bad. absurd (good bad), λ small. absurd (omega (arith, small, large)));
+        reported = λ _. h.reports;
+        kept = λ bad. absurd (good bad);
+      };
+      asks = λ _ other. record {
+        size = (λ bad. absurd (omega (arith, bad)), λ small. absurd (omega (arith, small, large)));
+        status = inl refl;
+        says = λ _. h.says other;
+        kept = λ bad. absurd (omega (arith, bad));
+      };
+      status = step_status n h.reports.status;
+      kept = λ bad. elim bad [ inl small ↦ absurd (good small) | inr many ↦ h.kept many ];
+    }
 
 -- the struct is too small
 pub step_short : (before : FqTodo) (d : Driver) → before.size < 48 → IsDriverStep before before d BAD_SIZE d
@@ -95,51 +156,6 @@ step_short before d small = record {
   between = d;
   reports = record { size = (λ _. small, λ _. refl); reported = λ other. absurd (other refl); kept = λ _. refl };
   asks = λ other. absurd (other refl);
-  status = search rules;
+  status = inr (inr (inr refl));
   kept = λ _. (refl, refl);
 }
-
--- the report took too many packets
-pub step_refused : (before : FqTodo) (d e : Driver) (reported : Result ⊤ Refused) (todo : Todo) → 48 ≤ before.size
-    → IsStep before.number before.packets d reported todo e → report_status before.number reported ≡ BAD_WORK
-    → IsDriverStep before before d (report_status before.number reported) e
-step_refused before d e reported todo large h bad =
-    let done = step_done before d h.between reported large h.reports in
-    record {
-      between = h.between;
-      reports = done;
-      asks = λ _ other. absurd (other bad);
-      status = step_status (report_status before.number reported) (todo_report before.number before.packets d h.between reported h.reports).status;
-      kept = λ _. (refl, refused_same before.number before.packets d e reported todo h bad);
-    }
-
--- the next action is asked for
-pub step_made : (before after : FqTodo) (d e : Driver) (reported : Result ⊤ Refused) (todo : Todo) → 48 ≤ before.size
-    → IsStep before.number before.packets d reported todo e → report_status before.number reported ≢ BAD_WORK
-    → after ≡ todo_in before.size todo.number todo.what
-    → IsDriverStep before after d (report_status before.number reported) e
-step_made before after d e reported todo large h good is =
-    let done = step_done before d h.between reported large h.reports in
-    let next = h.asks in
-    let says : Says before.size h.between after e = rw is (record {
-      what = todo.what;
-      said = refl;
-      due = next.due;
-      number = next.number;
-      again = next.again;
-      devices = next.devices;
-      counts = next.counts;
-    }) in
-    let not_bad = not_bad_size (report_status before.number reported) (todo_report before.number before.packets d h.between reported h.reports).status in
-    record {
-      between = h.between;
-      reports = done;
-      asks = λ _ _. record {
-        size = (λ bad. cc, λ small. absurd (omega (arith, small, large)));
-        status = search rules;
-        says = λ _. says;
-        kept = λ bad. cc;
-      };
-      status = step_status (report_status before.number reported) (todo_report before.number before.packets d h.between reported h.reports).status;
-      kept = λ bad. elim bad [ inl small ↦ absurd (not_bad small) | inr many ↦ absurd (good many) ];
-    }

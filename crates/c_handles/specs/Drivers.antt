@@ -105,6 +105,14 @@ pub record IsDriverDone (todo : FqTodo) (d : Driver) (n : ℕ) (e : Driver) : Ty
   pub reported : n ≢ BAD_SIZE → IsTodoReport todo.number todo.packets d n e
   pub kept : n ≡ BAD_SIZE → e ≡ d
 
+-- A report under this number, unless it is 0, and then the next action is asked for: the struct was `before`, and is `after`. After a
+-- report of too many packets nothing is asked for.
+pub record MakesStep (number : ℕ) (before after : FqTodo) (d : Driver) (n : ℕ) (e : Driver) : Type 0 where
+  pub between : Driver
+  pub reports : IsTodoReport number before.packets d n between
+  pub says : n ≢ BAD_WORK → Says before.size between after e
+  pub kept : n ≡ BAD_WORK → (after ≡ before) × (e ≡ d)
+
 -- The action in the struct is reported as done, unless its number is 0, and then the next one is asked for; the driver in between
 -- is what the report leaves. After a report of too many packets nothing is asked for.
 pub record IsDriverStep (before after : FqTodo) (d : Driver) (n : ℕ) (e : Driver) : Type 0 where
