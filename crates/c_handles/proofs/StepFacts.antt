@@ -1,10 +1,13 @@
 -- The status of a report, and what it means.
 use Rattle.std.specs.Prelude.{⊤}
-use Rattle.std.proofs.Common.{◌≡◌, ◌≢◌, ◌⊎◌, ◌∙◌, ◌<◌, ◌≤◌, inl, inr, ℕ, true, false, is_some, Option, Result, Ok, Err, refl, sym, ap, subst, arith, rules}
+use Rattle.std.proofs.Common.{◌≡◌, ◌≢◌, ◌⊎◌, ◌∙◌, ◌<◌, ◌≤◌, inl, inr, ℕ, true, false, is_some, Option, Result, Ok, Err, refl, sym, ap}
+use Rattle.std.proofs.Common.{subst, arith, rules}
 use Rattle.std.proofs.lemmas.Bool.Decides.{eqb_tells}
-use Rattle.driver_core.specs.{Driver.{AwaitsNothing, IsDone, IsNext, IsStep, polled_device}, declared.{driver.Driver.Driver, todo.Todo.Todo}}
+use Rattle.driver_core.specs.Driver.{AsksNext, AwaitsNothing, IsDone, IsStep, polled_device}
+use Rattle.driver_core.specs.declared.{driver.Driver.Driver, todo.Todo.Todo}
 use Rattle.driver_core.specs.declared.todo.Refused.{Refused, TheVariants.{NotDue, TooMany}}
-use Rattle.c_handles.specs.{Drivers.{IsDriverNext, IsDriverStep, IsTodoReport, MakesStep, Says, report_status, todo_in}, declared.drive.FqTodo.FqTodo}
+use Rattle.c_handles.specs.Drivers.{IsDriverNext, IsDriverStep, IsTodoReport, MakesStep, Says, report_status, todo_in}
+use Rattle.c_handles.specs.declared.drive.FqTodo.{FqTodo}
 use Rattle.c_handles.specs.Status.{OK, NOT_DUE, BAD_SIZE, BAD_WORK}
 
 -- no report is due under number 0
@@ -31,21 +34,21 @@ todo_report number packets d e (Err TooMany) h = record {
 }
 todo_report number packets d e (Err NotDue) h = elim (eqb_tells number 0) [
   | inl is ↦ rw is.0 (record {
-      none = λ _. (refl, h.err);
-      due = λ other. absurd (other is.1);
-      reports = λ other. absurd (other is.1);
-      many = λ other. absurd (other is.1);
-      status = search rules;
-      kept = λ _. h.err;
-    })
+    none = λ _. (refl, h.err);
+    due = λ other. absurd (other is.1);
+    reports = λ other. absurd (other is.1);
+    many = λ other. absurd (other is.1);
+    status = search rules;
+    kept = λ _. h.err;
+  })
   | inr is ↦ rw is.0 (record {
-      none = λ zero. absurd (is.1 zero);
-      due = λ _. (λ bad. cc, λ report. cc (h.when.1 report));
-      reports = λ _ bad. cc;
-      many = λ _ _. (λ bad. cc, λ due. cc (h.many.1 due));
-      status = search rules;
-      kept = λ _. h.err;
-    })
+    none = λ zero. absurd (is.1 zero);
+    due = λ _. (λ bad. cc, λ report. cc (h.when.1 report));
+    reports = λ _ bad. cc;
+    many = λ _ _. (λ bad. cc, λ due. cc (h.many.1 due));
+    status = search rules;
+    kept = λ _. h.err;
+  })
 ]
 
 -- ---- a step
@@ -69,7 +72,7 @@ not_many number bad = elim (eqb_tells number 0) [
   | inr is ↦ let no : NOT_DUE ≡ BAD_WORK = rw is.0 at bad in absurd (omega (arith, no))
 ]
 
-says : (size : ℕ) (after : FqTodo) (b e : Driver) (todo : Todo) → IsNext b todo e → after ≡ todo_in size todo.number todo.what
+says : (size : ℕ) (after : FqTodo) (b e : Driver) (todo : Todo) → AsksNext b todo e → after ≡ todo_in size todo.number todo.what
     → Says size b after e
 says size after b e todo next is = rw is (record {
   what = todo.what;

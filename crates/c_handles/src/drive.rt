@@ -126,7 +126,13 @@ fn report_status(number: u64, reported: Result<(), Refused>) -> u32
     match reported {
         Ok(()) => status::OK,
         Err(Refused::TooMany) => status::BAD_WORK,
-        Err(Refused::NotDue) => { if number == 0 { status::OK } else { status::NOT_DUE } }
+        Err(Refused::NotDue) => {
+            if number == 0 {
+                status::OK
+            } else {
+                status::NOT_DUE
+            }
+        }
     }
 }
 

@@ -174,7 +174,7 @@ pub record IsDone (number packets : ℕ) (before : Driver) (reported : Result �
   pub many : IfErr reported (λ why. (why ≡ TooMany) ↔ ((number ≡ said_number_of before) × IsSome (polled_device before)))
 
 -- what the driver asks for next, as of `Driver::next`
-pub record IsNext (before : Driver) (todo : Todo) (after : Driver) : Type 0 where
+pub record AsksNext (before : Driver) (todo : Todo) (after : Driver) : Type 0 where
   pub due : IsDue after todo.what
   pub number : AwaitsNothing before → IsNumberedTodo (said_number_of before) (said_number_of after) todo
   pub again : ¬ AwaitsNothing before → (after ≡ before) × (todo.number ≡ said_number_of before)
@@ -192,4 +192,4 @@ pub record IsNext (before : Driver) (todo : Todo) (after : Driver) : Type 0 wher
 pub record IsStep (number packets : ℕ) (before : Driver) (reported : Result ⊤ Refused) (todo : Todo) (after : Driver) : Type 0 where
   pub between : Driver
   pub reports : IsDone number packets before reported between
-  pub asks : IsNext between todo after
+  pub asks : AsksNext between todo after

@@ -285,19 +285,23 @@ impl Driver {
             → IsDriverReport (driver_limits self.old) start polls self.new report }
         ensures takes { P.takes place.old result place.new }
     {
-        let Some(device) = self.run.next(&mut self.list) else {
-            self.runs = false;
-            let ended = Todo {
-                number: 0,
-                what: What::Ended(self.run.finish(&mut self.list)),
-            };
-            place.put(ended);
-            return ended;
-        };
-        self.number = following(self.number);
-        let fetch = self.todo(What::Fetch(device, self.limits.weight));
-        place.put(fetch);
-        fetch
+        match self.run.next(&mut self.list) {
+            Some(device) => {
+                self.number = following(self.number);
+                let fetch = self.todo(What::Fetch(device, self.limits.weight));
+                place.put(fetch);
+                fetch
+            }
+            None => {
+                self.runs = false;
+                let ended = Todo {
+                    number: 0,
+                    what: What::Ended(self.run.finish(&mut self.list)),
+                };
+                place.put(ended);
+                ended
+            }
+        }
     }
 
     // Returns this action, under the number of the action returned last.

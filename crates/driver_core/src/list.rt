@@ -51,7 +51,10 @@ impl DriverList {
         let mut all = SoftList::new();
         self.splice(&mut all);
         all.put_before(rest);
-        self.first = all.pop_front();
+        let Some(id) = all.pop_front() else {
+            return;
+        };
+        self.first = Some(id);
         self.more = all;
     }
 

@@ -1,4 +1,4 @@
-use Rattle.std.proofs.Common.{◌∙◌}
+use Rattle.std.proofs.Common.{◌≡◌, ◌∙◌}
 use Rattle.driver_core.proofs.QueueFacts.{advance_keeps}
 use Rattle.driver_core.proofs.driver.Driver.advance_into.Goals as goal
 
@@ -19,3 +19,16 @@ invariant_of-self-clause-pace g c =
       weight = c.next.ensures.settings.weight ∙ same.weight;
       window = c.next.ensures.settings.window ∙ same.window;
     }
+
+pub returns-in-None-clause-ended : goal.returns-in-None-clause-ended
+returns-in-None-clause-ended g c =
+    let self = c.args.self.now in
+    let same = self.pace c.requires.runs in
+    λ start polls report is running.
+    let run =
+    c.finish.ensures.run start polls (c.next.ensures.going start polls running.1)
+    (c.next.ensures.over start polls c.in-None.is running.1) in
+    let this : c.finish.result ≡ report = cc in
+    let budget : c.next.new.self.budget ≡ self.limits.budget = c.next.ensures.settings.budget ∙ same.budget in
+    let window : c.next.new.self.window ≡ self.limits.window = c.next.ensures.settings.window ∙ same.window in
+    rw (← this, ← budget, ← window) run

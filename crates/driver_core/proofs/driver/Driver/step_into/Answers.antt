@@ -42,7 +42,7 @@ returns-in-Err-NotDue-clause-steps g c =
         len = done.len;
         going = done.going;
         err = done.err;
-        many = done.many;
+        many = rw c.in-Err-NotDue.field-0-is at done.many;
       };
       asks = record {
         due = next.due;
@@ -71,7 +71,7 @@ returns-in-Err-TooMany-clause-steps g c =
         len = done.len;
         going = done.going;
         err = done.err;
-        many = done.many;
+        many = rw c.in-Err-TooMany.field-0-is at done.many;
       };
       asks = record {
         due = next.due;
