@@ -1,9 +1,9 @@
 -- The status of a report, and what it means.
-use Rattle.std.specs.Prelude.{⊤}
-use Rattle.std.proofs.Common.{◌≡◌, ◌≢◌, ◌⊎◌, ◌∙◌, ◌<◌, ◌≤◌, inl, inr, ℕ, true, false, is_some, Option, Result, Ok, Err, refl, sym, ap}
-use Rattle.std.proofs.Common.{subst, arith, rules}
+use Rattle.std.specs.Prelude.{⊤, IsSome, if◌then◌else◌}
+use Rattle.std.proofs.Common.{◌≡◌, ◌≢◌, ◌⊎◌, ◌∙◌, ◌<◌, ◌≤◌, inl, inr, ℕ, Bool, true, false, is_some, Option, Result, Ok, Err, refl}
+use Rattle.std.proofs.Common.{sym, ap, subst, arith}
 use Rattle.std.proofs.lemmas.Bool.Decides.{eqb_tells}
-use Rattle.driver_core.specs.Driver.{AsksNext, AwaitsNothing, IsDone, IsStep, polled_device}
+use Rattle.driver_core.specs.Driver.{AsksNext, AwaitsNothing, IsDone, IsReport, IsStep, Reports, polled_device, said_number_of}
 use Rattle.driver_core.specs.declared.{driver.Driver.Driver, todo.Todo.Todo}
 use Rattle.driver_core.specs.declared.todo.Refused.{Refused, TheVariants.{NotDue, TooMany}}
 use Rattle.c_handles.specs.Drivers.{IsDriverNext, IsDriverStep, IsTodoReport, MakesStep, Says, report_status, todo_in}
@@ -14,42 +14,72 @@ use Rattle.c_handles.specs.Status.{OK, NOT_DUE, BAD_SIZE, BAD_WORK}
 not_zero : (number : ℕ) (d : Driver) → number ≡ 0 → number ≡ d.number → ⊥
 not_zero number d zero is = omega (arith, zero, is, d.numbers)
 
-pub todo_report : (number packets : ℕ) (d e : Driver) (reported : Result ⊤ Refused) → IsDone number packets d reported e
-    → IsTodoReport number packets d (report_status number reported) e
-todo_report number packets d e (Ok done) h = record {
-  none = λ zero. absurd (not_zero number d zero (h.when.0 refl).0);
-  due = λ _. (λ _. h.when.0 refl, λ _. refl);
-  reports = λ _ _. (h.ok, h.free);
+report_none : (number packets : ℕ) (d e : Driver) → number ≡ 0 → e ≡ d → IsTodoReport number packets d OK e
+report_none number packets d e zero same = record {
+  none = λ _. (refl, same);
+  due = λ other. absurd (other zero);
+  reports = λ other. absurd (other zero);
+  many = λ other. absurd (other zero);
+  status = inl refl;
+  kept = λ _. same;
+}
+
+report_ok : (number packets : ℕ) (d e : Driver) → IsReport number packets d → Reports packets d e → AwaitsNothing e
+    → IsTodoReport number packets d OK e
+report_ok number packets d e report reports free = record {
+  none = λ zero. absurd (not_zero number d zero report.0);
+  due = λ _. (λ _. report, λ _. refl);
+  reports = λ _ _. (reports, free);
   many = λ _ bad. absurd (bad refl);
-  status = search rules;
+  status = inl refl;
   kept = λ bad. absurd (bad refl);
 }
-todo_report number packets d e (Err TooMany) h = record {
-  none = λ zero. absurd (not_zero number d zero (h.many.0 refl).0);
-  due = λ _. (λ bad. cc, λ report. cc (h.when.1 report));
-  reports = λ _ bad. cc;
-  many = λ _ _. (λ _. h.many.0 refl, λ _. refl);
-  status = search rules;
-  kept = λ _. h.err;
+
+report_late : (number packets : ℕ) (d e : Driver) → number ≢ 0 → ¬ IsReport number packets d
+    → ¬ ((number ≡ said_number_of d) × IsSome (polled_device d)) → e ≡ d → IsTodoReport number packets d NOT_DUE e
+report_late number packets d e some late few same = record {
+  none = λ zero. absurd (some zero);
+  due = λ _. (λ bad. absurd (omega (arith, bad)), λ report. absurd (late report));
+  reports = λ _ bad. absurd (omega (arith, bad));
+  many = λ _ _. (λ bad. absurd (omega (arith, bad)), λ many. absurd (few many));
+  status = inr (inl refl);
+  kept = λ _. same;
 }
-todo_report number packets d e (Err NotDue) h = elim (eqb_tells number 0) [
-  | inl is ↦ rw is.0 (record {
-    none = λ _. (refl, h.err);
-    due = λ other. absurd (other is.1);
-    reports = λ other. absurd (other is.1);
-    many = λ other. absurd (other is.1);
-    status = search rules;
-    kept = λ _. h.err;
-  })
-  | inr is ↦ rw is.0 (record {
-    none = λ zero. absurd (is.1 zero);
-    due = λ _. (λ bad. cc, λ report. cc (h.when.1 report));
-    reports = λ _ bad. cc;
-    many = λ _ _. (λ bad. cc, λ due. cc (h.many.1 due));
-    status = search rules;
-    kept = λ _. h.err;
-  })
-]
+
+report_many : (number packets : ℕ) (d e : Driver) → ¬ IsReport number packets d
+    → (number ≡ said_number_of d) × IsSome (polled_device d) → e ≡ d → IsTodoReport number packets d BAD_WORK e
+report_many number packets d e late many same = record {
+  none = λ zero. absurd (not_zero number d zero many.0);
+  due = λ _. (λ bad. absurd (omega (arith, bad)), λ report. absurd (late report));
+  reports = λ _ bad. absurd (omega (arith, bad));
+  many = λ _ _. (λ _. many, λ _. refl);
+  status = inr (inr refl);
+  kept = λ _. same;
+}
+
+late_report : (number packets : ℕ) (d e : Driver) → ¬ IsReport number packets d
+    → ¬ ((number ≡ said_number_of d) × IsSome (polled_device d)) → e ≡ d
+    → IsTodoReport number packets d (report_status number (Err NotDue)) e
+late_report number packets d e late few same =
+    let P : Bool → Type 0 = λ b. IsTodoReport number packets d (if b then OK else NOT_DUE) e in
+    elim (eqb_tells number 0) [
+      | inl is ↦ subst P (sym is.0) (report_none number packets d e is.1 same)
+      | inr is ↦ subst P (sym is.0) (report_late number packets d e is.1 late few same)
+    ]
+
+no_report : (number packets : ℕ) (d e : Driver) (why : Refused) → IsDone number packets d (Err why) e → ¬ IsReport number packets d
+no_report number packets d e why h report = let bad : false ≡ true = h.when.1 report in cc bad
+
+not_due : NotDue ≡ TooMany → ⊥
+not_due bad = cc bad
+
+pub todo_report : (number packets : ℕ) (d e : Driver) (reported : Result ⊤ Refused) → IsDone number packets d reported e
+    → IsTodoReport number packets d (report_status number reported) e
+todo_report number packets d e (Ok done) h = report_ok number packets d e (h.when.0 refl) h.ok h.free
+todo_report number packets d e (Err TooMany) h =
+    report_many number packets d e (no_report number packets d e TooMany h) (h.many.0 refl) h.err
+todo_report number packets d e (Err NotDue) h =
+    late_report number packets d e (no_report number packets d e NotDue h) (λ many. not_due (h.many.1 many)) h.err
 
 -- ---- a step
 
@@ -84,29 +114,39 @@ says size after b e todo next is = rw is (record {
   counts = next.counts;
 })
 
+step_says : (number : ℕ) (before after : FqTodo) (d e : Driver) (reported : Result ⊤ Refused) (todo : Todo)
+    → IsStep number before.packets d reported todo e → report_status number reported ≢ BAD_WORK
+    → after ≡ todo_in before.size todo.number todo.what
+    → MakesStep number before after d (report_status number reported) e
+step_says number before after d e reported todo h good is = record {
+  between = h.between;
+  reports = todo_report number before.packets d h.between reported h.reports;
+  says = λ _. says before.size after h.between e todo h.asks is;
+  kept = λ bad. absurd (good bad);
+}
+
+step_many : (number : ℕ) (before after : FqTodo) (d e : Driver) (todo : Todo) → IsStep number before.packets d (Err TooMany) todo e
+    → after ≡ before → MakesStep number before after d BAD_WORK e
+step_many number before after d e todo h same = record {
+  between = h.between;
+  reports = todo_report number before.packets d h.between (Err TooMany) h.reports;
+  says = λ bad. absurd (bad refl);
+  kept = λ _. (same, refused_keeps number before.packets d e todo h);
+}
+
+done_good : OK ≡ BAD_WORK → ⊥
+done_good bad = omega (arith, bad)
+
 pub makes_step : (number : ℕ) (before after : FqTodo) (d e : Driver) (reported : Result ⊤ Refused) (todo : Todo)
     → IsStep number before.packets d reported todo e
     → (reported ≢ Err TooMany → after ≡ todo_in before.size todo.number todo.what)
     → (reported ≡ Err TooMany → after ≡ before)
     → MakesStep number before after d (report_status number reported) e
-makes_step number before after d e (Ok done) todo h takes kept = record {
-  between = h.between;
-  reports = todo_report number before.packets d h.between (Ok done) h.reports;
-  says = λ _. says before.size after h.between e todo h.asks (takes (λ bad. cc bad));
-  kept = λ bad. absurd (omega (arith, bad));
-}
-makes_step number before after d e (Err NotDue) todo h takes kept = record {
-  between = h.between;
-  reports = todo_report number before.packets d h.between (Err NotDue) h.reports;
-  says = λ _. says before.size after h.between e todo h.asks (takes (λ bad. cc bad));
-  kept = λ bad. absurd (not_many number bad);
-}
-makes_step number before after d e (Err TooMany) todo h takes kept = record {
-  between = h.between;
-  reports = todo_report number before.packets d h.between (Err TooMany) h.reports;
-  says = λ bad. absurd (bad refl);
-  kept = λ _. (kept refl, refused_keeps number before.packets d e todo h);
-}
+makes_step number before after d e (Ok done) todo h takes kept =
+    step_says number before after d e (Ok done) todo h done_good (takes (λ bad. cc bad))
+makes_step number before after d e (Err NotDue) todo h takes kept =
+    step_says number before after d e (Err NotDue) todo h (not_many number) (takes (λ bad. cc bad))
+makes_step number before after d e (Err TooMany) todo h takes kept = step_many number before after d e todo h (kept refl)
 
 -- under number 0 nothing is reported
 pub next_made : (before after : FqTodo) (d : Driver) (n : ℕ) (e : Driver) → 48 ≤ before.size → MakesStep 0 before after d n e

@@ -2,8 +2,8 @@ use Rattle.std.proofs.Common.{arith}
 use Rattle.c_handles.proofs.StepFacts.{step_made, step_short}
 use Rattle.c_handles.proofs.drive.step.Goals as goal
 
-pub returns-then-todo-size : goal.returns-then-todo-size
-returns-then-todo-size c = step_short c.args.todo.now c.args.driver.now (omega arith)
+pub returns-then-todo-lt48 : goal.returns-then-todo-lt48
+returns-then-todo-lt48 c = step_short c.args.todo.now c.args.driver.now (omega arith)
 
 pub returns : goal.returns
 returns c =
