@@ -156,9 +156,8 @@ pub fn done(driver: &mut Driver, todo: &FqTodo) -> u32
     report(driver, todo.number, todo.packets)
 }
 
-// Reports the action with this number, unless it is 0, and sets `todo` to the next one. One function makes all steps, because it
-// is long.
-#[inline(never)]
+// Reports the action with this number, unless it is 0, and sets `todo` to the next one.
+#[inline(always)]
 fn make_step(driver: &mut Driver, number: u64, todo: &mut FqTodo) -> u32
     ensures { MakesStep number todo.old todo.new driver.old result driver.new }
 {

@@ -93,7 +93,7 @@ impl PollList for DriverList {
         self.first = Some(id);
     }
 
-    #[inline(always)]
+    #[inline(never)]
     fn splice(&mut self, to: &mut SoftList) -> usize {
         let Some(id) = self.first else {
             return 0;
