@@ -1,9 +1,12 @@
 -- A new shared instance, as its handles show it.
-use Rattle.std.specs.{Prelude.{◌≡◌, true, List, Option, Some, None}, Arc.arc_value, List.All}
-use Rattle.c_handles.specs.{Freeing.is_control_off, Handles.{IsCallerWith, LeadsToController}, Seats.IsResting}
-use Rattle.c_handles.specs.declared.{body.Object.Object, handle.FqHandle.FqHandle}
-use Rattle.napi_calls.specs.{Instance.first_of_instance, declared.types.Napi.Napi}
+use Rattle.std.specs.{Prelude.{◌≡◌, true, false, List, [], None}, Arc.arc_value, List.All}
+use Rattle.c_handles.specs.{Answers.no_answers, Endings.LeadsToSeat, Freeing.is_control_off, SeatCalls.RestsWith, Seats.IsResting}
+use Rattle.c_handles.specs.{Handles.LeadsToController}
+use Rattle.c_handles.specs.declared.{handle.FqHandle.FqHandle, power.ControlState.ControlState, seat.CallerObject.CallerObject}
+use Rattle.napi_model.specs.declared.{event.Event.Event, state.State.State}
+use Rattle.napi_calls.specs.{Instance.first_of_instance, Seats.{own_list, state_shown}, declared.types.Napi.Napi}
 use Rattle.rx_ring.specs.declared.ends.RxCtx.{RxCtx}
+use Rattle.c_handles.specs.declared.power.ControlState.TheVariants as power
 
 -- the handle has no object
 abbrev pub IsFree : FqHandle → Type 0
@@ -12,13 +15,9 @@ IsFree handle = handle.held.body ≡ None
 abbrev pub AreFree : List FqHandle → Type 0
 AreFree handles = All IsFree handles
 
-abbrev pub LeadsToRestingBody : Napi → Option Object → Type 0
-LeadsToRestingBody n None = ⊥
-LeadsToRestingBody n (Some x) = IsCallerWith (λ s. ((arc_value s.napi).napi ≡ n) × IsResting s.hold) x
-
 -- the handle has a caller of this instance, which owns nothing and isn't in a call
 abbrev pub LeadsToRestingSeat : Napi → FqHandle → Type 0
-LeadsToRestingSeat n handle = LeadsToRestingBody n handle.held.body
+LeadsToRestingSeat n handle = LeadsToSeat (λ s. ((arc_value s.napi).napi ≡ n) × IsResting s.hold) handle.held.body
 
 -- the first handle has the controller of a disabled instance, and each other handle one of its callers
 abbrev pub AreOfOne : FqHandle → List FqHandle → Type 0
@@ -29,3 +28,38 @@ AreOfOne control seats = (n : Napi)
 -- the instance was made over this poll context
 abbrev pub IsInstanceOver : RxCtx → FqHandle → Type 0
 IsInstanceOver ctx control = LeadsToController (λ c. first_of_instance (arc_value c.napi).napi ≡ ctx) control.held.body
+
+-- ---- no call was made yet
+
+-- the handle has a caller whose counts of results are 0
+abbrev pub LeadsToFreshSeat : FqHandle → Type 0
+LeadsToFreshSeat handle = LeadsToSeat (λ s. s.answers ≡ no_answers) handle.held.body
+
+abbrev pub AreFresh : List FqHandle → Type 0
+AreFresh seats = All LeadsToFreshSeat seats
+
+-- a caller, or the controller, made no operation, and in the state that it knows the instance isn't threaded
+pub record IsUnthreaded (operations : List Event) (seen : State) : Type 0 where
+  pub nothing_made : operations ≡ []
+  pub not_threaded : seen.flags.threaded ≡ false
+
+abbrev pub LeadsToUnthreadedSeat : FqHandle → Type 0
+LeadsToUnthreadedSeat handle = LeadsToSeat (λ s. RestsWith (λ p. IsUnthreaded (own_list p) (state_shown p)) s.hold) handle.held.body
+
+abbrev pub IsOffUnthreaded : ControlState → Type 0
+IsOffUnthreaded (power.Off c) = IsUnthreaded (own_list c.pass) (state_shown c.pass)
+IsOffUnthreaded _ = ⊥
+
+-- the controller and the callers made no operation on the instance yet, and it isn't threaded
+abbrev pub AreUnthreaded : FqHandle → List FqHandle → Type 0
+AreUnthreaded control seats = LeadsToController (λ c. IsOffUnthreaded c.power) control.held.body × All LeadsToUnthreadedSeat seats
+
+-- a new caller of this instance: it owns nothing, and no call was made on it
+pub record IsNewCaller (n : Napi) (s : CallerObject) : Type 0 where
+  pub instance : (arc_value s.napi).napi ≡ n
+  pub rests : IsResting s.hold
+  pub fresh : s.answers ≡ no_answers
+  pub unthreaded : RestsWith (λ p. IsUnthreaded (own_list p) (state_shown p)) s.hold
+
+abbrev pub LeadsToNewSeat : Napi → FqHandle → Type 0
+LeadsToNewSeat n handle = LeadsToSeat (IsNewCaller n) handle.held.body

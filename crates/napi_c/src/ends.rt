@@ -1,5 +1,5 @@
 //! The two ends of a receive ring without an instance, and the counts of a ring.
-ghost use Rattle.std.specs.Prelude.{◌≡◌, ◌≢◌, ◌↔◌, Some, None, IsNone, IsSome};
+ghost use Rattle.std.specs.Prelude.{◌≡◌, ◌≢◌, ◌↔◌, false, Some, None, IsNone, IsSome};
 ghost use Rattle.rx_ring.specs.declared.packet.RxCounts.{RxCounts};
 ghost use Rattle.rx_ring.specs.ReceiveRing.{IsInOrder, totals_of};
 ghost use Rattle.rx_ring.specs.Ends.{ring_of};
@@ -10,6 +10,7 @@ ghost use Rattle.c_handles.specs.Inputs.{shown_of};
 ghost use Rattle.c_handles.specs.Rings.{LeadsTo, HasInput, LeadsToItsInput, CountsAre, ring_counts_in};
 ghost use Rattle.c_handles.specs.Status.{OK, NOT_ALLOWED, BAD_HANDLE, IN_USE, OUT_OF_MEMORY};
 ghost use Rattle.napi_c.specs.Counts.{counts_for_c, totalled};
+ghost use Rattle.napi_c.specs.Objects.{has_counts, has_input, is_ring, LeadsToOther};
 
 use crate::counts::{FqCounts, FqTotals};
 use c_handles::{FqHandle, FqRingShown, Object, Ring, status};
@@ -28,6 +29,8 @@ pub extern "C" fn fq_ring_split(alloc: Global, ring: &mut FqHandle, ctx: &mut Fq
     ensures in_use { (result ≡ IN_USE) ↔ IsSome ctx.old.held.body }
     ensures refused { (r : Ring) → LeadsTo ring.old r → result ≢ OK → result ≢ IN_USE
         → result ≡ OUT_OF_MEMORY }
+    ensures other { LeadsToOther is_ring ring.old → IsNone ctx.old.held.body
+        → result ≡ BAD_HANDLE }
 {
     if ctx.is_set() {
         return status::IN_USE;
@@ -62,6 +65,7 @@ pub extern "C" fn fq_ring_finish(alloc: Global, ring: &mut FqHandle, totals: &mu
         × (totals.new ≡ totalled (totals_of (ring_of r.input.end r.ctx))) }
     ensures order { (r : Ring) → LeadsTo ring.old r → IsInOrder (ring_of r.input.end r.ctx) }
     ensures left { result ≡ OK → ring.new.held.body ≡ None }
+    ensures other { LeadsToOther is_ring ring.old → result ≡ BAD_HANDLE }
     ensures kept { result ≢ OK → (ring.new.held.body ≡ ring.old.held.body)
         × (totals.new ≡ totals.old) × (result ≡ BAD_HANDLE) }
 {
@@ -102,6 +106,8 @@ pub extern "C" fn fq_count(alloc: Global, handle: &mut FqHandle, counts: &mut Fq
         × (counts.new ≡ counts_for_c c) }
     ensures kept { result ≢ OK → counts.new ≡ counts.old }
     ensures bad { (result ≡ BAD_HANDLE) ↔ IsNone handle.old.held.body }
+    ensures other { LeadsToOther has_counts handle.old → IsSome handle.old.held.body
+        → result ≡ NOT_ALLOWED }
     ensures refused { result ≢ OK → result ≢ BAD_HANDLE → result ≡ NOT_ALLOWED }
     ensures same { handle.new.held.body ≡ handle.old.held.body }
 {
@@ -122,6 +128,7 @@ pub extern "C" fn fq_count(alloc: Global, handle: &mut FqHandle, counts: &mut Fq
 fn shown_in(at: &Object, shown: &mut FqRingShown) -> u32
     ensures shown { (i : RingInput) → HasInput i at.now → (result ≡ OK)
         × (shown.new ≡ shown_of i.end) }
+    ensures other { has_input at.now ≡ false → result ≡ BAD_HANDLE }
     ensures kept { result ≢ OK → (shown.new ≡ shown.old) × (result ≡ BAD_HANDLE) }
 {
     match at {
@@ -137,6 +144,7 @@ fn shown_in(at: &Object, shown: &mut FqRingShown) -> u32
 pub extern "C" fn fq_ring_show(alloc: Global, handle: &mut FqHandle, shown: &mut FqRingShown) -> u32
     ensures shown { (i : RingInput) → LeadsToItsInput i handle.old.held.body → (result ≡ OK)
         × (shown.new ≡ shown_of i.end) }
+    ensures other { LeadsToOther has_input handle.old → result ≡ BAD_HANDLE }
     ensures kept { result ≢ OK → (shown.new ≡ shown.old) × (result ≡ BAD_HANDLE) }
     ensures same { handle.new.held.body ≡ handle.old.held.body }
 {

@@ -1,13 +1,15 @@
 //! Receive rings for C, with both ends in one handle.
-ghost use Rattle.std.specs.Prelude.{◌≡◌, ◌≢◌, ◌<◌, ◌≤◌, ◌-◌, ◌⊎◌, ◌↔◌, [], ◌∷◌, length, take, min, Some, IsNone, IsSome};
+ghost use Rattle.std.specs.Prelude.{◌≡◌, ◌≢◌, ◌<◌, ◌≤◌, ◌-◌, ◌⊎◌, ◌↔◌, [], ◌∷◌, length, take, min, true, false, Some, IsNone, IsSome};
 ghost use Rattle.rx_ring.specs.ReceiveRing.{most_rx_places};
 ghost use Rattle.rx_ring.specs.Ends.{put_list, capacity_of, GivesNext};
 ghost use Rattle.rx_ring.specs.declared.ends.RxCtx.{RxCtx};
 ghost use Rattle.c_handles.specs.declared.body.Ring.{Ring};
 ghost use Rattle.c_handles.specs.declared.input.RingInput.{RingInput};
 ghost use Rattle.c_handles.specs.declared.body.Object.TheVariants as variant;
-ghost use Rattle.c_handles.specs.Status.{OK, BAD_HANDLE, IN_USE, OUT_OF_MEMORY, BAD_CAPACITY, BAD_WEIGHT, NO_ROOM};
-ghost use Rattle.c_handles.specs.Rings.{HasInput, LeadsTo, LeadsToItsInput, LeadsToRing, IsRingWith, IsInputWith, LeadsToInput, IsCtxWith, LeadsToCtx, IsNewRing, IsAfterPut, IsAfterInput, IsAfterPoll, burst_in, burst_status};
+ghost use Rattle.c_handles.specs.Status.{OK, FULL, BAD_HANDLE, IN_USE, OUT_OF_MEMORY, BAD_CAPACITY, BAD_WEIGHT, NO_ROOM};
+ghost use Rattle.c_handles.specs.Rings.{CountsAre, HasInput, LeadsTo, LeadsToItsInput, LeadsToRing, IsRingWith, IsInputWith, LeadsToInput, IsCtxWith, LeadsToCtx, IsNewRing, IsAfterPut, IsAfterInput, IsAfterPoll, burst_in, burst_status};
+ghost use Rattle.napi_c.specs.Counts.{no_polls};
+ghost use Rattle.napi_c.specs.Objects.{has_input, has_poll_end, LeadsToKind, LeadsToOther};
 
 use c_handles::{FqHandle, Object, Ring, RingInput, status};
 use rx_ring::{MAX_WEIGHT, Packet, ring};
@@ -17,6 +19,7 @@ use std::alloc::Global;
 #[unsafe(no_mangle)]
 pub extern "C" fn fq_ring_new(alloc: Global, handle: &mut FqHandle, capacity: usize) -> u32
     ensures made { result ≡ OK → LeadsToRing (IsNewRing capacity) handle.new.held.body }
+    ensures unpolled { result ≡ OK → CountsAre no_polls handle.new.held.body }
     ensures kept { result ≢ OK → handle.new ≡ handle.old }
     ensures in_use { (result ≡ IN_USE) ↔ IsSome handle.old.held.body }
     ensures capacity { (result ≡ BAD_CAPACITY) ↔ (IsNone handle.old.held.body
@@ -51,12 +54,17 @@ pub extern "C" fn fq_ring_put(handle: &mut FqHandle, number: u64, bytes: u32) ->
     ensures ok { (r : Ring) → LeadsTo handle.old r → result ≡ OK
         → LeadsToRing
         (IsAfterPut r (record { number = number; bytes = bytes } ∷ [])) handle.new.held.body }
-    ensures first { (r : Ring) → LeadsTo handle.old r
-        → length (put_list r.input.end) < capacity_of r.input.end → result ≡ OK }
+    ensures first { (i : RingInput) → LeadsToItsInput i handle.old.held.body
+        → length (put_list i.end) < capacity_of i.end → result ≡ OK }
     ensures input { (i : RingInput) → handle.old.held.body ≡ Some (variant.In i) → result ≡ OK
         → LeadsToInput
         (IsAfterInput i (record { number = number; bytes = bytes } ∷ [])) handle.new.held.body }
-    ensures other { ((i : RingInput) → ¬ LeadsToItsInput i handle.old.held.body)
+    ensures full { (r : Ring) → LeadsTo handle.old r → result ≢ OK → (result ≡ FULL)
+        × LeadsToRing (IsAfterPut r []) handle.new.held.body }
+    ensures input_full { (i : RingInput) → handle.old.held.body ≡ Some (variant.In i)
+        → result ≢ OK → (result ≡ FULL)
+        × LeadsToInput (IsAfterInput i []) handle.new.held.body }
+    ensures other { LeadsToOther has_input handle.old
         → (result ≡ BAD_HANDLE) × (handle.new.held.body ≡ handle.old.held.body) }
 {
     if !handle.is_set() {
@@ -68,11 +76,15 @@ pub extern "C" fn fq_ring_put(handle: &mut FqHandle, number: u64, bytes: u32) ->
 fn put_into(body: &mut Object, packet: Packet) -> u32
     ensures ok { (r : Ring) → body.old ≡ variant.Ring r → result ≡ OK
         → IsRingWith (IsAfterPut r (packet ∷ [])) body.new }
-    ensures first { (r : Ring) → body.old ≡ variant.Ring r
-        → length (put_list r.input.end) < capacity_of r.input.end → result ≡ OK }
+    ensures first { (i : RingInput) → HasInput i body.old
+        → length (put_list i.end) < capacity_of i.end → result ≡ OK }
     ensures input { (i : RingInput) → body.old ≡ variant.In i → result ≡ OK
         → IsInputWith (IsAfterInput i (packet ∷ [])) body.new }
-    ensures other { ((i : RingInput) → ¬ HasInput i body.old)
+    ensures full { (r : Ring) → body.old ≡ variant.Ring r → result ≢ OK → (result ≡ FULL)
+        × IsRingWith (IsAfterPut r []) body.new }
+    ensures input_full { (i : RingInput) → body.old ≡ variant.In i → result ≢ OK
+        → (result ≡ FULL) × IsInputWith (IsAfterInput i []) body.new }
+    ensures other { has_input body.old ≡ false
         → (result ≡ BAD_HANDLE) × (body.new ≡ body.old) }
 {
     match body {
@@ -93,9 +105,8 @@ pub extern "C" fn fq_ring_put_all(
         → LeadsToRing (IsAfterPut r (take count.new packets.now)) handle.new.held.body }
     ensures input { (i : RingInput) → handle.old.held.body ≡ Some (variant.In i)
         → LeadsToInput (IsAfterInput i (take count.new packets.now)) handle.new.held.body }
-    ensures first { (r : Ring) → LeadsTo handle.old r
-        → min (length packets.now)
-        (capacity_of r.input.end - length (put_list r.input.end)) ≤ count.new }
+    ensures first { (i : RingInput) → LeadsToItsInput i handle.old.held.body
+        → min (length packets.now) (capacity_of i.end - length (put_list i.end)) ≤ count.new }
     ensures count { count.new ≤ length packets.now }
     ensures status { result ≡ burst_status handle.old.held.body count.new packets.now }
     ensures kept { result ≡ BAD_HANDLE
@@ -114,9 +125,8 @@ fn put_all_into(body: &mut Object, packets: &[Packet], count: &mut usize) -> u32
         → IsRingWith (IsAfterPut r (take count.new packets.now)) body.new }
     ensures input { (i : RingInput) → body.old ≡ variant.In i
         → IsInputWith (IsAfterInput i (take count.new packets.now)) body.new }
-    ensures first { (r : Ring) → body.old ≡ variant.Ring r
-        → min (length packets.now)
-        (capacity_of r.input.end - length (put_list r.input.end)) ≤ count.new }
+    ensures first { (i : RingInput) → HasInput i body.old
+        → min (length packets.now) (capacity_of i.end - length (put_list i.end)) ≤ count.new }
     ensures count { count.new ≤ length packets.now }
     ensures status { result ≡ burst_in body.old count.new packets.now }
     ensures kept { result ≡ BAD_HANDLE → (body.new ≡ body.old) × (count.new ≡ 0) }
@@ -146,6 +156,10 @@ pub extern "C" fn fq_ring_poll(
     ensures context { (c : RxCtx) → handle.old.held.body ≡ Some (variant.Ctx c) → result ≡ OK
         → LeadsToCtx
         (λ d. GivesNext weight c d (take count.new out.new)) handle.new.held.body }
+    ensures there { LeadsToKind has_poll_end handle.old → 1 ≤ weight → weight ≤ 64
+        → weight ≤ length out.old → result ≡ OK }
+    ensures other { LeadsToOther has_poll_end handle.old → 1 ≤ weight → weight ≤ 64
+        → weight ≤ length out.old → result ≡ BAD_HANDLE }
     ensures work { (count.new ≤ weight) × (count.new ≤ length out.new) }
     ensures none { result ≢ OK → (count.new ≡ 0) × (out.new ≡ out.old) }
     ensures kept { result ≢ OK → handle.new.held.body ≡ handle.old.held.body }
@@ -174,6 +188,8 @@ fn poll_into(body: &mut Object, weight: usize, out: &mut [Packet], count: &mut u
         → IsRingWith (IsAfterPoll weight r (take count.new out.new)) body.new }
     ensures context { (c : RxCtx) → body.old ≡ variant.Ctx c → result ≡ OK
         → IsCtxWith (λ d. GivesNext weight c d (take count.new out.new)) body.new }
+    ensures there { has_poll_end body.old ≡ true → result ≡ OK }
+    ensures other { has_poll_end body.old ≡ false → result ≡ BAD_HANDLE }
     ensures work { (count.new ≤ weight) × (count.new ≤ length out.new) }
     ensures only { result ≢ OK → (result ≡ BAD_HANDLE) × (body.new ≡ body.old)
         × (count.new ≡ 0) × (out.new ≡ out.old) }

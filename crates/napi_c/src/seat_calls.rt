@@ -12,6 +12,7 @@ ghost use Rattle.c_handles.specs.Endings.{EndsByReply, LeadsToSeat};
 ghost use Rattle.c_handles.specs.declared.seat.CallerObject.{CallerObject};
 ghost use Rattle.c_handles.specs.declared.body.Object.TheVariants as variant;
 ghost use Rattle.c_handles.specs.Handles.{SeatMakes, SeatMakesIn, SeatGives, SeatGivesIn, SeatShows, SeatShowsIn};
+ghost use Rattle.napi_c.specs.Objects.{is_polling_seat, is_seat, LeadsToKind, LeadsToOther};
 
 use c_handles::{FqAnswers, FqHandle, Object, SeatCall, kind_of, status};
 use napi_model::encode;
@@ -155,6 +156,8 @@ pub extern "C" fn fq_seat_set_threaded(alloc: Global, handle: &mut FqHandle, thr
 fn poll_in(at: &mut Object, weight: usize, batch: &mut Batch) -> u32
     requires { (1 ≤ weight) × (weight ≤ 64) }
     ensures polls { SeatGivesIn weight batch.new.items at.old result at.new }
+    ensures there { is_polling_seat at.old ≡ true → result ≡ OK }
+    ensures other { is_seat at.old ≡ false → result ≡ BAD_HANDLE }
     ensures room { result ≡ OK → length batch.new.items ≤ weight }
 {
     match at {
@@ -176,6 +179,10 @@ pub extern "C" fn fq_seat_poll(
 ) -> u32
     ensures polls { result ≡ OK
         → SeatGives weight (take count.new out.new) handle.old result handle.new }
+    ensures there { LeadsToKind is_polling_seat handle.old → 1 ≤ weight → weight ≤ 64
+        → weight ≤ length out.old → result ≡ OK }
+    ensures other { LeadsToOther is_seat handle.old → 1 ≤ weight → weight ≤ 64
+        → weight ≤ length out.old → result ≡ BAD_HANDLE }
     ensures most { (count.new ≤ weight) × (count.new ≤ length out.new) }
     ensures none { result ≢ OK → (count.new ≡ 0) × (out.new ≡ out.old) }
     ensures refused { result ≢ OK → (handle.new ≡ handle.old)
@@ -207,6 +214,7 @@ pub extern "C" fn fq_seat_poll(
 fn answers_in(at: &Object, answers: &mut FqAnswers) -> u32
     ensures shown { (s : CallerObject) → at.now ≡ variant.Seat s → (result ≡ OK)
         × (answers.new ≡ s.answers) }
+    ensures other { is_seat at.now ≡ false → result ≡ BAD_HANDLE }
     ensures kept { result ≢ OK → (answers.new ≡ answers.old) × (result ≡ BAD_HANDLE) }
 {
     match at {
@@ -228,6 +236,7 @@ pub extern "C" fn fq_seat_count(
     ensures shown { (s : CallerObject) → handle.old.held.body ≡ Some (variant.Seat s)
         → (result ≡ OK)
         × (answers.new ≡ s.answers) }
+    ensures other { LeadsToOther is_seat handle.old → result ≡ BAD_HANDLE }
     ensures kept { result ≢ OK → (answers.new ≡ answers.old) × (result ≡ BAD_HANDLE) }
     ensures same { handle.new.held.body ≡ handle.old.held.body }
 {

@@ -4,11 +4,13 @@ ghost use Rattle.std.specs.List.{All};
 ghost use Rattle.std.specs.Arc.{arc_value};
 ghost use Rattle.napi_calls.specs.declared.types.Caller.{Caller};
 ghost use Rattle.napi_calls.specs.Instance.{IsSeatOf, first_of_instance};
+ghost use Rattle.napi_calls.specs.Seats.{own_list, state_shown};
 ghost use Rattle.c_handles.specs.declared.body.Object.TheVariants as variant;
 ghost use Rattle.c_handles.specs.declared.body.Ring.{Ring};
 ghost use Rattle.c_handles.specs.Rings.{LeadsTo};
-ghost use Rattle.napi_c.specs.Shared.{AreFree, AreOfOne, IsFree, IsInstanceOver, LeadsToRestingSeat};
-ghost use Rattle.c_handles.specs.Status.{OK, IN_USE, BAD_COUNT, OUT_OF_MEMORY};
+ghost use Rattle.napi_c.specs.Objects.{is_ring, LeadsToOther};
+ghost use Rattle.napi_c.specs.Shared.{AreFree, AreFresh, AreOfOne, AreUnthreaded, IsFree, IsInstanceOver, IsUnthreaded, LeadsToNewSeat};
+ghost use Rattle.c_handles.specs.Status.{OK, IN_USE, BAD_COUNT, BAD_HANDLE, OUT_OF_MEMORY};
 
 use c_handles::{
     CallerObject, CallerState, ControlState, Controller, FqAnswers, FqHandle, Object, Ring,
@@ -33,6 +35,8 @@ struct Opened {
     off: Control<Off>,
     ghost callers_are: { (k : ℕ) (c : Caller) → slice_get callers.items k ≡ Some c → IsSeatOf (arc_value napi).napi c.pass },
     ghost control_is: { IsSeatOf (arc_value napi).napi off.pass },
+    ghost callers_new: { (k : ℕ) (c : Caller) → slice_get callers.items k ≡ Some c → IsUnthreaded (own_list c.pass) (state_shown c.pass) },
+    ghost control_new: { IsUnthreaded (own_list off.pass) (state_shown off.pass) },
 }
 
 // Makes an instance over the poll context of a ring. Returns the ring if an allocation fails.
@@ -115,8 +119,9 @@ fn give_seat(
     caller: Caller,
     handle: &mut FqHandle,
 ) -> bool
-    requires { IsSeatOf (arc_value shared.now).napi caller.pass }
-    ensures { result ≡ true → LeadsToRestingSeat (arc_value shared.now).napi handle.new }
+    requires seat { IsSeatOf (arc_value shared.now).napi caller.pass }
+    requires new { IsUnthreaded (own_list caller.pass) (state_shown caller.pass) }
+    ensures { result ≡ true → LeadsToNewSeat (arc_value shared.now).napi handle.new }
 {
     let Ok(napi) = Arc::try_clone(shared) else {
         caller.abandon();
@@ -143,9 +148,11 @@ fn give_seats(
     mut callers: Vec<Caller>,
     handles: &mut [FqHandle],
 ) -> bool
-    requires { (k : ℕ) (c : Caller) → slice_get callers.items k ≡ Some c
+    requires seats { (k : ℕ) (c : Caller) → slice_get callers.items k ≡ Some c
         → IsSeatOf (arc_value shared.now).napi c.pass }
-    ensures { result ≡ true → All (LeadsToRestingSeat (arc_value shared.now).napi) handles.new }
+    requires new { (k : ℕ) (c : Caller) → slice_get callers.items k ≡ Some c
+        → IsUnthreaded (own_list c.pass) (state_shown c.pass) }
+    ensures { result ≡ true → All (LeadsToNewSeat (arc_value shared.now).napi) handles.new }
 {
     let mut given = true;
     for handle in handles.iter_mut() {
@@ -160,6 +167,8 @@ fn give_seats(
 
 fn give(alloc: Global, opened: Opened, control: &mut FqHandle, seats: &mut [FqHandle]) -> u32
     ensures made { result ≡ OK → AreOfOne control.new seats.new }
+    ensures fresh { result ≡ OK → AreFresh seats.new }
+    ensures unthreaded { result ≡ OK → AreUnthreaded control.new seats.new }
     ensures over { result ≡ OK
         → IsInstanceOver (first_of_instance (arc_value opened.napi).napi) control.new }
     ensures memory { result ≡ OUT_OF_MEMORY → IsFree control.new × AreFree seats.new }
@@ -182,8 +191,11 @@ fn give(alloc: Global, opened: Opened, control: &mut FqHandle, seats: &mut [FqHa
 fn share(alloc: Global, body: &mut Object, control: &mut FqHandle, seats: &mut [FqHandle]) -> u32
     requires { (2 ≤ length seats.old) × (length seats.old ≤ 8) }
     ensures made { result ≡ OK → AreOfOne control.new seats.new }
+    ensures fresh { result ≡ OK → AreFresh seats.new }
+    ensures unthreaded { result ≡ OK → AreUnthreaded control.new seats.new }
     ensures memory { result ≡ OUT_OF_MEMORY → IsFree control.new × AreFree seats.new }
     ensures only { (r : Ring) → body.old ≡ variant.Ring r → result ≢ OK → result ≡ OUT_OF_MEMORY }
+    ensures other { is_ring body.old ≡ false → result ≡ BAD_HANDLE }
     ensures input { (r : Ring) → body.old ≡ variant.Ring r → result ≡ OK
         → body.new ≡ variant.In r.input }
     ensures over { (r : Ring) → body.old ≡ variant.Ring r → result ≡ OK
@@ -224,6 +236,8 @@ pub extern "C" fn fq_shared_new(
     seats: &mut [FqHandle],
 ) -> u32
     ensures made { result ≡ OK → AreOfOne control.new seats.new }
+    ensures fresh { result ≡ OK → AreFresh seats.new }
+    ensures unthreaded { result ≡ OK → AreUnthreaded control.new seats.new }
     ensures input { (r : Ring) → LeadsTo input.old r → result ≡ OK
         → input.new.held.body ≡ Some (variant.In r.input) }
     ensures over { (r : Ring) → LeadsTo input.old r → result ≡ OK
@@ -237,6 +251,8 @@ pub extern "C" fn fq_shared_new(
     ensures only { (r : Ring) → LeadsTo input.old r → IsFree control.old → AreFree seats.old
         → (2 ≤ length seats.old) × (length seats.old ≤ 8)
         → (result ≡ OK) ⊎ (result ≡ OUT_OF_MEMORY) }
+    ensures other { LeadsToOther is_ring input.old → IsFree control.old → AreFree seats.old
+        → (2 ≤ length seats.old) × (length seats.old ≤ 8) → result ≡ BAD_HANDLE }
 {
     if control.is_set() || !are_free(seats) {
         return status::IN_USE;
@@ -261,6 +277,8 @@ pub extern "C" fn fq_shared_bare(
     seats: &mut [FqHandle],
 ) -> u32
     ensures made { result ≡ OK → AreOfOne control.new seats.new }
+    ensures fresh { result ≡ OK → AreFresh seats.new }
+    ensures unthreaded { result ≡ OK → AreUnthreaded control.new seats.new }
     ensures kept { result ≢ OK → result ≢ OUT_OF_MEMORY → (control.new ≡ control.old)
         × (seats.new ≡ seats.old) }
     ensures memory { result ≡ OUT_OF_MEMORY → IsFree control.new × AreFree seats.new }

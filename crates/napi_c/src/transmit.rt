@@ -1,5 +1,5 @@
 //! Transmit rings for C, each under a byte queue limit.
-ghost use Rattle.std.specs.Prelude.{◌≡◌, ◌≢◌, ◌<◌, ◌≤◌, ◌⊎◌, ◌↔◌, None, Some, IsNone, IsSome};
+ghost use Rattle.std.specs.Prelude.{◌≡◌, ◌≢◌, ◌<◌, ◌≤◌, ◌⊎◌, ◌↔◌, false, None, Some, IsNone, IsSome};
 ghost use Rattle.dql_core.specs.Bounds.{DQL_MAX_LIMIT};
 ghost use Rattle.dql_core.specs.Limit.{new_limit};
 ghost use Rattle.dql_core.specs.declared.event.DqlFault.TheVariants.{BadBounds};
@@ -8,6 +8,7 @@ ghost use Rattle.tx_ring.specs.Ring.{ShowsQueue};
 ghost use Rattle.tx_ring.specs.declared.event.TxFault.{TxFault};
 ghost use Rattle.c_handles.specs.Status.{OK, IN_USE, BAD_CAPACITY, BAD_HANDLE, OUT_OF_MEMORY, dql_status};
 ghost use Rattle.c_handles.specs.Transmits.{IsTxWith, TxShows, tx_status};
+ghost use Rattle.napi_c.specs.Objects.{is_tx, LeadsToOther};
 
 use c_handles::{FqHandle, Object, status};
 use dql_core::{Dql, DqlFault};
@@ -77,6 +78,7 @@ pub extern "C" fn fq_tx_send(alloc: Global, handle: &mut FqHandle, bytes: u32) -
         → TxShows handle.new (after_send t bytes) }
     ensures status { (t : TransmitQueue) → TxShows handle.old t
         → result ≡ tx_status (send_fault t bytes) }
+    ensures other { LeadsToOther is_tx handle.old → result ≡ BAD_HANDLE }
     ensures kept { result ≢ OK → handle.new.held.body ≡ handle.old.held.body }
 {
     let Some(mut body) = handle.take(alloc) else {
@@ -92,6 +94,7 @@ fn send_in(body: &mut Object, bytes: u32) -> u32
         → IsTxWith (λ r. ShowsQueue r (after_send t bytes)) body.new }
     ensures status { (t : TransmitQueue) → IsTxWith (λ r. ShowsQueue r t) body.old
         → result ≡ tx_status (send_fault t bytes) }
+    ensures other { is_tx body.old ≡ false → result ≡ BAD_HANDLE }
     ensures kept { result ≢ OK → body.new ≡ body.old }
 {
     match body {
@@ -110,6 +113,7 @@ pub extern "C" fn fq_tx_done(alloc: Global, handle: &mut FqHandle, count: u32, n
         → TxShows handle.new (after_done t count now) }
     ensures status { (t : TransmitQueue) → TxShows handle.old t
         → result ≡ tx_status (done_fault t count) }
+    ensures other { LeadsToOther is_tx handle.old → result ≡ BAD_HANDLE }
     ensures kept { result ≢ OK → handle.new.held.body ≡ handle.old.held.body }
 {
     let Some(mut body) = handle.take(alloc) else {
@@ -125,6 +129,7 @@ fn done_in(body: &mut Object, count: u32, now: u64) -> u32
         → IsTxWith (λ r. ShowsQueue r (after_done t count now)) body.new }
     ensures status { (t : TransmitQueue) → IsTxWith (λ r. ShowsQueue r t) body.old
         → result ≡ tx_status (done_fault t count) }
+    ensures other { is_tx body.old ≡ false → result ≡ BAD_HANDLE }
     ensures kept { result ≢ OK → body.new ≡ body.old }
 {
     match body {
@@ -141,6 +146,7 @@ fn done_in(body: &mut Object, count: u32, now: u64) -> u32
 pub extern "C" fn fq_tx_state(alloc: Global, handle: &mut FqHandle, state: &mut TxState) -> u32
     ensures shown { (t : TransmitQueue) → TxShows handle.old t → (result ≡ OK)
         × (state.new ≡ tx_state t) }
+    ensures other { LeadsToOther is_tx handle.old → result ≡ BAD_HANDLE }
     ensures kept { result ≢ OK → (state.new ≡ state.old) × (result ≡ BAD_HANDLE) }
     ensures same { handle.new.held.body ≡ handle.old.held.body }
 {
@@ -155,6 +161,7 @@ pub extern "C" fn fq_tx_state(alloc: Global, handle: &mut FqHandle, state: &mut 
 fn state_in(body: &Object, state: &mut TxState) -> u32
     ensures shown { (t : TransmitQueue) → IsTxWith (λ r. ShowsQueue r t) body.now → (result ≡ OK)
         × (state.new ≡ tx_state t) }
+    ensures other { is_tx body.now ≡ false → result ≡ BAD_HANDLE }
     ensures kept { result ≢ OK → (state.new ≡ state.old) × (result ≡ BAD_HANDLE) }
 {
     match body {

@@ -18,6 +18,7 @@ pub loop-handle-preserved : goal.loop-handle-preserved
 loop-handle-preserved c =
     record {
       callers = in_front _ _ _ (rw c.pop.ensures.items at c.loop-handle.invariant.callers);
+      new = in_front _ _ _ (rw c.pop.ensures.items at c.loop-handle.invariant.new);
       given = elim c.match-pop.branch [
         | in-Some+then-give_seat w ↦
             λ all. rw w.handles-is

@@ -1,0 +1,66 @@
+-- Which kind of object a handle has. The exports check it, and return BAD_HANDLE for a handle without an object of their kind.
+use Rattle.std.specs.Prelude.{◌≡◌, Bool, true, false, is_some, Option, Some, None}
+use Rattle.c_handles.specs.Rings.{ring_counts_in}
+use Rattle.c_handles.specs.declared.{body.Object.Object, handle.FqHandle.FqHandle, hold.CallerState.CallerState}
+use Rattle.c_handles.specs.declared.body.Object.TheVariants as body
+use Rattle.c_handles.specs.declared.hold.CallerState.TheVariants as hold
+
+-- ---- kinds of objects
+
+-- a ring with both ends
+abbrev pub is_ring : Object → Bool
+is_ring (body.Ring ring) = true
+is_ring _ = false
+
+-- a ring with both ends, or only the input end of one
+abbrev pub has_input : Object → Bool
+has_input (body.Ring ring) = true
+has_input (body.In input) = true
+has_input _ = false
+
+-- a ring with both ends, or only the poll end of one
+abbrev pub has_poll_end : Object → Bool
+has_poll_end (body.Ring ring) = true
+has_poll_end (body.Ctx ctx) = true
+has_poll_end _ = false
+
+-- a transmit ring
+abbrev pub is_tx : Object → Bool
+is_tx (body.Tx ring) = true
+is_tx _ = false
+
+-- a caller of a shared instance (a "seat" in C)
+abbrev pub is_seat : Object → Bool
+is_seat (body.Seat seat) = true
+is_seat _ = false
+
+-- the caller polls or busy polls
+abbrev pub is_poller : CallerState → Bool
+is_poller (hold.Polls polling) = true
+is_poller (hold.Busy busy) = true
+is_poller _ = false
+
+-- a caller that polls or busy polls
+abbrev pub is_polling_seat : Object → Bool
+is_polling_seat (body.Seat seat) = is_poller seat.hold
+is_polling_seat _ = false
+
+-- an object that has the poll end of a ring, and so the counts of its polls: a ring, its poll end, a caller that polls, the
+-- controller of a disabled instance
+abbrev pub has_counts : Object → Bool
+has_counts x = is_some (ring_counts_in x)
+
+-- ---- the object of a handle
+
+-- whether there is an object, of this kind
+abbrev pub is_object : (Object → Bool) → Option Object → Bool
+is_object is_kind None = false
+is_object is_kind (Some x) = is_kind x
+
+-- the handle has an object of this kind
+abbrev pub LeadsToKind : (Object → Bool) → FqHandle → Type 0
+LeadsToKind is_kind handle = is_object is_kind handle.held.body ≡ true
+
+-- the handle has no object of this kind: it has none, or one of another kind
+abbrev pub LeadsToOther : (Object → Bool) → FqHandle → Type 0
+LeadsToOther is_kind handle = is_object is_kind handle.held.body ≡ false
