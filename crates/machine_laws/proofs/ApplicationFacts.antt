@@ -3,7 +3,7 @@ use Rattle.std.proofs.Common.{◌≡◌, ◌∙◌, ℕ, ◌+◌, ◌-◌, ◌*�
 use Rattle.std.proofs.Common.{length, length-append, map, refl, sym, ap, subst, arith}
 use Rattle.std.proofs.lemmas.Bool.{and_parts, leb-true}
 use Rattle.std.proofs.lemmas.List.{append-nil, map-append}
-use Rattle.std.{proofs.{lemmas.Grind.common_steps, Math.Nat.mul-le-mul_right}, specs.Prelude.{◌&&◌, if◌then◌else◌, nat_le}}
+use Rattle.std.{proofs.{lemmas.Grind.common_steps, Math.Nat.mul-le-mul_right}, specs.Prelude.{if◌then◌else◌, nat_le}}
 use Rattle.{machine_model.specs.declared.settings.MachineSettings.MachineSettings, circular_buffer.specs.Buffer.{Buffer}}
 use Rattle.machine_laws.specs.Applications.{UsesFollow, Serves, ended_until, ended_with, fed_all, being_read, placed_all, use_of, used_all}
 use Rattle.machine_laws.specs.Fates.{counting}
@@ -39,14 +39,10 @@ abbrev pub at_end : ℕ → List ℕ → List (ℕ × ℕ)
 at_end end hand = map (λ (came : ℕ). (came, end)) hand
 
 hand-arrival : (w : Activity) (end : ℕ) → map arrival (at_end end (being_read w)) ≡ being_read w
-hand-arrival Asleep end = refl
-hand-arrival Waking end = refl
-hand-arrival (Using came) end = refl
+hand-arrival w end = grind (arith, common_steps)
 
 hand-length : (w : Activity) (end : ℕ) → length (at_end end (being_read w)) ≡ length (being_read w)
-hand-length Asleep end = refl
-hand-length Waking end = refl
-hand-length (Using came) end = refl
+hand-length w end = grind (arith, common_steps)
 
 plus-none : (n : ℕ) → n ≡ n + 0
 plus-none n = omega arith
@@ -55,16 +51,7 @@ plus-one : (n k : ℕ) → (n + 1) * k ≡ n * k + k
 plus-one n k = omega arith
 
 awake-none : (w : Activity) → w ≡ Asleep → (wakes n : ℕ) → wakes ≤ n + (if is_awake w then 1 else 0) → wakes ≤ n
-awake-none Asleep is wakes n less = omega (arith, less)
-awake-none Waking is wakes n less = cc is
-awake-none (Using came) is wakes n less = cc is
-
-over-not : (b : Bool) → b ≡ true → (true && b) ≡ false → ⊥
-over-not true is never = cc never
-over-not false is never = cc is
-
-leb-is : (a b : ℕ) → a ≤ b → nat_le a b ≡ true
-leb-is a b less = grind (arith, common_steps)
+awake-none w is wakes n less = grind (arith, common_steps)
 
 -- ---- the invariant of the application at a time
 
@@ -98,30 +85,24 @@ pub record EndedBy (a e : ApplicationView) : Type 0 where
   pub wakes : e.wakes ≡ a.wakes
 
 ended-same : (w : Activity) (a : ApplicationView) → EndedBy a (ended_by w a)
-ended-same Asleep a = record { socket = refl; refused = refl; end = refl; wakes = refl }
-ended-same Waking a = record { socket = refl; refused = refl; end = refl; wakes = refl }
 ended-same (Using came) a = record { socket = refl; refused = refl; end = refl; wakes = refl }
+ended-same w a = record { socket = refl; refused = refl; end = refl; wakes = refl }
 
 ended-waits : (w : Activity) (a : ApplicationView) (uses : List (ℕ × ℕ)) → a.waits ≡ counting (map wait_of uses) no_waits
     → (ended_by w a).waits ≡ counting (map wait_of (uses ++ at_end a.end (being_read w))) no_waits
-ended-waits Asleep a uses is = is ∙ ap (λ (xs : List (ℕ × ℕ)). counting (map wait_of xs) no_waits) (sym (append-nil uses))
-ended-waits Waking a uses is = is ∙ ap (λ (xs : List (ℕ × ℕ)). counting (map wait_of xs) no_waits) (sym (append-nil uses))
 ended-waits (Using came) a uses is =
     ap (λ (w : WaitsView). counted (a.end - came) w) is
     ∙ (sym (counting-more (map wait_of uses) (a.end - came) no_waits)
     ∙ ap (λ (xs : List ℕ). counting xs no_waits) (sym (map-append wait_of uses ((came, a.end) ∷ []))))
+ended-waits w a uses is = is ∙ ap (λ (xs : List (ℕ × ℕ)). counting (map wait_of xs) no_waits) (sym (append-nil uses))
 
 -- it was woken at most once for each use
 woken-less : (w : Activity) (wakes n : ℕ) (items : List ℕ) → is_awake w ≡ true → (w ≡ Waking → items ≡ [] → ⊥)
     → wakes ≤ n + (if is_awake w then 1 else 0) → items ≡ [] → wakes ≤ n + length (being_read w)
-woken-less Asleep wakes n items awake full less empty = cc awake
-woken-less Waking wakes n items awake full less empty = absurd (full refl empty)
-woken-less (Using came) wakes n items awake full less empty = less
+woken-less w wakes n items awake full less empty = grind (arith, common_steps)
 
 woken-more : (w : Activity) (wakes n : ℕ) → wakes ≤ n + (if is_awake w then 1 else 0) → wakes ≤ n + length (being_read w) + 1
-woken-more Asleep wakes n less = omega (arith, less)
-woken-more Waking wakes n less = omega (arith, less)
-woken-more (Using came) wakes n less = omega (arith, less)
+woken-more w wakes n less = grind (arith, common_steps)
 
 uses-length : (uses : List (ℕ × ℕ)) (a : ApplicationView) → length (uses ++ use_of a) ≡ length uses + length (being_read a.activity)
 uses-length uses a = omega (arith, length-append uses (use_of a), hand-length a.activity a.end)
@@ -161,7 +142,7 @@ works-goes s t placed away uses a w awake below = by a.socket.items refl
     count = uses-length uses a
 
     idle : a.end < 2 ^ 64 - 1 → a.wakes * s.app_wake + length more * s.use_time ≤ a.end
-    idle small = subst (λ (n : ℕ). a.wakes * s.app_wake + n * s.use_time ≤ a.end) (sym count) (v.idle small)
+    idle small = rw count (v.idle small)
 
     by : (items : List ℕ) → a.socket.items ≡ items → Works s t placed away more (takes_next s.use_time items e)
     by [] is = record {
@@ -178,8 +159,8 @@ works-goes s t placed away uses a w awake below = by a.socket.items refl
             subst (λ (k : ℕ). k * s.app_wake + (length more + 0) * s.use_time ≤ e.end) (sym same.wakes)
             (subst (λ (k : ℕ). a.wakes * s.app_wake + k * s.use_time ≤ e.end) (plus-none (length more)) (omega (arith, first, same.end)));
       };
-      chain = subst (λ (xs : List (ℕ × ℕ)). UsesFollow s.use_time 0 xs) (sym (append-nil more)) w.chain;
-      last = subst (λ (xs : List (ℕ × ℕ)). last_end 0 xs ≤ e.end) (sym (append-nil more)) (omega (arith, w.last, same.end));
+      chain = rw (append-nil more) w.chain;
+      last = rw (append-nil more) (omega (arith, w.last, same.end));
       fits = omega (arith, w.fits, same.end);
       low = λ asleep. omega (arith, below, same.end);
       full = λ waking. cc waking;
@@ -220,7 +201,7 @@ works-with s t placed away [] uses a w = by (is_use_over t a) refl
     by : (b : Bool) → is_use_over t a ≡ b
         → Works s t placed away (uses ++ (if b then use_of a else [])) (if b then goes_on s.use_time a else a)
     by true over = let parts = over-parts t a over in works-goes s t placed away uses a w parts.0 parts.1
-    by false stays = subst (λ (xs : List (ℕ × ℕ)). Works s t placed away xs a) (sym (append-nil uses)) w
+    by false stays = rw (append-nil uses) w
 works-with s t placed away (came ∷ items) uses a w =
     by (is_use_over t a) refl (λ v. works-with s t placed away items (uses ++ use_of a) (goes_on s.use_time a) v)
   where
@@ -232,11 +213,9 @@ works-with s t placed away (came ∷ items) uses a w =
         (if b then went_on_with items t s.use_time (goes_on s.use_time a) else a)
     by true over next =
         let parts = over-parts t a over in
-        let rest = ended_with items t s.use_time (goes_on s.use_time a) in
-        subst (λ (xs : List (ℕ × ℕ)). Works s t placed away xs (went_on_with items t s.use_time (goes_on s.use_time a)))
-        (append_assoc uses (use_of a) rest)
+        rw (← append_assoc uses (use_of a) (ended_with items t s.use_time (goes_on s.use_time a)))
         (next (works-goes s t placed away uses a w parts.0 parts.1))
-    by false stays next = subst (λ (xs : List (ℕ × ℕ)). Works s t placed away xs a) (sym (append-nil uses)) w
+    by false stays next = rw (append-nil uses) w
 
 pub works-went : (s : MachineSettings) (t : ℕ) (placed away : List ℕ) (uses : List (ℕ × ℕ)) (a : ApplicationView)
     → Works s t placed away uses a
@@ -309,8 +288,7 @@ works-put s t came placed away uses a Asleep is fits w =
       low = λ asleep. cc asleep;
       full = λ waking. some-append a.socket.items came;
     }
-works-put s t came placed away uses a Waking is fits w = works-puts s t came placed away uses a w (λ asleep. cc (is, asleep))
-works-put s t came placed away uses a (Using x) is fits w = works-puts s t came placed away uses a w (λ asleep. cc (is, asleep))
+works-put s t came placed away uses a activity is fits w = works-puts s t came placed away uses a w (λ asleep. cc (is, asleep))
 
 works-refuses : (s : MachineSettings) (t came : ℕ) (placed away : List ℕ) (uses : List (ℕ × ℕ)) (a : ApplicationView)
     → Works s t placed away uses a → Works s t placed (away ++ came ∷ []) uses (refuses a)
@@ -355,12 +333,8 @@ works-fed s now came placed away uses b fits w = by (has_place b)
     by : (room : Bool)
         → Works s now (placed ++ (if room then came ∷ [] else [])) (away ++ (if room then [] else came ∷ [])) uses
         (if room then woken_by b.activity (saturated (now + s.app_wake)) (put came b) else refuses b)
-    by true =
-        subst (λ (xs : List ℕ). Works s now (placed ++ came ∷ []) xs uses (woken_by b.activity (saturated (now + s.app_wake)) (put came b)))
-        (sym (append-nil away)) (works-put s now came placed away uses b b.activity refl fits w)
-    by false =
-        subst (λ (xs : List ℕ). Works s now xs (away ++ came ∷ []) uses (refuses b)) (sym (append-nil placed))
-        (works-refuses s now came placed away uses b w)
+    by true = rw (append-nil away) (works-put s now came placed away uses b b.activity refl fits w)
+    by false = rw (append-nil placed) (works-refuses s now came placed away uses b w)
 
 pub works-all : (s : MachineSettings) (t : ℕ) (ds : List (ℕ × ℕ)) → s.apart ≡ true → t < 2 ^ 64 → Rising t ds
     → Works s t (placed_all true s ds) (placed_all false s ds) (used_all s ds) (fed_all s ds)
@@ -386,18 +360,8 @@ works-all s t ((now, came) ∷ earlier) apart fits rising =
     let a = fed_all s earlier in
     let b = went_on now s.use_time a in
     let before = works-all s now earlier apart small rising.1 in
-    let went = works-went s now (placed_all true s earlier) (placed_all false s earlier) (used_all s earlier) a before in
-    let after =
-    works-fed s now came (placed_all true s earlier) (placed_all false s earlier) (used_all s earlier ++ ended_until now s.use_time a)
-    b small
-    went in
-    subst
-    (λ (x : ApplicationView). Works s t (placed_all true s earlier ++ (if has_place b then came ∷ [] else []))
-    (placed_all false s earlier ++ (if has_place b then [] else came ∷ [])) (used_all s earlier ++ ended_until now s.use_time a) x)
-    (sym (fed-apart s now came a apart))
-    (works-later s now t (placed_all true s earlier ++ (if has_place b then came ∷ [] else []))
-    (placed_all false s earlier ++ (if has_place b then [] else came ∷ [])) (used_all s earlier ++ ended_until now s.use_time a)
-    (if has_place b then woken_by b.activity (saturated (now + s.app_wake)) (put came b) else refuses b) rising.0 after)
+    let after = works-fed s now came _ _ _ b small (works-went s now _ _ _ a before) in
+    rw (fed-apart s now came a apart) (works-later s now t _ _ _ _ rising.0 after)
 
 -- ---- after the end
 
@@ -419,11 +383,7 @@ goes-items time a items is fits =
     (sym is) (goes-next time items a (ended_by a.activity a) (ended-same a.activity a) fits)
 
 not-over : (t : ℕ) (a : ApplicationView) → a.end ≤ t → is_use_over t a ≡ false → is_awake a.activity ≡ false
-not-over t a below is = by (is_awake a.activity) refl
-  where
-    by : (b : Bool) → is_awake a.activity ≡ b → is_awake a.activity ≡ false
-    by false same = same
-    by true same = absurd (over-not (nat_le a.end t) (leb-is a.end t below) (rw same at is))
+not-over t a below is = grind (arith, common_steps)
 
 -- after it has done all its work, it sleeps
 asleep-with : (time : ℕ) (items : List ℕ) (a : ApplicationView) → a.socket.items ≡ items → a.end < 2 ^ 64
@@ -449,6 +409,4 @@ unfolding went_on
 asleep-went time a fits = asleep-with time a.socket.items a refl fits
 
 pub asleep-is : (w : Activity) → is_awake w ≡ false → w ≡ Asleep
-asleep-is Asleep is = refl
-asleep-is Waking is = cc is
-asleep-is (Using came) is = cc is
+asleep-is w is = grind (arith, common_steps)

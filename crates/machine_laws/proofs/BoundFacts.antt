@@ -2,12 +2,12 @@
 use Rattle.std.proofs.Common.{◌≡◌, ◌∙◌, ℕ, zero, suc, ◌+◌, ◌-◌, ◌<◌, ◌≤◌, Bool, true, false, Option, Some, None, List, [], ◌∷◌, ◌++◌}
 use Rattle.std.proofs.Common.{length, refl, sym, ap}
 use Rattle.std.proofs.Common.{subst, arith}
-use Rattle.std.proofs.lemmas.List.Sums.{position_or_len_is}
+use Rattle.std.proofs.lemmas.{Bool.{cond-false, cond-true, le-ltb, lt-ltb}, List.Sums.{position_or_len_is}}
 use Rattle.std.proofs.lemmas.Grind.{common_steps}
 use Rattle.std.specs.List.{position_or_len}
 use Rattle.std.specs.Option.{option_map_or}
-use Rattle.std.specs.Prelude.{◌==◌, ◌&&◌, ◌||◌, if◌then◌else◌, is_some, nat_le, nat_lt, not}
-use Rattle.std.specs.Prelude.{position, slice_get}
+use Rattle.std.specs.Prelude.{◌==◌, ◌&&◌, if◌then◌else◌, is_some, nat_lt, not}
+use Rattle.std.specs.Prelude.{position}
 use Rattle.machine_model.specs.declared.settings.MachineSettings.{MachineSettings}
 use Rattle.device_places.specs.Places.{at, changed}
 use Rattle.machine_laws.specs.{Deferrals.DeferralIsBounded, Lives.{behind}}
@@ -15,10 +15,9 @@ use Rattle.machine_model.specs.declared.device.Phase.{Phase}
 use Rattle.machine_model.specs.declared.device.Phase.TheVariants.{Scheduled, Deferred}
 use Rattle.machine_model.specs.declared.processor.Work.{Work}
 use Rattle.machine_model.specs.declared.processor.Work.TheVariants.{Nothing, Interrupt, Poll, Packet}
-use Rattle.machine_model.specs.declared.processor.ProcessorCounts.{ProcessorCounts}
 use Rattle.machine_model.specs.declared.{processor.Upcoming.{Upcoming, TheVariants.{Ends, Expires}}, device.QueueCounts.QueueCounts}
 use Rattle.machine_model.specs.Device.{QueueView, asks, expired, interrupted, is_fired, next_packet, without_next}
-use Rattle.machine_model.specs.Devices.{QueueViews, asks_at, is_fired_at}
+use Rattle.machine_model.specs.Devices.{QueueViews, asks_at}
 use Rattle.machine_model.specs.Devices.{next_packet_at}
 use Rattle.machine_model.specs.Softirq.{RunView, SoftirqView, asked_in, begun, run_next, pushed}
 use Rattle.machine_model.specs.Waits.{saturated}
@@ -27,20 +26,10 @@ use Rattle.machine_model.specs.Processor.{happens, interrupts}
 use Rattle.machine_model.specs.Processor.{ends_interrupt, is_busy, is_polling, leaves_softirq, poll_looks, polls, rests, set_aside}
 use Rattle.machine_model.specs.Processor.{spent, step}
 use Rattle.machine_model.specs.Processor.{takes_up, upcoming, woken}
-use Rattle.machine_model.specs.{Softirq.{filled, next_from}, declared.tasks.RunnableTask.TheVariants.Thread}
 use Rattle.machine_model.specs.Device as device
-use Rattle.machine_laws.proofs.{TableFacts.{at-apart, at-changed, at-either, map_at}, WorkFacts.{Goes, goes-on, stirred}}
+use Rattle.machine_laws.proofs.{TableFacts.{at-apart, at-changed, at-either, map_at}, WalkFacts.stirred}
+use Rattle.machine_laws.proofs.WorkFacts.{Goes, goes-on, same-polling, same-threaded}
 use Rattle.machine_laws.proofs.LeftFacts.{Resting, list-empty, rested-on}
-
--- ---- which work is chosen
-
-if-on : {A : Type 0} (b : Bool) (x y : A) → b ≡ true → (if b then x else y) ≡ x
-if-on true x y is = refl
-if-on false x y is = cc is
-
-if-of : {A : Type 0} (b : Bool) (x y : A) → b ≡ false → (if b then x else y) ≡ y
-if-of false x y is = refl
-if-of true x y is = cc is
 
 -- ---- the first queue that asks for an interrupt
 
@@ -54,30 +43,20 @@ position-is : (ds : QueueViews) (n : ℕ) → asks_at (at n ds) ≡ true → ((k
 position-is ds n asks none =
     let below : n < length ds = below-is ds n asks in
     let first : position_or_len asks_at ds ≡ n = position_or_len_is asks_at ds n None (omega (arith, below)) none (λ less. asks) in
-    let less : nat_lt (position_or_len asks_at ds) (length ds)
-    ≡ true = lt-is (position_or_len asks_at ds) (length ds) (omega (arith, first, below)) in
-    subst (λ (b : Bool). (if b then Some (position_or_len asks_at ds) else None) ≡ Some n) (sym less) (ap (λ (k : ℕ). Some k) first)
-  where
-    lt-is : (a b : ℕ) → a < b → nat_lt a b ≡ true
-    lt-is a b below = grind (arith, common_steps)
+    rw (lt-ltb (position_or_len asks_at ds) (length ds) (omega (arith, first, below))) (ap (λ (k : ℕ). Some k) first)
 
 position-none : (ds : QueueViews) → ((k : ℕ) → asks_at (at k ds) ≡ false) → position asks_at ds ≡ None
 position-none ds none =
     let last : position_or_len asks_at ds ≡ length ds =
     position_or_len_is asks_at ds (length ds) None (omega arith) (λ k below. none k) (λ less. absurd (omega (arith, less))) in
-    let more : nat_lt (position_or_len asks_at ds) (length ds)
-    ≡ false = lt-not (position_or_len asks_at ds) (length ds) (omega (arith, last)) in
-    subst (λ (b : Bool). (if b then Some (position_or_len asks_at ds) else None) ≡ None) (sym more) refl
-  where
-    lt-not : (a b : ℕ) → b ≤ a → nat_lt a b ≡ false
-    lt-not a b above = grind (arith, common_steps)
+    rw (le-ltb (position_or_len asks_at ds) (length ds) (omega (arith, last)))
 
 -- ---- the timer expires
 
 takes-interrupt : (n : ℕ) (p : ProcessorView) → p.work ≡ Nothing → position asks_at p.devices ≡ Some n → takes_up p ≡ interrupts n p
 unfolding takes_up
 takes-interrupt n p nothing asks =
-    if-of (is_busy p.work) p
+    cond-false (is_busy p.work) p
     (option_map_or (λ (k : ℕ). interrupts k p) (position asks_at p.devices) (if is_some p.softirq.run then goes_on p else rests p))
     (ap is_busy nothing)
     ∙ ap (λ (o : Option ℕ). option_map_or (λ (k : ℕ). interrupts k p) o (if is_some p.softirq.run then goes_on p else rests p)) asks
@@ -85,7 +64,7 @@ takes-interrupt n p nothing asks =
 stirred-idle : (t : ℕ) (p : ProcessorView) → p.work ≡ Nothing → stirred t p ≡ woken t (is_some (position asks_at p.devices)) p
 stirred-idle t p nothing =
     let asked = is_some (position asks_at p.devices) in
-    if-of (is_busy p.work) (if asked then set_aside t p.work p else p) (woken t asked p) (ap is_busy nothing)
+    cond-false (is_busy p.work) (if asked then set_aside t p.work p else p) (woken t asked p) (ap is_busy nothing)
 
 -- how an interrupt leaves the processor, with polling and without threads
 pub record Interrupted (n : ℕ) (p q : ProcessorView) : Type 0 where
@@ -97,22 +76,8 @@ pub record Interrupted (n : ℕ) (p q : ProcessorView) : Type 0 where
 
 interrupted-is : (n : ℕ) (p : ProcessorView) → is_polling p.settings ≡ true → p.settings.threaded ≡ false → Interrupted n p (interrupts n p)
 unfolding interrupts
-interrupted-is n p polling single = by (is_polling p.settings) p.settings.threaded polling single
-  where
-    counts : ProcessorCounts
-    counts = if is_fired_at (at n p.devices) then record p.counts { timers = saturated (p.counts.timers + 1) }
-        else record p.counts { interrupts = saturated (p.counts.interrupts + 1) }
-
-    x : Bool → ProcessorView
-    x b = record p { devices = changed (interrupted b) n p.devices; counts = counts }
-
-    by : (b t : Bool) → b ≡ true → t ≡ false → Interrupted n p
-        (begins (Interrupt n) (if b then p.settings.interrupt else p.settings.interrupt + p.settings.packet)
-        (if b then (if t then record (x b) { tasks = p.tasks ++ Thread n ∷ [] } else record (x b) { softirq = pushed n p.softirq })
-        else x b))
-    by true false polling single = record { work = refl; ends = refl; settings = refl; softirq = refl; devices = refl }
-    by true true polling single = cc single
-    by false t polling single = cc polling
+interrupted-is n p polling single =
+    rw (polling, single) (record { work = refl; ends = refl; settings = refl; softirq = refl; devices = refl })
 
 -- the queue whose timer expired asks for an interrupt, and no other queue does
 one-asks : (n : ℕ) (ds : QueueViews) (d : QueueView) (until : ℕ) → ((k : ℕ) → asks_at (at k ds) ≡ false) → at n ds ≡ Some d → d.phase
@@ -150,40 +115,23 @@ none-asks n ds quiet k =
 takes-rests : (p : ProcessorView) → p.work ≡ Nothing → position asks_at p.devices ≡ None → p.softirq.run ≡ None → takes_up p ≡ rests p
 unfolding takes_up
 takes-rests p nothing quiet idle =
-    if-of (is_busy p.work) p
+    cond-false (is_busy p.work) p
     (option_map_or (λ (k : ℕ). interrupts k p) (position asks_at p.devices) (if is_some p.softirq.run then goes_on p else rests p))
     (ap is_busy nothing)
     ∙ (ap (λ (o : Option ℕ). option_map_or (λ (k : ℕ). interrupts k p) o (if is_some p.softirq.run then goes_on p else rests p)) quiet
     ∙ ap (λ (o : Option RunView). if is_some o then goes_on p else rests p) idle)
 
-one-list : (n : ℕ) → (length (n ∷ []) == 0) ≡ false
-one-list n = refl
-
 rests-begins : (n : ℕ) (p : ProcessorView) → is_polling p.settings ≡ true → p.softirq.list ≡ n ∷ [] → rests p ≡ begins_run p
 unfolding rests
 rests-begins n p polling list =
-    if-on (is_polling p.settings && not (length p.softirq.list == 0)) (begins_run p) (leaves_softirq p.rest p)
+    cond-true (is_polling p.settings && not (length p.softirq.list == 0)) (begins_run p) (leaves_softirq p.rest p)
     (ap (λ (b : Bool). b && not (length p.softirq.list == 0)) polling ∙ ap (λ (xs : List ℕ). not (length xs == 0)) list)
 
 -- the run polls this queue first
 asks-first : (n clock : ℕ) (s : MachineSettings) (list : List ℕ) (run : Option RunView) (began : ℕ) → is_polling s ≡ true → list ≡ n ∷ []
     → asked_in (run_next (begun clock s.budget s.weight s.window (record { list = list; run = run; began = began }))).run ≡ Some n
 unfolding run_next
-asks-first n clock s list run began polling is = by (nat_le s.budget 0 || nat_le s.window 0) (not-spent s polling)
-  where
-    r : RunView
-    r = record { own = list; repoll = []; asked = None; polls = 0; work = 0; budget = s.budget; weight = s.weight; window = s.window }
-
-    q : SoftirqView
-    q = record { list = []; run = Some r; began = clock }
-
-    not-spent : (x : MachineSettings) → is_polling x ≡ true → (nat_le x.budget 0 || nat_le x.window 0) ≡ false
-    not-spent x polling = grind (arith, common_steps, x.window_in)
-
-    by : (b : Bool) → b ≡ false
-        → asked_in (if b then q else next_from (filled list [] []) r q).run ≡ Some n
-    by true none = cc none
-    by false none = rw is refl
+asks-first n clock s list run began polling is = grind (arith, common_steps, s.window_in)
 
 begins-first : (n : ℕ) (p : ProcessorView) → is_polling p.settings ≡ true → p.softirq.list ≡ n ∷ []
     → begins_run p ≡ polls n
@@ -205,7 +153,7 @@ unfolding poll_looks
 looks-is n came p is =
     let q : ProcessorView = record p { devices = changed (without_next p.settings.backlog) n p.devices } in
     let f = λ (c : ℕ). begins (Packet (record { device = n; came = c; given = 0 })) p.settings.packet q in
-    if-on (nat_lt 0 p.settings.weight) (option_map_or f (next_packet_at p.settings.backlog (at n p.devices)) (ends_poll n 0 q))
+    cond-true (nat_lt 0 p.settings.weight) (option_map_or f (next_packet_at p.settings.backlog (at n p.devices)) (ends_poll n 0 q))
     (ends_poll n 0 p)
     (some-weight p.settings)
     ∙ ap (λ (o : Option ℕ). option_map_or f o (ends_poll n 0 q)) is
@@ -231,7 +179,7 @@ ended-interrupt : (n : ℕ) (p : ProcessorView) → p.work ≡ Interrupt n → i
 unfolding ends_current
 ended-interrupt n p work polling =
     let e : ProcessorView = record p { clock = p.ends; work = Nothing; counts = spent p.work (p.ends - p.clock) p.counts } in
-    ap (λ (w : Work). ends_by w e) work ∙ if-on (is_polling p.settings) e (ends_interrupt n e) polling
+    ap (λ (w : Work). ends_by w e) work ∙ cond-true (is_polling p.settings) e (ends_interrupt n e) polling
 
 after-interrupt : (n : ℕ) (p : ProcessorView) → p.work ≡ Interrupt n → is_polling p.settings ≡ true
     → ((k : ℕ) → asks_at (at k p.devices) ≡ false)
@@ -289,31 +237,9 @@ after-timer n until d p quiet polling single nothing there deferred first =
     ∙ takes-interrupt n (awake until n p) nothing asks) in
     subst (λ (x : ProcessorView). Interrupted n (awake until n p) x) (sym is) (interrupted-is n (awake until n p) polling single)
 
-next-backlog : (x : QueueView) → next_packet true x ≡ slice_get (if length x.taken == 0 then x.ring else x.taken) 0
-next-backlog x = by (length x.taken == 0)
-  where
-    by : (b : Bool) → slice_get (if b then record x { ring = []; taken = x.ring } else x).taken 0
-        ≡ slice_get (if b then x.ring else x.taken) 0
-    by true = refl
-    by false = refl
-
 next-same : (backlog : Bool) (d : QueueView) → next_packet backlog (interrupted true (expired d)) ≡ next_packet backlog d
 unfolding interrupted
-next-same backlog d = by (is_fired (expired d).phase) backlog
-  where
-    e : QueueView
-    e = expired d
-
-    counts : QueueCounts
-    counts = record d.counts { interrupts = saturated (d.counts.interrupts + 1) }
-
-    by : (b backlog : Bool)
-        → next_packet backlog (if b then record e { phase = Scheduled } else record e { phase = Scheduled; frames = 0; counts = counts })
-        ≡ next_packet backlog d
-    by true true = next-backlog (record e { phase = Scheduled }) ∙ sym (next-backlog d)
-    by true false = refl
-    by false true = next-backlog (record e { phase = Scheduled; frames = 0; counts = counts }) ∙ sym (next-backlog d)
-    by false false = refl
+next-same backlog d = grind (arith, common_steps)
 
 next-there : (backlog : Bool) (n came : ℕ) (ds : QueueViews) (d : QueueView) → at n ds ≡ Some d → next_packet backlog d ≡ Some came
     → next_packet_at backlog (at n (changed (interrupted true) n (changed expired n ds))) ≡ Some came
@@ -332,8 +258,8 @@ deferral-steps : (s : MachineSettings) (n until came : ℕ) (d : QueueView) (p :
     × ((step (step (step p))).ends ≤ until + (s.wake + (s.interrupt + (s.poll + s.packet))))
 deferral-steps s n until came d p goes r polls single nothing there deferred first found second third =
     let is : p.settings ≡ s = goes.rests.settings in
-    let polling : is_polling p.settings ≡ true = ap (λ (x : MachineSettings). is_polling x) is ∙ polls in
-    let alone : p.settings.threaded ≡ false = ap (λ (x : MachineSettings). x.threaded) is ∙ single in
+    let polling : is_polling p.settings ≡ true = same-polling s p is ∙ polls in
+    let alone : p.settings.threaded ≡ false = same-threaded s p is ∙ single in
     let q = step p in
     let i = after-timer n until d p r.quiet polling alone nothing there deferred first in
     let q-settings : q.settings ≡ p.settings = i.settings in

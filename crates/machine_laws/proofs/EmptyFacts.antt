@@ -1,29 +1,25 @@
 -- Law: after its last packet, only a few polls of a queue are empty.
-use Rattle.std.proofs.Common.{◌≡◌, ◌∙◌, ℕ, ◌+◌, ◌-◌, ◌<◌, ◌≤◌, Bool, true, false, Option, Some, None, List, [], ◌∷◌, length, refl, sym}
+use Rattle.std.proofs.Common.{◌≡◌, ◌∙◌, ℕ, ◌+◌, ◌-◌, ◌<◌, ◌≤◌, Bool, true, false, Option, Some, None, List, [], ◌∷◌, refl, sym}
 use Rattle.std.proofs.Common.{ap, subst, arith}
-use Rattle.std.{proofs.lemmas.{Bool.{eqb-true}, Grind.common_steps}, specs.{Prelude.{◌==◌, ◌&&◌, if◌then◌else◌}}}
-use Rattle.std.{specs.Prelude.{is_some, max, nat_lt, not}, proofs.Common.◌++◌}
-use Rattle.machine_model.specs.Softirq.{asked_in}
+use Rattle.std.{proofs.lemmas.{Grind.common_steps}, specs.{Prelude.{◌==◌, ◌&&◌, if◌then◌else◌, is_some, max, nat_lt, not}}}
 use Rattle.{machine_model.specs.declared.settings.MachineSettings.MachineSettings, device_places.specs.Places.{at, changed}}
 use Rattle.machine_laws.specs.Lives.{MachineEvent, behind, next, packet}
 use Rattle.machine_laws.specs.Fates.{finds_room}
 use Rattle.machine_laws.specs.Deferrals.{EmptyPollsAreFew, emptied, emptied_by, empty_polls}
 use Rattle.machine_model.specs.declared.{device.Phase.{Phase, TheVariants.{Quiet, Coalescing, Raised, Scheduled, Deferred, Fired}}}
-use Rattle.machine_model.specs.declared.processor.{Work.{Work, TheVariants.{Nothing, Interrupt, Poll, Packet, Use}}}
-use Rattle.machine_model.specs.declared.{processor.Upcoming.{Upcoming, TheVariants.{Never, Expires}}, device.QueueCounts.QueueCounts}
-use Rattle.machine_model.specs.Device.{QueueView, after_packet, coalesced, queue_completed, expired, has_room, interrupted, is_fired}
-use Rattle.machine_model.specs.Device.{is_masked, notified, new_queue}
-use Rattle.machine_model.specs.Device.{queue_polled, raised_again, spliced, without_next}
-use Rattle.machine_model.specs.Devices.{QueueViews, asks_at, has_room_at, is_fired_at, next_packet_at, with_device}
-use Rattle.machine_model.specs.Kept.{is_scheduled, polled_by, scheduled_at}
-use Rattle.machine_model.specs.Waits.{saturated}
-use Rattle.machine_model.specs.Processor.{ProcessorView, arrives, disturbed, ends_current, ends_run, happens, interrupts, is_busy}
-use Rattle.machine_model.specs.Processor.{is_polling}
-use Rattle.machine_model.specs.Processor.{scheduled, step, takes_up, upcoming}
-use Rattle.machine_laws.proofs.{TableFacts.{at-either, at-kept, map_at}, WalkFacts.{Walk, either, walk-any}, EndFacts.{Ends, Looks, ends}}
-use Rattle.machine_laws.proofs.WorkFacts.{Goes, goes-devices, goes-on, goes-unasked, stirred, work-ended, work-stirred}
-use Rattle.machine_laws.proofs.FateFacts.{at-arrived, made_at, room-made, undisturbed}
-use Rattle.machine_laws.proofs.StandFacts.{Even, Stands, by_thread, devices-scheduled, one, polled-scheduled, polled_at, stands-on}
+use Rattle.machine_model.specs.declared.processor.{Work.{Work, TheVariants.{Poll, Packet}}}
+use Rattle.machine_model.specs.declared.{processor.Upcoming.{Upcoming, TheVariants.{Never, Expires}}}
+use Rattle.machine_model.specs.Device.{QueueView, after_packet, expired, has_room, interrupted, notified, queue_completed}
+use Rattle.machine_model.specs.Device.{queue_polled, raised_again, without_next}
+use Rattle.machine_model.specs.Devices.{QueueViews, asks_at, next_packet_at}
+use Rattle.machine_model.specs.{Kept.{is_scheduled, polled_by, scheduled_at}, Waits.{saturated}}
+use Rattle.machine_model.specs.Processor.{ProcessorView, ends_current, happens, is_polling, step, upcoming}
+use Rattle.machine_model.proofs.PendingFacts.{phase-next}
+use Rattle.machine_laws.proofs.{TableFacts.{at-either, at-kept, map-kept, map_at}, EndFacts.{Ends, Looks, ends}}
+use Rattle.machine_laws.proofs.WorkFacts.{Goes, Life, devices_arrived, goes-on, life-arrives, life-happens, life-takes, same-polling}
+use Rattle.machine_laws.proofs.WorkFacts.{work-ended}
+use Rattle.machine_laws.proofs.FateFacts.{at-arrived, made-part, made_at, packet-by, room-made, steady-life}
+use Rattle.machine_laws.proofs.StandFacts.{Stands, polled_at, scheduled-of, stands-on}
 use Rattle.machine_model.specs.declared.processor.Upcoming.TheVariants as upcomings
 use Rattle.machine_model.specs.Device as device
 
@@ -58,12 +54,7 @@ pub record Few (s : MachineSettings) (count : ℕ) (o : Option QueueView) : Type
   pub low : defer_in o + 1 ≤ most s
 
 rest-most : (all : ℕ) (phase : Phase) (deferrals : ℕ) → deferrals + 1 ≤ all → rest_by all phase deferrals ≤ all
-rest-most all Quiet deferrals low = omega arith
-rest-most all (Coalescing until) deferrals low = omega arith
-rest-most all Raised deferrals low = omega arith
-rest-most all Scheduled deferrals low = low
-rest-most all (Deferred until) deferrals low = low
-rest-most all Fired deferrals low = low
+rest-most all phase deferrals low = grind (arith, common_steps)
 
 positive : (x : ℕ) → (x == 0) ≡ false → 0 < x
 positive x is = grind (arith, common_steps)
@@ -94,16 +85,7 @@ few-calm s count f m n ds c few =
     (at-kept (rest_at s) f m n ds (λ d. rw (c.phase d, c.deferrals d) refl)) (at-kept defer_in f m n ds c.deferrals)
 
 pub calm-next : (backlog : Bool) → Calm (without_next backlog)
-calm-next true = record { phase = λ d. by d (length d.taken == 0); deferrals = λ d. also d (length d.taken == 0) }
-  where
-    by : (d : QueueView) (b : Bool) → (if b then record d { ring = []; taken = d.ring } else d).phase ≡ d.phase
-    by d true = refl
-    by d false = refl
-
-    also : (d : QueueView) (b : Bool) → (if b then record d { ring = []; taken = d.ring } else d).deferrals ≡ d.deferrals
-    also d true = refl
-    also d false = refl
-calm-next false = record { phase = λ d. refl; deferrals = λ d. refl }
+calm-next backlog = record { phase = phase-next backlog; deferrals = λ d. grind (arith, common_steps) }
 
 calm-delivered : (now came : ℕ) → Calm (device.queue_delivered now came)
 calm-delivered now came = record { phase = λ d. refl; deferrals = λ d. refl }
@@ -114,89 +96,31 @@ few-interrupted : (s : MachineSettings) (count : ℕ) (polling : Bool) (o : Opti
     → Few s count (map_at (interrupted polling) o)
 unfolding map_at interrupted rest_at defer_in
 few-interrupted s count polling None asks few = cc asks
-few-interrupted s count polling (Some d) asks few = by d.phase polling asks few.sum few.low
-  where
-    counts : QueueCounts
-    counts = record d.counts { interrupts = saturated (d.counts.interrupts + 1) }
+few-interrupted s count polling (Some d) asks few = record { sum = grind (arith, common_steps); low = grind (arith, common_steps) }
 
-    by : (phase : Phase) (polling : Bool) → device.asks phase ≡ true → count + rest_by (most s) phase d.deferrals ≤ most s
-        → d.deferrals + 1 ≤ most s
-        → Few s count (Some (if is_fired phase then record d { phase = Scheduled }
-        else record d { phase = if polling then Scheduled else Quiet; frames = 0; counts = counts }))
-    by Quiet polling asks sum low = cc asks
-    by (Coalescing until) polling asks sum low = cc asks
-    by Raised true asks sum low = record { sum = omega (arith, sum, low); low = low }
-    by Raised false asks sum low = record { sum = omega (arith, sum, low); low = low }
-    by Scheduled polling asks sum low = cc asks
-    by (Deferred until) polling asks sum low = cc asks
-    by Fired polling asks sum low = record { sum = omega (arith, sum, low); low = low }
+expired-rest : (all : ℕ) (phase : Phase) (deferrals : ℕ) → rest_by all (device.expired_phase phase) deferrals ≡ rest_by all phase deferrals
+expired-rest all phase deferrals = grind (arith, common_steps)
 
-pub record Fews (s : MachineSettings) (n count : ℕ) (p : ProcessorView) : Type 0 where
-  pub few : Few s count (at n p.devices)
-
-fews-interrupt : (s : MachineSettings) (n count m : ℕ) (p : ProcessorView) → Fews s n count p → asks_at (at m p.devices) ≡ true
-    → Fews s n count (interrupts m p)
-unfolding interrupts
-fews-interrupt s n count m p h asks =
-    let polling = is_polling p.settings in
-    let counts = if is_fired_at (at m p.devices) then record p.counts { timers = saturated (p.counts.timers + 1) }
-    else record p.counts { interrupts = saturated (p.counts.interrupts + 1) } in
-    let q : ProcessorView = record p { devices = changed (interrupted polling) m p.devices; counts = counts } in
-    let few : Few s count (at n q.devices) =
-    at-either (λ b o. Few s count o) (interrupted polling) m n p.devices
-    (λ here.
-    few-interrupted s count polling (at n p.devices) (subst (λ (k : ℕ). asks_at (at k p.devices) ≡ true) (eqb-true m n here) asks) h.few)
-    (λ other. h.few) in
-    record { few = subst (λ (ds : QueueViews). Few s count (at n ds)) (sym (devices-scheduled m polling q)) few }
-
-fews-over : (s : MachineSettings) (n count : ℕ) (late : Bool) (p : ProcessorView) → Fews s n count p → Fews s n count (ends_run late p)
-unfolding ends_run
-fews-over s n count late p h = record { few = h.few }
-
-fews-walk : (s : MachineSettings) (n count : ℕ) → Walk (Fews s n count) (Fews s n count)
-fews-walk s n count = record {
-  interrupt = λ m p free h asks. fews-interrupt s n count m p h asks;
-  next = λ p free h. record { few = h.few };
-  asks = λ m p h asked. record { few = h.few };
-  over = λ late p free h. fews-over s n count late p h;
-  start = λ p h none polling some. record { few = h.few };
-  resume = λ rest p free h is quiet. record { few = h.few };
-  settle = λ tasks p h is. record { few = h.few };
-  thread = λ m more p free h threaded is. record { few = h.few };
-  uses = λ came more p free h none is quiet first. record { few = h.few };
-  stays = λ p free h still settled. h;
-}
-
-fews-takes : (s : MachineSettings) (n count : ℕ) (p : ProcessorView) → Goes s p → Few s count (at n p.devices)
-    → Few s count (at n (takes_up p).devices)
-fews-takes s n count p goes few =
-    (walk-any (Fews s n count) (Fews s n count) (fews-walk s n count) p (goes-unasked s p goes) (λ busy. record { few = few })
-    (λ idle. record { few = few })).few
+few-life : (s : MachineSettings) (n count : ℕ) → let K = λ (p : ProcessorView). Few s count (at n p.devices) in Life s K K K
+unfolding rest_at defer_in
+few-life s n count = steady-life s (Few s count) (record {
+  interrupted = few-interrupted s count;
+  expired = λ o few.
+      few-same s count o (map_at expired o) few (map-kept (rest_at s) expired o (λ d. expired-rest (most s) d.phase d.deferrals))
+      (map-kept defer_in expired o (λ d. refl));
+}) n
 
 -- ---- a poll ends
 
 phase-rest : (all : ℕ) (phase : Phase) (deferrals : ℕ) → is_scheduled phase ≡ true → rest_by all phase deferrals ≡ deferrals + 1
-phase-rest all Quiet deferrals is = cc is
-phase-rest all (Coalescing until) deferrals is = cc is
-phase-rest all Raised deferrals is = cc is
-phase-rest all Scheduled deferrals is = refl
-phase-rest all (Deferred until) deferrals is = cc is
-phase-rest all Fired deferrals is = cc is
+phase-rest all phase deferrals is = grind (arith, common_steps)
 
 -- the queue's interrupt is deferred once more, or it is unmasked
 few-deferred : (s : MachineSettings) (count x until : ℕ) (b : Bool) (d : QueueView) → count + x ≤ most s → x ≤ most s
     → Few s count (Some (record d { deferrals = x - 1; phase = if not (x == 0) && b then Deferred until else Quiet }))
 unfolding rest_at defer_in
-few-deferred s count x until b d sum low = by (x == 0) b refl
-  where
-    less : (x - 1) + 1 ≤ most s
-    less = omega (arith, low, (most-is s).0)
-
-    by : (zero b : Bool) → (x == 0) ≡ zero
-        → Few s count (Some (record d { deferrals = x - 1; phase = if not zero && b then Deferred until else Quiet }))
-    by true b is = record { sum = omega (arith, sum); low = less }
-    by false true is = let some : 0 < x = positive x is in record { sum = omega (arith, sum, some); low = less }
-    by false false is = record { sum = omega (arith, sum); low = less }
+few-deferred s count x until b d sum low =
+    let some = (most-is s).0 in record { sum = grind (arith, common_steps); low = omega (arith, low, some) }
 
 -- an empty poll adds one to the count, and a poll with packets resets it
 few-completed : (s : MachineSettings) (count now given : ℕ) (d : QueueView) → is_scheduled d.phase ≡ true → Few s count (Some d)
@@ -321,11 +245,9 @@ looks-later s n m count given now ds scheduled few =
             by given (m == n) (given + 1 == 0) (later given) (fews-polled s m n count now (given + 1) es scheduled few is)
 
 emptied-rest : (n count : ℕ) (w : Work) (p : ProcessorView) → polled_by w ≡ None → emptied_by n w p count ≡ count
-emptied-rest n count Nothing p none = refl
-emptied-rest n count (Interrupt m) p none = refl
 emptied-rest n count (Poll m) p none = cc none
 emptied-rest n count (Packet hand) p none = cc none
-emptied-rest n count (Use came) p none = refl
+emptied-rest n count w p none = refl
 
 few-count : (s : MachineSettings) (count other : ℕ) (o : Option QueueView) → other ≡ count → Few s count o → Few s other o
 few-count s count other o is few = record { sum = omega (arith, few.sum, is); low = few.low }
@@ -353,157 +275,75 @@ ends-few s n count p goes stands few lone = record {
       ∙ (at-kept defer_in (device.queue_delivered p.ends came) m n first (λ d. refl)
       ∙ at-kept defer_in (without_next false) m n p.devices (λ d. refl)));
   poll = λ m is.
-      let l = looks-first s n m count p.ends p.devices (is-scheduled m (ap polled_by is) (ap (polled_at n) is)) few in
-      subst (λ (w : Work). Looks (λ es v. Few s (emptied_by n w p count) (at n es)) p.settings p.ends m 0 p.devices) (sym is)
-      (subst
-      (λ (x : MachineSettings). Looks
-      (λ es v. Few s (if m == n && not (is_some (next_packet_at x.backlog (at m p.devices))) then count + 1 else count) (at n es))
-      x p.ends m 0
-      p.devices) (sym goes.rests.settings) l);
+      rw (is, goes.rests.settings) (looks-first s n m count p.ends p.devices
+      (scheduled-of s n m p goes stands (ap polled_by is) (ap (polled_at n) is)) few);
   packet = λ hand is.
-      let ds = changed (device.queue_delivered p.ends hand.came) hand.device p.devices in
-      let l =
-      looks-later s n hand.device count hand.given p.ends ds
-      (λ here. at-kept scheduled_at (device.queue_delivered p.ends hand.came) hand.device n p.devices (λ d. refl)
-      ∙ is-scheduled hand.device (ap polled_by is) (ap (polled_at n) is) here)
-      (few-calm s count (device.queue_delivered p.ends hand.came) hand.device n p.devices (calm-delivered p.ends hand.came) few) in
-      subst (λ (w : Work). Looks (λ es v. Few s (emptied_by n w p count) (at n es)) p.settings p.ends hand.device (hand.given + 1) ds)
-      (sym is)
-      (subst
-      (λ (x : MachineSettings). Looks (λ es v. Few s (if hand.device == n then 0 else count) (at n es)) x p.ends hand.device
-      (hand.given + 1) ds)
-      (sym goes.rests.settings) l);
+      let deliver = device.queue_delivered p.ends hand.came in
+      rw (is, goes.rests.settings) (looks-later s n hand.device count hand.given p.ends (changed deliver hand.device p.devices)
+      (λ here. at-kept scheduled_at deliver hand.device n p.devices (λ d. refl)
+      ∙ scheduled-of s n hand.device p goes stands (ap polled_by is) (ap (polled_at n) is) here)
+      (few-calm s count deliver hand.device n p.devices (calm-delivered p.ends hand.came) few));
 }
   where
     zero : is_polling p.settings ≡ false → count ≡ 0
-    zero single = lone (sym (ap (λ (x : MachineSettings). is_polling x) goes.rests.settings) ∙ single)
-
-    is-scheduled : (m : ℕ) → polled_by p.work ≡ Some m → polled_at n p.work ≡ one m n → (m == n) ≡ true → scheduled_at (at n p.devices) ≡ 1
-    is-scheduled m polls places here =
-        polled-scheduled s n m p (subst (λ (k : ℕ). Even s n (by_thread s k) p) places stands.even)
-        (subst (λ (o : Option ℕ). asked_in p.softirq.run ≡ (if s.threaded then None else o)) polls goes.asked) here
+    zero single = lone (sym (same-polling s p goes.rests.settings) ∙ single)
 
 -- ---- timers, interruptions and arrivals
-
-few-disturbed : (s : MachineSettings) (n count moment : ℕ) (p : ProcessorView) → Goes s p → Few s count (at n p.devices)
-    → Few s count (at n (disturbed moment p).devices)
-unfolding disturbed
-few-disturbed s n count moment p goes few =
-    fews-takes s n count (stirred moment p) (work-stirred s moment p goes)
-    (subst (λ (ds : QueueViews). Few s count (at n ds)) (sym (undisturbed moment p).devices) few)
-
-expired-rest : (all : ℕ) (phase : Phase) (deferrals : ℕ) → rest_by all (device.expired_phase phase) deferrals ≡ rest_by all phase deferrals
-expired-rest all Quiet deferrals = refl
-expired-rest all (Coalescing until) deferrals = refl
-expired-rest all Raised deferrals = refl
-expired-rest all Scheduled deferrals = refl
-expired-rest all (Deferred until) deferrals = refl
-expired-rest all Fired deferrals = refl
-
-few-expired : (s : MachineSettings) (n m count : ℕ) (ds : QueueViews) → Few s count (at n ds) → Few s count (at n (changed expired m ds))
-unfolding rest_at defer_in
-few-expired s n m count ds few =
-    few-same s count (at n ds) (at n (changed expired m ds)) few
-    (at-kept (rest_at s) expired m n ds (λ d. expired-rest (most s) d.phase d.deferrals)) (at-kept defer_in expired m n ds (λ d. refl))
 
 few-happens : (s : MachineSettings) (n count : ℕ) (u : Upcoming) (p : ProcessorView) → Goes s p → Stands s n p
     → Few s count (at n p.devices)
     → (is_polling s ≡ false → count ≡ 0) → Few s (emptied n u p count) (at n (happens u p).devices)
 few-happens s n count Never p goes stands few lone = few
 few-happens s n count upcomings.Ends p goes stands few lone =
-    fews-takes s n (emptied_by n p.work p count) (ends_current p) (work-ended s p goes)
+    life-takes (few-life s n (emptied_by n p.work p count)) (ends_current p) (work-ended s p goes)
     (ends (λ o ds w. Few s (emptied_by n p.work p count) (at n ds)) p (ends-few s n count p goes stands few lone))
 few-happens s n count (Expires timer) p goes stands few lone =
-    let q : ProcessorView = record p { devices = changed expired timer.device p.devices } in
-    few-disturbed s n count timer.at q (goes-devices s p q goes refl refl refl refl) (few-expired s n timer.device count p.devices few)
-
-few-made : (s : MachineSettings) (count capacity : ℕ) (o : Option QueueView) → Few s count o → Few s count (Some (made_at capacity o))
-unfolding made_at rest_at defer_in
-few-made s count capacity None few = record { sum = few.sum; low = few.low }
-few-made s count capacity (Some d) few = few
-
-packet-deferrals : (moment : ℕ) (x s : MachineSettings) (d : QueueView) → (after_packet moment x d).deferrals ≡ d.deferrals
-unfolding after_packet notified
-packet-deferrals moment x s d = by (has_room d) (is_masked d.phase)
-  where
-    counts : QueueCounts
-    counts = record d.counts { arrived = saturated (d.counts.arrived + 1) }
-
-    f : QueueView
-    f = record d { counts = counts; ring = d.ring ++ moment ∷ [] }
-
-    by : (room masked : Bool)
-        → (if not room then record d { counts = record counts { dropped = saturated (d.counts.dropped + 1) } }
-        else (if masked then f else notified moment x f)).deferrals ≡ d.deferrals
-    by false masked = refl
-    by true true = refl
-    by true false = refl
+    life-happens (few-life s n count) (Expires timer) p goes few few (λ is. cc is)
 
 few-packet : (s x : MachineSettings) (count moment : ℕ) (d : QueueView) → Few s count (Some d)
     → Few s (if has_room d then 0 else count) (Some (after_packet moment x d))
-unfolding after_packet rest_at defer_in
-few-packet s x count moment d few = by (has_room d) refl
-  where
-    counts : QueueCounts
-    counts = record d.counts { arrived = saturated (d.counts.arrived + 1) }
-
-    low : (after_packet moment x d).deferrals + 1 ≤ most s
-    low = omega (arith, packet-deferrals moment x s d, few.low)
-
-    by : (room : Bool) → has_room d ≡ room → Few s (if room then 0 else count) (Some (after_packet moment x d))
-    by true is = few-none s (Some (after_packet moment x d)) low
-    by false is = rw is (record { sum = few.sum; low = few.low })
+unfolding notified rest_at defer_in
+few-packet s x count moment d few =
+    packet-by (λ room e. Few s (if room then 0 else count) (Some e)) moment x d
+    (record { sum = few.sum; low = few.low }, few-none s (Some _) few.low, few-none s (Some _) few.low)
 
 arrived-few : (s : MachineSettings) (moment m n count : ℕ) (p : ProcessorView) → Few s count (at n p.devices)
-    → Few s (if m == n && finds_room n p then 0 else count)
-    (at n (changed (after_packet moment p.settings) m (with_device p.settings.ring m p.devices)))
+    → Few s (if m == n && finds_room n p then 0 else count) (at n (devices_arrived moment m p))
+unfolding rest_at defer_in
 arrived-few s moment m n count p few =
-    let made = made_at p.settings.ring (at n p.devices) in
-    at-arrived (λ b o. Few s (if b && finds_room n p then 0 else count) o) p.settings moment p.settings.ring m n p.devices
-    (λ here.
-    subst (λ (b : Bool). Few s (if b then 0 else count) (Some (after_packet moment p.settings made)))
-    (sym (room-made p.settings.ring n p.devices))
-    (few-packet s p.settings count moment made (few-made s count p.settings.ring (at n p.devices) few)))
+    let o = at n p.devices in
+    at-arrived (λ b o. Few s (if b && finds_room n p then 0 else count) o) moment m n p
+    (λ here. rw (room-made n p) (few-packet s p.settings count moment (made_at p.settings.ring o)
+    (few-same s count o (Some (made_at p.settings.ring o)) few (made-part (rest_at s) p.settings.ring o refl)
+    (made-part defer_in p.settings.ring o refl))))
     (λ other. few)
 
-few-arrives : (s : MachineSettings) (n count moment m : ℕ) (p : ProcessorView) → Goes s p → Few s count (at n p.devices)
-    → Few s (if m == n && finds_room n p then 0 else count) (at n (arrives moment m p).devices)
-unfolding arrives
-few-arrives s n count moment m p goes few =
-    let devices = with_device p.settings.ring m p.devices in
-    let clock = if is_busy p.work then p.clock else moment in
-    let q : ProcessorView = record p { clock = clock; devices = changed (after_packet moment p.settings) m devices } in
-    let now = arrived-few s moment m n count p few in
-    let k = if m == n && finds_room n p then 0 else count in
-    either (λ r. Few s k (at n r.devices)) (has_room_at (at m devices)) (disturbed moment q) q
-    (λ room. few-disturbed s n k moment q (goes-devices s p q goes refl refl refl refl) now) (λ full. now)
-
 -- ---- over a processor's life
-
-zero-if : (b : Bool) (count : ℕ) → count ≡ 0 → (if b then 0 else count) ≡ 0
-zero-if true count is = refl
-zero-if false count is = is
-
-emptied-none : (n count : ℕ) (u : Upcoming) (p : ProcessorView) → polled_by p.work ≡ None → emptied n u p count ≡ count
-emptied-none n count Never p none = refl
-emptied-none n count upcomings.Ends p none = emptied-rest n count p.work p none
-emptied-none n count (Expires timer) p none = refl
 
 -- a machine without polling has no empty polls
 none-empty : (s : MachineSettings) (n : ℕ) (events : List MachineEvent) → is_polling s ≡ false → empty_polls n s events ≡ 0
 unfolding empty_polls
 none-empty s n [] lone = refl
-none-empty s n (packet moment m ∷ earlier) lone =
-    zero-if (m == n && finds_room n (behind s earlier)) (empty_polls n s earlier) (none-empty s n earlier lone)
-none-empty s n (next ∷ earlier) lone =
-    let p = behind s earlier in
-    emptied-none n (empty_polls n s earlier) (upcoming p) p ((goes-on s earlier).polled lone) ∙ none-empty s n earlier lone
+none-empty s n (packet moment m ∷ earlier) lone = by (m == n && finds_room n (behind s earlier)) (none-empty s n earlier lone)
+  where
+    by : {count : ℕ} (b : Bool) → count ≡ 0 → (if b then 0 else count) ≡ 0
+    by true is = refl
+    by false is = is
+none-empty s n (next ∷ earlier) lone = by (upcoming (behind s earlier)) ∙ none-empty s n earlier lone
+  where
+    by : (u : Upcoming) → emptied n u (behind s earlier) (empty_polls n s earlier) ≡ empty_polls n s earlier
+    by upcomings.Ends =
+        emptied-rest n (empty_polls n s earlier) (behind s earlier).work (behind s earlier) ((goes-on s earlier).polled lone)
+    by u = refl
 
 few-on : (s : MachineSettings) (n : ℕ) (events : List MachineEvent) → Few s (empty_polls n s events) (at n (behind s events).devices)
 unfolding behind step empty_polls defer_in
 few-on s n [] = few-none s None (omega (arith, (most-is s).0))
 few-on s n (packet moment m ∷ earlier) =
-    few-arrives s n (empty_polls n s earlier) moment m (behind s earlier) (goes-on s earlier) (few-on s n earlier)
+    let p = behind s earlier in
+    let now = arrived-few s moment m n (empty_polls n s earlier) p (few-on s n earlier) in
+    life-arrives (few-life s n (if m == n && finds_room n p then 0 else empty_polls n s earlier)) moment m p (goes-on s earlier) now
+    (λ full. now)
 few-on s n (next ∷ earlier) =
     let p = behind s earlier in
     few-happens s n (empty_polls n s earlier) (upcoming p) p (goes-on s earlier) (stands-on s n earlier) (few-on s n earlier)

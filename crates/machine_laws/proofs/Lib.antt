@@ -6,7 +6,6 @@ pub mod FateFacts
 pub mod TallyFacts
 pub mod SocketFacts
 pub mod TimerFacts
-pub mod OverFacts
 pub mod TimeFacts
 pub mod LeastFacts
 pub mod ApplicationFacts
@@ -16,7 +15,6 @@ pub mod StandFacts
 pub mod EmptyFacts
 pub mod TendFacts
 pub mod LeftFacts
-pub mod NearFacts
 pub mod BoundFacts
 pub mod RunFacts
 pub mod LifeFacts

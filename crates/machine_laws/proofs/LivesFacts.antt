@@ -1,5 +1,5 @@
 -- The machine of a report received packets whose times don't decrease.
-use Rattle.std.proofs.{Common.{◌≡◌, ℕ, ◌<◌, ◌≤◌, ◌^◌, List, [], ◌∷◌, refl, arith}, lemmas.Grind.common_steps}
+use Rattle.std.proofs.{Common.{ℕ, ◌<◌, ◌≤◌, ◌^◌, List, [], ◌∷◌, refl, arith}, lemmas.Grind.common_steps}
 use Rattle.{machine_model.specs.Machine.{PacketArrives, Machine, opened_machine}, machine_laws.specs.Lives.{EachLives, Took}}
 use Rattle.{device_rows.specs.Trace.records_of, machine_model.specs.declared.settings.MachineSettings.MachineSettings}
 use Rattle.machine_report.{specs.{Answer.TakesArrivals, declared.arrival.Arrival.Arrival}, proofs.RisingFacts.{Rises, rises-of}}

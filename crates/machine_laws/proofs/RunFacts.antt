@@ -1,5 +1,5 @@
 -- Law: the events on a processor end.
-use Rattle.std.proofs.Common.{◌≡◌, ◌∙◌, ℕ, zero, suc, ◌<◌, Bool, true, false, None, refl, sym, ap, subst, arith}
+use Rattle.std.proofs.Common.{◌≡◌, ◌∙◌, ℕ, zero, suc, ◌<◌, Bool, true, false, None, refl, sym, ap, arith}
 use Rattle.std.specs.Prelude.{if◌then◌else◌}
 use Rattle.{machine_model.specs.declared.settings.MachineSettings.MachineSettings}
 use Rattle.{machine_laws.specs.{Deferrals.EveryRunEnds, Lives.behind}}
@@ -19,10 +19,11 @@ unfolding step
 step-goes s p goes = work-happens s (upcoming p) p goes
 
 step-left : (s : MachineSettings) (until : ℕ) (p : ProcessorView) → Goes s p → is_due until p ≡ true → left load (step p) < left load p
-step-left s until p goes due =
-    step-asked until p
-    (subst (λ (x : MachineSettings). asked_in p.softirq.run ≡ (if x.threaded then None else polled_by p.work)) (sym goes.rests.settings)
-    goes.asked) due
+step-left s until p goes due = step-asked until p (rw goes.rests.settings (by s.threaded refl)) due
+  where
+    by : (b : Bool) → s.threaded ≡ b → asked_in p.softirq.run ≡ (if b then None else polled_by p.work)
+    by true is = goes.asks.none is
+    by false is = goes.asks.list is
 
 one-more : (until : ℕ) (p q : ProcessorView) → is_due until p ≡ true → Advances until (step p) q → Advances until p q
 unfolding processor_after

@@ -1,6 +1,6 @@
 -- The entry at a number of a table, after one entry changed.
 use Rattle.std.proofs.Common.{◌≡◌, ℕ, Bool, true, false, Option, Some, None, ◌++◌, replicate}
-use Rattle.std.proofs.{Common.{refl, sym, arith}, lemmas.{Bool.{eqb-true, eqb-false}, Grind.{common_steps, get_or-set_at}}}
+use Rattle.std.proofs.{Common.{refl, sym, subst, arith}, lemmas.{Bool.{eqb-true, eqb-false}, Grind.{common_steps, get_or-set_at}}}
 use Rattle.std.{proofs.lemmas.List.get_or-set_other, specs.Prelude.{◌==◌}}
 use Rattle.device_places.{proofs.PlaceFacts.{below-some}, specs.Places.{DeviceTable, at, changed, changed_from}}
 
@@ -17,9 +17,6 @@ at-here-from f n ds (Some d) is = get_or-set_at ds n n (Some (f d)) None refl (b
 pub at-changed : {A : Type 0} (f : A → A) (n : ℕ) (ds : DeviceTable A) → at n (changed f n ds) ≡ map_at f (at n ds)
 at-changed f n ds = at-here-from f n ds (at n ds) refl
 
-pub at-here : {A : Type 0} (f : A → A) (m n : ℕ) (ds : DeviceTable A) → (m == n) ≡ true → at n (changed f m ds) ≡ map_at f (at n ds)
-at-here f m n ds same = rw (eqb-true m n same) (at-changed f n ds)
-
 at-apart-from : {A : Type 0} (f : A → A) (m n : ℕ) (ds : DeviceTable A) (o : Option A) → (m == n) ≡ false → at n (changed_from f m o ds)
     ≡ at n ds
 at-apart-from f m n ds None other = refl
@@ -28,24 +25,45 @@ at-apart-from f m n ds (Some d) other = get_or-set_other ds m n (Some (f d)) Non
 pub at-apart : {A : Type 0} (f : A → A) (m n : ℕ) (ds : DeviceTable A) → (m == n) ≡ false → at n (changed f m ds) ≡ at n ds
 at-apart f m n ds other = at-apart-from f m n ds (at m ds) other
 
+pub at-same : {A : Type 0} (P : Option A → Type 0) (m n : ℕ) (ds : DeviceTable A) → (m == n) ≡ true → P (at m ds) → P (at n ds)
+at-same P m n ds same held = subst (λ (k : ℕ). P (at k ds)) (eqb-true m n same) held
+
 -- what has to be shown about the entry that changes, and about each other entry, which is unchanged
 pub at-either : {A : Type 0} (Q : Bool → Option A → Type 0) (f : A → A) (m n : ℕ) (ds : DeviceTable A)
     → ((m == n) ≡ true → Q true (map_at f (at n ds))) → ((m == n) ≡ false → Q false (at n ds)) → Q (m == n) (at n (changed f m ds))
 at-either {A = A} Q f m n ds here apart = by (m == n) refl
   where
     by : (b : Bool) → (m == n) ≡ b → Q b (at n (changed f m ds))
-    by true same = rw (at-here f m n ds same) (here same)
+    by true same = rw (eqb-true m n same, at-changed f n ds) (here same)
     by false other = rw (at-apart f m n ds other) (apart other)
+
+-- a property of an entry that the change keeps
+pub at-keeps : {A : Type 0} (K : Option A → Type 0) (f : A → A) (m n : ℕ) (ds : DeviceTable A)
+    → ((m == n) ≡ true → K (at n ds) → K (map_at f (at n ds))) → K (at n ds) → K (at n (changed f m ds))
+at-keeps K f m n ds keeps held = at-either (λ b o. K o) f m n ds (λ here. keeps here held) (λ other. held)
+
+-- a property of an entry, if there is one
+abbrev pub IfThere : {A : Type 0} → (A → Type 0) → Option A → Type 0
+IfThere P None = Unit {0}
+IfThere P (Some d) = P d
+
+pub map-there : {A : Type 0} (P Q : A → Type 0) (f : A → A) (o : Option A) → ((d : A) → P d → Q (f d)) → IfThere P o
+    → IfThere Q (map_at f o)
+unfolding map_at
+map-there P Q f None keeps held = tt
+map-there P Q f (Some d) keeps held = keeps d held
+
+pub map-kept : {A B : Type 0} → (g : Option A → B) (f : A → A) (o : Option A) → ((d : A) → g (Some (f d)) ≡ g (Some d))
+    → g (map_at f o) ≡ g o
+unfolding map_at
+map-kept g f None same = refl
+map-kept g f (Some d) same = same d
 
 -- if a change keeps a part of the entry that it changes, it keeps that part of every entry
 pub at-kept : {A B : Type 0} → (g : Option A → B) (f : A → A) (m n : ℕ) (ds : DeviceTable A) → ((d : A) → g (Some (f d)) ≡ g (Some d))
     → g (at n (changed f m ds)) ≡ g (at n ds)
-unfolding map_at
-at-kept {A = A} g f m n ds same = at-either (λ b o. g o ≡ g (at n ds)) f m n ds (λ here. by (at n ds)) (λ other. refl)
-  where
-    by : (o : Option A) → g (map_at f o) ≡ g o
-    by None = refl
-    by (Some d) = same d
+at-kept {A = A} g f m n ds same =
+    at-keeps (λ o. g o ≡ g (at n ds)) f m n ds (λ here held. map-kept g f (at n ds) same) refl
 
 -- entries that are added to a table are empty
 pub at-made : {A : Type 0} (n count : ℕ) (ds : DeviceTable A) → at n (ds ++ replicate count None) ≡ at n ds

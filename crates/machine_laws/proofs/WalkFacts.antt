@@ -1,17 +1,23 @@
--- Which work a processor begins, case by case, and a property that each case preserves.
-use Rattle.std.specs.Prelude.{◌==◌, ◌&&◌, if◌then◌else◌, is_some, not, position, slice_get}
-use Rattle.std.proofs.Common.{◌≡◌, ◌<◌, ℕ, arith, Bool, true, false, Option, Some, None, List, [], ◌∷◌, length, refl}
-use Rattle.std.{proofs.lemmas.{List.Quantifiers.position-Some, Grind.common_steps}, specs.Option.option_map_or}
-use Rattle.{device_places.{proofs.PlaceFacts.none-of, specs.Places.at}}
+-- Which work a processor begins, case by case, and a property that each case preserves; and the cases of an interruption and of
+-- the end of a poll.
+use Rattle.std.specs.Prelude.{◌==◌, ◌&&◌, if◌then◌else◌, is_some, not, nat_lt, position, slice_get}
+use Rattle.std.proofs.Common.{◌≡◌, ◌<◌, ℕ, ◌+◌, ◌-◌, arith, Bool, true, false, Option, Some, None, List, [], ◌∷◌, ◌++◌, length, refl}
+use Rattle.std.{proofs.lemmas.{Bool.and_parts, List.Quantifiers.position-Some, Grind.common_steps}, specs.Option.option_map_or}
+use Rattle.{device_places.{proofs.PlaceFacts.none-of, specs.Places.{at, changed}}}
 use Rattle.{machine_model.specs.declared.settings.MachineSettings.MachineSettings}
+use Rattle.poll_runs.specs.declared.bench.{Next.TheVariants.{Gone, Repoll}}
 use Rattle.machine_model.specs.declared.processor.Work.{Work}
-use Rattle.machine_model.specs.declared.processor.Work.TheVariants.{Nothing, Use}
-use Rattle.machine_model.specs.declared.processor.Rest.{Rest}
+use Rattle.machine_model.specs.declared.processor.Work.TheVariants.{Nothing, Interrupt, Packet, Use}
+use Rattle.machine_model.specs.declared.processor.{ProcessorCounts.ProcessorCounts, Rest.Rest}
 use Rattle.machine_model.specs.declared.tasks.RunnableTask.{RunnableTask}
 use Rattle.machine_model.specs.declared.tasks.RunnableTask.TheVariants.{Application, Thread}
-use Rattle.machine_model.specs.{Devices.asks_at, Softirq.{SoftirqView, asked_in, begun, run_ended, run_next}, Tasks.{after_first, runnable}}
-use Rattle.machine_model.specs.Processor.{ProcessorView, begins, begins_run, ends_run, goes_on, interrupts, is_busy, is_late, is_polling}
-use Rattle.machine_model.specs.Processor.{leaves_softirq, polls, rests, runs, runs_first, takes_up, uses}
+use Rattle.machine_model.specs.{Device.{interrupted, queue_polled, without_next}, Devices.{asks_at, is_fired_at, next_packet_at}}
+use Rattle.machine_model.specs.{Waits.saturated}
+use Rattle.machine_model.specs.Softirq.{SoftirqView, asked_in, begun, pushed, run_ended, run_next, softirq_polled}
+use Rattle.machine_model.specs.Tasks.{after_first, runnable}
+use Rattle.machine_model.specs.Processor.{ProcessorView, begins, begins_run, ends_poll, ends_run, goes_on, interrupts, is_busy, is_late}
+use Rattle.machine_model.specs.Processor.{is_polling, leaves_softirq, poll_looks, polls, rests, runs, runs_first, set_aside, spent}
+use Rattle.machine_model.specs.Processor.{takes_up, uses, woken}
 
 -- no work is in progress
 pub record Free (p : ProcessorView) : Type 0 where
@@ -26,16 +32,19 @@ NoTask (Thread number ∷ more) items = ⊥
 
 -- the application is the first task
 abbrev pub IsFirst : List RunnableTask → Type 0
-IsFirst [] = ⊥
 IsFirst (Application ∷ more) = Unit {0}
-IsFirst (Thread number ∷ more) = ⊥
+IsFirst tasks = ⊥
 
--- the processor begins no work
-pub record Still (p : ProcessorView) : Type 0 where
+-- no run is in progress, and none begins
+pub record Out (p : ProcessorView) : Type 0 where
   pub quiet : position asks_at p.devices ≡ None
   pub idle : p.softirq.run ≡ None
   pub list : (is_polling p.settings && not (length p.softirq.list == 0)) ≡ false
   pub rest : p.rest ≡ None
+
+-- the processor begins no work
+pub record Still (p : ProcessorView) : Type 0 where
+  pub out : Out p
   pub socket : p.settings.threaded ≡ false → p.settings.apart ≡ false → p.application.socket.items ≡ []
   pub tasks : p.settings.threaded ≡ true → NoTask p.tasks p.application.socket.items
 
@@ -44,6 +53,13 @@ nexted p = record p { softirq = run_next p.softirq }
 
 abbrev pub started : ProcessorView → ProcessorView
 started p = record p { softirq = begun p.clock p.settings.budget p.settings.weight p.settings.window p.softirq }
+
+-- a queue is scheduled, if there is polling: its thread is runnable, or its number is on the poll list
+abbrev pub enqueued : ℕ → ProcessorView → ProcessorView
+enqueued n p = record p {
+  softirq = if is_polling p.settings && not p.settings.threaded then pushed n p.softirq else p.softirq;
+  tasks = if is_polling p.settings && p.settings.threaded then p.tasks ++ Thread n ∷ [] else p.tasks;
+}
 
 -- the poll of the queue for which the run asks, or other work
 abbrev pub polls_or : ProcessorView → Option ℕ → ProcessorView → ProcessorView
@@ -55,10 +71,13 @@ IsSettled P p = p.settings.threaded ≡ true
     → (before : List RunnableTask) × (p.tasks ≡ runnable (length p.application.socket.items == 0) before) × P (record p { tasks = before })
 
 pub record Walk (P Q : ProcessorView → Type 0) : Type 0 where
-  pub interrupt : (n : ℕ) (p : ProcessorView) → Free p → P p → asks_at (at n p.devices) ≡ true → Q (interrupts n p)
+  pub interrupt : (n time : ℕ) (counts : ProcessorCounts) (p : ProcessorView) → Free p → P p → asks_at (at n p.devices) ≡ true
+      → Q (begins (Interrupt n) time
+      (enqueued n (record p { devices = changed (interrupted (is_polling p.settings)) n p.devices; counts = counts })))
   pub next : (p : ProcessorView) → Free p → P p → P (nexted p)
   pub asks : (n : ℕ) (p : ProcessorView) → P (nexted p) → asked_in (run_next p.softirq).run ≡ Some n → Q (polls n (nexted p))
-  pub over : (late : Bool) (p : ProcessorView) → Free p → P p → P (ends_run late p)
+  pub over : (counts : ProcessorCounts) (p : ProcessorView) → Free p → P p
+      → P (record p { softirq = run_ended p.softirq; counts = counts })
   pub start : (p : ProcessorView) → P p → p.softirq.run ≡ None → is_polling p.settings ≡ true → not (length p.softirq.list == 0) ≡ true
       → P (started p)
   pub resume : (rest : Rest) (p : ProcessorView) → Free p → P p → p.rest ≡ Some rest
@@ -76,110 +95,70 @@ pub either : (Q : ProcessorView → Type 0) (b : Bool) (x y : ProcessorView) →
 either Q true x y first second = first refl
 either Q false x y first second = second refl
 
-pub run-ended : (late : Bool) (p : ProcessorView) → (ends_run late p).softirq.run ≡ None
-unfolding ends_run run_ended
-run-ended late p = refl
-
 -- ---- when there is nothing for the softirq
 
--- no run is in progress, and none begins
-pub record Out (p : ProcessorView) : Type 0 where
-  pub free : Free p
-  pub quiet : position asks_at p.devices ≡ None
-  pub idle : p.softirq.run ≡ None
-  pub list : (is_polling p.settings && not (length p.softirq.list == 0)) ≡ false
-  pub rest : p.rest ≡ None
-
-walk-uses : (P Q : ProcessorView → Type 0) → Walk P Q → (items : List ℕ) (p : ProcessorView) → p.application.socket.items ≡ items
+walk-uses : {P Q : ProcessorView → Type 0} → Walk P Q → (items : List ℕ) (p : ProcessorView) → p.application.socket.items ≡ items
     → Free p → P p → p.rest ≡ None → position asks_at p.devices ≡ None → (p.settings.apart ≡ true → IsFirst p.tasks)
     → (p.application.socket.items ≡ [] → Still p) → IsSettled P p → Q (uses items p)
-walk-uses P Q w [] p is free held none quiet first still settled = w.stays p free held (still is) settled
-walk-uses P Q w (came ∷ more) p is free held none quiet first still settled = w.uses came more p free held none is quiet first
+walk-uses w [] p is free held none quiet first still settled = w.stays p free held (still is) settled
+walk-uses w (came ∷ more) p is free held none quiet first still settled = w.uses came more p free held none is quiet first
 
-walk-tasks : (P Q : ProcessorView → Type 0) → Walk P Q → (tasks : List RunnableTask) (p : ProcessorView) → Out p
+walk-tasks : {P Q : ProcessorView → Type 0} → Walk P Q → (tasks : List RunnableTask) (p : ProcessorView) → Free p → Out p
     → P (record p { tasks = tasks })
     → p.settings.threaded ≡ true → P p → tasks ≡ runnable (length p.application.socket.items == 0) p.tasks
     → Q (runs (slice_get tasks 0) (record p { tasks = after_first tasks }))
-walk-tasks P Q w [] p out held threaded before is =
-    let q : ProcessorView = record p { tasks = [] } in
-    w.stays q (record { nothing = out.free.nothing; unasked = out.free.unasked }) held (record {
-      quiet = out.quiet;
-      idle = out.idle;
-      list = out.list;
-      rest = out.rest;
+walk-tasks w [] p free out held threaded before is =
+    w.stays (record p { tasks = [] }) (record { nothing = free.nothing; unasked = free.unasked }) held (record {
+      out = record { quiet = out.quiet; idle = out.idle; list = out.list; rest = out.rest };
       socket = λ single. absurd (cc (single, threaded));
       tasks = λ t. tt;
     }) (λ t. (p.tasks, is, before))
-walk-tasks P Q w (Application ∷ more) p out held threaded before is =
-    let q : ProcessorView = record p { tasks = Application ∷ more } in
-    walk-uses P Q w p.application.socket.items q refl (record { nothing = out.free.nothing; unasked = out.free.unasked })
-    held out.rest out.quiet
-    (λ apart. tt)
+walk-tasks w (Application ∷ more) p free out held threaded before is =
+    walk-uses w p.application.socket.items (record p { tasks = Application ∷ more }) refl
+    (record { nothing = free.nothing; unasked = free.unasked }) held out.rest out.quiet (λ apart. tt)
     (λ empty. record {
-      quiet = out.quiet;
-      idle = out.idle;
-      list = out.list;
-      rest = out.rest;
+      out = record { quiet = out.quiet; idle = out.idle; list = out.list; rest = out.rest };
       socket = λ single. absurd (cc (single, threaded));
       tasks = λ t. empty;
     }) (λ t. (p.tasks, is, before))
-walk-tasks P Q w (Thread n ∷ more) p out held threaded before is =
-    let q : ProcessorView = record p { tasks = Thread n ∷ more } in
-    w.thread n more q (record { nothing = out.free.nothing; unasked = out.free.unasked }) held threaded refl
+walk-tasks w (Thread n ∷ more) p free out held threaded before is =
+    w.thread n more (record p { tasks = Thread n ∷ more }) (record { nothing = free.nothing; unasked = free.unasked }) held threaded refl
 
-walk-first : (P Q : ProcessorView → Type 0) → Walk P Q → (p : ProcessorView) → Out p → P p → p.settings.threaded ≡ true → Q (runs_first p)
+walk-first : {P Q : ProcessorView → Type 0} → Walk P Q → (p : ProcessorView) → Free p → Out p → P p → p.settings.threaded ≡ true
+    → Q (runs_first p)
 unfolding runs_first
-walk-first P Q w p out held threaded =
+walk-first w p free out held threaded =
     let tasks = runnable (length p.application.socket.items == 0) p.tasks in
-    walk-tasks P Q w tasks p out (w.settle tasks p held refl) threaded held refl
+    walk-tasks w tasks p free out (w.settle tasks p held refl) threaded held refl
 
-walk-out : (P Q : ProcessorView → Type 0) → Walk P Q → (p : ProcessorView) → Out p → P p → Q (leaves_softirq None p)
-walk-out P Q w p out held =
+walk-out : {P Q : ProcessorView → Type 0} → Walk P Q → (p : ProcessorView) → Free p → Out p → P p → Q (leaves_softirq None p)
+walk-out {Q = Q} w p free out held =
     either Q p.settings.threaded (runs_first p) (if p.settings.apart then p else uses p.application.socket.items p)
-    (λ threaded. walk-first P Q w p out held threaded)
+    (λ threaded. walk-first w p free out held threaded)
     (λ single. either Q p.settings.apart p (uses p.application.socket.items p)
-    (λ apart. w.stays p out.free held (record {
-      quiet = out.quiet;
-      idle = out.idle;
-      list = out.list;
-      rest = out.rest;
-      socket = λ s own. absurd (cc (apart, own));
-      tasks = λ t. absurd (cc (single, t));
-    }) (λ t. absurd (cc (single, t))))
-    (λ own. walk-uses P Q w p.application.socket.items p refl out.free held out.rest out.quiet
-    (λ apart. absurd (cc (apart, own)))
-    (λ empty. record {
-      quiet = out.quiet;
-      idle = out.idle;
-      list = out.list;
-      rest = out.rest;
-      socket = λ s o. empty;
-      tasks = λ t. absurd (cc (single, t));
-    }) (λ t. absurd (cc (single, t)))))
+    (λ apart. w.stays p free held
+    (record { out = out; socket = λ s own. absurd (cc (apart, own)); tasks = λ t. absurd (cc (single, t)) })
+    (λ t. absurd (cc (single, t))))
+    (λ own. walk-uses w p.application.socket.items p refl free held out.rest out.quiet (λ apart. absurd (cc (apart, own)))
+    (λ empty. record { out = out; socket = λ s o. empty; tasks = λ t. absurd (cc (single, t)) }) (λ t. absurd (cc (single, t)))))
 
-walk-leaves : (P Q : ProcessorView → Type 0) → Walk P Q → (o : Option Rest) (p : ProcessorView) → p.rest ≡ o → Free p → P p
+walk-leaves : {P Q : ProcessorView → Type 0} → Walk P Q → (o : Option Rest) (p : ProcessorView) → p.rest ≡ o → Free p → P p
     → position asks_at p.devices ≡ None → p.softirq.run ≡ None
     → (is_polling p.settings && not (length p.softirq.list == 0)) ≡ false
     → Q (leaves_softirq o p)
-walk-leaves P Q w (Some rest) p is free held quiet idle list = w.resume rest p free held is quiet
-walk-leaves P Q w None p is free held quiet idle list =
-    walk-out P Q w p (record { free = free; quiet = quiet; idle = idle; list = list; rest = is }) held
+walk-leaves w (Some rest) p is free held quiet idle list = w.resume rest p free held is quiet
+walk-leaves w None p is free held quiet idle list =
+    walk-out w p free (record { quiet = quiet; idle = idle; list = list; rest = is }) held
 
 -- ---- when there is something for the softirq
 
-walk-asked : (P Q : ProcessorView → Type 0) → Walk P Q → (o : Option ℕ) (p other : ProcessorView) → asked_in (run_next p.softirq).run ≡ o
+walk-asked : {P Q : ProcessorView → Type 0} → Walk P Q → (o : Option ℕ) (p other : ProcessorView) → asked_in (run_next p.softirq).run ≡ o
     → P (nexted p)
     → (asked_in (run_next p.softirq).run ≡ None → Q other) → Q (polls_or other o (nexted p))
-walk-asked P Q w (Some n) p other asked held rest = w.asks n p held asked
-walk-asked P Q w None p other asked held rest = rest asked
+walk-asked w (Some n) p other asked held rest = w.asks n p held asked
+walk-asked w None p other asked held rest = rest asked
 
-both-first : (a b : Bool) → (a && b) ≡ true → a ≡ true
-both-first a b both = grind (arith, common_steps)
-
-both-second : (a b : Bool) → (a && b) ≡ true → b ≡ true
-both-second a b both = grind (arith, common_steps)
-
-pub positive : (k : ℕ) → not (k == 0) ≡ true → 0 < k
+positive : (k : ℕ) → not (k == 0) ≡ true → 0 < k
 positive k is = grind (arith, common_steps)
 
 -- a run that begins over a list that isn't empty asks for a poll
@@ -189,73 +168,162 @@ begun-asks : (s : MachineSettings) (list : List ℕ) (began clock : ℕ) → is_
 unfolding run_next
 begun-asks s list began clock polling some none = grind (arith, common_steps, positive)
 
-asks-one : (p : ProcessorView) → p.softirq.run ≡ None → is_polling p.settings ≡ true → not (length p.softirq.list == 0) ≡ true
-    → asked_in (run_next (started p).softirq).run ≡ None → ⊥
-asks-one p idle polling some none = begun-asks p.settings p.softirq.list p.softirq.began p.clock polling some none
-
-walk-begins : (P Q : ProcessorView → Type 0) → Walk P Q → (p : ProcessorView) → Free p → P p → p.softirq.run ≡ None
+walk-begins : {P Q : ProcessorView → Type 0} → Walk P Q → (p : ProcessorView) → Free p → P p → p.softirq.run ≡ None
     → is_polling p.settings ≡ true
     → not (length p.softirq.list == 0) ≡ true → Q (begins_run p)
 unfolding begins_run
-walk-begins P Q w p free held none polling some =
-    let first : P (started p) = w.start p held none polling some in
+walk-begins w p free held none polling some =
+    let first = w.start p held none polling some in
     let new : Free (started p) = record { nothing = free.nothing; unasked = refl } in
-    let q = nexted (started p) in
-    let second : P q = w.next (started p) new first in
-    walk-asked P Q w (asked_in (run_next (started p).softirq).run) (started p) q refl second
-    (λ asked. absurd (asks-one p none polling some asked))
+    walk-asked w (asked_in (run_next (started p).softirq).run) (started p) (nexted (started p)) refl (w.next (started p) new first)
+    (λ asked. absurd (begun-asks p.settings p.softirq.list p.softirq.began p.clock polling some asked))
 
-walk-rests : (P Q : ProcessorView → Type 0) → Walk P Q → (p : ProcessorView) → Free p → P p → p.softirq.run ≡ None
+walk-rests : {P Q : ProcessorView → Type 0} → Walk P Q → (p : ProcessorView) → Free p → P p → p.softirq.run ≡ None
     → position asks_at p.devices ≡ None → Q (rests p)
 unfolding rests
-walk-rests P Q w p free held none quiet =
+walk-rests {Q = Q} w p free held none quiet =
     let polling = is_polling p.settings in
     let some = not (length p.softirq.list == 0) in
     either Q (polling && some) (begins_run p) (leaves_softirq p.rest p)
-    (λ both. walk-begins P Q w p free held none (both-first polling some both) (both-second polling some both))
-    (λ no. walk-leaves P Q w p.rest p refl free held quiet none no)
+    (λ both. let parts = and_parts polling some both in walk-begins w p free held none parts.0 parts.1)
+    (λ no. walk-leaves w p.rest p refl free held quiet none no)
 
-walk-over : (P Q : ProcessorView → Type 0) → Walk P Q → (late : Bool) (p : ProcessorView) → Free p → P p
+walk-over : {P Q : ProcessorView → Type 0} → Walk P Q → (late : Bool) (p : ProcessorView) → Free p → P p
     → position asks_at p.devices ≡ None → Q (rests (ends_run late p))
 unfolding ends_run run_ended
-walk-over P Q w late p free held quiet =
-    walk-rests P Q w (ends_run late p) (record { nothing = free.nothing; unasked = refl }) (w.over late p free held) refl quiet
+walk-over w late p free held quiet =
+    walk-rests w (ends_run late p) (record { nothing = free.nothing; unasked = refl }) (w.over (ends_run late p).counts p free held) refl
+    quiet
 
-walk-goes : (P Q : ProcessorView → Type 0) → Walk P Q → (p : ProcessorView) → Free p → P p → position asks_at p.devices ≡ None
+walk-goes : {P Q : ProcessorView → Type 0} → Walk P Q → (p : ProcessorView) → Free p → P p → position asks_at p.devices ≡ None
     → Q (goes_on p)
 unfolding goes_on
-walk-goes P Q w p free held quiet =
+walk-goes {Q = Q} w p free held quiet =
     let q = nexted p in
     either Q (is_late p) (rests (ends_run true p)) (polls_or (rests (ends_run false q)) (asked_in (run_next p.softirq).run) q)
-    (λ late. walk-over P Q w true p free held quiet)
-    (λ more. walk-asked P Q w (asked_in (run_next p.softirq).run) p (rests (ends_run false q)) refl (w.next p free held)
-    (λ none. walk-over P Q w false q (record { nothing = free.nothing; unasked = none }) (w.next p free held) quiet))
+    (λ late. walk-over w true p free held quiet)
+    (λ more. walk-asked w (asked_in (run_next p.softirq).run) p (rests (ends_run false q)) refl (w.next p free held)
+    (λ none. walk-over w false q (record { nothing = free.nothing; unasked = none }) (w.next p free held) quiet))
 
-walk-by : (P Q : ProcessorView → Type 0) → Walk P Q → (o : Option ℕ) (p : ProcessorView) → position asks_at p.devices ≡ o → Free p → P p
+walk-interrupts : {P Q : ProcessorView → Type 0} → Walk P Q → (n : ℕ) (p : ProcessorView) → Free p → P p → asks_at (at n p.devices) ≡ true
+    → Q (interrupts n p)
+unfolding interrupts
+walk-interrupts {Q = Q} w n p free held asks =
+    by (is_polling p.settings) p.settings.threaded (w.interrupt n time counts p free held asks)
+  where
+    time : ℕ
+    time = if is_polling p.settings then p.settings.interrupt else p.settings.interrupt + p.settings.packet
+
+    counts : ProcessorCounts
+    counts = if is_fired_at (at n p.devices) then record p.counts { timers = saturated (p.counts.timers + 1) }
+        else record p.counts { interrupts = saturated (p.counts.interrupts + 1) }
+
+    q : ProcessorView
+    q = record p { devices = changed (interrupted (is_polling p.settings)) n p.devices; counts = counts }
+
+    by : (b t : Bool)
+        → Q (begins (Interrupt n) time (record q {
+          softirq = if b && not t then pushed n p.softirq else p.softirq;
+          tasks = if b && t then p.tasks ++ Thread n ∷ [] else p.tasks;
+        }))
+        → Q (begins (Interrupt n) time
+        (if b then (if t then record q { tasks = p.tasks ++ Thread n ∷ [] } else record q { softirq = pushed n p.softirq }) else q))
+    by true true held = held
+    by true false held = held
+    by false t held = held
+
+walk-by : {P Q : ProcessorView → Type 0} → Walk P Q → (o : Option ℕ) (p : ProcessorView) → position asks_at p.devices ≡ o → Free p → P p
     → Q (option_map_or (λ number. interrupts number p) o (if is_some p.softirq.run then goes_on p else rests p))
-walk-by P Q w (Some n) p lowest free held = w.interrupt n p free held (position-Some asks_at p.devices n None lowest).1
-walk-by P Q w None p lowest free held =
-    either Q (is_some p.softirq.run) (goes_on p) (rests p) (λ some. walk-goes P Q w p free held lowest)
-    (λ none. walk-rests P Q w p free held (none-of p.softirq.run none) lowest)
+walk-by w (Some n) p lowest free held = walk-interrupts w n p free held (position-Some asks_at p.devices n None lowest).1
+walk-by {Q = Q} w None p lowest free held =
+    either Q (is_some p.softirq.run) (goes_on p) (rests p) (λ some. walk-goes w p free held lowest)
+    (λ none. walk-rests w p free held (none-of p.softirq.run none) lowest)
 
--- which work begins, if no work is in progress
-pub walk : (P Q : ProcessorView → Type 0) → Walk P Q → (p : ProcessorView) → Free p → P p → Q (takes_up p)
-unfolding takes_up
-walk P Q w p free held =
-    either Q (is_busy p.work) p
-    (option_map_or (λ number. interrupts number p) (position asks_at p.devices) (if is_some p.softirq.run then goes_on p else rests p))
-    (λ busy. absurd (cc (rw free.nothing at busy)))
-    (λ no. walk-by P Q w (position asks_at p.devices) p refl free held)
-
-idle-is : (work : Work) → is_busy work ≡ false → work ≡ Nothing
+pub idle-is : (work : Work) → is_busy work ≡ false → work ≡ Nothing
 idle-is work idle = grind (arith, common_steps)
 
 -- if work is in progress already, no other work begins
-pub walk-any : (P Q : ProcessorView → Type 0) → Walk P Q → (p : ProcessorView) → (is_busy p.work ≡ false → asked_in p.softirq.run ≡ None)
+pub walk-any : {P Q : ProcessorView → Type 0} → Walk P Q → (p : ProcessorView) → (is_busy p.work ≡ false → asked_in p.softirq.run ≡ None)
     → (is_busy p.work ≡ true → Q p) → (is_busy p.work ≡ false → P p) → Q (takes_up p)
 unfolding takes_up
-walk-any P Q w p unasked busy held =
+walk-any {Q = Q} w p unasked busy held =
     either Q (is_busy p.work) p
     (option_map_or (λ number. interrupts number p) (position asks_at p.devices) (if is_some p.softirq.run then goes_on p else rests p))
     busy
-    (λ no. walk-by P Q w (position asks_at p.devices) p refl (record { nothing = idle-is p.work no; unasked = unasked no }) (held no))
+    (λ no. walk-by w (position asks_at p.devices) p refl (record { nothing = idle-is p.work no; unasked = unasked no }) (held no))
+
+-- ---- when a use or an idle time is interrupted
+
+-- the processor after an interruption, before other work begins
+abbrev pub stirred : ℕ → ProcessorView → ProcessorView
+stirred moment p =
+    let asked = is_some (position asks_at p.devices) in
+    if is_busy p.work then (if asked then set_aside moment p.work p else p) else woken moment asked p
+
+-- what has to be shown: the processor is unchanged, a use was interrupted, or time passed
+pub stirred-by : (Q : ProcessorView → Type 0) (moment : ℕ) (p : ProcessorView) → (is_busy p.work ≡ true → Q p)
+    → ((came : ℕ) (counts : ProcessorCounts) → p.work ≡ Use came
+    → Q (record p { work = Nothing; clock = moment; rest = Some (record { came = came; left = p.ends - moment }); counts = counts }))
+    → ((counts : ProcessorCounts) → is_busy p.work ≡ false → is_some (position asks_at p.devices) ≡ true
+    → Q (record p { clock = saturated (moment + p.settings.wake); counts = counts }))
+    → (is_busy p.work ≡ false → Q (record p { clock = moment })) → Q (stirred moment p)
+stirred-by Q moment p same aside late quiet =
+    let asked = is_some (position asks_at p.devices) in
+    either Q (is_busy p.work) (if asked then set_aside moment p.work p else p) (woken moment asked p)
+    (λ busy. either Q asked (set_aside moment p.work p) p (λ yes. by p.work refl busy) (λ no. same busy))
+    (λ idle.
+    let counts = record p.counts { interrupt_time = saturated (p.counts.interrupt_time + p.settings.wake) } in
+    either Q asked (record p { clock = saturated (moment + p.settings.wake); counts = counts }) (record p { clock = moment })
+    (λ yes. late counts idle yes) (λ no. quiet idle))
+  where
+    by : (w : Work) → p.work ≡ w → is_busy p.work ≡ true → Q (set_aside moment w p)
+    by (Use came) is busy = aside came (spent (Use came) (moment - p.clock) p.counts) is
+    by w is busy = same busy
+
+-- ---- when a poll looks for its next packet, and when it ends
+
+pub looks-by : (Q : ProcessorView → Type 0) (n given : ℕ) (p : ProcessorView)
+    → ((came : ℕ) → next_packet_at p.settings.backlog (at n p.devices) ≡ Some came → nat_lt given p.settings.weight ≡ true
+    → Q (begins (Packet (record { device = n; came = came; given = given })) p.settings.packet
+    (record p { devices = changed (without_next p.settings.backlog) n p.devices })))
+    → (next_packet_at p.settings.backlog (at n p.devices) ≡ None
+    → Q (ends_poll n given (record p { devices = changed (without_next p.settings.backlog) n p.devices })))
+    → (nat_lt given p.settings.weight ≡ false → Q (ends_poll n given p))
+    → Q (poll_looks n given p)
+unfolding poll_looks
+looks-by Q n given p some none full =
+    either Q (nat_lt given p.settings.weight) (looked (next_packet_at p.settings.backlog (at n p.devices))) (ends_poll n given p)
+    (λ less. by (next_packet_at p.settings.backlog (at n p.devices)) less refl) full
+  where
+    looked : Option ℕ → ProcessorView
+    looked o =
+        let q : ProcessorView = record p { devices = changed (without_next p.settings.backlog) n p.devices } in
+        option_map_or (λ (came : ℕ). begins (Packet (record { device = n; came = came; given = given })) p.settings.packet q) o
+        (ends_poll n given q)
+
+    by : (o : Option ℕ) → nat_lt given p.settings.weight ≡ true → next_packet_at p.settings.backlog (at n p.devices) ≡ o → Q (looked o)
+    by None less is = none is
+    by (Some came) less is = some came is less
+
+-- with threads, and without
+pub polled-by : (Q : ProcessorView → Type 0) (n given : ℕ) (p : ProcessorView)
+    → ((counts : ProcessorCounts) → p.settings.threaded ≡ true
+    → Q (record p {
+      devices = changed (queue_polled p.clock given p.settings) n p.devices;
+      counts = counts;
+      tasks = if given == p.settings.weight then Thread n ∷ p.tasks else p.tasks;
+    }))
+    → ((counts : ProcessorCounts) → p.settings.threaded ≡ false
+    → Q (record p {
+      devices = changed (queue_polled p.clock given p.settings) n p.devices;
+      counts = counts;
+      softirq = softirq_polled (record { work = given; next = if given == p.settings.weight then Repoll else Gone }) p.softirq;
+    }))
+    → Q (ends_poll n given p)
+unfolding ends_poll
+polled-by Q n given p thread run =
+    let counts = record p.counts { polls = saturated (p.counts.polls + 1); work = saturated (p.counts.work + given) } in
+    let q : ProcessorView = record p { devices = changed (queue_polled p.clock given p.settings) n p.devices; counts = counts } in
+    either Q p.settings.threaded (record q { tasks = if given == p.settings.weight then Thread n ∷ q.tasks else q.tasks })
+    (record q { softirq = softirq_polled (record { work = given; next = if given == p.settings.weight then Repoll else Gone }) q.softirq })
+    (thread counts) (run counts)

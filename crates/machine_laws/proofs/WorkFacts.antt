@@ -1,37 +1,31 @@
--- A run's work is always less than budget plus weight; and which queues a run or a thread polls.
-use Rattle.std.proofs.lemmas.Grind.{common_steps}
+-- A run's work is always less than budget plus weight; which queues a run or a thread polls; and how a property that each case
+-- preserves goes through the events of a processor.
+use Rattle.std.proofs.lemmas.{Bool.{and_left, and_right, ltb-true, true_from_ne_false}, Grind.{common_steps}}
 use Rattle.std.specs.List.{AllByRecursion}
-use Rattle.std.specs.Prelude.{◌==◌, ◌&&◌, IfSome, if◌then◌else◌, is_some, not, option_map, nat_lt}
-use Rattle.std.proofs.Common.{◌≡◌, ◌∙◌, ℕ, ◌+◌, ◌<◌, ◌≤◌, Bool, true, false, Option, Some, None, List, [], ◌∷◌, ◌++◌, length, refl, sym}
-use Rattle.std.proofs.Common.{arith}
+use Rattle.std.specs.Prelude.{◌==◌, ◌&&◌, IfSome, if◌then◌else◌, is_some, not, option_map}
+use Rattle.std.proofs.Common.{◌≡◌, ◌∙◌, ℕ, ◌+◌, ◌-◌, ◌<◌, ◌≤◌, Bool, true, false, Option, Some, None, List, [], ◌∷◌, ◌++◌, length, refl}
+use Rattle.std.proofs.Common.{sym, ap, arith}
 use Rattle.poll_runs.specs.declared.bench.Next.TheVariants.{Gone, Repoll}
 use Rattle.poll_runs.specs.declared.bench.Once.{Once}
 use Rattle.machine_model.specs.declared.settings.MachineSettings.{MachineSettings}
 use Rattle.device_places.specs.Places.{at, changed}
 use Rattle.machine_laws.specs.Lives.{MachineEvent, behind, next, packet}
 use Rattle.machine_laws.specs.Times.{WorksWithin}
-use Rattle.machine_model.specs.declared.processor.Work.{Work}
+use Rattle.machine_model.specs.declared.processor.{ProcessorCounts.ProcessorCounts, Work.{Work}}
 use Rattle.machine_model.specs.declared.processor.Work.TheVariants.{Nothing, Interrupt, Poll, Packet, Use}
 use Rattle.machine_model.specs.declared.tasks.RunnableTask.{RunnableTask}
 use Rattle.machine_model.specs.declared.tasks.RunnableTask.TheVariants.{Application, Thread}
 use Rattle.machine_model.specs.declared.processor.{Upcoming.{Upcoming, TheVariants.{Never, Ends, Expires}}}
 use Rattle.machine_model.specs.Kept.{work_given, polled_by}
-use Rattle.machine_model.specs.Softirq.{RunView, SoftirqView, asked_in, run_ended, run_next, softirq_polled, polled_run, pushed}
+use Rattle.machine_model.specs.Softirq.{RunView, SoftirqView, asked_in, polled_run, pushed, run_ended, run_next, softirq_polled}
+use Rattle.machine_model.specs.{Application.{has_place}, Device.{after_packet, expired, raised_again, without_next}}
+use Rattle.{circular_buffer.specs.Buffer.buffer}
+use Rattle.machine_model.specs.{Devices.{QueueViews, has_room_at, next_packet_at, with_device}, Waits.saturated}
 use Rattle.machine_model.specs.Tasks.{is_application, runnable, with_application}
-use Rattle.machine_model.specs.Application.{has_place}
-use Rattle.machine_model.specs.Devices.{next_packet_at, with_device, has_room_at}
-use Rattle.machine_model.specs.Device.{after_packet, expired, without_next}
 use Rattle.machine_model.specs.Processor.{ProcessorView, arrives, begins, delivers, delivers_oldest, disturbed, ends_by, ends_current}
-use Rattle.machine_model.specs.Processor.{ends_interrupt, ends_poll}
-use Rattle.machine_model.specs.Processor.{ends_run, happens, interrupts, is_busy, is_polling, poll_looks, polls, scheduled, set_aside}
-use Rattle.machine_model.specs.Processor.{spent}
-use Rattle.machine_model.specs.Processor.{step, takes_up}
-use Rattle.machine_model.specs.Processor.{upcoming, woken}
-use Rattle.{circular_buffer.specs.Buffer.buffer, machine_model.specs.{Application.used, Waits.saturated}}
-use Rattle.machine_model.specs.{Device.{interrupted, queue_polled, raised_again}, Devices.{asks_at, is_fired_at}}
-use Rattle.std.{specs.{Prelude.position, Option.option_map_or}, proofs.Common.{◌-◌, ap, subst}}
-use Rattle.std.proofs.lemmas.Bool.{ltb-true}
-use Rattle.machine_laws.proofs.WalkFacts.{Free, Walk, either, nexted, started, walk-any}
+use Rattle.machine_model.specs.Processor.{ends_interrupt, ends_poll, happens, is_busy, is_polling, poll_looks, spent, step, takes_up}
+use Rattle.machine_model.specs.Processor.{upcoming}
+use Rattle.machine_laws.proofs.WalkFacts.{Walk, either, idle-is, looks-by, nexted, polled-by, stirred, stirred-by, walk-any}
 
 -- the invariant of a run with these settings
 pub record Runs (s : MachineSettings) (r : RunView) : Type 0 where
@@ -54,10 +48,14 @@ pub record Rests (s : MachineSettings) (p : ProcessorView) : Type 0 where
   pub soft : (is_polling s && not s.threaded) ≡ false → (p.softirq.list ≡ []) × (p.softirq.run ≡ None)
   pub threads : (is_polling s && s.threaded) ≡ false → all_applications p.tasks
 
--- without threads, the queue that is polled is the one for which the run asked
+-- without threads, the run asks for the queue that is polled; with threads it asks for none
+pub record Asks (s : MachineSettings) (polled : Option ℕ) (q : SoftirqView) : Type 0 where
+  pub list : s.threaded ≡ false → asked_in q.run ≡ polled
+  pub none : s.threaded ≡ true → asked_in q.run ≡ None
+
 pub record Goes (s : MachineSettings) (p : ProcessorView) : Type 0 where
   pub rests : Rests s p
-  pub asked : asked_in p.softirq.run ≡ (if s.threaded then None else polled_by p.work)
+  pub asks : Asks s (polled_by p.work) p.softirq
   pub polled : is_polling s ≡ false → polled_by p.work ≡ None
   pub given : work_given p.work < s.weight
 
@@ -68,19 +66,22 @@ next-runs : (s : MachineSettings) (list : List ℕ) (run : Option RunView) (bega
 unfolding run_next
 next-runs s list run began none held = grind (arith, common_steps)
 
-runs-next : (s : MachineSettings) (q : SoftirqView) → asked_in q.run ≡ None → RunsIn s q.run → RunsIn s (run_next q).run
-unfolding run_next
-runs-next s q none held = next-runs s q.list q.run q.began none held
-
 -- if the list is empty and no run is in progress, the same holds after the next step
-next-none : (q : SoftirqView) → (q.list ≡ []) × (q.run ≡ None) → ((run_next q).list ≡ []) × ((run_next q).run ≡ None)
+next-none : (list : List ℕ) (run : Option RunView) (began : ℕ) → (list ≡ []) × (run ≡ None)
+    → let q = run_next (record { list = list; run = run; began = began }) in (q.list ≡ []) × (q.run ≡ None)
 unfolding run_next
-next-none q none = by q.run none.1
-  where
-    by : (run : Option RunView) → run ≡ None → let r : SoftirqView = record { list = q.list; run = run; began = q.began } in
-        ((run_next r).list ≡ []) × ((run_next r).run ≡ None)
-    by None is = (none.0, refl)
-    by (Some r) is = cc is
+next-none list None began none = none
+next-none list (Some r) began none = cc (none.1)
+
+ended-none : (list : List ℕ) (run : Option RunView) (began : ℕ) → (list ≡ []) × (run ≡ None)
+    → (run_ended (record { list = list; run = run; began = began })).list ≡ []
+unfolding run_ended
+ended-none list None began none = none.0
+ended-none list (Some r) began none = cc (none.1)
+
+ended-run : (q : SoftirqView) → (run_ended q).run ≡ None
+unfolding run_ended
+ended-run q = refl
 
 runs-told : (s : MachineSettings) (run : Option RunView) (once : Once) (n : ℕ) → asked_in run ≡ Some n → once.work ≤ s.weight → RunsIn s run
     → RunsIn s (option_map (polled_run once) run)
@@ -90,9 +91,9 @@ told-asks : (run : Option RunView) (once : Once) → asked_in (option_map (polle
 told-asks None once = refl
 told-asks (Some r) once = refl
 
-told-none : (run : Option RunView) (once : Once) → run ≡ None → option_map (polled_run once) run ≡ None
-told-none None once is = refl
-told-none (Some r) once is = cc is
+pushed-run : (b : Bool) (n : ℕ) (q : SoftirqView) → (if b then pushed n q else q).run ≡ q.run
+pushed-run true n q = refl
+pushed-run false n q = refl
 
 all-append : (xs ys : List RunnableTask) → all_applications xs → all_applications ys → all_applications (xs ++ ys)
 all-append [] ys first second = second
@@ -104,222 +105,120 @@ all-runnable true (Application ∷ more) all = all.1
 all-runnable true (Thread n ∷ more) all = all
 all-runnable false tasks all = all
 
-pub all-with : (tasks : List RunnableTask) → all_applications tasks → all_applications (with_application tasks)
+all-with : (tasks : List RunnableTask) → all_applications tasks → all_applications (with_application tasks)
 unfolding with_application
 all-with tasks all = grind (arith, common_steps, all-append)
-
-none-asked : (run : Option RunView) → run ≡ None → asked_in run ≡ None
-none-asked None is = refl
-none-asked (Some r) is = cc is
-
-run-gone : (q : SoftirqView) → (run_ended q).run ≡ None
-unfolding run_ended
-run-gone q = refl
-
-empty-list : (list : List ℕ) → list ≡ [] → not (length list == 0) ≡ true → ⊥
-empty-list [] is some = cc some
-empty-list (x ∷ xs) is some = cc is
 
 all-if : (b : Bool) (tasks : List RunnableTask) → all_applications tasks → all_applications (if b then with_application tasks else tasks)
 all-if true tasks all = all-with tasks all
 all-if false tasks all = all
 
-idle-asked : (b : Bool) (x : Option ℕ) → x ≡ (if b then None else None) → x ≡ None
-idle-asked true x is = is
-idle-asked false x is = is
-
--- ---- when work begins
-
-asked-idle : (b : Bool) (x : Option ℕ) → x ≡ None → x ≡ (if b then None else None)
-asked-idle true x none = none
-asked-idle false x none = none
-
-asked-soft : (b : Bool) (x y : Option ℕ) → x ≡ y → (b ≡ true → ⊥) → x ≡ (if b then None else y)
-asked-soft true x y is never = absurd (never refl)
-asked-soft false x y is never = is
-
-asked-thread : (b : Bool) (x y : Option ℕ) → x ≡ None → b ≡ true → x ≡ (if b then None else y)
-asked-thread true x y none is = none
-asked-thread false x y none is = cc is
-
-and-both : (a b : Bool) → a ≡ true → b ≡ true → (a && b) ≡ false → ⊥
-and-both true true first second never = cc never
-and-both false b first second never = cc first
-and-both true false first second never = cc second
-
-and-not : (a b : Bool) → a ≡ true → b ≡ false → (a && not b) ≡ false → ⊥
-and-not true false first second never = cc never
-and-not false b first second never = cc first
-and-not true true first second never = cc second
-
-soft-threads : (a b : Bool) → b ≡ true → (a && not b) ≡ false
-soft-threads true true is = refl
-soft-threads true false is = cc is
-soft-threads false b is = refl
-
-soft-none : (a b : Bool) → a ≡ false → (a && not b) ≡ false
-soft-none false b is = refl
-soft-none true b is = cc is
-
-thread-none : (a b : Bool) → a ≡ false → (a && b) ≡ false
-thread-none false b is = refl
-thread-none true b is = cc is
+asks-none : (s : MachineSettings) (q : SoftirqView) → Asks s None q → asked_in q.run ≡ None
+asks-none s q a = by s.threaded refl
+  where
+    by : (b : Bool) → s.threaded ≡ b → asked_in q.run ≡ None
+    by true is = a.none is
+    by false is = a.list is
 
 fits : (s : MachineSettings) → 0 < s.weight
 fits s = omega (arith, s.weight_in.0)
 
-same-threaded : (s : MachineSettings) (p : ProcessorView) → p.settings ≡ s → p.settings.threaded ≡ s.threaded
-same-threaded s p is = ap (λ (x : MachineSettings). x.threaded) is
-
-same-polling : (s : MachineSettings) (p : ProcessorView) → p.settings ≡ s → is_polling p.settings ≡ is_polling s
+pub same-polling : (s : MachineSettings) (p : ProcessorView) → p.settings ≡ s → is_polling p.settings ≡ is_polling s
 same-polling s p is = ap (λ (x : MachineSettings). is_polling x) is
 
-goes-begins : (s : MachineSettings) (work : Work) (time : ℕ) (p : ProcessorView) → Rests s p
-    → asked_in p.softirq.run ≡ (if s.threaded then None else polled_by work)
+pub same-threaded : (s : MachineSettings) (p : ProcessorView) → p.settings ≡ s → p.settings.threaded ≡ s.threaded
+same-threaded s p is = ap (λ (x : MachineSettings). x.threaded) is
+
+pub same-apart : (s : MachineSettings) (p : ProcessorView) → p.settings ≡ s → p.settings.apart ≡ s.apart
+same-apart s p is = ap (λ (x : MachineSettings). x.apart) is
+
+-- ---- when work begins
+
+goes-begins : (s : MachineSettings) (work : Work) (time : ℕ) (p : ProcessorView) → Rests s p → Asks s (polled_by work) p.softirq
     → (is_polling s ≡ false → polled_by work ≡ None) → work_given work < s.weight → Goes s (begins work time p)
-goes-begins s work time p h asked polled given = record {
+goes-begins s work time p h asks polled given = record {
   rests = record { settings = h.settings; run = h.run; soft = h.soft; threads = h.threads };
-  asked = asked;
+  asks = asks;
   polled = polled;
   given = given;
 }
 
--- no work is in progress, and the run doesn't ask for a poll
-pub record Clear (s : MachineSettings) (p : ProcessorView) : Type 0 where
-  pub rests : Rests s p
-  pub unasked : asked_in p.softirq.run ≡ None
-
-work-scheduled : (s : MachineSettings) (n : ℕ) (p : ProcessorView) → is_polling s ≡ true → Clear s p → Clear s (scheduled n p)
-work-scheduled s n p polling c =
-    let h = c.rests in
-    either (Clear s) p.settings.threaded (record p { tasks = p.tasks ++ Thread n ∷ [] }) (record p { softirq = pushed n p.softirq })
-    (λ t. record {
-      rests = record {
-        settings = h.settings;
-        run = h.run;
-        soft = h.soft;
-        threads = λ no. absurd (and-both (is_polling s) s.threaded polling (sym (same-threaded s p h.settings) ∙ t) no);
-      };
-      unasked = c.unasked;
-    })
-    (λ t. record {
-      rests = record {
-        settings = h.settings;
-        run = h.run;
-        soft = λ no. absurd (and-not (is_polling s) s.threaded polling (sym (same-threaded s p h.settings) ∙ t) no);
-        threads = h.threads;
-      };
-      unasked = c.unasked;
-    })
-
-work-interrupt : (s : MachineSettings) (n : ℕ) (p : ProcessorView) → Free p → Rests s p → Goes s (interrupts n p)
-unfolding interrupts
-work-interrupt s n p free h =
-    let polling = is_polling p.settings in
-    let time = if polling then p.settings.interrupt else p.settings.interrupt + p.settings.packet in
-    let counts = if is_fired_at (at n p.devices) then record p.counts { timers = saturated (p.counts.timers + 1) }
-    else record p.counts { interrupts = saturated (p.counts.interrupts + 1) } in
-    let q : ProcessorView = record p { devices = changed (interrupted polling) n p.devices; counts = counts } in
-    let clear : Clear s q = record {
-      rests = record { settings = h.settings; run = h.run; soft = h.soft; threads = h.threads };
-      unasked = free.unasked;
-    } in
-    let c : Clear s (if polling then scheduled n q else q) =
-    either (Clear s) polling (scheduled n q) q
-    (λ is. work-scheduled s n q (sym (same-polling s p h.settings) ∙ is) clear) (λ no. clear) in
-    goes-begins s (Interrupt n) time (if polling then scheduled n q else q) c.rests
-    (asked-idle s.threaded (asked_in (if polling then scheduled n q else q).softirq.run) c.unasked) (λ no. refl) (fits s)
-
-work-next : (s : MachineSettings) (p : ProcessorView) → Free p → Rests s p → Rests s (nexted p)
-work-next s p free h = record {
-  settings = h.settings;
-  run = runs-next s p.softirq free.unasked h.run;
-  soft = λ no. next-none p.softirq (h.soft no);
-  threads = h.threads;
+-- no work is in progress
+goes-free : (s : MachineSettings) (p : ProcessorView) → p.work ≡ Nothing → Rests s p → asked_in p.softirq.run ≡ None → Goes s p
+goes-free s p nothing h none = record {
+  rests = h;
+  asks = record { list = λ t. rw nothing none; none = λ t. none };
+  polled = λ no. rw nothing refl;
+  given = rw nothing (fits s);
 }
-
-work-asks : (s : MachineSettings) (n : ℕ) (p : ProcessorView) → Rests s (nexted p) → asked_in (run_next p.softirq).run ≡ Some n
-    → Goes s (polls n (nexted p))
-work-asks s n p h asked =
-    let unasked : (is_polling s && not s.threaded) ≡ false → ⊥ = λ no. cc (none-asked (run_next p.softirq).run (h.soft no).1, asked) in
-    goes-begins s (Poll n) p.settings.poll (nexted p) h
-    (asked-soft s.threaded (asked_in (run_next p.softirq).run) (Some n) asked
-    (λ t. unasked (soft-threads (is_polling s) s.threaded t)))
-    (λ no. absurd (unasked (soft-none (is_polling s) s.threaded no))) (fits s)
-
-ended-none : (q : SoftirqView) → (q.list ≡ []) × (q.run ≡ None) → (run_ended q).list ≡ []
-unfolding run_ended
-ended-none q none = by q.run none.1
-  where
-    by : (run : Option RunView) → run ≡ None → (run_ended (record { list = q.list; run = run; began = q.began })).list ≡ []
-    by None is = none.0
-    by (Some r) is = cc is
-
-work-over : (s : MachineSettings) (late : Bool) (p : ProcessorView) → Rests s p → Rests s (ends_run late p)
-unfolding ends_run
-work-over s late p h = record {
-  settings = h.settings;
-  run = subst (λ (run : Option RunView). RunsIn s run) (sym (run-gone p.softirq)) tt;
-  soft = λ no. (ended-none p.softirq (h.soft no), run-gone p.softirq);
-  threads = h.threads;
-}
-
-work-start : (s : MachineSettings) (p : ProcessorView) → Rests s p → not (length p.softirq.list == 0) ≡ true → Rests s (started p)
-work-start s p h some = record {
-  settings = h.settings;
-  run = record {
-    budget = ap (λ (x : MachineSettings). x.budget) h.settings;
-    work = omega (arith, s.weight_in.0);
-    asked = λ asked. cc asked;
-  };
-  soft = λ no. absurd (empty-list p.softirq.list (h.soft no).0 some);
-  threads = h.threads;
-}
-
-work-settle : (s : MachineSettings) (tasks : List RunnableTask) (idle : Bool) (p : ProcessorView) → Rests s p
-    → tasks ≡ runnable idle p.tasks
-    → Rests s (record p { tasks = tasks })
-work-settle s tasks idle p h is = record {
-  settings = h.settings;
-  run = h.run;
-  soft = h.soft;
-  threads = λ no. rw is (all-runnable idle p.tasks (h.threads no));
-}
-
-work-thread : (s : MachineSettings) (n : ℕ) (more : List RunnableTask) (p : ProcessorView) → Free p → Rests s p → p.settings.threaded ≡ true
-    → p.tasks ≡ Thread n ∷ more → Goes s (polls n (record p { tasks = more }))
-work-thread s n more p free h threaded is =
-    let t : s.threaded ≡ true = sym (same-threaded s p h.settings) ∙ threaded in
-    let both : (is_polling s && s.threaded) ≡ false → all_applications (Thread n ∷ more) = λ no. rw is at (h.threads no) in
-    goes-begins s (Poll n) p.settings.poll (record p { tasks = more })
-    (record { settings = h.settings; run = h.run; soft = h.soft; threads = λ no. (both no).1 })
-    (asked-thread s.threaded (asked_in p.softirq.run) (Some n) free.unasked t)
-    (λ no. cc ((both (thread-none (is_polling s) s.threaded no)).0)) (fits s)
 
 pub work-walk : (s : MachineSettings) → Walk (Rests s) (Goes s)
 work-walk s = record {
-  interrupt = λ n p free h asks. work-interrupt s n p free h;
-  next = λ p free h. work-next s p free h;
-  asks = λ n p h asked. work-asks s n p h asked;
-  over = λ late p free h. work-over s late p h;
-  start = λ p h none polling some. work-start s p h some;
+  interrupt = λ n time counts p free h asks.
+      let b = is_polling p.settings && not p.settings.threaded in
+      let none : asked_in (if b then pushed n p.softirq else p.softirq).run ≡ None =
+      ap asked_in (pushed-run b n p.softirq) ∙ free.unasked in
+      record {
+        rests = record {
+          settings = h.settings;
+          run = rw (pushed-run b n p.softirq) h.run;
+          soft = λ no. rw (h.settings, no) (h.soft no);
+          threads = λ no. rw (h.settings, no) (h.threads no);
+        };
+        asks = record { list = λ t. none; none = λ t. none };
+        polled = λ no. refl;
+        given = fits s;
+      };
+  next = λ p free h. record {
+    settings = h.settings;
+    run = next-runs s p.softirq.list p.softirq.run p.softirq.began free.unasked h.run;
+    soft = λ no. next-none p.softirq.list p.softirq.run p.softirq.began (h.soft no);
+    threads = h.threads;
+  };
+  asks = λ n p h asked.
+      let unasked : (is_polling s && not s.threaded) ≡ false → ⊥ = λ no. cc (ap asked_in (h.soft no).1, asked) in
+      goes-begins s (Poll n) p.settings.poll (nexted p) h
+      (record { list = λ t. asked; none = λ t. absurd (unasked (and_right (is_polling s) (not s.threaded) (rw t refl))) })
+      (λ no. absurd (unasked (and_left (is_polling s) (not s.threaded) no))) (fits s);
+  over = λ counts p free h. record {
+    settings = h.settings;
+    run = rw (ended-run p.softirq) tt;
+    soft = λ no. (ended-none p.softirq.list p.softirq.run p.softirq.began (h.soft no), ended-run p.softirq);
+    threads = h.threads;
+  };
+  start = λ p h none polling some. record {
+    settings = h.settings;
+    run = record {
+      budget = ap (λ (x : MachineSettings). x.budget) h.settings;
+      work = omega (arith, s.weight_in.0);
+      asked = λ asked. cc asked;
+    };
+    soft = λ no. cc (rw (h.soft no).0 at some);
+    threads = h.threads;
+  };
   resume = λ rest p free h is quiet.
       goes-begins s (Use rest.came) rest.left (record p { rest = None })
       (record { settings = h.settings; run = h.run; soft = h.soft; threads = h.threads })
-      (asked-idle s.threaded (asked_in p.softirq.run) free.unasked) (λ no. refl) (fits s);
-  settle = λ tasks p h is. work-settle s tasks (length p.application.socket.items == 0) p h is;
-  thread = λ n more p free h threaded is. work-thread s n more p free h threaded is;
+      (record { list = λ t. free.unasked; none = λ t. free.unasked }) (λ no. refl) (fits s);
+  settle = λ tasks p h is. record {
+    settings = h.settings;
+    run = h.run;
+    soft = h.soft;
+    threads = λ no. rw is (all-runnable (length p.application.socket.items == 0) p.tasks (h.threads no));
+  };
+  thread = λ n more p free h threaded is.
+      let t : s.threaded ≡ true = sym (same-threaded s p h.settings) ∙ threaded in
+      let both : (is_polling s && s.threaded) ≡ false → all_applications (Thread n ∷ more) = λ no. rw is at (h.threads no) in
+      goes-begins s (Poll n) p.settings.poll (record p { tasks = more })
+      (record { settings = h.settings; run = h.run; soft = h.soft; threads = λ no. (both no).1 })
+      (record { list = λ single. cc (single, t); none = λ t. free.unasked })
+      (λ no. cc ((both (and_left (is_polling s) s.threaded no)).0)) (fits s);
   uses = λ came more p free h none is quiet first.
       goes-begins s (Use came) p.settings.use_time
       (record p { application = record p.application { socket = buffer more p.application.socket.capacity } })
       (record { settings = h.settings; run = h.run; soft = h.soft; threads = h.threads })
-      (asked-idle s.threaded (asked_in p.softirq.run) free.unasked) (λ no. refl) (fits s);
-  stays = λ p free h still settled. record {
-    rests = h;
-    asked = rw free.nothing (asked-idle s.threaded (asked_in p.softirq.run) free.unasked);
-    polled = λ no. rw free.nothing refl;
-    given = rw free.nothing (fits s);
-  };
+      (record { list = λ t. free.unasked; none = λ t. free.unasked }) (λ no. refl) (fits s);
+  stays = λ p free h still settled. goes-free s p free.nothing h free.unasked;
 }
 
 -- ---- when work ends
@@ -333,256 +232,221 @@ work-delivers s n came p h = record {
   threads = λ no. all-if (p.settings.threaded && not p.settings.apart && has_place p.application) p.tasks (h.threads no);
 }
 
--- the case that a poll ends
-goes-ended : (s : MachineSettings) (p : ProcessorView) → p.work ≡ Nothing → Clear s p → Goes s p
-goes-ended s p nothing c = record {
-  rests = c.rests;
-  asked = rw nothing (asked-idle s.threaded (asked_in p.softirq.run) c.unasked);
-  polled = λ no. rw nothing refl;
-  given = rw nothing (fits s);
+-- the queue that is polled, after a change of queues and of the application
+pub record Polls (s : MachineSettings) (n : ℕ) (p : ProcessorView) : Type 0 where
+  pub rests : Rests s p
+  pub nothing : p.work ≡ Nothing
+  pub asks : Asks s (Some n) p.softirq
+  pub polling : is_polling s ≡ true
+
+pub polls-devices : (s : MachineSettings) (n : ℕ) (devices : QueueViews) (p : ProcessorView) → Polls s n p
+    → Polls s n (record p { devices = devices })
+polls-devices s n devices p h =
+    let r = h.rests in
+    record {
+      rests = record { settings = r.settings; run = r.run; soft = r.soft; threads = r.threads };
+      nothing = h.nothing;
+      asks = h.asks;
+      polling = h.polling;
+    }
+
+work-polled : (s : MachineSettings) (n given : ℕ) (p : ProcessorView) → Polls s n p → given ≤ s.weight → Goes s (ends_poll n given p)
+unfolding softirq_polled
+work-polled s n given p g few =
+    let h = g.rests in
+    let once : Once = record { work = given; next = if given == p.settings.weight then Repoll else Gone } in
+    polled-by (Goes s) n given p
+    (λ counts t. goes-free s _ g.nothing (record {
+      settings = h.settings;
+      run = h.run;
+      soft = h.soft;
+      threads = λ no. cc (rw (g.polling, sym (same-threaded s p h.settings) ∙ t) at no);
+    }) (g.asks.none (sym (same-threaded s p h.settings) ∙ t)))
+    (λ counts t.
+    let single : s.threaded ≡ false = sym (same-threaded s p h.settings) ∙ t in
+    goes-free s _ g.nothing (record {
+      settings = h.settings;
+      run = runs-told s p.softirq.run once n (g.asks.list single) few h.run;
+      soft = λ no. cc (rw (g.polling, single) at no);
+      threads = h.threads;
+    }) (told-asks p.softirq.run once))
+
+work-looks : (s : MachineSettings) (n given : ℕ) (p : ProcessorView) → Polls s n p → given ≤ s.weight → Goes s (poll_looks n given p)
+work-looks s n given p g few =
+    let e : ProcessorView = record p { devices = changed (without_next p.settings.backlog) n p.devices } in
+    let q = polls-devices s n e.devices p g in
+    let weight : p.settings.weight ≡ s.weight = ap (λ (x : MachineSettings). x.weight) g.rests.settings in
+    looks-by (Goes s) n given p
+    (λ came is less. goes-begins s (Packet (record { device = n; came = came; given = given })) p.settings.packet e q.rests q.asks
+    (λ no. cc (no, g.polling)) (omega (arith, ltb-true given p.settings.weight less, weight)))
+    (λ none. work-polled s n given e q few) (λ full. work-polled s n given p g few)
+
+pub polls-of : (s : MachineSettings) (n : ℕ) (work : Work) (p : ProcessorView) → Rests s p → p.work ≡ Nothing
+    → Asks s (polled_by work) p.softirq
+    → (is_polling s ≡ false → polled_by work ≡ None) → polled_by work ≡ Some n → Polls s n p
+polls-of s n work p h nothing asks polled is = record {
+  rests = h;
+  nothing = nothing;
+  asks = rw is at asks;
+  polling = true_from_ne_false (is_polling s) (λ no. cc (polled no, is));
 }
 
-threads-asked : (b : Bool) (x : Option ℕ) (n : ℕ) → x ≡ (if b then None else Some n) → b ≡ true → x ≡ None
-threads-asked true x n is t = is
-threads-asked false x n is t = cc t
-
-run-asked : (b : Bool) (x : Option ℕ) (n : ℕ) → x ≡ (if b then None else Some n) → b ≡ false → x ≡ Some n
-run-asked true x n is t = cc t
-run-asked false x n is t = is
-
-work-polled : (s : MachineSettings) (n given : ℕ) (p : ProcessorView) → Rests s p
-    → asked_in p.softirq.run ≡ (if s.threaded then None else Some n) → is_polling s ≡ true → given ≤ s.weight
-    → p.work ≡ Nothing → Goes s (ends_poll n given p)
-unfolding ends_poll softirq_polled
-work-polled s n given p h asked polling few nothing =
-    let full = given == p.settings.weight in
-    let counts = record p.counts { polls = saturated (p.counts.polls + 1); work = saturated (p.counts.work + given) } in
-    let q : ProcessorView = record p { devices = changed (queue_polled p.clock given p.settings) n p.devices; counts = counts } in
-    let once : Once = record { work = given; next = if full then Repoll else Gone } in
-    either (Goes s) p.settings.threaded (record q { tasks = if full then Thread n ∷ q.tasks else q.tasks })
-    (record q { softirq = softirq_polled once q.softirq })
-    (λ t.
-    let threaded : s.threaded ≡ true = sym (same-threaded s p h.settings) ∙ t in
-    goes-ended s (record q { tasks = if full then Thread n ∷ q.tasks else q.tasks }) nothing (record {
-      rests = record {
-        settings = h.settings;
-        run = h.run;
-        soft = h.soft;
-        threads = λ no. absurd (and-both (is_polling s) s.threaded polling threaded no);
-      };
-      unasked = threads-asked s.threaded (asked_in p.softirq.run) n asked threaded;
-    }))
-    (λ t.
-    let single : s.threaded ≡ false = sym (same-threaded s p h.settings) ∙ t in
-    goes-ended s (record q { softirq = softirq_polled once q.softirq }) nothing (record {
-      rests = record {
-        settings = h.settings;
-        run = runs-told s p.softirq.run once n (run-asked s.threaded (asked_in p.softirq.run) n asked single) few h.run;
-        soft = λ no. absurd (and-not (is_polling s) s.threaded polling single no);
-        threads = h.threads;
-      };
-      unasked = told-asks p.softirq.run once;
-    }))
-
--- the cases that a poll takes its next packet, and that it ends
-pub looks-by : (Q : ProcessorView → Type 0) (n given : ℕ) (p : ProcessorView)
-    → ((came : ℕ) → next_packet_at p.settings.backlog (at n p.devices) ≡ Some came → nat_lt given p.settings.weight ≡ true
-    → Q (begins (Packet (record { device = n; came = came; given = given })) p.settings.packet
-    (record p { devices = changed (without_next p.settings.backlog) n p.devices })))
-    → (next_packet_at p.settings.backlog (at n p.devices) ≡ None
-    → Q (ends_poll n given (record p { devices = changed (without_next p.settings.backlog) n p.devices })))
-    → (nat_lt given p.settings.weight ≡ false → Q (ends_poll n given p))
-    → Q (poll_looks n given p)
-unfolding poll_looks
-looks-by Q n given p some none full =
-    let q : ProcessorView = record p { devices = changed (without_next p.settings.backlog) n p.devices } in
-    let looked = λ (came : ℕ). begins (Packet (record { device = n; came = came; given = given })) p.settings.packet q in
-    either Q (nat_lt given p.settings.weight)
-    (option_map_or looked (next_packet_at p.settings.backlog (at n p.devices)) (ends_poll n given q)) (ends_poll n given p)
-    (λ less. by (next_packet_at p.settings.backlog (at n p.devices)) less refl) full
-  where
-    q : ProcessorView
-    q = record p { devices = changed (without_next p.settings.backlog) n p.devices }
-
-    by : (o : Option ℕ) → nat_lt given p.settings.weight ≡ true → next_packet_at p.settings.backlog (at n p.devices) ≡ o
-        → Q (option_map_or (λ (came : ℕ). begins (Packet (record { device = n; came = came; given = given })) p.settings.packet q) o
-        (ends_poll n given q))
-    by None less is = none is
-    by (Some came) less is = some came is less
-
-work-looks : (s : MachineSettings) (n given : ℕ) (p : ProcessorView) → Rests s p
-    → asked_in p.softirq.run ≡ (if s.threaded then None else Some n) → is_polling s ≡ true → given ≤ s.weight
-    → p.work ≡ Nothing → Goes s (poll_looks n given p)
-work-looks s n given p h asked polling few nothing =
-    let q : ProcessorView = record p { devices = changed (without_next p.settings.backlog) n p.devices } in
-    let rests : Rests s q = record { settings = h.settings; run = h.run; soft = h.soft; threads = h.threads } in
-    let weight : p.settings.weight ≡ s.weight = ap (λ (x : MachineSettings). x.weight) h.settings in
-    looks-by (Goes s) n given p
-    (λ came is less.
-    goes-begins s (Packet (record { device = n; came = came; given = given })) p.settings.packet q rests asked
-    (λ no. cc (no, polling)) (omega (arith, ltb-true given p.settings.weight less, weight)))
-    (λ none. work-polled s n given q rests asked polling few nothing) (λ full. work-polled s n given p h asked polling few nothing)
-
-polls-polling : (s : MachineSettings) (o : Option ℕ) (n : ℕ) → (is_polling s ≡ false → o ≡ None) → o ≡ Some n → is_polling s ≡ true
-polls-polling s o n not-polled is = by (is_polling s) refl
-  where
-    by : (b : Bool) → is_polling s ≡ b → is_polling s ≡ true
-    by true same = same
-    by false same = cc (not-polled same, is)
-
-lone-goes : (s : MachineSettings) (n came : ℕ) (p : ProcessorView) → Rests s (delivers n came p) → p.work ≡ Nothing
-    → asked_in p.softirq.run ≡ None
-    → let q = delivers n came p in Goes s (record q { devices = changed raised_again n q.devices })
+pub polls-delivers : (s : MachineSettings) (n came : ℕ) (p : ProcessorView) → Polls s n p → Polls s n (delivers n came p)
 unfolding delivers
-lone-goes s n came p d nothing unasked =
-    let q = delivers n came p in
-    goes-ended s (record q { devices = changed raised_again n q.devices }) nothing (record {
-      rests = record { settings = d.settings; run = d.run; soft = d.soft; threads = d.threads };
-      unasked = unasked;
-    })
+polls-delivers s n came p g =
+    record { rests = work-delivers s n came p g.rests; nothing = g.nothing; asks = g.asks; polling = g.polling }
 
-packet-goes : (s : MachineSettings) (n given came : ℕ) (p : ProcessorView) → Rests s p → p.work ≡ Nothing
-    → asked_in p.softirq.run ≡ (if s.threaded then None else Some n) → is_polling s ≡ true → given ≤ s.weight
-    → Goes s (poll_looks n given (delivers n came p))
+-- without polling, an interrupt ends
+work-lone : (s : MachineSettings) (n : ℕ) (o : Option ℕ) (p : ProcessorView) → Rests s p → p.work ≡ Nothing → asked_in p.softirq.run ≡ None
+    → let q = delivers_oldest n o p in Goes s (record q { devices = changed raised_again n q.devices })
 unfolding delivers
-packet-goes s n given came p h nothing asked polling few =
-    work-looks s n given (delivers n came p) (work-delivers s n came p h) asked polling few nothing
+work-lone s n None p h nothing none =
+    goes-free s _ nothing (record { settings = h.settings; run = h.run; soft = h.soft; threads = h.threads }) none
+work-lone s n (Some came) p h nothing none =
+    let q : ProcessorView = record p { devices = changed (without_next false) n p.devices } in
+    let d = work-delivers s n came q (record { settings = h.settings; run = h.run; soft = h.soft; threads = h.threads }) in
+    goes-free s _ nothing (record { settings = d.settings; run = d.run; soft = d.soft; threads = d.threads }) none
 
-work-ends : (s : MachineSettings) (work : Work) (p : ProcessorView) → Rests s p → p.work ≡ Nothing
-    → asked_in p.softirq.run ≡ (if s.threaded then None else polled_by work)
+work-ends : (s : MachineSettings) (work : Work) (p : ProcessorView) → Rests s p → p.work ≡ Nothing → Asks s (polled_by work) p.softirq
     → (is_polling s ≡ false → polled_by work ≡ None) → work_given work < s.weight → Goes s (ends_by work p)
 unfolding ends_interrupt
-work-ends s Nothing p h nothing asked polled given = goes-ended s p nothing
-    (record { rests = h; unasked = idle-asked s.threaded (asked_in p.softirq.run) asked })
-work-ends s (Interrupt n) p h nothing asked polled given =
-    let unasked = idle-asked s.threaded (asked_in p.softirq.run) asked in
-    either (Goes s) (is_polling p.settings) p (ends_interrupt n p)
-    (λ polling. goes-ended s p nothing (record { rests = h; unasked = unasked }))
-    (λ lone. by (next_packet_at false (at n p.devices)) unasked)
-  where
-    by : (o : Option ℕ) → asked_in p.softirq.run ≡ None
-        → let q = delivers_oldest n o p in Goes s (record q { devices = changed raised_again n q.devices })
-    by None unasked = goes-ended s (record p { devices = changed raised_again n p.devices }) nothing (record {
-      rests = record { settings = h.settings; run = h.run; soft = h.soft; threads = h.threads };
-      unasked = unasked;
-    })
-    by (Some came) unasked =
-        let r : ProcessorView = record p { devices = changed (without_next false) n p.devices } in
-        let d = work-delivers s n came r (record { settings = h.settings; run = h.run; soft = h.soft; threads = h.threads }) in
-        lone-goes s n came r d nothing unasked
-work-ends s (Poll n) p h nothing asked polled given =
-    work-looks s n 0 p h asked (polls-polling s (Some n) n polled refl) (omega arith) nothing
-work-ends s (Packet hand) p h nothing asked polled given =
-    let more : hand.given + 1 ≤ s.weight = omega (arith, given) in
-    packet-goes s hand.device (hand.given + 1) hand.came p h nothing asked (polls-polling s (Some hand.device) hand.device polled refl) more
-work-ends s (Use came) p h nothing asked polled given =
-    goes-ended s (record p { application = used p.clock came p.application }) nothing (record {
-      rests = record { settings = h.settings; run = h.run; soft = h.soft; threads = h.threads };
-      unasked = idle-asked s.threaded (asked_in p.softirq.run) asked;
-    })
+work-ends s Nothing p h nothing asks polled given = goes-free s p nothing h (asks-none s p.softirq asks)
+work-ends s (Interrupt n) p h nothing asks polled given =
+    let none = asks-none s p.softirq asks in
+    either (Goes s) (is_polling p.settings) p (ends_interrupt n p) (λ polling. goes-free s p nothing h none)
+    (λ lone. work-lone s n (next_packet_at false (at n p.devices)) p h nothing none)
+work-ends s (Poll n) p h nothing asks polled given =
+    work-looks s n 0 p (polls-of s n (Poll n) p h nothing asks polled refl) (omega arith)
+work-ends s (Packet hand) p h nothing asks polled given =
+    work-looks s hand.device (hand.given + 1) (delivers hand.device hand.came p)
+    (polls-delivers s hand.device hand.came p (polls-of s hand.device (Packet hand) p h nothing asks polled refl)) (omega (arith, given))
+work-ends s (Use came) p h nothing asks polled given =
+    goes-free s _ nothing (record { settings = h.settings; run = h.run; soft = h.soft; threads = h.threads })
+    (asks-none s p.softirq asks)
 
 pub work-ended : (s : MachineSettings) (p : ProcessorView) → Goes s p → Goes s (ends_current p)
 unfolding ends_current
 work-ended s p g =
     let h = g.rests in
     let q : ProcessorView = record p { clock = p.ends; work = Nothing; counts = spent p.work (p.ends - p.clock) p.counts } in
-    work-ends s p.work q (record { settings = h.settings; run = h.run; soft = h.soft; threads = h.threads }) refl g.asked g.polled g.given
-
-idle-polled : (work : Work) → is_busy work ≡ false → polled_by work ≡ None
-idle-polled work idle = grind (arith, common_steps)
+    work-ends s p.work q (record { settings = h.settings; run = h.run; soft = h.soft; threads = h.threads }) refl g.asks g.polled g.given
 
 pub goes-unasked : (s : MachineSettings) (p : ProcessorView) → Goes s p → is_busy p.work ≡ false → asked_in p.softirq.run ≡ None
-goes-unasked s p g idle = idle-asked s.threaded (asked_in p.softirq.run) (rw (idle-polled p.work idle) at g.asked)
+goes-unasked s p g idle = asks-none s p.softirq (rw (idle-is p.work idle) at g.asks)
 
-pub work-takes : (s : MachineSettings) (p : ProcessorView) → Goes s p → Goes s (takes_up p)
-work-takes s p g = walk-any (Rests s) (Goes s) (work-walk s) p (goes-unasked s p g) (λ busy. g) (λ idle. g.rests)
+-- ---- a property of a processor goes through its events
 
--- ---- when a use or an idle time is interrupted
+-- the queues after a timer expired, if one did
+abbrev pub expired_at : Option ℕ → QueueViews → QueueViews
+expired_at None ds = ds
+expired_at (Some n) ds = changed expired n ds
 
-aside : (s : MachineSettings) (moment : ℕ) (work : Work) (p : ProcessorView) → p.work ≡ work → Goes s p → Goes s (set_aside moment work p)
-aside s moment Nothing p is g = g
-aside s moment (Interrupt n) p is g = g
-aside s moment (Poll n) p is g = g
-aside s moment (Packet hand) p is g = g
-aside s moment (Use came) p is g =
+-- the queues after a packet arrived
+abbrev pub devices_arrived : ℕ → ℕ → ProcessorView → QueueViews
+devices_arrived moment n p = changed (after_packet moment p.settings) n (with_device p.settings.ring n p.devices)
+
+-- What has to be shown: P holds before work begins and R after that, if Q holds.
+pub record Life (s : MachineSettings) (P Q R : ProcessorView → Type 0) : Type 0 where
+  pub walk : Walk P R
+  pub idle : (p : ProcessorView) → Goes s p → p.work ≡ Nothing → Q p → P p
+  pub busy : (p : ProcessorView) → is_busy p.work ≡ true → Q p → R p
+  pub aside : (moment came : ℕ) (counts : ProcessorCounts) (p : ProcessorView) → p.work ≡ Use came → Q p
+      → Q (record p { work = Nothing; clock = moment; rest = Some (record { came = came; left = p.ends - moment }); counts = counts })
+  pub moved : (e : Option ℕ) (clock : ℕ) (counts : ProcessorCounts) (p : ProcessorView) → Q p
+      → Q (record p { clock = clock; counts = counts; devices = expired_at e p.devices })
+
+pub life-takes : {s : MachineSettings} {P Q R : ProcessorView → Type 0} → Life s P Q R → (p : ProcessorView) → Goes s p → Q p
+    → R (takes_up p)
+life-takes {s = s} l p goes h =
+    walk-any l.walk p (goes-unasked s p goes) (λ busy. l.busy p busy h) (λ idle. l.idle p goes (idle-is p.work idle) h)
+
+pub life-stirred : {s : MachineSettings} {P Q R : ProcessorView → Type 0} → Life s P Q R → (moment : ℕ) (p : ProcessorView) → Q p
+    → Q (stirred moment p)
+life-stirred {Q = Q} l moment p h =
+    stirred-by Q moment p (λ busy. h) (λ came counts is. l.aside moment came counts p is h)
+    (λ counts idle asks. l.moved None (saturated (moment + p.settings.wake)) counts p h)
+    (λ idle. l.moved None moment p.counts p h)
+
+-- time passes, or queues change
+goes-moved : (s : MachineSettings) (clock : ℕ) (counts : ProcessorCounts) (devices : QueueViews) (p : ProcessorView) → Goes s p
+    → Goes s (record p { clock = clock; counts = counts; devices = devices })
+goes-moved s clock counts devices p g =
     let h = g.rests in
     record {
       rests = record { settings = h.settings; run = h.run; soft = h.soft; threads = h.threads };
-      asked = rw is at g.asked;
-      polled = λ no. refl;
-      given = fits s;
+      asks = g.asks;
+      polled = g.polled;
+      given = g.given;
     }
 
-pub goes-devices : (s : MachineSettings) (p q : ProcessorView) → Goes s p → q.settings ≡ p.settings → q.softirq ≡ p.softirq
-    → q.tasks ≡ p.tasks
-    → q.work ≡ p.work → Goes s q
-goes-devices s p q g settings softirq tasks work =
-    let h = g.rests in
-    record {
-      rests = record {
-        settings = settings ∙ h.settings;
-        run = rw softirq h.run;
-        soft = λ no. rw softirq (h.soft no);
-        threads = λ no. rw tasks (h.threads no);
+pub work-moved : (s : MachineSettings) (clock : ℕ) (devices : QueueViews) (p : ProcessorView) → Goes s p
+    → Goes s (record p { clock = clock; devices = devices })
+work-moved s clock devices p g = goes-moved s clock p.counts devices p g
+
+work-life : (s : MachineSettings) → Life s (Rests s) (Goes s) (Goes s)
+work-life s = record {
+  walk = work-walk s;
+  idle = λ p goes nothing g. g.rests;
+  busy = λ p busy g. g;
+  aside = λ moment came counts p is g.
+      let h = g.rests in
+      record {
+        rests = record { settings = h.settings; run = h.run; soft = h.soft; threads = h.threads };
+        asks = rw is at g.asks;
+        polled = λ no. refl;
+        given = fits s;
       };
-      asked = rw (softirq, work) g.asked;
-      polled = λ no. rw work (g.polled no);
-      given = rw work g.given;
-    }
-
--- the processor after an interruption, before other work begins
-abbrev pub stirred : ℕ → ProcessorView → ProcessorView
-stirred moment p =
-    let asked = is_some (position asks_at p.devices) in
-    if is_busy p.work then (if asked then set_aside moment p.work p else p) else woken moment asked p
+  moved = λ e clock counts p g. goes-moved s clock counts (expired_at e p.devices) p g;
+}
 
 pub work-stirred : (s : MachineSettings) (moment : ℕ) (p : ProcessorView) → Goes s p → Goes s (stirred moment p)
-work-stirred s moment p g =
-    let asked = is_some (position asks_at p.devices) in
-    let counts = record p.counts { interrupt_time = saturated (p.counts.interrupt_time + p.settings.wake) } in
-    either (Goes s) (is_busy p.work) (if asked then set_aside moment p.work p else p) (woken moment asked p)
-    (λ busy. either (Goes s) asked (set_aside moment p.work p) p (λ yes. aside s moment p.work p refl g) (λ no. g))
-    (λ idle. either (Goes s) asked (record p { clock = saturated (moment + p.settings.wake); counts = counts })
-    (record p { clock = moment })
-    (λ yes. goes-devices s p (record p { clock = saturated (moment + p.settings.wake); counts = counts }) g refl refl refl refl)
-    (λ no. goes-devices s p (record p { clock = moment }) g refl refl refl refl))
+work-stirred s moment p g = life-stirred (work-life s) moment p g
 
-pub work-disturbed : (s : MachineSettings) (moment : ℕ) (p : ProcessorView) → Goes s p → Goes s (disturbed moment p)
+pub life-disturbed : {s : MachineSettings} {P Q R : ProcessorView → Type 0} → Life s P Q R → (moment : ℕ) (p : ProcessorView) → Goes s p
+    → Q p
+    → R (disturbed moment p)
 unfolding disturbed
-work-disturbed s moment p g = work-takes s (stirred moment p) (work-stirred s moment p g)
+life-disturbed {s = s} l moment p goes h =
+    life-takes l (stirred moment p) (work-stirred s moment p goes) (life-stirred l moment p h)
+
+-- the event happens, if R holds where nothing happens, and Q after the end of work
+pub life-happens : {s : MachineSettings} {P Q R : ProcessorView → Type 0} → Life s P Q R → (u : Upcoming) (p : ProcessorView) → Goes s p
+    → R p → Q p → (u ≡ Ends → Q (ends_current p)) → R (happens u p)
+life-happens l Never p goes same h ended = same
+life-happens {s = s} l Ends p goes same h ended = life-takes l (ends_current p) (work-ended s p goes) (ended refl)
+life-happens {s = s} l (Expires timer) p goes same h ended =
+    let q : ProcessorView = record p { devices = changed expired timer.device p.devices } in
+    life-disturbed l timer.at q (work-moved s p.clock q.devices p goes) (l.moved (Some timer.device) p.clock p.counts p h)
+
+-- a packet arrives, with room for it or without
+pub life-arrives : {s : MachineSettings} {P Q R : ProcessorView → Type 0} → Life s P Q R → (moment n : ℕ) (p : ProcessorView) → Goes s p
+    → (let q : ProcessorView = record p { clock = if is_busy p.work then p.clock else moment; devices = devices_arrived moment n p } in
+    Q q → (has_room_at (at n (with_device p.settings.ring n p.devices)) ≡ false → R q) → R (arrives moment n p))
+unfolding arrives
+life-arrives {s = s} {R = R} l moment n p goes h full =
+    let clock = if is_busy p.work then p.clock else moment in
+    let q : ProcessorView = record p { clock = clock; devices = devices_arrived moment n p } in
+    either R (has_room_at (at n (with_device p.settings.ring n p.devices))) (disturbed moment q) q
+    (λ room. life-disturbed l moment q (work-moved s clock q.devices p goes) h) full
 
 -- ---- over a processor's life
 
 pub work-happens : (s : MachineSettings) (u : Upcoming) (p : ProcessorView) → Goes s p → Goes s (happens u p)
-work-happens s Never p g = g
-work-happens s Ends p g = work-takes s (ends_current p) (work-ended s p g)
-work-happens s (Expires timer) p g =
-    let q : ProcessorView = record p { devices = changed expired timer.device p.devices } in
-    work-disturbed s timer.at q (goes-devices s p q g refl refl refl refl)
-
-work-arrives : (s : MachineSettings) (moment n : ℕ) (p : ProcessorView) → Goes s p → Goes s (arrives moment n p)
-unfolding arrives
-work-arrives s moment n p g =
-    let devices = with_device p.settings.ring n p.devices in
-    let clock = if is_busy p.work then p.clock else moment in
-    let q : ProcessorView = record p { clock = clock; devices = changed (after_packet moment p.settings) n devices } in
-    let h : Goes s q = goes-devices s p q g refl refl refl refl in
-    either (Goes s) (has_room_at (at n devices)) (disturbed moment q) q (λ room. work-disturbed s moment q h) (λ full. h)
+work-happens s u p g = life-happens (work-life s) u p g g g (λ is. work-ended s p g)
 
 pub goes-on : (s : MachineSettings) (events : List MachineEvent) → Goes s (behind s events)
 unfolding behind step
-goes-on s [] = record {
-  rests = record { settings = refl; run = tt; soft = λ no. (refl, refl); threads = λ no. tt };
-  asked = asked-idle s.threaded None refl;
-  polled = λ no. refl;
-  given = fits s;
-}
-goes-on s (packet moment n ∷ earlier) = work-arrives s moment n (behind s earlier) (goes-on s earlier)
+goes-on s [] = goes-free s _ refl (record { settings = refl; run = tt; soft = λ no. (refl, refl); threads = λ no. tt }) refl
+goes-on s (packet moment n ∷ earlier) =
+    let p = behind s earlier in
+    let g = goes-on s earlier in
+    let now = work-moved s (if is_busy p.work then p.clock else moment) (devices_arrived moment n p) p g in
+    life-arrives (work-life s) moment n p g now (λ full. now)
 goes-on s (next ∷ earlier) = work-happens s (upcoming (behind s earlier)) (behind s earlier) (goes-on s earlier)
 
 pub works-within : WorksWithin
 works-within s events = by (behind s events).softirq.run (goes-on s events).rests.run
   where
     by : (run : Option RunView) → RunsIn s run → IfSome run (λ r. r.work < s.budget + s.weight)
-    by None saturated = tt
-    by (Some r) saturated = saturated.work
+    by None held = tt
+    by (Some r) held = held.work
