@@ -7,7 +7,6 @@ pub mod TallyFacts
 pub mod SocketFacts
 pub mod TimerFacts
 pub mod TimeFacts
-pub mod LeastFacts
 pub mod ApplicationFacts
 pub mod ApartFacts
 pub mod OtherFacts
@@ -16,6 +15,5 @@ pub mod EmptyFacts
 pub mod TendFacts
 pub mod LeftFacts
 pub mod BoundFacts
-pub mod RunFacts
 pub mod LifeFacts
-pub mod LivesFacts
+pub mod AllLaws

@@ -1,4 +1,5 @@
 //! Laws of whole runs, for all settings and all arrivals: each is the contract of a function that does nothing.
+#![tactic(auto, using(crate::proofs::AllLaws::laws))]
 
 ghost use Rattle.machine.specs.Applications.{ApplicationEnds, ApplicationIsFed, ApplicationServes, ReceivingIsApart};
 ghost use Rattle.machine.specs.Deferrals.{DeferralIsBounded, EmptyPollsAreFew, EveryRunEnds, TimersAreNear};

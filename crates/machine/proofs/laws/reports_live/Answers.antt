@@ -1,4 +1,4 @@
-use Rattle.machine.proofs.LivesFacts.{reports-lives}
+use Rattle.machine.proofs.LifeFacts.{reports-lives}
 use Rattle.machine.proofs.laws.reports_live.Goals as goal
 
 pub returns : goal.returns
