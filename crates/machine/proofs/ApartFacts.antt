@@ -10,9 +10,9 @@ use Rattle.machine.specs.Applications.{placed_all, used_all, with_delivery}
 use Rattle.machine_model.specs.declared.processor.{ProcessorCounts.ProcessorCounts}
 use Rattle.machine_model.specs.declared.processor.Upcoming.{Upcoming, TheVariants.{Never, Expires}}
 use Rattle.machine_model.specs.declared.application.Activity.{TheVariants.{Asleep}}
-use Rattle.machine_model.specs.declared.tasks.RunnableTask.{RunnableTask, TheVariants.{Application, Thread}}
+use Rattle.machine_model.specs.declared.tasks.RunnableTask.{RunnableTask, TheVariants.{Thread}}
 use Rattle.machine_model.specs.{Devices.QueueViews, Softirq.SoftirqView, Tasks.{is_application, runnable}}
-use Rattle.machine_model.specs.Application.{ApplicationView, fed, has_place, went_on}
+use Rattle.machine_model.specs.Application.{ApplicationView, fed, went_on}
 use Rattle.machine_model.specs.Processor.{ProcessorView, ends_current, happens, is_busy, is_polling, step, upcoming}
 use Rattle.machine.proofs.{WalkFacts.{IsFirst}, EndFacts.{feeds, put_first, tasks_after}}
 use Rattle.machine.proofs.ApplicationFacts.{Rising, Works, asleep-is, asleep-went, works-all, works-later, works-went}
@@ -37,20 +37,14 @@ threads-append [] ys first second = second
 threads-append (x ∷ xs) ys first second = (first.0, threads-append xs ys first.1 second)
 
 threads-runnable : (idle : Bool) (tasks : List RunnableTask) → AllThreads tasks → AllThreads (runnable idle tasks)
-threads-runnable true [] all = tt
-threads-runnable true (Application ∷ more) all = all.1
-threads-runnable true (Thread n ∷ more) all = all
-threads-runnable false tasks all = all
+threads-runnable idle tasks h1 = grind (arith, common_steps)
 
 not-first : (tasks : List RunnableTask) → AllThreads tasks → IsFirst tasks → ⊥
-not-first [] all first = first
-not-first (Application ∷ more) all first = cc (all.0)
-not-first (Thread n ∷ more) all first = first
+not-first tasks h1 h2 = grind (arith, common_steps)
 
 pub alone-moved : (s : MachineSettings) (a : ApplicationView) (clock : ℕ) (counts : ProcessorCounts) (devices : QueueViews)
     (p : ProcessorView) → Alone s a p → Alone s a (record p { clock = clock; counts = counts; devices = devices })
-alone-moved s a clock counts devices p h =
-    record { settings = h.settings; application = h.application; unused = h.unused; rest = h.rest; tasks = h.tasks }
+alone-moved s a clock counts devices p h1 = grind (arith, common_steps)
 
 pub alone-life : (s : MachineSettings) (a : ApplicationView) → s.apart ≡ true → Life s (Alone s a) (Alone s a) (Alone s a)
 alone-life s a apart = record {
@@ -105,12 +99,10 @@ not-wakes t a h is = grind (arith, common_steps)
 
 -- a delivery adds no task
 threads-after : (o : Option (ℕ × ℕ)) (p : ProcessorView) → p.settings.apart ≡ true → tasks_after o p ≡ p.tasks
-threads-after None p apart = refl
-threads-after (Some x) p apart = rw (not-wakes p.settings.threaded p.settings.apart (has_place p.application) apart) refl
+threads-after o p h1 = grind (arith, common_steps)
 
 threads-put : (again : Option ℕ) (tasks : List RunnableTask) → AllThreads tasks → AllThreads (put_first again tasks)
-threads-put None tasks all = all
-threads-put (Some n) tasks all = (refl, all)
+threads-put again tasks h1 = grind (arith, common_steps)
 
 -- the effect of a delivery on the application
 abbrev pub fed_by : MachineSettings → ℕ → Option (ℕ × ℕ) → ApplicationView → ApplicationView
@@ -148,8 +140,7 @@ alone-happens s a (Expires timer) p apart goes h = life-happens (alone-life s a 
 fed-delivery : (s : MachineSettings) (now : ℕ) (o : Option (ℕ × ℕ)) (ds : List (ℕ × ℕ)) → fed_by s now o (fed_all s ds)
     ≡ fed_all s (with_delivery now o ds)
 unfolding fed_all
-fed-delivery s now None ds = refl
-fed-delivery s now (Some (number, came)) ds = refl
+fed-delivery s now o ds = grind (arith, common_steps)
 
 pub alone-on : (s : MachineSettings) (events : List MachineEvent) → s.apart ≡ true
     → Alone s (fed_all s (deliveries s events)) (behind s events)
@@ -182,14 +173,11 @@ rising-later t u ((at, came) ∷ earlier) less rising = (omega (arith, less, ris
 
 rising-with : (t u : ℕ) (o : Option (ℕ × ℕ)) (ds : List (ℕ × ℕ)) → t ≤ u → Rising t ds → Rising u (with_delivery u o ds)
 unfolding Rising
-rising-with t u None ds less rising = rising-later t u ds less rising
-rising-with t u (Some (number, came)) ds less rising = (omega arith, rising-later t u ds less rising)
+rising-with t u o ds h1 h2 = grind (arith, common_steps, rising-later)
 
 rising-by : (t : ℕ) (u : Upcoming) (p : ProcessorView) (ds : List (ℕ × ℕ)) → t ≤ time_by u p t → Rising t ds
     → Rising (time_by u p t) (with_delivery p.ends (delivery_by u p) ds)
-rising-by t Never p ds less rising = rising
-rising-by t upcomings.Ends p ds less rising = rising-with t p.ends (delivery_of p.work p) ds less rising
-rising-by t (Expires timer) p ds less rising = rising-later t timer.at ds less rising
+rising-by t u p ds h1 h2 = grind (arith, common_steps, rising-with, rising-later)
 
 rising-on : (s : MachineSettings) (until : ℕ) (events : List MachineEvent) → until < 2 ^ 64 → InTurn s until events
     → Rising (now s events) (deliveries s events)

@@ -2,14 +2,14 @@
 use Rattle.std.proofs.Common.{◌≡◌, ◌∙◌, ℕ, ◌+◌, ◌-◌, ◌*◌, ◌<◌, ◌≤◌, ◌^◌, Bool, true, false, List, [], ◌∷◌, ◌++◌, append_assoc}
 use Rattle.std.proofs.Common.{length, length-append, map, refl, sym, ap, subst, arith}
 use Rattle.std.proofs.lemmas.Bool.{and_parts, leb-true}
-use Rattle.std.proofs.lemmas.List.{append-nil, map-append}
+use Rattle.std.proofs.lemmas.List.{append-nil}
 use Rattle.std.{proofs.{lemmas.Grind.common_steps, Math.Nat.mul-le-mul_right}, specs.Prelude.{if◌then◌else◌, nat_le}}
 use Rattle.{machine_model.specs.declared.settings.MachineSettings.MachineSettings, circular_buffer.specs.Buffer.{Buffer}}
 use Rattle.machine.specs.Applications.{UsesFollow, Serves, ended_until, ended_with, fed_all, being_read, placed_all, use_of, used_all}
 use Rattle.machine.specs.Fates.{counting}
-use Rattle.machine_model.specs.declared.application.Activity.{Activity, TheVariants.{Asleep, Waking, Using}}
+use Rattle.machine_model.specs.declared.application.Activity.{Activity, TheVariants.{Asleep, Waking}}
 use Rattle.machine_model.specs.Application.{ApplicationView, ended_by, fed, goes_on, has_place, is_awake, is_use_over, put, refuses}
-use Rattle.machine_model.specs.{Application.{takes_next, went_on, went_on_with, woken_by}, Waits.{WaitsView, counted, saturated, no_waits}}
+use Rattle.machine_model.specs.{Application.{takes_next, went_on, went_on_with, woken_by}, Waits.{saturated, no_waits}}
 use Rattle.machine.proofs.TallyFacts.{counting-more}
 
 -- ---- lists of uses
@@ -67,14 +67,7 @@ pub record Works (s : MachineSettings) (t : ℕ) (placed away : List ℕ) (uses 
 
 pub works-later : (s : MachineSettings) (t u : ℕ) (placed away : List ℕ) (uses : List (ℕ × ℕ)) (a : ApplicationView) → t ≤ u
     → Works s t placed away uses a → Works s u placed away uses a
-works-later s t u placed away uses a less w = record {
-  serves = w.serves;
-  chain = w.chain;
-  last = w.last;
-  fits = w.fits;
-  low = λ is. omega (arith, w.low is, less);
-  full = w.full;
-}
+works-later s t u placed away uses a h1 h2 = grind (arith, common_steps)
 
 -- ---- its work ends
 
@@ -85,16 +78,11 @@ pub record EndedBy (a e : ApplicationView) : Type 0 where
   pub wakes : e.wakes ≡ a.wakes
 
 ended-same : (w : Activity) (a : ApplicationView) → EndedBy a (ended_by w a)
-ended-same (Using came) a = record { socket = refl; refused = refl; end = refl; wakes = refl }
-ended-same w a = record { socket = refl; refused = refl; end = refl; wakes = refl }
+ended-same w a = grind (arith, common_steps)
 
 ended-waits : (w : Activity) (a : ApplicationView) (uses : List (ℕ × ℕ)) → a.waits ≡ counting (map wait_of uses) no_waits
     → (ended_by w a).waits ≡ counting (map wait_of (uses ++ at_end a.end (being_read w))) no_waits
-ended-waits (Using came) a uses is =
-    ap (λ (w : WaitsView). counted (a.end - came) w) is
-    ∙ (sym (counting-more (map wait_of uses) (a.end - came) no_waits)
-    ∙ ap (λ (xs : List ℕ). counting xs no_waits) (sym (map-append wait_of uses ((came, a.end) ∷ []))))
-ended-waits w a uses is = is ∙ ap (λ (xs : List (ℕ × ℕ)). counting (map wait_of xs) no_waits) (sym (append-nil uses))
+ended-waits w a uses h1 = grind (arith, common_steps, counting-more)
 
 -- it was woken at most once for each use
 woken-less : (w : Activity) (wakes n : ℕ) (items : List ℕ) → is_awake w ≡ true → (w ≡ Waking → items ≡ [] → ⊥)
@@ -110,10 +98,7 @@ uses-length uses a = omega (arith, length-append uses (use_of a), hand-length a.
 -- after the packet in use was used, the order of its packets is the same
 uses-order : (placed : List ℕ) (uses : List (ℕ × ℕ)) (a : ApplicationView)
     → placed ≡ map arrival uses ++ (being_read a.activity ++ a.socket.items) → placed ≡ map arrival (uses ++ use_of a) ++ a.socket.items
-uses-order placed uses a is =
-    is ∙ (sym (append_assoc (map arrival uses) (being_read a.activity) a.socket.items)
-    ∙ ap (λ (xs : List ℕ). xs ++ a.socket.items)
-    (ap (λ (xs : List ℕ). map arrival uses ++ xs) (sym (hand-arrival a.activity a.end)) ∙ sym (map-append arrival uses (use_of a))))
+uses-order placed uses a h1 = grind (arith, common_steps)
 
 works-goes : (s : MachineSettings) (t : ℕ) (placed away : List ℕ) (uses : List (ℕ × ℕ)) (a : ApplicationView) → Works s t placed away uses a
     → is_awake a.activity ≡ true → a.end ≤ t → Works s t placed away (uses ++ use_of a) (goes_on s.use_time a)
@@ -227,13 +212,10 @@ works-went s t placed away uses a w = works-with s t placed away a.socket.items 
 
 put-order : (placed firsts hand items : List ℕ) (came : ℕ) → placed ≡ firsts ++ (hand ++ items)
     → placed ++ came ∷ [] ≡ firsts ++ (hand ++ (items ++ came ∷ []))
-put-order placed firsts hand items came is =
-    ap (λ (xs : List ℕ). xs ++ came ∷ []) is ∙ (append_assoc firsts (hand ++ items) (came ∷ [])
-    ∙ ap (λ (xs : List ℕ). firsts ++ xs) (append_assoc hand items (came ∷ [])))
+put-order placed firsts hand items came h1 = grind (arith, common_steps)
 
 some-append : (xs : List ℕ) (x : ℕ) → xs ++ x ∷ [] ≡ [] → ⊥
-some-append [] x is = cc is
-some-append (y ∷ xs) x is = cc is
+some-append xs x h1 = grind (arith, common_steps)
 
 works-puts : (s : MachineSettings) (t came : ℕ) (placed away : List ℕ) (uses : List (ℕ × ℕ)) (a : ApplicationView)
     → Works s t placed away uses a
@@ -369,18 +351,13 @@ works-all s t ((now, came) ∷ earlier) apart fits rising =
 goes-next : (time : ℕ) (items : List ℕ) (a e : ApplicationView) → EndedBy a e → a.end < 2 ^ 64
     → let b = takes_next time items e in (b.end < 2 ^ 64) × ((x : ℕ) (more : List ℕ) → items ≡ x ∷ more → b.socket.items ≡ more)
     × (items ≡ [] → is_awake b.activity ≡ false)
-goes-next time [] a e same fits = (omega (arith, same.end, fits), λ x more is. cc is, λ is. refl)
-goes-next time (came ∷ rest) a e same fits = (omega arith, λ x more is. cc is, λ is. cc is)
+goes-next time items a e h1 h2 = grind (arith, common_steps)
 
 goes-items : (time : ℕ) (a : ApplicationView) (items : List ℕ) → a.socket.items ≡ items → a.end < 2 ^ 64
     → let b = goes_on time a in (b.end < 2 ^ 64) × ((x : ℕ) (more : List ℕ) → items ≡ x ∷ more → b.socket.items ≡ more)
     × (items ≡ [] → is_awake b.activity ≡ false)
 unfolding goes_on
-goes-items time a items is fits =
-    subst
-    (λ (xs : List ℕ). let b = takes_next time xs (ended_by a.activity a) in
-    (b.end < 2 ^ 64) × ((x : ℕ) (more : List ℕ) → items ≡ x ∷ more → b.socket.items ≡ more) × (items ≡ [] → is_awake b.activity ≡ false))
-    (sym is) (goes-next time items a (ended_by a.activity a) (ended-same a.activity a) fits)
+goes-items time a items h1 h2 = grind (arith, common_steps)
 
 not-over : (t : ℕ) (a : ApplicationView) → a.end ≤ t → is_use_over t a ≡ false → is_awake a.activity ≡ false
 not-over t a below is = grind (arith, common_steps)

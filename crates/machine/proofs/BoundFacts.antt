@@ -1,42 +1,39 @@
 -- Law: when a queue's NAPI timer expires on an idle processor, the queue's oldest packet is delivered at once.
-use Rattle.std.proofs.Common.{◌≡◌, ◌∙◌, ℕ, zero, suc, ◌+◌, ◌-◌, ◌<◌, ◌≤◌, Bool, true, false, Option, Some, None, List, [], ◌∷◌, ◌++◌}
+use Rattle.std.proofs.Common.{◌≡◌, ◌∙◌, ℕ, ◌+◌, ◌-◌, ◌<◌, ◌≤◌, Bool, true, false, Option, Some, None, List, [], ◌∷◌, ◌++◌}
 use Rattle.std.proofs.Common.{length, refl, sym, ap}
 use Rattle.std.proofs.Common.{subst, arith}
-use Rattle.std.proofs.lemmas.{Bool.{cond-false, cond-true, le-ltb, lt-ltb}, List.Sums.{position_or_len_is}}
+use Rattle.std.proofs.lemmas.{Bool.{le-ltb, lt-ltb}, List.Sums.{position_or_len_is}}
 use Rattle.std.proofs.lemmas.Grind.{common_steps}
 use Rattle.std.specs.List.{position_or_len}
 use Rattle.std.specs.Option.{option_map_or}
-use Rattle.std.specs.Prelude.{◌==◌, ◌&&◌, if◌then◌else◌, is_some, nat_lt, not}
+use Rattle.std.specs.Prelude.{◌==◌, is_some}
 use Rattle.std.specs.Prelude.{position}
 use Rattle.machine_model.specs.declared.settings.MachineSettings.{MachineSettings}
 use Rattle.device_places.specs.Places.{at, changed}
-use Rattle.machine.specs.{Deferrals.DeferralIsBounded, Lives.{behind}}
+use Rattle.machine.specs.{Deferrals.DeferralIsBounded}
 use Rattle.machine_model.specs.declared.device.Phase.{Phase}
-use Rattle.machine_model.specs.declared.device.Phase.TheVariants.{Scheduled, Deferred}
-use Rattle.machine_model.specs.declared.processor.Work.{Work}
+use Rattle.machine_model.specs.declared.device.Phase.TheVariants.{Deferred}
 use Rattle.machine_model.specs.declared.processor.Work.TheVariants.{Nothing, Interrupt, Poll, Packet}
-use Rattle.machine_model.specs.declared.{processor.Upcoming.{Upcoming, TheVariants.{Ends, Expires}}, device.QueueCounts.QueueCounts}
+use Rattle.machine_model.specs.declared.{processor.Upcoming.{Upcoming, TheVariants.{Ends, Expires}}}
 use Rattle.machine_model.specs.Device.{QueueView, asks, expired, interrupted, is_fired, next_packet, without_next}
 use Rattle.machine_model.specs.Devices.{QueueViews, asks_at}
 use Rattle.machine_model.specs.Devices.{next_packet_at}
 use Rattle.machine_model.specs.Softirq.{RunView, SoftirqView, asked_in, begun, run_next, pushed}
 use Rattle.machine_model.specs.Waits.{saturated}
-use Rattle.machine_model.specs.Processor.{ProcessorView, begins, begins_run, disturbed, ends_by, ends_current, ends_poll, goes_on}
+use Rattle.machine_model.specs.Processor.{ProcessorView, begins, begins_run, disturbed, ends_current}
 use Rattle.machine_model.specs.Processor.{happens, interrupts}
-use Rattle.machine_model.specs.Processor.{ends_interrupt, is_busy, is_polling, leaves_softirq, poll_looks, polls, rests, set_aside}
+use Rattle.machine_model.specs.Processor.{is_busy, is_polling, poll_looks, polls, rests}
 use Rattle.machine_model.specs.Processor.{spent, step}
 use Rattle.machine_model.specs.Processor.{takes_up, upcoming, woken}
 use Rattle.machine_model.specs.Device as device
-use Rattle.machine.proofs.{TableFacts.{at-apart, at-changed, at-either, map_at}, WalkFacts.stirred}
+use Rattle.machine.proofs.{TableFacts.{at-apart, at-changed, map_at}, WalkFacts.stirred}
 use Rattle.machine.proofs.WorkFacts.{Goes, goes-on, same-polling, same-threaded}
 use Rattle.machine.proofs.LeftFacts.{Resting, list-empty, rested-on}
 
 -- ---- the first queue that asks for an interrupt
 
 below-is : (ds : QueueViews) (n : ℕ) → asks_at (at n ds) ≡ true → n < length ds
-below-is [] n asks = cc asks
-below-is (place ∷ more) zero asks = omega arith
-below-is (place ∷ more) (suc n) asks = omega (arith, below-is more n asks)
+below-is ds n h1 = grind (arith, common_steps)
 
 position-is : (ds : QueueViews) (n : ℕ) → asks_at (at n ds) ≡ true → ((k : ℕ) → k < n → asks_at (at k ds) ≡ false) → position asks_at ds
     ≡ Some n
@@ -55,16 +52,10 @@ position-none ds none =
 
 takes-interrupt : (n : ℕ) (p : ProcessorView) → p.work ≡ Nothing → position asks_at p.devices ≡ Some n → takes_up p ≡ interrupts n p
 unfolding takes_up
-takes-interrupt n p nothing asks =
-    cond-false (is_busy p.work) p
-    (option_map_or (λ (k : ℕ). interrupts k p) (position asks_at p.devices) (if is_some p.softirq.run then goes_on p else rests p))
-    (ap is_busy nothing)
-    ∙ ap (λ (o : Option ℕ). option_map_or (λ (k : ℕ). interrupts k p) o (if is_some p.softirq.run then goes_on p else rests p)) asks
+takes-interrupt n p h1 h2 = grind (arith, common_steps)
 
 stirred-idle : (t : ℕ) (p : ProcessorView) → p.work ≡ Nothing → stirred t p ≡ woken t (is_some (position asks_at p.devices)) p
-stirred-idle t p nothing =
-    let asked = is_some (position asks_at p.devices) in
-    cond-false (is_busy p.work) (if asked then set_aside t p.work p else p) (woken t asked p) (ap is_busy nothing)
+stirred-idle t p h1 = grind (arith, common_steps)
 
 -- how an interrupt leaves the processor, with polling and without threads
 pub record Interrupted (n : ℕ) (p q : ProcessorView) : Type 0 where
@@ -76,8 +67,7 @@ pub record Interrupted (n : ℕ) (p q : ProcessorView) : Type 0 where
 
 interrupted-is : (n : ℕ) (p : ProcessorView) → is_polling p.settings ≡ true → p.settings.threaded ≡ false → Interrupted n p (interrupts n p)
 unfolding interrupts
-interrupted-is n p polling single =
-    rw (polling, single) (record { work = refl; ends = refl; settings = refl; softirq = refl; devices = refl })
+interrupted-is n p h1 h2 = grind (arith, common_steps)
 
 -- the queue whose timer expired asks for an interrupt, and no other queue does
 one-asks : (n : ℕ) (ds : QueueViews) (d : QueueView) (until : ℕ) → ((k : ℕ) → asks_at (at k ds) ≡ false) → at n ds ≡ Some d → d.phase
@@ -97,41 +87,23 @@ one-asks n ds d until quiet there deferred =
 none-asks : (n : ℕ) (ds : QueueViews) → ((k : ℕ) → asks_at (at k ds) ≡ false) → (k : ℕ)
     → asks_at (at k (changed (interrupted true) n (changed expired n ds))) ≡ false
 unfolding map_at interrupted
-none-asks n ds quiet k =
-    at-either (λ b o. asks_at o ≡ false) (interrupted true) n k (changed expired n ds) (λ here. by (at k (changed expired n ds)))
-    (λ other. ap asks_at (at-apart expired n k ds other) ∙ quiet k)
-  where
-    also : (d : QueueView) (counts : QueueCounts) (b : Bool)
-        → asks (if b then record d { phase = Scheduled } else record d { phase = Scheduled; frames = 0; counts = counts }).phase ≡ false
-    also d counts true = refl
-    also d counts false = refl
-
-    by : (o : Option QueueView) → asks_at (map_at (interrupted true) o) ≡ false
-    by None = refl
-    by (Some d) = also d (record d.counts { interrupts = saturated (d.counts.interrupts + 1) }) (is_fired d.phase)
+none-asks n ds h1 k = grind (arith, common_steps, at-apart)
 
 -- ---- the interrupt ends
 
 takes-rests : (p : ProcessorView) → p.work ≡ Nothing → position asks_at p.devices ≡ None → p.softirq.run ≡ None → takes_up p ≡ rests p
 unfolding takes_up
-takes-rests p nothing quiet idle =
-    cond-false (is_busy p.work) p
-    (option_map_or (λ (k : ℕ). interrupts k p) (position asks_at p.devices) (if is_some p.softirq.run then goes_on p else rests p))
-    (ap is_busy nothing)
-    ∙ (ap (λ (o : Option ℕ). option_map_or (λ (k : ℕ). interrupts k p) o (if is_some p.softirq.run then goes_on p else rests p)) quiet
-    ∙ ap (λ (o : Option RunView). if is_some o then goes_on p else rests p) idle)
+takes-rests p h1 h2 h3 = grind (arith, common_steps)
 
 rests-begins : (n : ℕ) (p : ProcessorView) → is_polling p.settings ≡ true → p.softirq.list ≡ n ∷ [] → rests p ≡ begins_run p
 unfolding rests
-rests-begins n p polling list =
-    cond-true (is_polling p.settings && not (length p.softirq.list == 0)) (begins_run p) (leaves_softirq p.rest p)
-    (ap (λ (b : Bool). b && not (length p.softirq.list == 0)) polling ∙ ap (λ (xs : List ℕ). not (length xs == 0)) list)
+rests-begins n p h1 h2 = grind (arith, common_steps)
 
 -- the run polls this queue first
 asks-first : (n clock : ℕ) (s : MachineSettings) (list : List ℕ) (run : Option RunView) (began : ℕ) → is_polling s ≡ true → list ≡ n ∷ []
     → asked_in (run_next (begun clock s.budget s.weight s.window (record { list = list; run = run; began = began }))).run ≡ Some n
 unfolding run_next
-asks-first n clock s list run began polling is = grind (arith, common_steps, s.window_in)
+asks-first n clock s list run began polling is = grind (arith, common_steps)
 
 begins-first : (n : ℕ) (p : ProcessorView) → is_polling p.settings ≡ true → p.softirq.list ≡ n ∷ []
     → begins_run p ≡ polls n
@@ -150,16 +122,7 @@ looks-is : (n came : ℕ) (p : ProcessorView) → next_packet_at p.settings.back
     ≡ begins (Packet (record { device = n; came = came; given = 0 })) p.settings.packet
     (record p { devices = changed (without_next p.settings.backlog) n p.devices })
 unfolding poll_looks
-looks-is n came p is =
-    let q : ProcessorView = record p { devices = changed (without_next p.settings.backlog) n p.devices } in
-    let f = λ (c : ℕ). begins (Packet (record { device = n; came = c; given = 0 })) p.settings.packet q in
-    cond-true (nat_lt 0 p.settings.weight) (option_map_or f (next_packet_at p.settings.backlog (at n p.devices)) (ends_poll n 0 q))
-    (ends_poll n 0 p)
-    (some-weight p.settings)
-    ∙ ap (λ (o : Option ℕ). option_map_or f o (ends_poll n 0 q)) is
-  where
-    some-weight : (x : MachineSettings) → nat_lt 0 x.weight ≡ true
-    some-weight x = grind (arith, common_steps, x.weight_in)
+looks-is n came p h1 = grind (arith, common_steps)
 
 busy-takes : (p : ProcessorView) → is_busy p.work ≡ true → takes_up p ≡ p
 unfolding takes_up
@@ -177,9 +140,7 @@ pub record PollsFirst (n : ℕ) (p q : ProcessorView) : Type 0 where
 ended-interrupt : (n : ℕ) (p : ProcessorView) → p.work ≡ Interrupt n → is_polling p.settings ≡ true
     → ends_current p ≡ record p { clock = p.ends; work = Nothing; counts = spent p.work (p.ends - p.clock) p.counts }
 unfolding ends_current
-ended-interrupt n p work polling =
-    let e : ProcessorView = record p { clock = p.ends; work = Nothing; counts = spent p.work (p.ends - p.clock) p.counts } in
-    ap (λ (w : Work). ends_by w e) work ∙ cond-true (is_polling p.settings) e (ends_interrupt n e) polling
+ended-interrupt n p h1 h2 = grind (arith, common_steps)
 
 after-interrupt : (n : ℕ) (p : ProcessorView) → p.work ≡ Interrupt n → is_polling p.settings ≡ true
     → ((k : ℕ) → asks_at (at k p.devices) ≡ false)
@@ -202,9 +163,7 @@ pub record TakesFirst (n came : ℕ) (p q : ProcessorView) : Type 0 where
 ended-poll : (n : ℕ) (p : ProcessorView) → p.work ≡ Poll n
     → ends_current p ≡ poll_looks n 0 (record p { clock = p.ends; work = Nothing; counts = spent p.work (p.ends - p.clock) p.counts })
 unfolding ends_current
-ended-poll n p work =
-    let e : ProcessorView = record p { clock = p.ends; work = Nothing; counts = spent p.work (p.ends - p.clock) p.counts } in
-    ap (λ (w : Work). ends_by w e) work
+ended-poll n p h1 = grind (arith, common_steps)
 
 after-poll : (n came : ℕ) (p : ProcessorView) → p.work ≡ Poll n → next_packet_at p.settings.backlog (at n p.devices) ≡ Some came
     → upcoming p ≡ Ends → TakesFirst n came p (step p)
@@ -244,11 +203,7 @@ next-same backlog d = grind (arith, common_steps)
 next-there : (backlog : Bool) (n came : ℕ) (ds : QueueViews) (d : QueueView) → at n ds ≡ Some d → next_packet backlog d ≡ Some came
     → next_packet_at backlog (at n (changed (interrupted true) n (changed expired n ds))) ≡ Some came
 unfolding map_at
-next-there backlog n came ds d there found =
-    ap (next_packet_at backlog) (at-changed (interrupted true) n (changed expired n ds))
-    ∙ (ap (λ (o : Option QueueView). next_packet_at backlog (map_at (interrupted true) o)) (at-changed expired n ds)
-    ∙ (ap (λ (o : Option QueueView). next_packet_at backlog (map_at (interrupted true) (map_at expired o))) there
-    ∙ (next-same backlog d ∙ found)))
+next-there backlog n came ds d h1 h2 = grind (arith, common_steps, at-changed, next-same)
 
 deferral-steps : (s : MachineSettings) (n until came : ℕ) (d : QueueView) (p : ProcessorView) → Goes s p → Resting p → is_polling s ≡ true
     → s.threaded ≡ false → p.work ≡ Nothing → at n p.devices ≡ Some d → d.phase ≡ Deferred until
@@ -285,8 +240,4 @@ deferral-steps s n until came d p goes r polls single nothing there deferred fir
     (l.work, omega (arith, l.ends, f.ends, i.ends, one, two, three, four))
 
 pub deferral-is-bounded : DeferralIsBounded
-deferral-is-bounded s events n until came d polls single nothing there deferred first found second third =
-    let p = behind s events in
-    deferral-steps s n until came d p (goes-on s events) ((rested-on s events).resting nothing)
-    polls single nothing there deferred first found
-    second third
+deferral-is-bounded = grind (arith, common_steps, deferral-steps, goes-on, rested-on)

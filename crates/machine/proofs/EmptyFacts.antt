@@ -7,7 +7,7 @@ use Rattle.machine.specs.Lives.{MachineEvent, behind, next, packet}
 use Rattle.machine.specs.Fates.{finds_room}
 use Rattle.machine.specs.Deferrals.{EmptyPollsAreFew, emptied, emptied_by, empty_polls}
 use Rattle.machine_model.specs.declared.{device.Phase.{Phase, TheVariants.{Quiet, Coalescing, Raised, Scheduled, Deferred, Fired}}}
-use Rattle.machine_model.specs.declared.processor.{Work.{Work, TheVariants.{Poll, Packet}}}
+use Rattle.machine_model.specs.declared.processor.{Work.{Work}}
 use Rattle.machine_model.specs.declared.{processor.Upcoming.{Upcoming, TheVariants.{Never, Expires}}}
 use Rattle.machine_model.specs.Device.{QueueView, after_packet, expired, has_room, interrupted, notified, queue_completed}
 use Rattle.machine_model.specs.Device.{queue_polled, raised_again, without_next}
@@ -65,8 +65,7 @@ later given = grind (arith, common_steps)
 -- no poll was empty so far
 few-none : (s : MachineSettings) (o : Option QueueView) → defer_in o + 1 ≤ most s → Few s 0 o
 unfolding rest_at defer_in
-few-none s None low = record { sum = omega arith; low = low }
-few-none s (Some d) low = record { sum = omega (arith, rest-most (most s) d.phase d.deferrals low); low = low }
+few-none s o h1 = grind (arith, common_steps)
 
 few-same : (s : MachineSettings) (count : ℕ) (o q : Option QueueView) → Few s count o → rest_at s q ≡ rest_at s o → defer_in q ≡ defer_in o
     → Few s count q
@@ -80,9 +79,7 @@ pub record Calm (f : QueueView → QueueView) : Type 0 where
 few-calm : (s : MachineSettings) (count : ℕ) (f : QueueView → QueueView) (m n : ℕ) (ds : QueueViews) → Calm f → Few s count (at n ds)
     → Few s count (at n (changed f m ds))
 unfolding rest_at defer_in
-few-calm s count f m n ds c few =
-    few-same s count (at n ds) (at n (changed f m ds)) few
-    (at-kept (rest_at s) f m n ds (λ d. rw (c.phase d, c.deferrals d) refl)) (at-kept defer_in f m n ds c.deferrals)
+few-calm s count f m n ds h1 h2 = grind (arith, common_steps)
 
 pub calm-next : (backlog : Bool) → Calm (without_next backlog)
 calm-next backlog = record { phase = phase-next backlog; deferrals = λ d. grind (arith, common_steps) }
@@ -95,8 +92,7 @@ calm-delivered now came = record { phase = λ d. refl; deferrals = λ d. refl }
 few-interrupted : (s : MachineSettings) (count : ℕ) (polling : Bool) (o : Option QueueView) → asks_at o ≡ true → Few s count o
     → Few s count (map_at (interrupted polling) o)
 unfolding map_at interrupted rest_at defer_in
-few-interrupted s count polling None asks few = cc asks
-few-interrupted s count polling (Some d) asks few = record { sum = grind (arith, common_steps); low = grind (arith, common_steps) }
+few-interrupted s count polling o h1 h2 = grind (arith, common_steps)
 
 expired-rest : (all : ℕ) (phase : Phase) (deferrals : ℕ) → rest_by all (device.expired_phase phase) deferrals ≡ rest_by all phase deferrals
 expired-rest all phase deferrals = grind (arith, common_steps)
@@ -119,29 +115,13 @@ phase-rest all phase deferrals is = grind (arith, common_steps)
 few-deferred : (s : MachineSettings) (count x until : ℕ) (b : Bool) (d : QueueView) → count + x ≤ most s → x ≤ most s
     → Few s count (Some (record d { deferrals = x - 1; phase = if not (x == 0) && b then Deferred until else Quiet }))
 unfolding rest_at defer_in
-few-deferred s count x until b d sum low =
-    let some = (most-is s).0 in record { sum = grind (arith, common_steps); low = omega (arith, low, some) }
+few-deferred s count x until b d h1 h2 = grind (arith, common_steps, most-is)
 
 -- an empty poll adds one to the count, and a poll with packets resets it
 few-completed : (s : MachineSettings) (count now given : ℕ) (d : QueueView) → is_scheduled d.phase ≡ true → Few s count (Some d)
     → Few s (if given == 0 then count + 1 else 0) (Some (queue_completed now given s d))
 unfolding queue_completed rest_at defer_in
-few-completed s count now given d scheduled few = by (given == 0)
-  where
-    until : ℕ
-    until = saturated (now + s.gro_flush_timeout)
-
-    gro : Bool
-    gro = not (s.gro_flush_timeout == 0)
-
-    by : (empty : Bool)
-        → let x = if empty then d.deferrals else s.defer_hard_irqs in
-        Few s (if empty then count + 1 else 0)
-        (Some (record d { deferrals = x - 1; phase = if not (x == 0) && gro then Deferred until else Quiet }))
-    by true =
-        few-deferred s (count + 1) d.deferrals until gro d (omega (arith, few.sum, phase-rest (most s) d.phase d.deferrals scheduled))
-        (omega (arith, few.low))
-    by false = few-deferred s 0 s.defer_hard_irqs until gro d (omega (arith, (most-is s).1)) (most-is s).1
+few-completed s count now given d h1 h2 = grind (arith, common_steps, phase-rest, most-is)
 
 few-polled : (s : MachineSettings) (count now given : ℕ) (o : Option QueueView) → scheduled_at o ≡ 1 → Few s count o
     → (given == s.weight) ≡ false
@@ -160,10 +140,7 @@ few-polled s count now given (Some d) scheduled few short =
 -- a poll that used its whole weight changes neither the phase nor the deferrals
 pub calm-full : (s : MachineSettings) (now given : ℕ) → (given == s.weight) ≡ true → Calm (queue_polled now given s)
 unfolding queue_polled
-calm-full s now given full = record {
-  phase = λ d. rw full refl;
-  deferrals = λ d. rw full refl;
-}
+calm-full s now given h1 = grind (arith, common_steps)
 
 -- the count of empty polls stays within its bound for each queue of the processor
 fews-polled : (s : MachineSettings) (m n count now given : ℕ) (ds : QueueViews) → ((m == n) ≡ true → scheduled_at (at n ds) ≡ 1)
@@ -180,9 +157,7 @@ zero-not weight some = (grind (arith, common_steps), grind (arith, common_steps)
 
 next-same : (backlog : Bool) (m n : ℕ) (ds : QueueViews)
     → scheduled_at (at n (changed (without_next backlog) m ds)) ≡ scheduled_at (at n ds)
-next-same backlog m n ds =
-    at-kept scheduled_at (without_next backlog) m n ds
-    (λ d. ap (λ (phase : Phase). if is_scheduled phase then 1 else 0) ((calm-next backlog).phase d))
+next-same backlog m n ds = grind (arith, common_steps)
 
 -- a poll takes its first packet, so it isn't empty
 looks-first : (s : MachineSettings) (n m count now : ℕ) (ds : QueueViews) → ((m == n) ≡ true → scheduled_at (at n ds) ≡ 1)
@@ -212,8 +187,7 @@ looks-first s n m count now ds scheduled few =
 
 -- a poll that has processed packets isn't empty
 few-zero : (s : MachineSettings) (b : Bool) (count : ℕ) (o : Option QueueView) → Few s count o → Few s (if b then 0 else count) o
-few-zero s true count o few = few-none s o few.low
-few-zero s false count o few = few
+few-zero s b count o h1 = grind (arith, common_steps)
 
 looks-later : (s : MachineSettings) (n m count given now : ℕ) (ds : QueueViews) → ((m == n) ≡ true → scheduled_at (at n ds) ≡ 1)
     → Few s count (at n ds)
@@ -245,9 +219,7 @@ looks-later s n m count given now ds scheduled few =
             by given (m == n) (given + 1 == 0) (later given) (fews-polled s m n count now (given + 1) es scheduled few is)
 
 emptied-rest : (n count : ℕ) (w : Work) (p : ProcessorView) → polled_by w ≡ None → emptied_by n w p count ≡ count
-emptied-rest n count (Poll m) p none = cc none
-emptied-rest n count (Packet hand) p none = cc none
-emptied-rest n count w p none = refl
+emptied-rest n count w p h1 = grind (arith, common_steps)
 
 few-count : (s : MachineSettings) (count other : ℕ) (o : Option QueueView) → other ≡ count → Few s count o → Few s other o
 few-count s count other o is few = record { sum = omega (arith, few.sum, is); low = few.low }
@@ -255,9 +227,7 @@ few-count s count other o is few = record { sum = omega (arith, few.sum, is); lo
 -- an interrupt on a machine without polling
 few-lone : (s : MachineSettings) (n count : ℕ) (p : ProcessorView) (ds : QueueViews) → polled_by p.work ≡ None → count ≡ 0
     → Few s count (at n p.devices) → defer_in (at n ds) ≡ defer_in (at n p.devices) → Few s (emptied_by n p.work p count) (at n ds)
-few-lone s n count p ds none zero few same =
-    few-count s 0 (emptied_by n p.work p count) (at n ds) (emptied-rest n count p.work p none ∙ zero)
-    (few-none s (at n ds) (omega (arith, few.low, same)))
+few-lone s n count p ds h1 h2 h3 h4 = grind (arith, common_steps, emptied-rest, few-none)
 
 ends-few : (s : MachineSettings) (n count : ℕ) (p : ProcessorView) → Goes s p → Stands s n p → Few s count (at n p.devices)
     → (is_polling s ≡ false → count ≡ 0) → Ends (λ o ds w. Few s (emptied_by n p.work p count) (at n ds)) p

@@ -1,5 +1,7 @@
 -- A processor after its work ends, case by case: its queues, its application and its tasks.
-use Rattle.std.proofs.Common.{◌≡◌, ◌∙◌, ℕ, ◌+◌, ◌-◌, Bool, true, false, Option, Some, None, List, [], ◌∷◌, refl, sym, ap, subst}
+use Rattle.std.proofs.Common.{arith}
+use Rattle.std.proofs.lemmas.Grind.{common_steps}
+use Rattle.std.proofs.Common.{◌≡◌, ◌∙◌, ℕ, ◌+◌, ◌-◌, Bool, true, false, Option, Some, None, List, [], ◌∷◌, refl, ap}
 use Rattle.std.proofs.lemmas.Bool.{and_left, and_right}
 use Rattle.std.specs.{Prelude.{◌==◌, ◌&&◌, if◌then◌else◌, nat_lt, not, option_map}}
 use Rattle.{machine_model.specs.declared.settings.MachineSettings.MachineSettings, device_places.specs.Places.{at, changed}}
@@ -63,8 +65,7 @@ ends-lone : (Q : Option (ℕ × ℕ) → QueueViews → Work → Type 0) (m : �
     → let q = delivers_oldest m o p in
     Q (option_map (λ (came : ℕ). (m, came)) o) (changed raised_again m q.devices) q.work
 unfolding delivers
-ends-lone Q m p None nothing silent lone = rw nothing (silent refl)
-ends-lone Q m p (Some came) nothing silent lone = rw nothing (lone came refl)
+ends-lone Q m p o h1 h2 h3 = grind (arith, common_steps)
 
 ends-work : (Q : Option (ℕ × ℕ) → QueueViews → Work → Type 0) (w : Work) (p : ProcessorView) (counts : ProcessorCounts) → p.work ≡ w
     → Ends Q p
@@ -170,15 +171,7 @@ pub record Over (p q : ProcessorView) : Type 0 where
 
 over-none : (p q : ProcessorView) → q.settings ≡ p.settings → q.clock ≡ p.clock → q.application ≡ p.application → q.rest ≡ p.rest
     → q.work ≡ Nothing → (again : Option ℕ) → q.tasks ≡ put_first again p.tasks → Over p q
-over-none p q settings clock application rest nothing again tasks = record {
-  settings = settings;
-  clock = clock;
-  application = application;
-  rest = rest;
-  kind = λ busy. absurd (cc (ap is_busy nothing, busy));
-  ends = λ hand is. absurd (cc (nothing, is));
-  tasks = (again, tasks);
-}
+over-none p q h1 h2 h3 h4 h5 again h6 = grind (arith, common_steps)
 
 over-polled : (n given : ℕ) (p : ProcessorView) → p.work ≡ Nothing → Over p (ends_poll n given p)
 over-polled n given p nothing =
@@ -238,22 +231,12 @@ pub record Fed (Q : Option (ℕ × ℕ) → List ℕ → ApplicationView → Typ
   pub tasks : (again : Option ℕ) × (q.tasks ≡ put_first again (tasks_after (delivery_of w p) p))
 
 not-used : (w : Work) → (is_busy w ≡ true → (hand : InHand) × (w ≡ Packet hand)) → used_by w ≡ []
-not-used (Use came) kind = cc ((kind refl).1)
-not-used w kind = refl
+not-used w h1 = grind (arith, common_steps)
 
 feeds-over : (Q : Option (ℕ × ℕ) → List ℕ → ApplicationView → Type 0) (w : Work) (p q r : ProcessorView) → q.settings ≡ p.settings
     → q.clock ≡ p.ends → q.rest ≡ p.rest → q.tasks ≡ tasks_after (delivery_of w p) p → Q (delivery_of w p) (used_by w) q.application
     → Over q r → Fed Q p w r
-feeds-over Q w p q r settings clock rest tasks held o = record {
-  application = subst (λ (a : ApplicationView). Q (delivery_of w p) (used_by w) a) (sym o.application) held;
-  settings = o.settings ∙ settings;
-  clock = o.clock ∙ clock;
-  rest = o.rest ∙ rest;
-  unused = not-used r.work o.kind;
-  kind = o.kind;
-  ends = λ hand is. o.ends hand is ∙ rw (clock, settings) refl;
-  tasks = (o.tasks.0, o.tasks.1 ∙ ap (put_first o.tasks.0) tasks);
-}
+feeds-over Q w p q r h1 h2 h3 h4 h5 h6 = grind (arith, common_steps)
 
 feeds-work : (Q : Option (ℕ × ℕ) → List ℕ → ApplicationView → Type 0) (w : Work) (p : ProcessorView) (counts : ProcessorCounts) → p.work ≡ w
     → Feeds Q p

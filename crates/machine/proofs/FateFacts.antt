@@ -1,14 +1,14 @@
 -- The fate of packets: each is delivered, in order.
 use Rattle.std.proofs.Common.{◌≡◌, ◌∙◌, ℕ, ◌+◌, ◌<◌, Bool, true, false, Option, Some, None, List, [], ◌∷◌, ◌++◌, append_assoc, length, drop}
 use Rattle.std.proofs.{Common.{refl, sym, ap, subst, arith}}
-use Rattle.std.proofs.{lemmas.{List.append-nil, Bool.{and_left, and_right, eqb-true}, Grind.common_steps}}
+use Rattle.std.proofs.{lemmas.{List.append-nil, Bool.{and_left, and_right}, Grind.common_steps}}
 use Rattle.std.specs.{List.AllByRecursion, Prelude.{◌==◌, ◌&&◌, if◌then◌else◌, not, slice_get}}
 use Rattle.{machine_model.specs.declared.settings.MachineSettings.MachineSettings}
 use Rattle.device_places.{specs.Places.{added_at, at, changed}}
 use Rattle.machine.specs.Lives.{MachineEvent, behind, next, packet}
 use Rattle.machine.specs.Fates.{DeliversInOrder, came, delivered_packets, next_delivery, delivery_by, delivery_of, finds_room}
 use Rattle.machine.specs.Fates.{hand_of, packet_for, queue_ring, taken_in}
-use Rattle.machine_model.specs.declared.processor.{Work.{Work, TheVariants.{Packet}}}
+use Rattle.machine_model.specs.declared.processor.{Work.{Work}}
 use Rattle.machine_model.specs.declared.{processor.Upcoming.{Upcoming, TheVariants.{Never, Expires}}}
 use Rattle.machine_model.specs.Device.{QueueView, after_packet, asks, expired, has_room, interrupted, is_masked, new_queue}
 use Rattle.machine_model.specs.Device.{notified, queue_completed, queue_polled, raised_again, without_next}
@@ -16,7 +16,7 @@ use Rattle.machine_model.specs.Devices.{QueueViews, asks_at, has_room_at, next_p
 use Rattle.machine_model.specs.{Waits.saturated}
 use Rattle.machine_model.specs.Processor.{ProcessorView, ends_current, happens, is_polling, step}
 use Rattle.machine_model.specs.Processor.{upcoming}
-use Rattle.machine.proofs.TableFacts.{at-either, at-keeps, at-kept, at-made, at-same, map-kept, map_at}
+use Rattle.machine.proofs.TableFacts.{at-either, at-keeps, at-kept, at-same, map-kept, map_at}
 use Rattle.machine.proofs.EndFacts.{Ends, Keeps, Looks, ends, ends-at}
 use Rattle.machine.proofs.WorkFacts.{Goes, Life, devices_arrived, expired_at, goes-on, life-arrives, life-happens, life-takes}
 use Rattle.machine.proofs.WorkFacts.{work-ended}
@@ -115,31 +115,23 @@ no-length xs is = grind (arith, common_steps)
 next-empty : (d : QueueView) (b : Bool) → (length d.taken == 0) ≡ b
     → let e : QueueView = if b then record d { ring = []; taken = d.ring } else d in
     slice_get e.taken 0 ≡ None → (d.taken ++ d.ring ≡ []) × (drop 1 e.taken ++ e.ring ≡ [])
-next-empty d true is none = rw (no-length d.taken is, front-none d.ring none) (refl, refl)
-next-empty d false is none = cc (rw (front-none d.taken none) at is)
+next-empty d b h1 h2 = grind (arith, common_steps, front-none)
 
 pub next-some-at : (backlog : Bool) (o : Option QueueView) (c : ℕ) → (backlog ≡ false → taken_in o ≡ []) → next_packet_at backlog o
     ≡ Some c
     → c ∷ queued (map_at (without_next backlog) o) ≡ queued o
 unfolding map_at queued
-next-some-at backlog o c plain is = grind (arith, common_steps, next-oldest)
+next-some-at backlog o c plain is = grind (arith, common_steps)
 
 pub next-none-at : (backlog : Bool) (o : Option QueueView) → (backlog ≡ false → taken_in o ≡ []) → next_packet_at backlog o ≡ None
     → (queued o ≡ []) × (queued (map_at (without_next backlog) o) ≡ [])
 unfolding map_at queued
-next-none-at backlog None plain is = (refl, refl)
-next-none-at false (Some d) plain is = rw (plain refl, front-none d.ring is) (refl, refl)
-next-none-at true (Some d) plain is = next-empty d (length d.taken == 0) refl is
+next-none-at backlog o h1 h2 = grind (arith, common_steps, front-none)
 
 -- the packets that are left have a property that all had
 pub next-keeps : (P : ℕ → Type 0) (backlog : Bool) (o : Option QueueView) → (backlog ≡ false → taken_in o ≡ [])
     → AllByRecursion P (queued o) → AllByRecursion P (queued (map_at (without_next backlog) o))
-next-keeps P backlog o plain all = by (next_packet_at backlog o) refl
-  where
-    by : (next : Option ℕ) → next_packet_at backlog o ≡ next → AllByRecursion P (queued (map_at (without_next backlog) o))
-    by None is = rw (next-none-at backlog o plain is).1 tt
-    by (Some c) is =
-        (subst (λ (xs : List ℕ). AllByRecursion P xs) (sym (next-some-at backlog o c plain is)) all).1
+next-keeps P backlog o h1 h2 = grind (arith, common_steps, next-none-at, next-some-at)
 
 -- only this queue of the processor changes when a poll takes its next packet
 pub look-some : (backlog : Bool) (m n c : ℕ) (ds : QueueViews) → (backlog ≡ false → taken_in (at n ds) ≡ [])
@@ -151,12 +143,7 @@ look-some backlog m n c ds plain is =
 
 pub look-none : (backlog : Bool) (m n : ℕ) (ds : QueueViews) → (backlog ≡ false → taken_in (at n ds) ≡ [])
     → next_packet_at backlog (at m ds) ≡ None → queued (at n (changed (without_next backlog) m ds)) ≡ queued (at n ds)
-look-none backlog m n ds plain is =
-    at-either (λ b o. queued o ≡ queued (at n ds)) (without_next backlog) m n ds
-    (λ here.
-    let none = next-none-at backlog (at n ds) plain (at-same (λ o. next_packet_at backlog o ≡ None) m n ds here is) in
-    none.1 ∙ sym none.0)
-    (λ other. refl)
+look-none backlog m n ds h1 h2 = grind (arith, common_steps)
 
 -- ---- when work ends
 
@@ -166,22 +153,14 @@ holds n ds w = hand_of n w ++ queued (at n ds)
 
 looks-hold : (s : MachineSettings) (n m given now : ℕ) (more : List ℕ) (ds : QueueViews) → (s.backlog ≡ false → taken_in (at n ds) ≡ [])
     → Looks (λ es w. more ++ holds n es w ≡ more ++ queued (at n ds)) s now m given ds
-looks-hold s n m given now more ds plain = record {
-  some = λ came next. ap (λ (xs : List ℕ). more ++ xs) (look-some s.backlog m n came ds plain next);
-  none = λ none.
-      ap (λ (xs : List ℕ). more ++ xs)
-      (at-kept queued (queue_polled now given s) m n (changed (without_next s.backlog) m ds) (queued-polled now given s)
-      ∙ look-none s.backlog m n ds plain none);
-  full = λ most. ap (λ (xs : List ℕ). more ++ xs) (at-kept queued (queue_polled now given s) m n ds (queued-polled now given s));
-}
+looks-hold s n m given now more ds h1 = grind (arith, common_steps, look-some, queued-polled, look-none)
 
 -- without a backlog or without polling, no packets are moved out of the ring
 abbrev pub IsPlain : MachineSettings → ℕ → QueueViews → Type 0
 IsPlain s n ds = (s.backlog && is_polling s) ≡ false → taken_in (at n ds) ≡ []
 
 no-hand : (n : ℕ) (w : Work) → polled_by w ≡ None → hand_of n w ≡ []
-no-hand n (Packet hand) none = cc none
-no-hand n w none = refl
+no-hand n w h1 = grind (arith, common_steps)
 
 ends-hold : (n : ℕ) (p : ProcessorView) → IsPlain p.settings n p.devices
     → Ends (λ o ds w. packet_for n o ++ holds n ds w ≡ holds n p.devices p.work) p
@@ -224,11 +203,11 @@ at-added-apart capacity m n ds o other = grind (arith, common_steps)
 
 with-here : (capacity n : ℕ) (ds : QueueViews) → at n (with_device capacity n ds) ≡ Some (made_at capacity (at n ds))
 unfolding with_device
-with-here capacity n ds = grind (arith, common_steps, at-added-here, at-made)
+with-here capacity n ds = grind (arith, common_steps, at-added-here)
 
 with-apart : (capacity m n : ℕ) (ds : QueueViews) → (m == n) ≡ false → at n (with_device capacity m ds) ≡ at n ds
 unfolding with_device
-with-apart capacity m n ds other = grind (arith, common_steps, at-added-apart, at-made)
+with-apart capacity m n ds other = grind (arith, common_steps)
 
 -- what has to be shown when a packet arrives: about its queue, with the packet, and about each other queue, which is unchanged
 pub at-arrived : (Q : Bool → Option QueueView → Type 0) (moment m n : ℕ) (p : ProcessorView)
@@ -236,11 +215,7 @@ pub at-arrived : (Q : Bool → Option QueueView → Type 0) (moment m n : ℕ) (
     → ((m == n) ≡ false → Q false (at n p.devices))
     → Q (m == n) (at n (devices_arrived moment m p))
 unfolding map_at
-at-arrived Q moment m n p here apart =
-    let s = p.settings in
-    at-either Q (after_packet moment s) m n (with_device s.ring m p.devices)
-    (λ same. rw (eqb-true m n same, with-here s.ring n p.devices) (here same))
-    (λ other. rw (with-apart s.ring m n p.devices other) (apart other))
+at-arrived Q moment m n p h1 h2 = grind (arith, common_steps, with-here, with-apart)
 
 -- a property of one queue that an arrival keeps
 pub at-arrives : (K : Option QueueView → Type 0) (moment m n : ℕ) (p : ProcessorView)
@@ -290,8 +265,7 @@ packet-taken moment s d = packet-by (λ room e. e.taken ≡ d.taken) moment s d 
 pub made-part : {A : Type 0} (g : Option QueueView → A) (capacity : ℕ) (o : Option QueueView) → g (Some (new_queue capacity)) ≡ g None
     → g (Some (made_at capacity o)) ≡ g o
 unfolding made_at
-made-part g capacity None new = new
-made-part g capacity (Some d) new = refl
+made-part g capacity o h1 = grind (arith, common_steps)
 
 -- whether a queue has room is the same before and after it is made for its first packet
 pub room-made : (n : ℕ) (p : ProcessorView) → finds_room n p ≡ has_room (made_at p.settings.ring (at n p.devices))
@@ -312,19 +286,7 @@ arrived-queued moment m n p =
 pub ends-plain : (s : MachineSettings) (p : ProcessorView) → Goes s p → (s.backlog && is_polling s) ≡ false
     → Keeps (λ o. taken_in o ≡ []) p
 unfolding map_at
-ends-plain s p goes plain = record {
-  raised = λ o is. map-kept taken_in raised_again o (λ d. refl) ∙ is;
-  next = λ backlog o lone polls is. by backlog o polls is;
-  delivered = λ came o is. map-kept taken_in (device.queue_delivered p.ends came) o (λ d. refl) ∙ is;
-  polled = λ given o is. map-kept taken_in (queue_polled p.ends given p.settings) o (taken-polled p.ends given p.settings) ∙ is;
-}
-  where
-    by : (backlog : Bool) (o : Option QueueView) → (backlog ≡ true → (m : ℕ) × (polled_by p.work ≡ Some m) × (p.settings.backlog ≡ true))
-        → taken_in o ≡ [] → taken_in (map_at (without_next backlog) o) ≡ []
-    by false o polls is = map-kept taken_in (without_next false) o (λ d. refl) ∙ is
-    by true o polls is =
-        let backed : s.backlog ≡ true = sym (ap (λ (x : MachineSettings). x.backlog) goes.rests.settings) ∙ (polls refl).2 in
-        cc (goes.polled (sym (rw backed refl) ∙ plain), (polls refl).1)
+ends-plain s p h1 h2 = grind (arith, common_steps, taken-polled)
 
 steady-plain : Steady (λ o. taken_in o ≡ [])
 steady-plain = steady-part taken_in [] taken-interrupted (λ d. refl)

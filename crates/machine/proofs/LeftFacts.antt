@@ -2,7 +2,7 @@
 use Rattle.std.proofs.Common.{◌≡◌, ◌∙◌, ℕ, ◌+◌, ◌-◌, ◌<◌, ◌≤◌, ◌^◌, Bool, true, false, Option, Some, None, List, [], ◌∷◌, ◌++◌}
 use Rattle.std.proofs.Common.{length, refl, sym}
 use Rattle.std.proofs.Common.{ap, subst, arith}
-use Rattle.std.proofs.lemmas.{Bool.{and_left, and_right, eqb-true, eqb-false, false_from_ne_true, leb-false}, Grind.common_steps}
+use Rattle.std.proofs.lemmas.{Bool.{and_left, and_right, eqb-true, false_from_ne_true, leb-false}, Grind.common_steps}
 use Rattle.std.proofs.lemmas.List.Sums.{fails_before_first, sum_by-append, sum_by-cons}
 use Rattle.std.specs.{Prelude.{◌==◌, ◌&&◌, if◌then◌else◌, min, not, position}}
 use Rattle.{machine_model.specs.declared.settings.MachineSettings.MachineSettings, device_places.specs.Places.{at}}
@@ -19,7 +19,7 @@ use Rattle.machine_model.specs.{Kept.{is_scheduled, scheduled_at}, Softirq.{RunV
 use Rattle.machine_model.specs.Processor.{ProcessorView, ends_current, is_busy, is_by, is_polling, step, upcoming}
 use Rattle.machine.proofs.{WalkFacts.{IsSettled, NoTask, Still, Walk, idle-is, nexted}, SocketFacts.fed-here}
 use Rattle.machine.proofs.EndFacts.{feeds, put_first, tasks_after}
-use Rattle.machine.proofs.WorkFacts.{Goes, Life, Rests, all_applications, devices_arrived, expired_at, goes-on, life-arrives}
+use Rattle.machine.proofs.WorkFacts.{Goes, Life, Rests, all_applications, devices_arrived, goes-on, life-arrives}
 use Rattle.machine.proofs.WorkFacts.{life-happens, same-apart, same-polling, same-threaded}
 use Rattle.machine.proofs.FateFacts.{at-arrived, made-part, made_at, queued, room-made}
 use Rattle.machine.proofs.StandFacts.{Stands, by_thread, count, count_in, listed_at, no-thread, places, polled_at, stands-on, threads}
@@ -43,26 +43,14 @@ apps-thread n tasks = omega (arith, apps-cons (Thread n) tasks)
 
 apps-more : (b : Bool) (n : ℕ) (tasks : List RunnableTask) → applications (if b then tasks ++ Thread n ∷ [] else tasks)
     ≡ applications tasks
-apps-more true n tasks = omega (arith, apps-append tasks (Thread n ∷ []), apps-thread n [])
-apps-more false n tasks = refl
+apps-more b n tasks = grind (arith, common_steps)
 
 apps-runnable : (idle : Bool) (tasks : List RunnableTask) → applications (runnable idle tasks) ≤ applications tasks
-apps-runnable true (Application ∷ more) = omega (arith, apps-cons Application more)
-apps-runnable true tasks = omega arith
-apps-runnable false tasks = omega arith
+apps-runnable idle tasks = grind (arith, common_steps)
 
 apps-with : (tasks : List RunnableTask) → applications tasks ≤ 1 → applications (with_application tasks) ≡ 1
 unfolding with_application
-apps-with tasks most = by (applications tasks == 0) refl
-  where
-    none : applications [] ≡ 0
-    none = refl
-
-    by : (b : Bool) → (applications tasks == 0) ≡ b → applications (if b then tasks ++ Application ∷ [] else tasks) ≡ 1
-    by true is =
-        let zero : applications tasks ≡ 0 = eqb-true (applications tasks) 0 is in
-        omega (arith, apps-append tasks (Application ∷ []), apps-cons Application [], zero, none)
-    by false is = let some : applications tasks ≡ 0 → ⊥ = eqb-false (applications tasks) 0 is in omega (arith, some, most)
+apps-with tasks h1 = grind (arith, common_steps)
 
 -- the application is among the tasks at most once, and it is there if its socket isn't empty
 pub record Tasked (s : MachineSettings) (p : ProcessorView) : Type 0 where
@@ -72,11 +60,7 @@ pub record Tasked (s : MachineSettings) (p : ProcessorView) : Type 0 where
 
 tasked-of : (s : MachineSettings) (p q : ProcessorView) → Tasked s p → q.settings ≡ p.settings → applications q.tasks ≡ applications p.tasks
     → length q.application.socket.items ≤ length p.application.socket.items → Tasked s q
-tasked-of s p q h settings tasks less = record {
-  settings = settings ∙ h.settings;
-  single = omega (arith, tasks, h.single);
-  wakes = λ threaded here. let before = h.wakes threaded here in omega (arith, tasks, less, before);
-}
+tasked-of s p q h1 h2 h3 h4 = grind (arith, common_steps)
 
 tasked-moved : (s : MachineSettings) (clock : ℕ) (counts : ProcessorCounts) (devices : QueueViews) (p : ProcessorView) → Tasked s p
     → Tasked s (record p { clock = clock; counts = counts; devices = devices })
@@ -84,17 +68,7 @@ tasked-moved s clock counts devices p h = tasked-of s p _ h refl refl (omega ari
 
 tasked-settle : (s : MachineSettings) (tasks : List RunnableTask) (p : ProcessorView) → Tasked s p
     → tasks ≡ runnable (length p.application.socket.items == 0) p.tasks → Tasked s (record p { tasks = tasks })
-tasked-settle s tasks p h is = record {
-  settings = h.settings;
-  single = omega (arith, ap applications is, apps-runnable (length p.application.socket.items == 0) p.tasks, h.single);
-  wakes = λ threaded here. rw is (by (length p.application.socket.items == 0) refl (h.wakes threaded here));
-}
-  where
-    by : (b : Bool) → (length p.application.socket.items == 0) ≡ b → min 1 (length p.application.socket.items) ≤ applications p.tasks
-        → min 1 (length p.application.socket.items) ≤ applications (runnable b p.tasks)
-    by true none before =
-        let zero : length p.application.socket.items ≡ 0 = eqb-true (length p.application.socket.items) 0 none in omega (arith, zero)
-    by false some before = before
+tasked-settle s tasks p h1 h2 = grind (arith, common_steps)
 
 -- ---- no work begins
 
@@ -116,23 +90,14 @@ position-none ds none n = grind (arith, common_steps, fails_before_first)
 
 -- the application isn't among the tasks twice
 two-apps : (more before : List RunnableTask) → Application ∷ more ≡ runnable true before → applications before ≤ 1 → ⊥
-two-apps more [] is most = cc is
-two-apps more (Application ∷ rest) is most =
-    let first = apps-cons Application rest in
-    let second : applications rest ≡ 1 + applications more = ap applications (sym is) ∙ apps-cons Application more in
-    omega (arith, first, second, most)
-two-apps more (Thread n ∷ rest) is most = cc is
+two-apps more before h1 h2 = grind (arith, common_steps)
 
 no-items : (items : List ℕ) → min 1 (length items) ≤ 0 → items ≡ []
-no-items [] less = refl
-no-items (x ∷ items) less = absurd (omega (arith, less))
+no-items items h1 = grind (arith, common_steps)
 
 tasks-none : (tasks before : List RunnableTask) (items : List ℕ) → NoTask tasks items → tasks ≡ runnable (length items == 0) before
     → applications before ≤ 1 → tasks ≡ []
-tasks-none [] before items none is most = refl
-tasks-none (Application ∷ more) before items none is most =
-    absurd (two-apps more before (rw none at is) most)
-tasks-none (Thread n ∷ more) before items none is most = absurd none
+tasks-none tasks before items h1 h2 h3 = grind (arith, common_steps)
 
 rested-stays : (s : MachineSettings) (p : ProcessorView) → p.work ≡ Nothing → Tasked s p → Still p → IsSettled (Tasked s) p
     → Rested s p
@@ -182,13 +147,7 @@ rested-walk s = record {
 }
 
 rested-life : (s : MachineSettings) → Life s (Tasked s) (Tasked s) (Rested s)
-rested-life s = record {
-  walk = rested-walk s;
-  idle = λ p goes nothing h. h;
-  busy = λ p busy h. busy-rested s p busy h;
-  aside = λ moment came counts p is h. tasked-of s p _ h refl refl (omega arith);
-  moved = λ e clock counts p h. tasked-moved s clock counts (expired_at e p.devices) p h;
-}
+rested-life s = grind (arith, common_steps, rested-walk, tasked-of, tasked-moved)
 
 -- ---- when work ends
 
@@ -196,8 +155,7 @@ woken-apps : (b : Bool) (tasks : List RunnableTask) → applications tasks ≤ 1
     → (applications (if b then with_application tasks else tasks) ≤ 1)
     × (applications tasks ≤ applications (if b then with_application tasks else tasks))
     × (b ≡ true → applications (if b then with_application tasks else tasks) ≡ 1)
-woken-apps true tasks most = let one = apps-with tasks most in (omega (arith, one), omega (arith, one, most), λ is. one)
-woken-apps false tasks most = (most, omega arith, λ is. cc is)
+woken-apps b tasks h1 = grind (arith, common_steps, apps-with)
 
 -- a packet that is delivered wakes the application
 tasked-fed : (s : MachineSettings) (m came : ℕ) (p : ProcessorView) → Tasked s p → s.threaded ≡ true → s.apart ≡ false
@@ -255,19 +213,7 @@ quiet-arrived moment m n p full quiet =
 rested-full : (s : MachineSettings) (moment m clock : ℕ) (p : ProcessorView) → Rested s p
     → has_room_at (at m (with_device p.settings.ring m p.devices)) ≡ false
     → Rested s (record p { clock = clock; devices = devices_arrived moment m p })
-rested-full s moment m clock p h full = record {
-  tasked = tasked-moved s clock p.counts (devices_arrived moment m p) p h.tasked;
-  resting = λ nothing.
-      let r = h.resting nothing in
-      record {
-        quiet = λ n. quiet-arrived moment m n p full (r.quiet n);
-        idle = r.idle;
-        list = r.list;
-        rest = r.rest;
-        tasks = r.tasks;
-        socket = r.socket;
-      };
-}
+rested-full s moment m clock p h1 h2 = grind (arith, common_steps, quiet-arrived)
 
 pub rested-on : (s : MachineSettings) (events : List MachineEvent) → Rested s (behind s events)
 unfolding behind step
@@ -350,15 +296,12 @@ both-empty [] ys is = (refl, is)
 both-empty (x ∷ xs) ys is = cc is
 
 one-not : (b : Bool) → ◌≡◌ {A = ℕ} (if b then 1 else 0) 0 → b ≡ false
-one-not true is = cc is
-one-not false is = refl
+one-not b h1 = grind (arith, common_steps)
 
 left-device : (t gro : ℕ) (o : Option QueueView) → Tend o → asks_at o ≡ false → Late (2 ^ 64) (timer_in o) → SetAt t gro o
     → scheduled_at o ≡ 0 → (taken_in o ≡ []) × (queue_ring o ≡ [])
 unfolding queued
-left-device t gro None tend asks late set free = (refl, refl)
-left-device t gro (Some d) tend asks late set free =
-    both-empty d.taken d.ring (tend (phase-quiet t gro d.phase asks late set (one-not (is_scheduled d.phase) free)))
+left-device t gro o h1 h2 h3 h4 h5 = grind (arith, common_steps, both-empty, one-not)
 
 pub nothing-is-left : NothingIsLeft
 nothing-is-left s events turns none =

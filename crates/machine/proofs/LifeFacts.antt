@@ -1,6 +1,6 @@
 -- Each processor of a machine has a life (a list of events), and its events are determined.
 use Rattle.std.proofs.Common.{◌≡◌, ◌∙◌, ℕ, zero, suc, ◌-◌, ◌/◌, ◌%◌, ◌<◌, ◌≤◌, ◌^◌, Bool, true, false, Some, List, [], ◌∷◌, length}
-use Rattle.std.proofs.Common.{length-set, replicate, refl, slice_set, sym, ap, arith}
+use Rattle.std.proofs.Common.{length-set, replicate, refl, sym, ap, arith}
 use Rattle.std.proofs.lemmas.Option.{slice_get_within}
 use Rattle.std.proofs.lemmas.Bool.{eq-eqb, eqb-false}
 use Rattle.std.specs.Prelude.{◌==◌, slice_get}
@@ -9,10 +9,10 @@ use Rattle.{std.proofs.lemmas.{Bool.{eqb-true}, Grind.common_steps}, machine_mod
 use Rattle.machine.specs.Lives.{ArrivesAsOne, EachLives, Ended, MachineEvent, InTurn, Lived, RunsAsOne, Took, behind, next}
 use Rattle.machine.specs.Lives.{own_packets, packet}
 use Rattle.machine.specs.Lives.{packets_in}
-use Rattle.machine_model.specs.Machine.{PacketArrives, Finishes, Machine, local_number, opened_machine, processor_of}
+use Rattle.machine_model.specs.Machine.{PacketArrives, Finishes, Machine, opened_machine}
 use Rattle.machine_model.specs.Processor.{Advances, ProcessorView, processor_after, arrives, is_by, is_due, opened_processor, step}
 use Rattle.machine_model.specs.Processor.{upcoming}
-use Rattle.machine_model.specs.declared.processor.Upcoming.{Upcoming, TheVariants.{Never, Ends, Expires}}
+use Rattle.machine_model.specs.declared.processor.Upcoming.{Upcoming}
 use Rattle.std.proofs.{Common.{ℕ, ◌<◌, ◌≤◌, ◌^◌, List, [], ◌∷◌, refl, arith}, lemmas.Grind.common_steps}
 use Rattle.{machine_model.specs.Machine.{PacketArrives, Machine, opened_machine}, machine.specs.Lives.{EachLives, Took}}
 use Rattle.{device_rows.specs.Trace.records_of, machine_model.specs.declared.settings.MachineSettings.MachineSettings}
@@ -24,28 +24,19 @@ never-less : (moment : ℕ) (p q r : ProcessorView) → (f : Advances moment p q
 never-less moment p q r f g less = grind (arith, common_steps)
 
 pub runs-as-one : RunsAsOne
-runs-as-one moment p q r f g =
-    let same : f.count ≡ g.count = omega (arith, never-less moment p q r f g, never-less moment p r q g f) in
-    f.last ∙ (ap (λ (n : ℕ). processor_after n p) same ∙ sym g.last)
+runs-as-one = grind (arith, common_steps)
 
 pub same-some : (p q : ProcessorView) → Some p ≡ Some q → p ≡ q
 same-some p q e = cc e
 
 pub arrives-as-one : ArrivesAsOne
-arrives-as-one moment device before after other f g =
-    let old : g.old ≡ f.old = same-some g.old f.old (sym g.own ∙ f.own) in
-    let runs : Advances moment f.old g.arrives.0 = rw old at g.arrives.1 in
-    let ready : f.arrives.0 ≡ g.arrives.0 = runs-as-one moment f.old f.arrives.0 g.arrives.0 f.arrives.1 runs in
-    let new : f.new ≡ g.new = f.arrives.2 ∙ (ap (arrives moment (local_number device before)) ready ∙ sym g.arrives.2) in
-    f.others ∙ (ap (λ (p : ProcessorView). slice_set before (processor_of device before) p) new ∙ sym g.others)
+arrives-as-one = grind (arith, common_steps)
 
 -- ---- a processor
 
 -- an event that is due by a time is due by a later time
 by-later : (moment until : ℕ) (u : Upcoming) (p : ProcessorView) → moment ≤ until → is_by moment u p ≡ true → is_by until u p ≡ true
-by-later moment until Never p most due = cc due
-by-later moment until Ends p most due = grind (arith, common_steps)
-by-later moment until (Expires timer) p most due = grind (arith, common_steps)
+by-later moment until u p h1 h2 = grind (arith, common_steps)
 
 due-later : (moment until : ℕ) (p : ProcessorView) → moment ≤ until → is_due moment p ≡ true → is_due until p ≡ true
 due-later moment until p most due = by-later moment until (upcoming p) p most due
@@ -61,8 +52,7 @@ turns-later s moment until (next ∷ earlier) most turns =
 pub lived-later : (s : MachineSettings) (moment until : ℕ) (packets : List (ℕ × ℕ)) (p : ProcessorView) → moment ≤ until
     → Lived s moment packets p
     → Lived s until packets p
-lived-later s moment until packets p most l =
-    record { events = l.events; behind = l.behind; turns = turns-later s moment until l.events most l.turns; came = l.came }
+lived-later s moment until packets p h1 h2 = grind (arith, common_steps, turns-later)
 
 lived-next : (s : MachineSettings) (moment : ℕ) (packets : List (ℕ × ℕ)) (p : ProcessorView) → Lived s moment packets p
     → is_due moment p ≡ true

@@ -1,6 +1,8 @@
 -- Law: the receiving side stays the same if the application on its own processor is replaced by another one.
+use Rattle.std.proofs.Common.{arith}
+use Rattle.std.proofs.lemmas.Grind.{common_steps}
 use Rattle.std.proofs.Common.{◌≡◌, ◌∙◌, ℕ, ◌+◌, ◌-◌, Bool, true, false, Option, Some, None, List, [], ◌∷◌, refl, sym, ap}
-use Rattle.std.specs.{Option.option_map_or, Prelude.{◌==◌, ◌&&◌, if◌then◌else◌, is_some, length, nat_lt, not, position, slice_get}}
+use Rattle.std.specs.{Option.option_map_or, Prelude.{◌==◌, if◌then◌else◌, is_some, length, nat_lt, position, slice_get}}
 use Rattle.{machine_model.specs.declared.settings.MachineSettings.MachineSettings, device_places.specs.Places.{at, changed}}
 use Rattle.machine.specs.Lives.{MachineEvent, InTurn, behind, next, packet}
 use Rattle.machine.specs.Applications.{ReceivingIsApart, changed_application, deliveries, fed_all}
@@ -10,14 +12,13 @@ use Rattle.machine_model.specs.declared.processor.Upcoming.TheVariants.{Never, E
 use Rattle.machine_model.specs.declared.tasks.RunnableTask.{RunnableTask}
 use Rattle.machine_model.specs.declared.tasks.RunnableTask.TheVariants.{Application}
 use Rattle.machine_model.specs.Tasks.{after_first, runnable}
-use Rattle.machine_model.specs.Waits.{saturated}
 use Rattle.machine_model.specs.Softirq.{asked_in, run_next}
-use Rattle.machine_model.specs.Device.{after_packet, queue_completed, expired, interrupted, notified, queue_polled}
+use Rattle.machine_model.specs.Device.{after_packet, queue_completed, expired, notified, queue_polled}
 use Rattle.machine_model.specs.Device.{raised_again}
 use Rattle.machine_model.specs.Device.{without_next}
 use Rattle.machine_model.specs.Devices.{asks_at, has_room_at}
-use Rattle.machine_model.specs.{Devices.{is_fired_at, next_packet_at, with_device}, Application.{ApplicationView, fed, has_place, used}}
-use Rattle.machine_model.specs.Processor.{ProcessorView, arrives, begins, begins_run, delivers, delivers_oldest, disturbed, ends_by}
+use Rattle.machine_model.specs.{Devices.{next_packet_at, with_device}, Application.{ApplicationView, used}}
+use Rattle.machine_model.specs.Processor.{ProcessorView, arrives, begins_run, delivers, delivers_oldest, disturbed, ends_by}
 use Rattle.machine_model.specs.Processor.{ends_current}
 use Rattle.machine_model.specs.Processor.{ends_interrupt, ends_poll, ends_run, goes_on, happens, interrupts, is_busy, is_by, is_due}
 use Rattle.machine_model.specs.Processor.{is_late, is_polling}
@@ -25,7 +26,7 @@ use Rattle.machine_model.specs.Processor.{leaves_softirq, poll_looks, opened_pro
 use Rattle.machine_model.specs.Processor.{set_aside}
 use Rattle.machine_model.specs.Processor.{spent, step}
 use Rattle.machine_model.specs.Processor.{takes_up, upcoming}
-use Rattle.machine.proofs.ApartFacts.{AllThreads, Alone, alone-ended, alone-life, alone-moved, alone-on, not-wakes}
+use Rattle.machine.proofs.ApartFacts.{AllThreads, Alone, alone-ended, alone-life, alone-moved, alone-on}
 use Rattle.machine.proofs.{WalkFacts.{nexted, started, stirred}, WorkFacts.{goes-on, life-stirred, same-apart}}
 use Rattle.machine_model.specs.declared.processor.Upcoming.TheVariants as upcomings
 
@@ -42,19 +43,16 @@ same-other b = record { application = b; is = refl }
 
 is-if : {t : MachineSettings} (c : Bool) {x y v w : ProcessorView} → IsOther t x v → IsOther t y w
     → IsOther t (if c then x else y) (if c then v else w)
-is-if true first second = first
-is-if false first second = second
+is-if c h1 h2 = grind (arith, common_steps)
 
 is-true : {t : MachineSettings} (c : Bool) {x v : ProcessorView} (y w : ProcessorView) → c ≡ true → IsOther t x v
     → IsOther t (if c then x else y) (if c then v else w)
-is-true true y w is first = first
-is-true false y w is first = cc is
+is-true c y w h1 h2 = grind (arith, common_steps)
 
 is-option : {t : MachineSettings} (o : Option ℕ) {f g : ℕ → ProcessorView} {x y : ProcessorView} → ((n : ℕ) → IsOther t (f n) (g n))
     → IsOther t x y
     → IsOther t (option_map_or f o x) (option_map_or g o y)
-is-option None some none = none
-is-option (Some n) some none = some n
+is-option o h1 h2 = grind (arith, common_steps)
 
 -- a step of the processor with the other application is the step of the original processor, with the other application
 is-map : {t : MachineSettings} (f : ProcessorView → ProcessorView) {x y : ProcessorView} → IsOther t x y
@@ -70,13 +68,7 @@ is-scheduled t c n b p = is-if c (is-if p.settings.threaded (same-other b) (same
 is-interrupts : (t : MachineSettings) (n : ℕ) (b : ApplicationView) (p : ProcessorView)
     → IsOther t (interrupts n p) (interrupts n (other t b p))
 unfolding interrupts
-is-interrupts t n b p =
-    let polling = is_polling p.settings in
-    let time = if polling then p.settings.interrupt else p.settings.interrupt + p.settings.packet in
-    let counts = if is_fired_at (at n p.devices) then record p.counts { timers = saturated (p.counts.timers + 1) }
-    else record p.counts { interrupts = saturated (p.counts.interrupts + 1) } in
-    let q : ProcessorView = record p { devices = changed (interrupted polling) n p.devices; counts = counts } in
-    is-map (λ (r : ProcessorView). begins (Interrupt n) time r) (is-scheduled t polling n b q) (λ c. same-other c)
+is-interrupts t n b p = grind (arith, common_steps)
 
 is-begins-run : (t : MachineSettings) (b : ApplicationView) (p : ProcessorView) → IsOther t (begins_run p) (begins_run (other t b p))
 unfolding begins_run
@@ -101,12 +93,7 @@ first-is p all = ap (λ (tasks : List RunnableTask). runs_with tasks p) (all-run
 
 is-first : (t : MachineSettings) (b : ApplicationView) (p : ProcessorView) → AllThreads p.tasks
     → IsOther t (runs_first p) (runs_first (other t b p))
-is-first t b p all =
-    let r = is-runs t p.tasks b p all in
-    record {
-      application = r.application;
-      is = first-is (other t b p) all ∙ (r.is ∙ ap (λ (q : ProcessorView). other t r.application q) (sym (first-is p all)));
-    }
+is-first t b p h1 = grind (arith, common_steps, is-runs, first-is)
 
 is-leaves : (t : MachineSettings) (o : Option Rest) (b : ApplicationView) (p : ProcessorView) → p.settings.apart ≡ true → AllThreads p.tasks
     → IsOther t (leaves_softirq o p) (leaves_softirq o (other t b p))
@@ -117,8 +104,7 @@ is-leaves t None b p apart all =
 is-rests : (t : MachineSettings) (b : ApplicationView) (p : ProcessorView) → p.settings.apart ≡ true → AllThreads p.tasks
     → IsOther t (rests p) (rests (other t b p))
 unfolding rests
-is-rests t b p apart all =
-    is-if (is_polling p.settings && not (length p.softirq.list == 0)) (is-begins-run t b p) (is-leaves t p.rest b p apart all)
+is-rests t b p h1 h2 = grind (arith, common_steps, is-begins-run, is-leaves)
 
 is-over : (t : MachineSettings) (late : Bool) (b : ApplicationView) (p : ProcessorView) → p.settings.apart ≡ true → AllThreads p.tasks
     → IsOther t (rests (ends_run late p)) (rests (ends_run late (other t b p)))
@@ -145,13 +131,7 @@ is-takes t b p apart all =
 is-delivers : (t : MachineSettings) (n came : ℕ) (b : ApplicationView) (p : ProcessorView) → p.settings.apart ≡ true
     → IsOther t (delivers n came p) (delivers n came (other t b p))
 unfolding delivers
-is-delivers t n came b p apart =
-    let s = p.settings in
-    let none : (room : Bool) → (s.threaded && not s.apart && room) ≡ false = λ room. not-wakes s.threaded s.apart room apart in
-    record {
-      application = fed p.clock came (changed_application s t) b;
-      is = rw (none (has_place p.application), none (has_place b)) refl;
-    }
+is-delivers t n came b p h1 = grind (arith, common_steps)
 
 is-oldest : (t : MachineSettings) (n : ℕ) (o : Option ℕ) (b : ApplicationView) (p : ProcessorView) → p.settings.apart ≡ true
     → IsOther t (delivers_oldest n o p) (delivers_oldest n o (other t b p))
@@ -204,9 +184,7 @@ is-aside t moment w b p = same-other b
 
 is-stirred : (t : MachineSettings) (moment : ℕ) (b : ApplicationView) (p : ProcessorView)
     → IsOther t (stirred moment p) (stirred moment (other t b p))
-is-stirred t moment b p =
-    let asked = is_some (position asks_at p.devices) in
-    is-if (is_busy p.work) (is-if asked (is-aside t moment p.work b p) (same-other b)) (is-if asked (same-other b) (same-other b))
+is-stirred t moment b p = grind (arith, common_steps, is-if, same-other)
 
 is-disturbed : (s t : MachineSettings) (a : ApplicationView) (moment : ℕ) (b : ApplicationView) (p : ProcessorView) → s.apart ≡ true
     → Alone s a p
@@ -256,9 +234,7 @@ other-on s t (next ∷ earlier) apart =
 
 due-other : (t : MachineSettings) (b : ApplicationView) (moment : ℕ) (p : ProcessorView) (u : Upcoming)
     → is_by moment u (other t b p) ≡ is_by moment u p
-due-other t b moment p Never = refl
-due-other t b moment p upcomings.Ends = refl
-due-other t b moment p (Expires timer) = refl
+due-other t b moment p u = grind (arith, common_steps)
 
 -- an event that is due on one processor is due on the other
 due : (s t : MachineSettings) (moment : ℕ) (events : List MachineEvent) (b : Bool) → s.apart ≡ true → is_due moment (behind s events) ≡ b

@@ -1,7 +1,8 @@
 -- The fate of packets after their delivery to an application on the same processor: each is used in order, or dropped.
-use Rattle.std.proofs.Common.{◌≡◌, ◌∙◌, ℕ, ◌+◌, ◌-◌, Bool, true, false, Option, Some, None, List, [], ◌∷◌, ◌++◌, append_assoc, length}
+use Rattle.std.proofs.lemmas.Grind.{common_steps}
+use Rattle.std.proofs.Common.{◌≡◌, ◌∙◌, ℕ, ◌+◌, ◌-◌, Bool, false, Option, Some, None, List, [], ◌∷◌, ◌++◌, append_assoc, length}
 use Rattle.std.proofs.Common.{length-append, map}
-use Rattle.std.proofs.{Common.{refl, sym, ap, subst, arith}, lemmas.{List.append-nil}}
+use Rattle.std.proofs.{Common.{refl, sym, ap, arith}, lemmas.{List.append-nil}}
 use Rattle.std.specs.Prelude.{if◌then◌else◌, not}
 use Rattle.{machine_model.specs.declared.settings.MachineSettings.MachineSettings}
 use Rattle.machine.specs.Lives.{MachineEvent, behind, next, packet}
@@ -10,7 +11,7 @@ use Rattle.machine.specs.Fates.{resting, use_by, use_waits, used_by}
 use Rattle.machine.specs.Fates as fate
 use Rattle.machine_model.specs.declared.processor.{Work.{TheVariants.{Use}}, Rest.Rest}
 use Rattle.machine_model.specs.declared.processor.{Upcoming.{Upcoming, TheVariants.{Never, Expires}}, ProcessorCounts.ProcessorCounts}
-use Rattle.machine_model.specs.{Devices.QueueViews, Waits.{WaitsView, counted, saturated, no_waits}}
+use Rattle.machine_model.specs.{Devices.QueueViews, Waits.{WaitsView, saturated, no_waits}}
 use Rattle.machine_model.specs.Application.{ApplicationView, fed, has_place, put, refuses, used}
 use Rattle.machine_model.specs.Processor.{ProcessorView, ends_current, happens, is_busy, step, upcoming}
 use Rattle.machine.proofs.{EndFacts.{Fed, feeds}, TallyFacts.counting-more}
@@ -100,39 +101,19 @@ same-waits : (xs : List ℕ) (w : WaitsView) → w ≡ counting xs no_waits → 
 same-waits xs w is = is ∙ ap (λ (ys : List ℕ). counting ys no_waits) (sym (append-nil xs))
 
 placed-none : (room : Bool) → placed room None ≡ []
-placed-none true = refl
-placed-none false = refl
+placed-none room = grind (arith, common_steps)
 
 moved-none : (now : ℕ) (a : ApplicationView) (used : List ℕ) (b : ApplicationView) → b.socket ≡ a.socket → b.refused ≡ a.refused
     → ((xs : List ℕ) → a.waits ≡ counting xs no_waits → b.waits ≡ counting (xs ++ map (λ came. now - came) used) no_waits)
     → Moved now a None used b
-moved-none now a used b socket refused waits = record {
-  items = rw (socket, placed-none (has_place a)) (sym (append-nil a.socket.items));
-  refused = λ k is. rw (placed-none (not (has_place a))) (refused ∙ (is ∙ ap saturated (omega arith)));
-  waits = waits;
-}
+moved-none now a used b h1 h2 h3 = grind (arith, common_steps)
 
 moved-gives : (s : MachineSettings) (now m came : ℕ) (a : ApplicationView) → s.apart ≡ false
     → Moved now a (Some (m, came)) [] (fed now came s a)
-moved-gives s now m came a here = subst (λ (b : ApplicationView). Moved now a (Some (m, came)) [] b) (sym (fed-here s now came a here))
-    (by (has_place a) refl)
-  where
-    by : (room : Bool) → has_place a ≡ room → Moved now a (Some (m, came)) [] (if room then put came a else refuses a)
-    by true is = record {
-      items = rw is refl;
-      refused = λ k before. rw is (before ∙ ap saturated (omega arith));
-      waits = λ xs before. same-waits xs a.waits before;
-    }
-    by false is = record {
-      items = rw is (sym (append-nil a.socket.items));
-      refused = λ k before. rw is (omega (arith, before));
-      waits = λ xs before. same-waits xs a.waits before;
-    }
+moved-gives s now m came a h1 = grind (arith, common_steps, fed-here)
 
 moved-uses : (now came : ℕ) (a : ApplicationView) → Moved now a None (came ∷ []) (used now came a)
-moved-uses now came a =
-    moved-none now a (came ∷ []) (used now came a) refl refl
-    (λ xs before. ap (λ (w : WaitsView). counted (now - came) w) before ∙ sym (counting-more xs (now - came) no_waits))
+moved-uses now came a = grind (arith, common_steps, counting-more)
 
 pub moved : (s : MachineSettings) (p : ProcessorView) → p.settings ≡ s → s.apart ≡ false
     → Fed (Moved p.ends p.application) p p.work (ends_current p)
@@ -165,12 +146,7 @@ pub record Happened (p : ProcessorView) (gives : Option (ℕ × ℕ)) (first : L
 happened-none : (p q : ProcessorView)
     → Uses (used_by p.work ++ (resting p.rest ++ p.application.socket.items)) p.application.refused p.application.waits q
     → Happened p None [] q
-happened-none p q u = record {
-  items = rw (placed-none (has_place p.application)) (u.items ∙ sym (append-nil _));
-  refused = λ k is. rw (placed-none (not (has_place p.application))) (u.refused ∙ (is ∙ ap saturated (omega arith)));
-  waits = λ xs is. u.waits ∙ same-waits xs p.application.waits is;
-  alone = u.alone;
-}
+happened-none p q h1 = grind (arith, common_steps)
 
 uses-of : (p : ProcessorView) → ((came : ℕ) → p.work ≡ Use came → p.rest ≡ None)
     → Uses (used_by p.work ++ (resting p.rest ++ p.application.socket.items)) p.application.refused p.application.waits p

@@ -1,6 +1,6 @@
 -- Law: a queue is scheduled if and only if its number is on the poll list, in the run, among the tasks, or being polled; and it
 -- is in only one of these places.
-use Rattle.std.proofs.Common.{◌≡◌, ◌∙◌, ℕ, ◌+◌, ◌-◌, ◌≤◌, Bool, true, false, Option, Some, None, List, [], ◌∷◌, ◌++◌, drop, length, refl}
+use Rattle.std.proofs.Common.{◌≡◌, ◌∙◌, ℕ, ◌+◌, ◌≤◌, Bool, true, false, Option, Some, None, List, [], ◌∷◌, ◌++◌, drop, length, refl}
 use Rattle.std.proofs.Common.{sym, ap, arith}
 use Rattle.std.proofs.lemmas.Grind.{common_steps}
 use Rattle.std.specs.{Option.{option_map_or}, Prelude.{◌==◌, ◌&&◌, if◌then◌else◌, not, slice_get}}
@@ -17,7 +17,7 @@ use Rattle.machine_model.specs.Kept.{is_scheduled, polled_by, scheduled_at}
 use Rattle.machine_model.specs.Softirq.{RunView, SoftirqView, asked_in, begun, filled, pushed, run_ended, run_next, softirq_polled}
 use Rattle.machine_model.specs.{Tasks.{runnable, with_application}, Application.{has_place}}
 use Rattle.machine_model.specs.Processor.{ProcessorView, delivers, delivers_oldest, ends_by, ends_current, ends_interrupt, ends_poll}
-use Rattle.machine_model.specs.Processor.{is_busy, is_polling, poll_looks, polls, spent, step, upcoming}
+use Rattle.machine_model.specs.Processor.{is_busy, is_polling, poll_looks, polls, step, upcoming}
 use Rattle.machine_model.proofs.{PendingFacts.phase-next, PlacesFacts.same-packet}
 use Rattle.machine.proofs.TableFacts.{at-either, at-keeps, at-kept, at-same, map_at}
 use Rattle.machine.proofs.{FateFacts.{at-arrives, made-part}, WalkFacts.{Walk, either, looks-by, nexted, polled-by}}
@@ -116,8 +116,7 @@ masked_at o = option_map_or (λ d. is_masked d.phase) o false
 bit-interrupted : (polling : Bool) (o : Option QueueView) → asks_at o ≡ true → (polling ≡ false → masked_at o ≡ false)
     → scheduled_at (map_at (interrupted polling) o) ≡ scheduled_at o + (if polling then 1 else 0)
 unfolding map_at interrupted
-bit-interrupted polling None asks never = cc asks
-bit-interrupted polling (Some d) asks never = grind (arith, common_steps)
+bit-interrupted polling o h1 h2 = grind (arith, common_steps)
 
 masked-interrupted : (o : Option QueueView) → masked_at o ≡ false → masked_at (map_at (interrupted false) o) ≡ false
 unfolding map_at interrupted
@@ -159,8 +158,7 @@ kept-changed f m n ds keeps = record {
 bit-polled : (now given : ℕ) (s : MachineSettings) (o : Option QueueView) (m n : ℕ) → (m == n) ≡ true → scheduled_at o ≡ 1
     → scheduled_at (map_at (queue_polled now given s) o) + (if given == s.weight then 0 else one m n) ≡ scheduled_at o
 unfolding map_at queue_polled queue_completed
-bit-polled now given s None m n here is = cc is
-bit-polled now given s (Some d) m n here is = grind (arith, common_steps)
+bit-polled now given s o m n h1 h2 = grind (arith, common_steps)
 
 bits-polled : (now given : ℕ) (s : MachineSettings) (m n : ℕ) (ds : QueueViews) → ((m == n) ≡ true → scheduled_at (at n ds) ≡ 1)
     → scheduled_at (at n (changed (queue_polled now given s) m ds)) + (if given == s.weight then 0 else one m n) ≡ scheduled_at (at n ds)
@@ -208,10 +206,7 @@ pub record Stands (s : MachineSettings) (n : ℕ) (p : ProcessorView) : Type 0 w
 even-of : (s : MachineSettings) (n k l : ℕ) (p q : ProcessorView) → Even s n k p → q.softirq ≡ p.softirq → q.tasks ≡ p.tasks → q.devices
     ≡ p.devices → l ≡ k
     → Even s n l q
-even-of s n k l p q e softirq tasks devices same = record {
-  same = rw (softirq, tasks, devices, same) e.same;
-  never = rw devices e.never;
-}
+even-of s n k l p q h1 h2 h3 h4 h5 = grind (arith, common_steps)
 
 pub no-thread : (s : MachineSettings) → by_thread s 0 ≡ 0
 no-thread s = grind (arith, common_steps)
@@ -220,9 +215,7 @@ places-put : (n m : ℕ) (b t : Bool) (q : SoftirqView) (tasks : List RunnableTa
     → listed_at n (if b && not t then pushed m q else q) + threads n (if b && t then tasks ++ Thread m ∷ [] else tasks)
     ≡ listed_at n q + threads n tasks + (if b then one m n else 0)
 unfolding threads
-places-put n m true true q tasks = omega (arith, threads-append n tasks (Thread m ∷ []))
-places-put n m true false q tasks = omega (arith, listed-pushed n m q)
-places-put n m false t q tasks = omega arith
+places-put n m b t q tasks = grind (arith, common_steps, threads-append, listed-pushed)
 
 bits-interrupted : (polling : Bool) (m n : ℕ) (ds : QueueViews) → asks_at (at m ds) ≡ true → (polling ≡ false → masked_at (at n ds) ≡ false)
     → scheduled_at (at n (changed (interrupted polling) m ds)) ≡ scheduled_at (at n ds) + (if polling then one m n else 0)
@@ -243,8 +236,7 @@ never-interrupted s false m n ds same never lone =
 
 -- the processor is free
 idle-stands : (s : MachineSettings) (n : ℕ) (p : ProcessorView) → p.work ≡ Nothing → Even s n 0 p → Stands s n p
-idle-stands s n p nothing e =
-    record { even = even-of s n 0 (by_thread s (polled_at n p.work)) p p e refl refl refl (rw nothing (no-thread s)) }
+idle-stands s n p h1 h2 = grind (arith, common_steps)
 
 stand-walk : (s : MachineSettings) (n : ℕ) → Walk (Lies s n) (Stands s n)
 unfolding threads
@@ -396,10 +388,7 @@ stand-looks s n m given p g e =
 
 even-kept : (s : MachineSettings) (n k : ℕ) (p q : ProcessorView) → Even s n k p → places n q ≡ places n p
     → KeptAt (at n p.devices) (at n q.devices) → Even s n k q
-even-kept s n k p q e same kept = record {
-  same = omega (arith, e.same, same, kept.scheduled);
-  never = λ lone. kept.masked ∙ e.never lone;
-}
+even-kept s n k p q h1 h2 h3 = grind (arith, common_steps)
 
 delivers-even : (s : MachineSettings) (n k m came : ℕ) (p : ProcessorView) → Even s n k p → Even s n k (delivers m came p)
 unfolding delivers
@@ -453,11 +442,7 @@ stand-work s n w p h nothing asks polled e =
 
 stand-ended : (s : MachineSettings) (n : ℕ) (p : ProcessorView) → Goes s p → Stands s n p → Stands s n (ends_current p)
 unfolding ends_current
-stand-ended s n p goes h =
-    let r = goes.rests in
-    let q : ProcessorView = record p { clock = p.ends; work = Nothing; counts = spent p.work (p.ends - p.clock) p.counts } in
-    stand-work s n p.work q (record { settings = r.settings; run = r.run; soft = r.soft; threads = r.threads }) refl goes.asks goes.polled
-    (record { same = h.even.same; never = h.even.never })
+stand-ended s n p h1 h2 = grind (arith, common_steps, stand-work)
 
 -- ---- over a processor's life
 
@@ -504,5 +489,4 @@ stands-on s n (next ∷ earlier) =
 
 pub scheduled-of : (s : MachineSettings) (n m : ℕ) (p : ProcessorView) → Goes s p → Stands s n p → polled_by p.work ≡ Some m
     → polled_at n p.work ≡ one m n → (m == n) ≡ true → scheduled_at (at n p.devices) ≡ 1
-scheduled-of s n m p goes stands polls places here =
-    polled-scheduled s n m p (rw places at stands.even) (rw polls at goes.asks) here
+scheduled-of s n m p h1 h2 h3 h4 h5 = grind (arith, common_steps, polled-scheduled)

@@ -11,7 +11,7 @@ use Rattle.machine_model.specs.Device.{QueueView, after_packet, expired, has_roo
 use Rattle.machine_model.specs.Device.{raised_again, without_next}
 use Rattle.machine_model.specs.{Devices.{QueueViews, next_packet_at}, Waits.{WaitsView, counted, saturated, no_waits}}
 use Rattle.machine_model.specs.Processor.{ProcessorView, arrives, ends_current, happens, step, upcoming}
-use Rattle.machine.proofs.TableFacts.{at-either, at-kept, at-same, map-kept, map_at}
+use Rattle.machine.proofs.TableFacts.{at-kept, at-same, map-kept, map_at}
 use Rattle.machine.proofs.EndFacts.{Ends, Keeps, Looks, ends, ends-at}
 use Rattle.machine.proofs.WorkFacts.{Goes, Life, devices_arrived, goes-on, life-arrives, life-happens, life-takes, work-ended}
 use Rattle.machine.proofs.FateFacts.{at-arrived, holds-order, made-part, made_at, packet-by, room-made, steady-life, steady-part}
@@ -65,32 +65,16 @@ counting-more [] wait w = refl
 counting-more (x ∷ xs) wait w = counting-more xs wait (counted x w)
 
 given-none : (now : ℕ) (old new : Tally) → new ≡ old → Given now [] old new
-given-none now old new is = record {
-  arrived = ap (λ (t : Tally). t.arrived) is;
-  dropped = ap (λ (t : Tally). t.dropped) is;
-  polled = λ k before. omega (arith, before, ap (λ (t : Tally). t.polled) is);
-  waits = λ xs before. ap (λ (t : Tally). t.waits) is ∙ (before ∙ ap (λ (ys : List ℕ). counting ys no_waits) (sym (append-nil xs)));
-}
+given-none now old new h1 = grind (arith, common_steps)
 
 given-one : (now came : ℕ) (d : QueueView) → Given now (came ∷ []) (tally (Some d)) (tally (Some (device.queue_delivered now came d)))
 unfolding tally
-given-one now came d = record {
-  arrived = refl;
-  dropped = refl;
-  polled = λ k before. omega (arith, before);
-  waits = λ xs before. ap (λ (w : WaitsView). counted (now - came) w) before ∙ sym (counting-more xs (now - came) no_waits);
-}
+given-one now came d = grind (arith, common_steps, counting-more)
 
 given-delivered : (now came m n : ℕ) (ds : QueueViews) → ((m == n) ≡ true → is_some (at n ds) ≡ true)
     → Given now (if m == n then came ∷ [] else []) (tally (at n ds)) (tally (at n (changed (device.queue_delivered now came) m ds)))
 unfolding map_at
-given-delivered now came m n ds there =
-    at-either (λ b o. Given now (if b then came ∷ [] else []) (tally (at n ds)) (tally o)) (device.queue_delivered now came) m n ds
-    (λ here. by (at n ds) (there here)) (λ other. given-none now (tally (at n ds)) (tally (at n ds)) refl)
-  where
-    by : (o : Option QueueView) → is_some o ≡ true → Given now (came ∷ []) (tally o) (tally (map_at (device.queue_delivered now came) o))
-    by None is = cc is
-    by (Some d) is = given-one now came d
+given-delivered now came m n ds h1 = grind (arith, common_steps, given-none, given-one)
 
 -- ---- when work ends
 
@@ -107,8 +91,7 @@ looks-given s n m given now batch old ds g =
     }
 
 some-next : (o : Option QueueView) (came : ℕ) → next_packet_at false o ≡ Some came → is_some o ≡ true
-some-next None came is = cc is
-some-next (Some d) came is = refl
+some-next o came h1 = grind (arith, common_steps)
 
 ends-given : (n : ℕ) (p : ProcessorView) → (at n p.devices ≡ None → hand_of n p.work ≡ [])
     → Ends (λ o ds w. Given p.ends (packet_for n o) (tally (at n p.devices)) (tally (at n ds))) p
@@ -214,10 +197,7 @@ pub record Counts (a d : ℕ) (old new : Tally) : Type 0 where
 counts-took : (room : Bool) (moment a d : ℕ) (old new : Tally) → Took room old new → old.arrived ≡ saturated (a + d)
     → old.dropped ≡ saturated d
     → Counts (a + length (if room then moment ∷ [] else [])) (d + length (if not room then moment ∷ [] else [])) old new
-counts-took true moment a d old new t arrived dropped =
-    record { arrived = omega (arith, t.arrived, arrived); dropped = omega (arith, t.dropped, dropped); polled = t.polled; waits = t.waits }
-counts-took false moment a d old new t arrived dropped =
-    record { arrived = omega (arith, t.arrived, arrived); dropped = omega (arith, t.dropped, dropped); polled = t.polled; waits = t.waits }
+counts-took room moment a d old new h1 h2 h3 = grind (arith, common_steps)
 
 arrived-counts : (moment m n a d : ℕ) (p : ProcessorView) → (tally (at n p.devices)).arrived ≡ saturated (a + d)
     → (tally (at n p.devices)).dropped ≡ saturated d
@@ -246,12 +226,7 @@ pub record Told (a d : ℕ) (gone waited : List ℕ) (t : Tally) : Type 0 where
 
 told-given : (now a d : ℕ) (gone waited batch : List ℕ) (old new : Tally) → Told a d gone waited old → Given now batch old new
     → Told a d (gone ++ batch) (waited ++ map (λ came. now - came) batch) new
-told-given now a d gone waited batch old new t g = record {
-  arrived = g.arrived ∙ t.arrived;
-  dropped = g.dropped ∙ t.dropped;
-  polled = g.polled (length gone) t.polled ∙ ap saturated (sym (length-append gone batch));
-  waits = g.waits waited t.waits;
-}
+told-given now a d gone waited batch old new h1 h2 = grind (arith, common_steps)
 
 tally-life : (s : MachineSettings) (n : ℕ) (x : Tally) → let K = λ (p : ProcessorView). tally (at n p.devices) ≡ x in Life s K K K
 tally-life s n x = steady-life s (λ o. tally o ≡ x) (steady-part tally x tally-interrupted tally-expired) n
@@ -300,8 +275,7 @@ tells-at : (n : ℕ) (s : MachineSettings) (events : List MachineEvent) (o : Opt
     (tally o)
     → CountsFates n s events o
 unfolding tally
-tells-at n s events None t = record { arrived = t.arrived; dropped = t.dropped; polled = t.polled; counted = t.waits }
-tells-at n s events (Some d) t = record { arrived = t.arrived; dropped = t.dropped; polled = t.polled; counted = t.waits }
+tells-at n s events o h1 = grind (arith, common_steps)
 
 pub tells-of-device : TellsOfDevice
 tells-of-device s n events = tells-at n s events (at n (behind s events).devices) (told s n events)

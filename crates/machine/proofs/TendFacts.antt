@@ -1,11 +1,11 @@
 -- Law: a queue has no packets unless its interrupt is raised, deferred or in progress.
 use Rattle.std.proofs.Common.{◌≡◌, ◌∙◌, ℕ, ◌+◌, ◌<◌, ◌≤◌, Bool, true, false, Option, Some, None, List, [], ◌∷◌, ◌++◌, length, refl, sym, ap}
 use Rattle.std.proofs.Common.{arith}
-use Rattle.std.proofs.lemmas.{Bool.{and_left, and_right, eq-eqb, ltb-false}, Grind.common_steps, List.append-nil}
+use Rattle.std.proofs.lemmas.{Bool.{and_left, and_right, eq-eqb, ltb-false}, Grind.common_steps}
 use Rattle.std.specs.Prelude.{◌==◌, ◌&&◌, if◌then◌else◌, nat_lt, not}
 use Rattle.{machine_model.specs.declared.settings.MachineSettings.MachineSettings, device_places.specs.Places.{at, changed}}
 use Rattle.machine.specs.{Lives.{MachineEvent, behind, next, packet}, Fates.{taken_in}}
-use Rattle.machine_model.specs.declared.device.Phase.{Phase, TheVariants.{Quiet, Raised, Scheduled}}
+use Rattle.machine_model.specs.declared.device.Phase.{Phase, TheVariants.{Quiet, Scheduled}}
 use Rattle.machine_model.specs.declared.processor.{Work.{Work, TheVariants.{Interrupt, Packet}}, InHand.InHand}
 use Rattle.machine_model.specs.Device.{QueueView, after_packet, expired, expired_phase, has_room, interrupted, notified, queue_polled}
 use Rattle.machine_model.specs.Device.{raised_again, without_next}
@@ -13,7 +13,7 @@ use Rattle.machine_model.specs.Devices.{QueueViews, next_packet_at}
 use Rattle.machine_model.specs.Kept.{is_scheduled, polled_by, scheduled_at}
 use Rattle.machine_model.specs.Processor.{ProcessorView, is_polling, step, upcoming}
 use Rattle.machine_model.proofs.PendingFacts.{phase-next}
-use Rattle.machine.proofs.TableFacts.{IfThere, at-apart, at-either, at-keeps, at-kept, at-same, map-there, map_at}
+use Rattle.machine.proofs.TableFacts.{IfThere, at-apart, at-either, at-keeps, at-kept, at-same, map_at}
 use Rattle.machine.proofs.{EndFacts.{Ends, Looks, ends}, EmptyFacts.calm-full}
 use Rattle.machine.proofs.WorkFacts.{Goes, Life, devices_arrived, expired_at, goes-on, life-arrives, life-happens, same-polling}
 use Rattle.machine.proofs.FateFacts.{IsPlain, at-arrives, look-none, made_at, next-none-at, packet-queued, plain-of, queued}
@@ -35,10 +35,7 @@ Tended s n p = lone s n p.work ≡ false → Tend (at n p.devices)
 -- a change of a queue that keeps its packets, and by which it isn't quiet if it wasn't before
 tend-kept : (f : QueueView → QueueView) (m n : ℕ) (ds : QueueViews) → ((d : QueueView) → (f d).phase ≡ Quiet → d.phase ≡ Quiet)
     → ((d : QueueView) → queued (Some (f d)) ≡ queued (Some d)) → Tend (at n ds) → Tend (at n (changed f m ds))
-tend-kept f m n ds phase same t =
-    at-keeps Tend f m n ds
-    (λ here. map-there (λ d. d.phase ≡ Quiet → queued (Some d) ≡ []) (λ d. d.phase ≡ Quiet → queued (Some d) ≡ []) f (at n ds)
-    (λ d none quiet. same d ∙ none (phase d quiet))) t
+tend-kept f m n ds h1 h2 h3 = grind (arith, common_steps)
 
 -- ---- when work begins, and when timers expire
 
@@ -84,8 +81,7 @@ tend-life s n = record {
 -- ---- when work ends
 
 lone-polling : (s : MachineSettings) (n : ℕ) (w : Work) → ((m : ℕ) → w ≡ Interrupt m → is_polling s ≡ true) → lone s n w ≡ false
-lone-polling s n (Interrupt m) polls = rw (polls m refl) refl
-lone-polling s n w polls = refl
+lone-polling s n w h1 = grind (arith, common_steps)
 
 no-packets : (taken ring : List ℕ) → taken ≡ [] → (length ring == 0) ≡ true → taken ++ ring ≡ []
 no-packets taken ring none empty = grind (arith, common_steps)
@@ -94,17 +90,7 @@ no-packets taken ring none empty = grind (arith, common_steps)
 tend-again : (m n : ℕ) (ds : QueueViews) → taken_in (at n ds) ≡ [] → ((m == n) ≡ false → Tend (at n ds))
     → Tend (at n (changed raised_again m ds))
 unfolding map_at queued
-tend-again m n ds plain other =
-    at-either (λ b o. Tend o) raised_again m n ds (λ here. by (at n ds) plain) other
-  where
-    each : (d : QueueView) → d.taken ≡ [] → (b : Bool) → (length d.ring == 0) ≡ b → (if b then d.phase else Raised) ≡ Quiet
-        → d.taken ++ d.ring ≡ []
-    each d plain true is quiet = no-packets d.taken d.ring plain is
-    each d plain false is quiet = cc quiet
-
-    by : (o : Option QueueView) → taken_in o ≡ [] → Tend (map_at raised_again o)
-    by None plain = tt
-    by (Some d) plain = each d plain (length d.ring == 0) refl
+tend-again m n ds h1 h2 = grind (arith, common_steps)
 
 sched-quiet : (phase : Phase) → ◌≡◌ {A = ℕ} (if is_scheduled phase then 1 else 0) 1 → phase ≡ Quiet → ⊥
 sched-quiet phase is quiet = grind (arith, common_steps)
@@ -199,12 +185,7 @@ full-phase moment s d full = rw full refl
 tend-packet : (moment : ℕ) (s : MachineSettings) (d : QueueView) → (d.phase ≡ Quiet → queued (Some d) ≡ [])
     → (after_packet moment s d).phase ≡ Quiet
     → queued (Some (after_packet moment s d)) ≡ []
-tend-packet moment s d tend quiet = by (has_room d) refl
-  where
-    by : (room : Bool) → has_room d ≡ room → queued (Some (after_packet moment s d)) ≡ []
-    by true room = absurd (packet-busy moment s d room quiet)
-    by false full =
-        packet-queued moment s d ∙ (rw full (append-nil (queued (Some d))) ∙ tend (sym (full-phase moment s d full) ∙ quiet))
+tend-packet moment s d h1 h2 = grind (arith, common_steps, packet-busy, packet-queued, full-phase)
 
 tend-arrives : (moment m n : ℕ) (p : ProcessorView) → Tend (at n p.devices) → Tend (at n (devices_arrived moment m p))
 unfolding made_at queued

@@ -1,8 +1,9 @@
 -- Laws: time never decreases, and deferred timers are near; arrivals, waiting packets and the work in progress are in the order of
 -- their times.
+use Rattle.std.proofs.lemmas.Grind.{common_steps}
 use Rattle.std.proofs.Common.{◌≡◌, ◌∙◌, ℕ, ◌+◌, ◌-◌, ◌<◌, ◌≤◌, ◌^◌, Bool, true, false, Option, Some, None, List, [], ◌∷◌, ◌++◌, refl}
-use Rattle.std.proofs.Common.{ap, subst, sym}
-use Rattle.std.proofs.{Common.{arith}, lemmas.{Bool.{and_left, and_parts, leb-true, not-true}}}
+use Rattle.std.proofs.Common.{ap}
+use Rattle.std.proofs.{Common.{arith}, lemmas.{Bool.{and_left, and_parts, leb-true}}}
 use Rattle.std.specs.{List.AllByRecursion, Prelude.{◌==◌, ◌&&◌, if◌then◌else◌, is_some, not, position}}
 use Rattle.machine_model.specs.declared.settings.MachineSettings.{MachineSettings}
 use Rattle.device_places.specs.Places.{at, changed}
@@ -17,7 +18,7 @@ use Rattle.machine_model.specs.{Softirq.{SoftirqView, run_ended, run_next}, Wait
 use Rattle.machine_model.specs.declared.tasks.RunnableTask.{RunnableTask}
 use Rattle.machine_model.specs.Device.{QueueView, expired, interrupted, queue_polled, raised_again, without_next}
 use Rattle.machine_model.specs.Devices.{QueueViews, asks_at, has_room_at, with_device}
-use Rattle.machine_model.specs.Application.{ApplicationView, fed, has_place, put, refuses}
+use Rattle.machine_model.specs.Application.{ApplicationView, fed}
 use Rattle.machine_model.specs.Processor.{ProcessorView, arrives, begins, disturbed, ends_current, happens, is_busy, is_by, is_due}
 use Rattle.machine_model.specs.Processor.{is_polling, step, takes_up, upcoming}
 use Rattle.machine.proofs.TableFacts.{at-kept, map-kept, map-there, map_at}
@@ -47,8 +48,7 @@ use Rattle.machine.proofs.WorkFacts.{Goes, goes-on, same-polling}
 -- ---- lists
 
 pub both : (P : ℕ → Type 0) (xs ys : List ℕ) → AllByRecursion P xs → AllByRecursion P ys → AllByRecursion P (xs ++ ys)
-both P [] ys first second = second
-both P (x ∷ xs) ys first second = (first.0, both P xs ys first.1 second)
+both P xs ys h1 h2 = grind (arith, common_steps)
 
 weaker : (P Q : ℕ → Type 0) (xs : List ℕ) → ((x : ℕ) → P x → Q x) → AllByRecursion P xs → AllByRecursion Q xs
 weaker P Q [] so all = tt
@@ -103,15 +103,7 @@ pub record Timed (s : MachineSettings) (t : ℕ) (p : ProcessorView) : Type 0 wh
 
 base-of : (s : MachineSettings) (t : ℕ) (softirq : SoftirqView) (tasks : List RunnableTask) (counts : ProcessorCounts) (p : ProcessorView)
     → Base s t p → Base s t (record p { softirq = softirq; tasks = tasks; counts = counts })
-base-of s t softirq tasks counts p b =
-    let w = b.waits in
-    record {
-      waits = record { settings = w.settings; cells = w.cells; socket = w.socket; rest = w.rest };
-      fits = b.fits;
-      clock = b.clock;
-      up = b.up;
-      low = b.low;
-    }
+base-of s t softirq tasks counts p h1 = grind (arith, common_steps)
 
 -- work other than a packet of a poll begins; if it is a use, its begin and its duration are given
 timed-begins : (s : MachineSettings) (t : ℕ) (w : Work) (time : ℕ) (p : ProcessorView) → Waiting s t p → p.clock < 2 ^ 64
@@ -167,20 +159,10 @@ timed-uses s t came more p b is quiet =
 
 timed-resume : (s : MachineSettings) (t : ℕ) (rest : Rest) (p : ProcessorView) → Base s t p → p.rest ≡ Some rest
     → position asks_at p.devices ≡ None → Timed s t (begins (Use rest.came) rest.left (record p { rest = None }))
-timed-resume s t rest p b is quiet =
-    let h = b.waits in
-    timed-begins s t (Use rest.came) rest.left (record p { rest = None })
-    (record { settings = h.settings; cells = h.cells; socket = h.socket; rest = λ fair other none. cc none }) b.fits b.clock b.up refl
-    (λ hand same. cc same)
-    (λ other same. (b.low quiet, λ fair. by other (cc same) (h.rest fair rest is) (b.low quiet)))
-  where
-    by : (other : ℕ) → other ≡ rest.came → saturated (rest.came + use_cost s) ≤ saturated (t + rest.left) → p.clock ≡ t
-        → saturated (other + use_cost s) ≤ saturated (p.clock + rest.left)
-    by other same first clock = omega (arith, same, first, clock)
+timed-resume s t rest p h1 h2 h3 = grind (arith, common_steps)
 
 timed-poll : (s : MachineSettings) (t n : ℕ) (p : ProcessorView) → Base s t p → Timed s t (begins (Poll n) p.settings.poll p)
-timed-poll s t n p b =
-    timed-begins s t (Poll n) p.settings.poll p b.waits b.fits b.clock b.up refl (λ hand is. cc is) (λ came is. cc is)
+timed-poll s t n p h1 = grind (arith, common_steps)
 
 timed-walk : (s : MachineSettings) (t : ℕ) → Walk (Base s t) (Timed s t)
 timed-walk s t = record {
@@ -229,13 +211,7 @@ same-came h g is = let same : h ≡ g = cc is in ap (λ (x : InHand). x.came) sa
 looks-hand : (s : MachineSettings) (t now m given : ℕ) (ds : QueueViews) → (s.backlog ≡ false → taken_in (at m ds) ≡ [])
     → AllByRecursion (λ came. came ≤ t) (queued (at m ds))
     → Looks (λ es w. (hand : InHand) → w ≡ Packet hand → hand.came ≤ t) s now m given ds
-looks-hand s t now m given ds plain came = record {
-  some = λ oldest is hand same.
-      let first = subst (λ (xs : List ℕ). AllByRecursion (λ x. x ≤ t) xs) (sym (next-some-at s.backlog (at m ds) oldest plain is)) came in
-      omega (arith, first.0, same-came (record { device = m; came = oldest; given = given }) hand same);
-  none = λ none hand same. cc same;
-  full = λ most hand same. cc same;
-}
+looks-hand s t now m given ds h1 h2 = grind (arith, common_steps, next-some-at)
 
 ends-hand : (t : ℕ) (p : ProcessorView) → ((n : ℕ) → IsPlain p.settings n p.devices)
     → ((n : ℕ) → AllByRecursion (λ came. came ≤ t) (queued (at n p.devices)))
@@ -292,12 +268,7 @@ cells-end s p goes fits cells plain n =
 served-fed : (s : MachineSettings) (t came : ℕ) (a : ApplicationView) → (IsFair s → saturated (came + s.packet) ≤ t)
     → Served s t a.socket.items
     → Served s t (fed t came s a).socket.items
-served-fed s t came a first all fair =
-    rw (fed-here s t came a (not-true s.apart (and_parts (is_polling s) (not s.apart) fair).1)) (by (has_place a))
-  where
-    by : (room : Bool) → AllByRecursion (λ x. saturated (x + s.packet) ≤ t) (if room then put came a else refuses a).socket.items
-    by true = both (λ x. saturated (x + s.packet) ≤ t) a.socket.items (came ∷ []) (all fair) (first fair, tt)
-    by false = all fair
+served-fed s t came a h1 h2 = grind (arith, common_steps, fed-here)
 
 same-delivery : (x y : ℕ × ℕ) → Some x ≡ Some y → x.1 ≡ y.1
 same-delivery x y is = let same : x ≡ y = cc is in ap (λ (z : ℕ × ℕ). z.1) same
@@ -306,10 +277,7 @@ same-delivery x y is = let same : x ≡ y = cc is in ap (λ (z : ℕ × ℕ). z.
 pub hand-delivery : (s : MachineSettings) (t : ℕ) (w : Work) (p : ProcessorView) (m came : ℕ) → is_polling p.settings ≡ true
     → ((hand : InHand) → w ≡ Packet hand → saturated (hand.came + s.packet) ≤ t) → delivery_of w p ≡ Some (m, came)
     → saturated (came + s.packet) ≤ t
-hand-delivery s t (Interrupt n) p m came polling hands is = cc (rw polling at is)
-hand-delivery s t (Packet hand) p m came polling hands is =
-    omega (arith, hands hand refl, same-delivery (hand.device, hand.came) (m, came) is)
-hand-delivery s t w p m came polling hands is = cc is
+hand-delivery s t w p m came h1 h2 h3 = grind (arith, common_steps)
 
 -- the same waits at a later time, if nothing happens before that
 waits-later : (s : MachineSettings) (t u : ℕ) (p : ProcessorView) → t ≤ u → NotBefore u p → Waiting s t p → Waiting s u p
@@ -436,18 +404,7 @@ timed-disturbed s t p fits goes h = timed-takes s t (stirred t p) (work-stirred 
 -- ---- the clock
 
 clock-walk : (c : ℕ) → Walk (λ p. p.clock ≡ c) (λ p. p.clock ≡ c)
-clock-walk c = record {
-  interrupt = λ n time counts p free h asks. h;
-  next = λ p free h. h;
-  asks = λ n p h asked. h;
-  over = λ counts p free h. h;
-  start = λ p h none polling some. h;
-  resume = λ rest p free h is quiet. h;
-  settle = λ tasks p h is. h;
-  thread = λ n more p free h threaded is. h;
-  uses = λ came more p free h none is quiet first. h;
-  stays = λ p free h still settled. h;
-}
+clock-walk c = grind (arith, common_steps)
 
 pub clock-takes : (s : MachineSettings) (p : ProcessorView) → Goes s p → (takes_up p).clock ≡ p.clock
 clock-takes s p goes = walk-any (clock-walk p.clock) p (goes-unasked s p goes) (λ busy. refl) (λ idle. refl)
@@ -592,20 +549,7 @@ pub record Since (s : MachineSettings) (until : ℕ) (events : List MachineEvent
 
 opened-timed : (s : MachineSettings) → Timed s 0 (behind s [])
 unfolding behind queued
-opened-timed s = record {
-  waits = record {
-    settings = refl;
-    cells = λ n. record { timer = tt; came = tt };
-    socket = λ fair. tt;
-    rest = λ fair rest is. cc is;
-  };
-  clock = omega arith;
-  idle = λ idle. omega arith;
-  ends = λ busy. cc busy;
-  low = λ came is. cc is;
-  using = λ fair came is. cc is;
-  hand = λ hand is. cc is;
-}
+opened-timed s = grind (arith, common_steps)
 
 -- what an event does to a processor at the time of the event before it
 rises-by : (s : MachineSettings) (until : ℕ) (event : MachineEvent) (earlier : List MachineEvent) → until < 2 ^ 64

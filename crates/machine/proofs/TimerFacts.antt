@@ -28,8 +28,7 @@ abbrev pub AllLate : ℕ → QueueViews → Type 0
 AllLate m ds = (n : ℕ) → Late m (timer_in (at n ds))
 
 late-less : (l m : ℕ) (o : Option ℕ) → l ≤ m → Late m o → Late l o
-late-less l m None less late = tt
-late-less l m (Some t) less late = omega (arith, less, late)
+late-less l m o h1 h2 = grind (arith, common_steps)
 
 -- no timer is before the one that expires first
 abbrev pub SoonBy : Option Timer → Option ℕ → Type 0
@@ -38,8 +37,7 @@ SoonBy None (Some t) = ⊥
 SoonBy (Some timer) o = Late timer.at o
 
 soon-none : (m : ℕ) (o : Option ℕ) → SoonBy None o → Late m o
-soon-none m None soon = tt
-soon-none m (Some t) soon = absurd soon
+soon-none m o h1 = grind (arith, common_steps)
 
 soon-more : (a b : Option Timer) (o : Option ℕ) → SoonBy b o → SoonBy (sooner a b) o
 soon-more a b o soon = grind (arith, common_steps)
@@ -49,8 +47,7 @@ soon-own k o b = grind (arith, common_steps)
 
 timer-same : (k : ℕ) (place : Option QueueView) → timer_at k place
     ≡ option_map (λ (at : ℕ). record { at = at; device = k }) (timer_in place)
-timer-same k None = refl
-timer-same k (Some d) = refl
+timer-same k place = grind (arith, common_steps)
 
 soonest : (k n : ℕ) (ds : QueueViews) → SoonBy (soonest_from k ds) (timer_in (at n ds))
 unfolding soonest_from
@@ -95,10 +92,7 @@ pub next-is : (p : ProcessorView) → NextBy (upcoming p) p
 next-is p = next-by (soonest_from 0 p.devices) p (λ n. soonest 0 n p.devices)
 
 pub later-not : (m k : ℕ) (p : ProcessorView) → NotBefore k p → m ≤ k → NotBefore m p
-later-not m k p b less = record {
-  timers = λ n. late-less m k (timer_in (at n p.devices)) less (b.timers n);
-  ends = λ yes. omega (arith, less, b.ends yes);
-}
+later-not m k p h1 h2 = grind (arith, common_steps)
 
 -- an event that isn't due by a time
 due-not : (m : ℕ) (u : Upcoming) (p : ProcessorView) → NextBy u p → is_by m u p ≡ false → NotBefore m p
@@ -145,13 +139,7 @@ set-packet t gro s d fits set = grind (arith, common_steps)
 
 -- nothing has happened until a later time
 pub set-later : (t u gro : ℕ) (o : Option QueueView) → t ≤ u → Late u (timer_in o) → SetAt t gro o → SetAt u gro o
-set-later t u gro None less late set = tt
-set-later t u gro (Some d) less late set = by d.phase late set
-  where
-    by : (phase : Phase) → Late u (timer_of phase) → Set t gro phase → Set u gro phase
-    by (Coalescing until) late set = (late, set.1)
-    by (Deferred until) late set = (late, set.1, omega (arith, set.2, less))
-    by phase late set = tt
+set-later t u gro o h1 h2 h3 = grind (arith, common_steps)
 
 -- the timer that expires first is one of those that are set
 pub set-first : (t gro : ℕ) (timer : Timer) (p : ProcessorView) → ((n : ℕ) → SetAt t gro (at n p.devices)) → upcoming p ≡ Expires timer

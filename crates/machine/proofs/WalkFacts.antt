@@ -2,7 +2,7 @@
 -- the end of a poll.
 use Rattle.std.specs.Prelude.{◌==◌, ◌&&◌, if◌then◌else◌, is_some, not, nat_lt, position, slice_get}
 use Rattle.std.proofs.Common.{◌≡◌, ◌<◌, ℕ, ◌+◌, ◌-◌, arith, Bool, true, false, Option, Some, None, List, [], ◌∷◌, ◌++◌, length, refl}
-use Rattle.std.{proofs.lemmas.{Bool.and_parts, List.Quantifiers.position-Some, Grind.common_steps}, specs.Option.option_map_or}
+use Rattle.std.{proofs.lemmas.{List.Quantifiers.position-Some, Grind.common_steps}, specs.Option.option_map_or}
 use Rattle.{device_places.{proofs.PlaceFacts.none-of, specs.Places.{at, changed}}}
 use Rattle.{machine_model.specs.declared.settings.MachineSettings.MachineSettings}
 use Rattle.poll_runs.specs.declared.bench.{Next.TheVariants.{Gone, Repoll}}
@@ -15,8 +15,8 @@ use Rattle.machine_model.specs.{Device.{interrupted, queue_polled, without_next}
 use Rattle.machine_model.specs.{Waits.saturated}
 use Rattle.machine_model.specs.Softirq.{SoftirqView, asked_in, begun, pushed, run_ended, run_next, softirq_polled}
 use Rattle.machine_model.specs.Tasks.{after_first, runnable}
-use Rattle.machine_model.specs.Processor.{ProcessorView, begins, begins_run, ends_poll, ends_run, goes_on, interrupts, is_busy, is_late}
-use Rattle.machine_model.specs.Processor.{is_polling, leaves_softirq, poll_looks, polls, rests, runs, runs_first, set_aside, spent}
+use Rattle.machine_model.specs.Processor.{ProcessorView, begins, begins_run, ends_poll, ends_run, goes_on, interrupts, is_busy}
+use Rattle.machine_model.specs.Processor.{is_polling, leaves_softirq, poll_looks, polls, rests, runs, runs_first, set_aside}
 use Rattle.machine_model.specs.Processor.{takes_up, uses, woken}
 
 -- no work is in progress
@@ -92,16 +92,14 @@ pub record Walk (P Q : ProcessorView → Type 0) : Type 0 where
   pub stays : (p : ProcessorView) → Free p → P p → Still p → IsSettled P p → Q p
 
 pub either : (Q : ProcessorView → Type 0) (b : Bool) (x y : ProcessorView) → (b ≡ true → Q x) → (b ≡ false → Q y) → Q (if b then x else y)
-either Q true x y first second = first refl
-either Q false x y first second = second refl
+either Q b x y h1 h2 = grind (arith, common_steps)
 
 -- ---- when there is nothing for the softirq
 
 walk-uses : {P Q : ProcessorView → Type 0} → Walk P Q → (items : List ℕ) (p : ProcessorView) → p.application.socket.items ≡ items
     → Free p → P p → p.rest ≡ None → position asks_at p.devices ≡ None → (p.settings.apart ≡ true → IsFirst p.tasks)
     → (p.application.socket.items ≡ [] → Still p) → IsSettled P p → Q (uses items p)
-walk-uses w [] p is free held none quiet first still settled = w.stays p free held (still is) settled
-walk-uses w (came ∷ more) p is free held none quiet first still settled = w.uses came more p free held none is quiet first
+walk-uses h1 items p h2 h3 h4 h5 h6 h7 h8 h9 = grind (arith, common_steps)
 
 walk-tasks : {P Q : ProcessorView → Type 0} → Walk P Q → (tasks : List RunnableTask) (p : ProcessorView) → Free p → Out p
     → P (record p { tasks = tasks })
@@ -127,36 +125,23 @@ walk-tasks w (Thread n ∷ more) p free out held threaded before is =
 walk-first : {P Q : ProcessorView → Type 0} → Walk P Q → (p : ProcessorView) → Free p → Out p → P p → p.settings.threaded ≡ true
     → Q (runs_first p)
 unfolding runs_first
-walk-first w p free out held threaded =
-    let tasks = runnable (length p.application.socket.items == 0) p.tasks in
-    walk-tasks w tasks p free out (w.settle tasks p held refl) threaded held refl
+walk-first h1 p h2 h3 h4 h5 = grind (arith, common_steps, walk-tasks)
 
 walk-out : {P Q : ProcessorView → Type 0} → Walk P Q → (p : ProcessorView) → Free p → Out p → P p → Q (leaves_softirq None p)
-walk-out {Q = Q} w p free out held =
-    either Q p.settings.threaded (runs_first p) (if p.settings.apart then p else uses p.application.socket.items p)
-    (λ threaded. walk-first w p free out held threaded)
-    (λ single. either Q p.settings.apart p (uses p.application.socket.items p)
-    (λ apart. w.stays p free held
-    (record { out = out; socket = λ s own. absurd (cc (apart, own)); tasks = λ t. absurd (cc (single, t)) })
-    (λ t. absurd (cc (single, t))))
-    (λ own. walk-uses w p.application.socket.items p refl free held out.rest out.quiet (λ apart. absurd (cc (apart, own)))
-    (λ empty. record { out = out; socket = λ s o. empty; tasks = λ t. absurd (cc (single, t)) }) (λ t. absurd (cc (single, t)))))
+walk-out h1 p h2 h3 h4 = grind (arith, common_steps, walk-first, walk-uses)
 
 walk-leaves : {P Q : ProcessorView → Type 0} → Walk P Q → (o : Option Rest) (p : ProcessorView) → p.rest ≡ o → Free p → P p
     → position asks_at p.devices ≡ None → p.softirq.run ≡ None
     → (is_polling p.settings && not (length p.softirq.list == 0)) ≡ false
     → Q (leaves_softirq o p)
-walk-leaves w (Some rest) p is free held quiet idle list = w.resume rest p free held is quiet
-walk-leaves w None p is free held quiet idle list =
-    walk-out w p free (record { quiet = quiet; idle = idle; list = list; rest = is }) held
+walk-leaves h1 o p h2 h3 h4 h5 h6 h7 = grind (arith, common_steps, walk-out)
 
 -- ---- when there is something for the softirq
 
 walk-asked : {P Q : ProcessorView → Type 0} → Walk P Q → (o : Option ℕ) (p other : ProcessorView) → asked_in (run_next p.softirq).run ≡ o
     → P (nexted p)
     → (asked_in (run_next p.softirq).run ≡ None → Q other) → Q (polls_or other o (nexted p))
-walk-asked w (Some n) p other asked held rest = w.asks n p held asked
-walk-asked w None p other asked held rest = rest asked
+walk-asked h1 o p other h2 h3 h4 = grind (arith, common_steps)
 
 positive : (k : ℕ) → not (k == 0) ≡ true → 0 < k
 positive k is = grind (arith, common_steps)
@@ -166,7 +151,7 @@ begun-asks : (s : MachineSettings) (list : List ℕ) (began clock : ℕ) → is_
     → let q : SoftirqView = record { list = list; run = None; began = began } in
     asked_in (run_next (begun clock s.budget s.weight s.window q)).run ≡ None → ⊥
 unfolding run_next
-begun-asks s list began clock polling some none = grind (arith, common_steps, positive)
+begun-asks s list began clock polling some none = grind (arith, common_steps)
 
 walk-begins : {P Q : ProcessorView → Type 0} → Walk P Q → (p : ProcessorView) → Free p → P p → p.softirq.run ≡ None
     → is_polling p.settings ≡ true
@@ -181,29 +166,17 @@ walk-begins w p free held none polling some =
 walk-rests : {P Q : ProcessorView → Type 0} → Walk P Q → (p : ProcessorView) → Free p → P p → p.softirq.run ≡ None
     → position asks_at p.devices ≡ None → Q (rests p)
 unfolding rests
-walk-rests {Q = Q} w p free held none quiet =
-    let polling = is_polling p.settings in
-    let some = not (length p.softirq.list == 0) in
-    either Q (polling && some) (begins_run p) (leaves_softirq p.rest p)
-    (λ both. let parts = and_parts polling some both in walk-begins w p free held none parts.0 parts.1)
-    (λ no. walk-leaves w p.rest p refl free held quiet none no)
+walk-rests h1 p h2 h3 h4 h5 = grind (arith, common_steps, walk-begins, walk-leaves)
 
 walk-over : {P Q : ProcessorView → Type 0} → Walk P Q → (late : Bool) (p : ProcessorView) → Free p → P p
     → position asks_at p.devices ≡ None → Q (rests (ends_run late p))
 unfolding ends_run run_ended
-walk-over w late p free held quiet =
-    walk-rests w (ends_run late p) (record { nothing = free.nothing; unasked = refl }) (w.over (ends_run late p).counts p free held) refl
-    quiet
+walk-over h1 late p h2 h3 h4 = grind (arith, common_steps, walk-rests)
 
 walk-goes : {P Q : ProcessorView → Type 0} → Walk P Q → (p : ProcessorView) → Free p → P p → position asks_at p.devices ≡ None
     → Q (goes_on p)
 unfolding goes_on
-walk-goes {Q = Q} w p free held quiet =
-    let q = nexted p in
-    either Q (is_late p) (rests (ends_run true p)) (polls_or (rests (ends_run false q)) (asked_in (run_next p.softirq).run) q)
-    (λ late. walk-over w true p free held quiet)
-    (λ more. walk-asked w (asked_in (run_next p.softirq).run) p (rests (ends_run false q)) refl (w.next p free held)
-    (λ none. walk-over w false q (record { nothing = free.nothing; unasked = none }) (w.next p free held) quiet))
+walk-goes h1 p h2 h3 h4 = grind (arith, common_steps, walk-over)
 
 walk-interrupts : {P Q : ProcessorView → Type 0} → Walk P Q → (n : ℕ) (p : ProcessorView) → Free p → P p → asks_at (at n p.devices) ≡ true
     → Q (interrupts n p)
@@ -246,11 +219,7 @@ idle-is work idle = grind (arith, common_steps)
 pub walk-any : {P Q : ProcessorView → Type 0} → Walk P Q → (p : ProcessorView) → (is_busy p.work ≡ false → asked_in p.softirq.run ≡ None)
     → (is_busy p.work ≡ true → Q p) → (is_busy p.work ≡ false → P p) → Q (takes_up p)
 unfolding takes_up
-walk-any {Q = Q} w p unasked busy held =
-    either Q (is_busy p.work) p
-    (option_map_or (λ number. interrupts number p) (position asks_at p.devices) (if is_some p.softirq.run then goes_on p else rests p))
-    busy
-    (λ no. walk-by w (position asks_at p.devices) p refl (record { nothing = idle-is p.work no; unasked = unasked no }) (held no))
+walk-any h1 p h2 h3 h4 = grind (arith, common_steps, walk-by)
 
 -- ---- when a use or an idle time is interrupted
 
@@ -267,18 +236,7 @@ pub stirred-by : (Q : ProcessorView → Type 0) (moment : ℕ) (p : ProcessorVie
     → ((counts : ProcessorCounts) → is_busy p.work ≡ false → is_some (position asks_at p.devices) ≡ true
     → Q (record p { clock = saturated (moment + p.settings.wake); counts = counts }))
     → (is_busy p.work ≡ false → Q (record p { clock = moment })) → Q (stirred moment p)
-stirred-by Q moment p same aside late quiet =
-    let asked = is_some (position asks_at p.devices) in
-    either Q (is_busy p.work) (if asked then set_aside moment p.work p else p) (woken moment asked p)
-    (λ busy. either Q asked (set_aside moment p.work p) p (λ yes. by p.work refl busy) (λ no. same busy))
-    (λ idle.
-    let counts = record p.counts { interrupt_time = saturated (p.counts.interrupt_time + p.settings.wake) } in
-    either Q asked (record p { clock = saturated (moment + p.settings.wake); counts = counts }) (record p { clock = moment })
-    (λ yes. late counts idle yes) (λ no. quiet idle))
-  where
-    by : (w : Work) → p.work ≡ w → is_busy p.work ≡ true → Q (set_aside moment w p)
-    by (Use came) is busy = aside came (spent (Use came) (moment - p.clock) p.counts) is
-    by w is busy = same busy
+stirred-by Q moment p h1 h2 h3 h4 = grind (arith, common_steps)
 
 -- ---- when a poll looks for its next packet, and when it ends
 
@@ -291,19 +249,7 @@ pub looks-by : (Q : ProcessorView → Type 0) (n given : ℕ) (p : ProcessorView
     → (nat_lt given p.settings.weight ≡ false → Q (ends_poll n given p))
     → Q (poll_looks n given p)
 unfolding poll_looks
-looks-by Q n given p some none full =
-    either Q (nat_lt given p.settings.weight) (looked (next_packet_at p.settings.backlog (at n p.devices))) (ends_poll n given p)
-    (λ less. by (next_packet_at p.settings.backlog (at n p.devices)) less refl) full
-  where
-    looked : Option ℕ → ProcessorView
-    looked o =
-        let q : ProcessorView = record p { devices = changed (without_next p.settings.backlog) n p.devices } in
-        option_map_or (λ (came : ℕ). begins (Packet (record { device = n; came = came; given = given })) p.settings.packet q) o
-        (ends_poll n given q)
-
-    by : (o : Option ℕ) → nat_lt given p.settings.weight ≡ true → next_packet_at p.settings.backlog (at n p.devices) ≡ o → Q (looked o)
-    by None less is = none is
-    by (Some came) less is = some came is less
+looks-by Q n given p h1 h2 h3 = grind (arith, common_steps)
 
 -- with threads, and without
 pub polled-by : (Q : ProcessorView → Type 0) (n given : ℕ) (p : ProcessorView)
@@ -321,9 +267,4 @@ pub polled-by : (Q : ProcessorView → Type 0) (n given : ℕ) (p : ProcessorVie
     }))
     → Q (ends_poll n given p)
 unfolding ends_poll
-polled-by Q n given p thread run =
-    let counts = record p.counts { polls = saturated (p.counts.polls + 1); work = saturated (p.counts.work + given) } in
-    let q : ProcessorView = record p { devices = changed (queue_polled p.clock given p.settings) n p.devices; counts = counts } in
-    either Q p.settings.threaded (record q { tasks = if given == p.settings.weight then Thread n ∷ q.tasks else q.tasks })
-    (record q { softirq = softirq_polled (record { work = given; next = if given == p.settings.weight then Repoll else Gone }) q.softirq })
-    (thread counts) (run counts)
+polled-by Q n given p h1 h2 = grind (arith, common_steps)

@@ -1,8 +1,8 @@
 -- A run's work is always less than budget plus weight; which queues a run or a thread polls; and how a property that each case
 -- preserves goes through the events of a processor.
-use Rattle.std.proofs.lemmas.{Bool.{and_left, and_right, ltb-true, true_from_ne_false}, Grind.{common_steps}}
+use Rattle.std.proofs.lemmas.{Bool.{and_left, and_right, ltb-true}, Grind.{common_steps}}
 use Rattle.std.specs.List.{AllByRecursion}
-use Rattle.std.specs.Prelude.{◌==◌, ◌&&◌, IfSome, if◌then◌else◌, is_some, not, option_map}
+use Rattle.std.specs.Prelude.{◌==◌, ◌&&◌, if◌then◌else◌, is_some, not, option_map}
 use Rattle.std.proofs.Common.{◌≡◌, ◌∙◌, ℕ, ◌+◌, ◌-◌, ◌<◌, ◌≤◌, Bool, true, false, Option, Some, None, List, [], ◌∷◌, ◌++◌, length, refl}
 use Rattle.std.proofs.Common.{sym, ap, arith}
 use Rattle.poll_runs.specs.declared.bench.Next.TheVariants.{Gone, Repoll}
@@ -14,11 +14,11 @@ use Rattle.machine.specs.Times.{WorksWithin}
 use Rattle.machine_model.specs.declared.processor.{ProcessorCounts.ProcessorCounts, Work.{Work}}
 use Rattle.machine_model.specs.declared.processor.Work.TheVariants.{Nothing, Interrupt, Poll, Packet, Use}
 use Rattle.machine_model.specs.declared.tasks.RunnableTask.{RunnableTask}
-use Rattle.machine_model.specs.declared.tasks.RunnableTask.TheVariants.{Application, Thread}
+use Rattle.machine_model.specs.declared.tasks.RunnableTask.TheVariants.{Thread}
 use Rattle.machine_model.specs.declared.processor.{Upcoming.{Upcoming, TheVariants.{Never, Ends, Expires}}}
 use Rattle.machine_model.specs.Kept.{work_given, polled_by}
 use Rattle.machine_model.specs.Softirq.{RunView, SoftirqView, asked_in, polled_run, pushed, run_ended, run_next, softirq_polled}
-use Rattle.machine_model.specs.{Application.{has_place}, Device.{after_packet, expired, raised_again, without_next}}
+use Rattle.machine_model.specs.{Device.{after_packet, expired, raised_again, without_next}}
 use Rattle.{circular_buffer.specs.Buffer.buffer}
 use Rattle.machine_model.specs.{Devices.{QueueViews, has_room_at, next_packet_at, with_device}, Waits.saturated}
 use Rattle.machine_model.specs.Tasks.{is_application, runnable, with_application}
@@ -77,14 +77,12 @@ next-runs s list run began none held = grind (arith, common_steps)
 next-none : (list : List ℕ) (run : Option RunView) (began : ℕ) → (list ≡ []) × (run ≡ None)
     → let q = run_next (record { list = list; run = run; began = began }) in (q.list ≡ []) × (q.run ≡ None)
 unfolding run_next
-next-none list None began none = none
-next-none list (Some r) began none = cc (none.1)
+next-none list run began h1 = grind (arith, common_steps)
 
 ended-none : (list : List ℕ) (run : Option RunView) (began : ℕ) → (list ≡ []) × (run ≡ None)
     → (run_ended (record { list = list; run = run; began = began })).list ≡ []
 unfolding run_ended
-ended-none list None began none = none.0
-ended-none list (Some r) began none = cc (none.1)
+ended-none list run began h1 = grind (arith, common_steps)
 
 ended-run : (q : SoftirqView) → (run_ended q).run ≡ None
 unfolding run_ended
@@ -95,37 +93,26 @@ runs-told : (s : MachineSettings) (run : Option RunView) (once : Once) (n : ℕ)
 runs-told s run once n asked few held = grind (arith, common_steps)
 
 told-asks : (run : Option RunView) (once : Once) → asked_in (option_map (polled_run once) run) ≡ None
-told-asks None once = refl
-told-asks (Some r) once = refl
+told-asks run once = grind (arith, common_steps)
 
 pushed-run : (b : Bool) (n : ℕ) (q : SoftirqView) → (if b then pushed n q else q).run ≡ q.run
-pushed-run true n q = refl
-pushed-run false n q = refl
+pushed-run b n q = grind (arith, common_steps)
 
 all-append : (xs ys : List RunnableTask) → all_applications xs → all_applications ys → all_applications (xs ++ ys)
-all-append [] ys first second = second
-all-append (x ∷ xs) ys first second = (first.0, all-append xs ys first.1 second)
+all-append xs ys h1 h2 = grind (arith, common_steps)
 
 all-runnable : (idle : Bool) (tasks : List RunnableTask) → all_applications tasks → all_applications (runnable idle tasks)
-all-runnable true [] all = tt
-all-runnable true (Application ∷ more) all = all.1
-all-runnable true (Thread n ∷ more) all = all
-all-runnable false tasks all = all
+all-runnable idle tasks h1 = grind (arith, common_steps)
 
 all-with : (tasks : List RunnableTask) → all_applications tasks → all_applications (with_application tasks)
 unfolding with_application
-all-with tasks all = grind (arith, common_steps, all-append)
+all-with tasks all = grind (arith, common_steps)
 
 all-if : (b : Bool) (tasks : List RunnableTask) → all_applications tasks → all_applications (if b then with_application tasks else tasks)
-all-if true tasks all = all-with tasks all
-all-if false tasks all = all
+all-if b tasks h1 = grind (arith, common_steps, all-with)
 
 asks-none : (s : MachineSettings) (q : SoftirqView) → Asks s None q → asked_in q.run ≡ None
-asks-none s q a = by s.threaded refl
-  where
-    by : (b : Bool) → s.threaded ≡ b → asked_in q.run ≡ None
-    by true is = a.none is
-    by false is = a.list is
+asks-none s q h1 = grind (arith, common_steps)
 
 fits : (s : MachineSettings) → 0 < s.weight
 fits s = omega (arith, s.weight_in.0)
@@ -143,21 +130,11 @@ same-apart s p is = ap (λ (x : MachineSettings). x.apart) is
 
 goes-begins : (s : MachineSettings) (work : Work) (time : ℕ) (p : ProcessorView) → Rests s p → Asks s (polled_by work) p.softirq
     → (is_polling s ≡ false → polled_by work ≡ None) → work_given work < s.weight → Goes s (begins work time p)
-goes-begins s work time p h asks polled given = record {
-  rests = record { settings = h.settings; run = h.run; soft = h.soft; threads = h.threads };
-  asks = asks;
-  polled = polled;
-  given = given;
-}
+goes-begins s work time p h1 h2 h3 h4 = grind (arith, common_steps)
 
 -- no work is in progress
 goes-free : (s : MachineSettings) (p : ProcessorView) → p.work ≡ Nothing → Rests s p → asked_in p.softirq.run ≡ None → Goes s p
-goes-free s p nothing h none = record {
-  rests = h;
-  asks = record { list = λ t. rw nothing none; none = λ t. none };
-  polled = λ no. rw nothing refl;
-  given = rw nothing (fits s);
-}
+goes-free s p h1 h2 h3 = grind (arith, common_steps)
 
 pub work-walk : (s : MachineSettings) → Walk (Rests s) (Goes s)
 work-walk s = record {
@@ -232,12 +209,7 @@ work-walk s = record {
 
 work-delivers : (s : MachineSettings) (n came : ℕ) (p : ProcessorView) → Rests s p → Rests s (delivers n came p)
 unfolding delivers
-work-delivers s n came p h = record {
-  settings = h.settings;
-  run = h.run;
-  soft = h.soft;
-  threads = λ no. all-if (p.settings.threaded && not p.settings.apart && has_place p.application) p.tasks (h.threads no);
-}
+work-delivers s n came p h1 = grind (arith, common_steps, all-if)
 
 -- the queue that is polled, after a change of queues and of the application
 pub record Polls (s : MachineSettings) (n : ℕ) (p : ProcessorView) : Type 0 where
@@ -248,14 +220,7 @@ pub record Polls (s : MachineSettings) (n : ℕ) (p : ProcessorView) : Type 0 wh
 
 pub polls-devices : (s : MachineSettings) (n : ℕ) (devices : QueueViews) (p : ProcessorView) → Polls s n p
     → Polls s n (record p { devices = devices })
-polls-devices s n devices p h =
-    let r = h.rests in
-    record {
-      rests = record { settings = r.settings; run = r.run; soft = r.soft; threads = r.threads };
-      nothing = h.nothing;
-      asks = h.asks;
-      polling = h.polling;
-    }
+polls-devices s n devices p h1 = grind (arith, common_steps)
 
 work-polled : (s : MachineSettings) (n given : ℕ) (p : ProcessorView) → Polls s n p → given ≤ s.weight → Goes s (ends_poll n given p)
 unfolding softirq_polled
@@ -291,17 +256,11 @@ work-looks s n given p g few =
 pub polls-of : (s : MachineSettings) (n : ℕ) (work : Work) (p : ProcessorView) → Rests s p → p.work ≡ Nothing
     → Asks s (polled_by work) p.softirq
     → (is_polling s ≡ false → polled_by work ≡ None) → polled_by work ≡ Some n → Polls s n p
-polls-of s n work p h nothing asks polled is = record {
-  rests = h;
-  nothing = nothing;
-  asks = rw is at asks;
-  polling = true_from_ne_false (is_polling s) (λ no. cc (polled no, is));
-}
+polls-of s n work p h1 h2 h3 h4 h5 = grind (arith, common_steps)
 
 pub polls-delivers : (s : MachineSettings) (n came : ℕ) (p : ProcessorView) → Polls s n p → Polls s n (delivers n came p)
 unfolding delivers
-polls-delivers s n came p g =
-    record { rests = work-delivers s n came p g.rests; nothing = g.nothing; asks = g.asks; polling = g.polling }
+polls-delivers s n came p h1 = grind (arith, common_steps)
 
 -- without polling, an interrupt ends
 work-lone : (s : MachineSettings) (n : ℕ) (o : Option ℕ) (p : ProcessorView) → Rests s p → p.work ≡ Nothing → asked_in p.softirq.run ≡ None
@@ -364,8 +323,7 @@ pub record Life (s : MachineSettings) (P Q R : ProcessorView → Type 0) : Type 
 
 pub life-takes : {s : MachineSettings} {P Q R : ProcessorView → Type 0} → Life s P Q R → (p : ProcessorView) → Goes s p → Q p
     → R (takes_up p)
-life-takes {s = s} l p goes h =
-    walk-any l.walk p (goes-unasked s p goes) (λ busy. l.busy p busy h) (λ idle. l.idle p goes (idle-is p.work idle) h)
+life-takes h1 p h2 h3 = grind (arith, common_steps, walk-any, idle-is)
 
 pub life-stirred : {s : MachineSettings} {P Q R : ProcessorView → Type 0} → Life s P Q R → (moment : ℕ) (p : ProcessorView) → Q p
     → Q (stirred moment p)
@@ -377,34 +335,14 @@ life-stirred {Q = Q} l moment p h =
 -- time passes, or queues change
 goes-moved : (s : MachineSettings) (clock : ℕ) (counts : ProcessorCounts) (devices : QueueViews) (p : ProcessorView) → Goes s p
     → Goes s (record p { clock = clock; counts = counts; devices = devices })
-goes-moved s clock counts devices p g =
-    let h = g.rests in
-    record {
-      rests = record { settings = h.settings; run = h.run; soft = h.soft; threads = h.threads };
-      asks = g.asks;
-      polled = g.polled;
-      given = g.given;
-    }
+goes-moved s clock counts devices p h1 = grind (arith, common_steps)
 
 pub work-moved : (s : MachineSettings) (clock : ℕ) (devices : QueueViews) (p : ProcessorView) → Goes s p
     → Goes s (record p { clock = clock; devices = devices })
 work-moved s clock devices p g = goes-moved s clock p.counts devices p g
 
 work-life : (s : MachineSettings) → Life s (Rests s) (Goes s) (Goes s)
-work-life s = record {
-  walk = work-walk s;
-  idle = λ p goes nothing g. g.rests;
-  busy = λ p busy g. g;
-  aside = λ moment came counts p is g.
-      let h = g.rests in
-      record {
-        rests = record { settings = h.settings; run = h.run; soft = h.soft; threads = h.threads };
-        asks = rw is at g.asks;
-        polled = λ no. refl;
-        given = fits s;
-      };
-  moved = λ e clock counts p g. goes-moved s clock counts (expired_at e p.devices) p g;
-}
+work-life s = grind (arith, common_steps, work-walk)
 
 pub work-stirred : (s : MachineSettings) (moment : ℕ) (p : ProcessorView) → Goes s p → Goes s (stirred moment p)
 work-stirred s moment p g = life-stirred (work-life s) moment p g
@@ -452,11 +390,7 @@ goes-on s (packet moment n ∷ earlier) =
 goes-on s (next ∷ earlier) = work-happens s (upcoming (behind s earlier)) (behind s earlier) (goes-on s earlier)
 
 pub works-within : WorksWithin
-works-within s events = by (behind s events).softirq.run (goes-on s events).rests.run
-  where
-    by : (run : Option RunView) → RunsIn s run → IfSome run (λ r. r.work < s.budget + s.weight)
-    by None held = tt
-    by (Some r) held = held.work
+works-within = grind (arith, common_steps, goes-on)
 
 -- ---- the events on a processor end
 
