@@ -2,7 +2,7 @@
 use Rattle.std.proofs.Common.{◌≡◌, ◌∙◌, ℕ, ◌-◌, ◌<◌, ◌≤◌, ◌^◌, Bool, true, false, Option, Some, None, List, [], ◌∷◌, ◌++◌, refl}
 use Rattle.std.proofs.Common.{ap}
 use Rattle.std.{proofs.{Common.{subst, arith}, lemmas.{Grind.common_steps, List.append-nil}}, specs.{List.AllByRecursion}}
-use Rattle.std.specs.Prelude.{◌==◌, ◌&&◌, if◌then◌else◌, length, not}
+use Rattle.std.specs.Prelude.{◌==◌, ◌&&◌, if◌then◌else◌, length}
 use Rattle.{machine_model.specs.declared.settings.MachineSettings.MachineSettings}
 use Rattle.machine.specs.{Lives.{MachineEvent, InTurn, behind, next, packet}, Fates.{next_delivery, delivery_by, delivery_of, used_by}}
 use Rattle.machine.specs.Applications.{ApplicationEnds, ApplicationIsFed, ApplicationServes, deliveries, fed_all}
@@ -93,9 +93,6 @@ alone-life s a apart = record {
     with-thread false n tasks all = all
 
 -- ---- when work ends
-
-pub not-wakes : (t a h : Bool) → a ≡ true → (t && not a && h) ≡ false
-not-wakes t a h is = grind (arith, common_steps)
 
 -- a delivery adds no task
 threads-after : (o : Option (ℕ × ℕ)) (p : ProcessorView) → p.settings.apart ≡ true → tasks_after o p ≡ p.tasks

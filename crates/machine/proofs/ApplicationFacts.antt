@@ -38,9 +38,6 @@ wait_of x = x.1 - x.0
 abbrev pub at_end : ℕ → List ℕ → List (ℕ × ℕ)
 at_end end hand = map (λ (came : ℕ). (came, end)) hand
 
-hand-arrival : (w : Activity) (end : ℕ) → map arrival (at_end end (being_read w)) ≡ being_read w
-hand-arrival w end = grind (arith, common_steps)
-
 hand-length : (w : Activity) (end : ℕ) → length (at_end end (being_read w)) ≡ length (being_read w)
 hand-length w end = grind (arith, common_steps)
 
@@ -346,12 +343,6 @@ works-all s t ((now, came) ∷ earlier) apart fits rising =
     rw (fed-apart s now came a apart) (works-later s now t _ _ _ _ rising.0 after)
 
 -- ---- after the end
-
--- after it takes its next packet, the socket has one packet fewer; without a packet it sleeps
-goes-next : (time : ℕ) (items : List ℕ) (a e : ApplicationView) → EndedBy a e → a.end < 2 ^ 64
-    → let b = takes_next time items e in (b.end < 2 ^ 64) × ((x : ℕ) (more : List ℕ) → items ≡ x ∷ more → b.socket.items ≡ more)
-    × (items ≡ [] → is_awake b.activity ≡ false)
-goes-next time items a e h1 h2 = grind (arith, common_steps)
 
 goes-items : (time : ℕ) (a : ApplicationView) (items : List ℕ) → a.socket.items ≡ items → a.end < 2 ^ 64
     → let b = goes_on time a in (b.end < 2 ^ 64) × ((x : ℕ) (more : List ℕ) → items ≡ x ∷ more → b.socket.items ≡ more)

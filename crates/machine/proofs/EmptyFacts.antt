@@ -1,5 +1,5 @@
 -- Law: after its last packet, only a few polls of a queue are empty.
-use Rattle.std.proofs.Common.{◌≡◌, ◌∙◌, ℕ, ◌+◌, ◌-◌, ◌<◌, ◌≤◌, Bool, true, false, Option, Some, None, List, [], ◌∷◌, refl, sym}
+use Rattle.std.proofs.Common.{◌≡◌, ◌∙◌, ℕ, ◌+◌, ◌≤◌, Bool, true, false, Option, Some, None, List, [], ◌∷◌, refl, sym}
 use Rattle.std.proofs.Common.{ap, subst, arith}
 use Rattle.std.{proofs.lemmas.{Grind.common_steps}, specs.{Prelude.{◌==◌, ◌&&◌, if◌then◌else◌, is_some, max, nat_lt, not}}}
 use Rattle.{machine_model.specs.declared.settings.MachineSettings.MachineSettings, device_places.specs.Places.{at, changed}}
@@ -53,12 +53,6 @@ pub record Few (s : MachineSettings) (count : ℕ) (o : Option QueueView) : Type
   pub sum : count + rest_at s o ≤ most s
   pub low : defer_in o + 1 ≤ most s
 
-rest-most : (all : ℕ) (phase : Phase) (deferrals : ℕ) → deferrals + 1 ≤ all → rest_by all phase deferrals ≤ all
-rest-most all phase deferrals low = grind (arith, common_steps)
-
-positive : (x : ℕ) → (x == 0) ≡ false → 0 < x
-positive x is = grind (arith, common_steps)
-
 later : (given : ℕ) → (given + 1 == 0) ≡ false
 later given = grind (arith, common_steps)
 
@@ -110,12 +104,6 @@ few-life s n count = steady-life s (Few s count) (record {
 
 phase-rest : (all : ℕ) (phase : Phase) (deferrals : ℕ) → is_scheduled phase ≡ true → rest_by all phase deferrals ≡ deferrals + 1
 phase-rest all phase deferrals is = grind (arith, common_steps)
-
--- the queue's interrupt is deferred once more, or it is unmasked
-few-deferred : (s : MachineSettings) (count x until : ℕ) (b : Bool) (d : QueueView) → count + x ≤ most s → x ≤ most s
-    → Few s count (Some (record d { deferrals = x - 1; phase = if not (x == 0) && b then Deferred until else Quiet }))
-unfolding rest_at defer_in
-few-deferred s count x until b d h1 h2 = grind (arith, common_steps, most-is)
 
 -- an empty poll adds one to the count, and a poll with packets resets it
 few-completed : (s : MachineSettings) (count now given : ℕ) (d : QueueView) → is_scheduled d.phase ≡ true → Few s count (Some d)

@@ -230,9 +230,6 @@ pub record Fed (Q : Option (ℕ × ℕ) → List ℕ → ApplicationView → Typ
   pub ends : (hand : InHand) → q.work ≡ Packet hand → q.ends ≡ saturated (p.ends + p.settings.packet)
   pub tasks : (again : Option ℕ) × (q.tasks ≡ put_first again (tasks_after (delivery_of w p) p))
 
-not-used : (w : Work) → (is_busy w ≡ true → (hand : InHand) × (w ≡ Packet hand)) → used_by w ≡ []
-not-used w h1 = grind (arith, common_steps)
-
 feeds-over : (Q : Option (ℕ × ℕ) → List ℕ → ApplicationView → Type 0) (w : Work) (p q r : ProcessorView) → q.settings ≡ p.settings
     → q.clock ≡ p.ends → q.rest ≡ p.rest → q.tasks ≡ tasks_after (delivery_of w p) p → Q (delivery_of w p) (used_by w) q.application
     → Over q r → Fed Q p w r

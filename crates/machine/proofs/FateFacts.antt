@@ -1,5 +1,5 @@
 -- The fate of packets: each is delivered, in order.
-use Rattle.std.proofs.Common.{◌≡◌, ◌∙◌, ℕ, ◌+◌, ◌<◌, Bool, true, false, Option, Some, None, List, [], ◌∷◌, ◌++◌, append_assoc, length, drop}
+use Rattle.std.proofs.Common.{◌≡◌, ◌∙◌, ℕ, ◌+◌, ◌<◌, Bool, true, false, Option, Some, None, List, [], ◌∷◌, ◌++◌, append_assoc, length}
 use Rattle.std.proofs.{Common.{refl, sym, ap, subst, arith}}
 use Rattle.std.proofs.{lemmas.{List.append-nil, Bool.{and_left, and_right}, Grind.common_steps}}
 use Rattle.std.specs.{List.AllByRecursion, Prelude.{◌==◌, ◌&&◌, if◌then◌else◌, not, slice_get}}
@@ -100,22 +100,9 @@ taken-polled : (now given : ℕ) (s : MachineSettings) (d : QueueView) → (queu
 unfolding queue_polled queue_completed
 taken-polled now given s d = grind (arith, common_steps)
 
--- the next packet of a queue is its oldest one
-next-oldest : (taken ring : List ℕ) (c : ℕ) → slice_get (if length taken == 0 then ring else taken) 0 ≡ Some c
-    → c ∷ (drop 1 (if length taken == 0 then ring else taken) ++ (if length taken == 0 then [] else ring)) ≡ taken ++ ring
-next-oldest taken ring c is = grind (arith, common_steps)
-
 front-none : (xs : List ℕ) → slice_get xs 0 ≡ None → xs ≡ []
 front-none [] is = refl
 front-none (x ∷ xs) is = cc is
-
-no-length : (xs : List ℕ) → (length xs == 0) ≡ true → xs ≡ []
-no-length xs is = grind (arith, common_steps)
-
-next-empty : (d : QueueView) (b : Bool) → (length d.taken == 0) ≡ b
-    → let e : QueueView = if b then record d { ring = []; taken = d.ring } else d in
-    slice_get e.taken 0 ≡ None → (d.taken ++ d.ring ≡ []) × (drop 1 e.taken ++ e.ring ≡ [])
-next-empty d b h1 h2 = grind (arith, common_steps, front-none)
 
 pub next-some-at : (backlog : Bool) (o : Option QueueView) (c : ℕ) → (backlog ≡ false → taken_in o ≡ []) → next_packet_at backlog o
     ≡ Some c
@@ -196,10 +183,6 @@ at-added-here : (capacity n : ℕ) (ds : QueueViews) (o : Option QueueView) → 
     → at n (added_at n (new_queue capacity) o ds) ≡ Some (made_at capacity o)
 unfolding made_at
 at-added-here capacity n ds o is below = grind (arith, common_steps)
-
-at-added-apart : (capacity m n : ℕ) (ds : QueueViews) (o : Option QueueView) → (m == n) ≡ false
-    → at n (added_at m (new_queue capacity) o ds) ≡ at n ds
-at-added-apart capacity m n ds o other = grind (arith, common_steps)
 
 with-here : (capacity n : ℕ) (ds : QueueViews) → at n (with_device capacity n ds) ≡ Some (made_at capacity (at n ds))
 unfolding with_device

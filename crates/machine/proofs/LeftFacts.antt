@@ -3,19 +3,19 @@ use Rattle.std.proofs.Common.{◌≡◌, ◌∙◌, ℕ, ◌+◌, ◌-◌, ◌<�
 use Rattle.std.proofs.Common.{length, refl, sym}
 use Rattle.std.proofs.Common.{ap, subst, arith}
 use Rattle.std.proofs.lemmas.{Bool.{and_left, and_right, eqb-true, false_from_ne_true, leb-false}, Grind.common_steps}
-use Rattle.std.proofs.lemmas.List.Sums.{fails_before_first, sum_by-append, sum_by-cons}
+use Rattle.std.proofs.lemmas.List.Sums.{fails_before_first, sum_by-cons}
 use Rattle.std.specs.{Prelude.{◌==◌, ◌&&◌, if◌then◌else◌, min, not, position}}
 use Rattle.{machine_model.specs.declared.settings.MachineSettings.MachineSettings, device_places.specs.Places.{at}}
 use Rattle.machine.specs.{Lives.{MachineEvent, behind, next, packet}, Fates.{NothingIsLeft, delivery_of, queue_ring, taken_in}}
-use Rattle.machine_model.specs.declared.{device.Phase.{Phase, TheVariants.Quiet}, devices.Timer.Timer}
+use Rattle.machine_model.specs.declared.{devices.Timer.Timer}
 use Rattle.machine_model.specs.declared.{processor.ProcessorCounts.ProcessorCounts}
 use Rattle.machine_model.specs.declared.processor.{Upcoming.{Upcoming, TheVariants.{Never, Expires}}, Work.{Work, TheVariants.{Nothing}}}
 use Rattle.machine_model.specs.declared.tasks.RunnableTask.{RunnableTask, TheVariants.{Application, Thread}}
 use Rattle.machine_model.specs.Tasks.{applications, is_application, runnable, with_application}
 use Rattle.machine_model.specs.Application.{fed, has_place, put, refuses}
-use Rattle.machine_model.specs.Device.{QueueView, asks, has_room, timer_of}
+use Rattle.machine_model.specs.Device.{QueueView, asks, has_room}
 use Rattle.machine_model.specs.Devices.{QueueViews, asks_at, has_room_at, with_device}
-use Rattle.machine_model.specs.{Kept.{is_scheduled, scheduled_at}, Softirq.{RunView}}
+use Rattle.machine_model.specs.{Kept.{scheduled_at}, Softirq.{RunView}}
 use Rattle.machine_model.specs.Processor.{ProcessorView, ends_current, is_busy, is_by, is_polling, step, upcoming}
 use Rattle.machine.proofs.{WalkFacts.{IsSettled, NoTask, Still, Walk, idle-is, nexted}, SocketFacts.fed-here}
 use Rattle.machine.proofs.EndFacts.{feeds, put_first, tasks_after}
@@ -24,7 +24,7 @@ use Rattle.machine.proofs.WorkFacts.{life-happens, same-apart, same-polling, sam
 use Rattle.machine.proofs.FateFacts.{at-arrived, made-part, made_at, queued, room-made}
 use Rattle.machine.proofs.StandFacts.{Stands, by_thread, count, count_in, listed_at, no-thread, places, polled_at, stands-on, threads}
 use Rattle.machine.proofs.TendFacts.{Tend, full-phase, tended-on}
-use Rattle.machine.proofs.{TimeFacts.{now, since}, TimerFacts.{Late, NextBy, NotBefore, Set, SetAt, next-is, set-first, timer_in}}
+use Rattle.machine.proofs.{TimeFacts.{now, since}, TimerFacts.{Late, NextBy, NotBefore, SetAt, next-is, set-first, timer_in}}
 use Rattle.machine_model.specs.declared.processor.Upcoming.TheVariants as upcomings
 
 -- ---- runnable tasks
@@ -35,18 +35,12 @@ is_one task = if is_application task then 1 else 0
 apps-cons : (task : RunnableTask) (tasks : List RunnableTask) → applications (task ∷ tasks) ≡ is_one task + applications tasks
 apps-cons task tasks = sum_by-cons is_one task tasks
 
-apps-append : (xs ys : List RunnableTask) → applications (xs ++ ys) ≡ applications xs + applications ys
-apps-append xs ys = sum_by-append is_one xs ys
-
 apps-thread : (n : ℕ) (tasks : List RunnableTask) → applications (Thread n ∷ tasks) ≡ applications tasks
 apps-thread n tasks = omega (arith, apps-cons (Thread n) tasks)
 
 apps-more : (b : Bool) (n : ℕ) (tasks : List RunnableTask) → applications (if b then tasks ++ Thread n ∷ [] else tasks)
     ≡ applications tasks
 apps-more b n tasks = grind (arith, common_steps)
-
-apps-runnable : (idle : Bool) (tasks : List RunnableTask) → applications (runnable idle tasks) ≤ applications tasks
-apps-runnable idle tasks = grind (arith, common_steps)
 
 apps-with : (tasks : List RunnableTask) → applications tasks ≤ 1 → applications (with_application tasks) ≡ 1
 unfolding with_application
@@ -87,10 +81,6 @@ pub record Rested (s : MachineSettings) (p : ProcessorView) : Type 0 where
 
 position-none : (ds : QueueViews) → position asks_at ds ≡ None → (n : ℕ) → asks_at (at n ds) ≡ false
 position-none ds none n = grind (arith, common_steps, fails_before_first)
-
--- the application isn't among the tasks twice
-two-apps : (more before : List RunnableTask) → Application ∷ more ≡ runnable true before → applications before ≤ 1 → ⊥
-two-apps more before h1 h2 = grind (arith, common_steps)
 
 no-items : (items : List ℕ) → min 1 (length items) ≤ 0 → items ≡ []
 no-items items h1 = grind (arith, common_steps)
@@ -253,11 +243,6 @@ ends-never (Expires timer) p is early fits none =
 
 idle-nothing : (w : Work) → (is_busy w ≡ true → ⊥) → w ≡ Nothing
 idle-nothing w busy = idle-is w (false_from_ne_true (is_busy w) busy)
-
--- a queue that neither asks for an interrupt, nor waits for a timer, nor is scheduled is quiet
-phase-quiet : (t gro : ℕ) (phase : Phase) → asks phase ≡ false → Late (2 ^ 64) (timer_of phase) → Set t gro phase
-    → is_scheduled phase ≡ false → phase ≡ Quiet
-phase-quiet t gro phase none late set free = grind (arith, common_steps)
 
 pub list-empty : (b : Bool) (list : List ℕ) → (b && not (length list == 0)) ≡ false → (b ≡ false → list ≡ []) → list ≡ []
 list-empty b list is free = grind (arith, common_steps)

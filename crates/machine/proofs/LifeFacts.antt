@@ -19,10 +19,6 @@ use Rattle.{device_rows.specs.Trace.records_of, machine_model.specs.declared.set
 use Rattle.machine_report.{specs.{Answer.TakesArrivals, declared.arrival.Arrival.Arrival}, proofs.RisingFacts.{Rises, rises-of}}
 use Rattle.machine.specs.Reports.{ReportsLives, arrived_packets}
 
--- two runs up to the same time have the same number of steps: neither has fewer
-never-less : (moment : ℕ) (p q r : ProcessorView) → (f : Advances moment p q) → (g : Advances moment p r) → f.count < g.count → ⊥
-never-less moment p q r f g less = grind (arith, common_steps)
-
 pub runs-as-one : RunsAsOne
 runs-as-one = grind (arith, common_steps)
 

@@ -22,8 +22,7 @@ use Rattle.machine_model.specs.Processor.{ProcessorView, arrives, begins_run, de
 use Rattle.machine_model.specs.Processor.{ends_current}
 use Rattle.machine_model.specs.Processor.{ends_interrupt, ends_poll, ends_run, goes_on, happens, interrupts, is_busy, is_by, is_due}
 use Rattle.machine_model.specs.Processor.{is_late, is_polling}
-use Rattle.machine_model.specs.Processor.{leaves_softirq, poll_looks, opened_processor, rests, runs, runs_first, scheduled}
-use Rattle.machine_model.specs.Processor.{set_aside}
+use Rattle.machine_model.specs.Processor.{leaves_softirq, poll_looks, opened_processor, rests, runs, runs_first}
 use Rattle.machine_model.specs.Processor.{spent, step}
 use Rattle.machine_model.specs.Processor.{takes_up, upcoming}
 use Rattle.machine.proofs.ApartFacts.{AllThreads, Alone, alone-ended, alone-life, alone-moved, alone-on}
@@ -60,10 +59,6 @@ is-map : {t : MachineSettings} (f : ProcessorView → ProcessorView) {x y : Proc
 is-map f h step = let r = step h.application in record { application = r.application; is = ap f h.is ∙ r.is }
 
 -- ---- when work begins
-
-is-scheduled : (t : MachineSettings) (c : Bool) (n : ℕ) (b : ApplicationView) (p : ProcessorView)
-    → IsOther t (if c then scheduled n p else p) (if c then scheduled n (other t b p) else other t b p)
-is-scheduled t c n b p = is-if c (is-if p.settings.threaded (same-other b) (same-other b)) (same-other b)
 
 is-interrupts : (t : MachineSettings) (n : ℕ) (b : ApplicationView) (p : ProcessorView)
     → IsOther t (interrupts n p) (interrupts n (other t b p))
@@ -176,11 +171,6 @@ is-ended t b p apart =
     is-ends t p.work b (record p { clock = p.ends; work = Nothing; counts = spent p.work (p.ends - p.clock) p.counts }) apart
 
 -- ---- when a use or an idle time is interrupted
-
-is-aside : (t : MachineSettings) (moment : ℕ) (w : Work) (b : ApplicationView) (p : ProcessorView)
-    → IsOther t (set_aside moment w p) (set_aside moment w (other t b p))
-is-aside t moment (Use came) b p = same-other b
-is-aside t moment w b p = same-other b
 
 is-stirred : (t : MachineSettings) (moment : ℕ) (b : ApplicationView) (p : ProcessorView)
     → IsOther t (stirred moment p) (stirred moment (other t b p))

@@ -1,6 +1,6 @@
 -- The fate of packets after their delivery to an application on the same processor: each is used in order, or dropped.
 use Rattle.std.proofs.lemmas.Grind.{common_steps}
-use Rattle.std.proofs.Common.{◌≡◌, ◌∙◌, ℕ, ◌+◌, ◌-◌, Bool, false, Option, Some, None, List, [], ◌∷◌, ◌++◌, append_assoc, length}
+use Rattle.std.proofs.Common.{◌≡◌, ◌∙◌, ℕ, ◌+◌, ◌-◌, false, Option, Some, None, List, [], ◌∷◌, ◌++◌, append_assoc, length}
 use Rattle.std.proofs.Common.{length-append, map}
 use Rattle.std.proofs.{Common.{refl, sym, ap, arith}, lemmas.{List.append-nil}}
 use Rattle.std.specs.Prelude.{if◌then◌else◌, not}
@@ -99,9 +99,6 @@ pub record Moved (now : ℕ) (a : ApplicationView) (gives : Option (ℕ × ℕ))
 
 same-waits : (xs : List ℕ) (w : WaitsView) → w ≡ counting xs no_waits → w ≡ counting (xs ++ []) no_waits
 same-waits xs w is = is ∙ ap (λ (ys : List ℕ). counting ys no_waits) (sym (append-nil xs))
-
-placed-none : (room : Bool) → placed room None ≡ []
-placed-none room = grind (arith, common_steps)
 
 moved-none : (now : ℕ) (a : ApplicationView) (used : List ℕ) (b : ApplicationView) → b.socket ≡ a.socket → b.refused ≡ a.refused
     → ((xs : List ℕ) → a.waits ≡ counting xs no_waits → b.waits ≡ counting (xs ++ map (λ came. now - came) used) no_waits)

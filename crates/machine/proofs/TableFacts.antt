@@ -1,5 +1,5 @@
 -- The entry at a number of a table, after one entry changed.
-use Rattle.std.proofs.Common.{◌≡◌, ℕ, Bool, true, false, Option, Some, None, ◌++◌, replicate}
+use Rattle.std.proofs.Common.{◌≡◌, ℕ, Bool, true, false, Option, Some, None}
 use Rattle.std.proofs.{Common.{refl, subst, arith}, lemmas.{Bool.{eqb-true}, Grind.{common_steps}}}
 use Rattle.std.{specs.Prelude.{◌==◌}}
 use Rattle.device_places.{specs.Places.{DeviceTable, at, changed, changed_from}}
@@ -55,7 +55,3 @@ map-kept g f o h1 = grind (arith, common_steps)
 pub at-kept : {A B : Type 0} → (g : Option A → B) (f : A → A) (m n : ℕ) (ds : DeviceTable A) → ((d : A) → g (Some (f d)) ≡ g (Some d))
     → g (at n (changed f m ds)) ≡ g (at n ds)
 at-kept g f m n ds h1 = grind (arith, common_steps)
-
--- entries that are added to a table are empty
-pub at-made : {A : Type 0} (n count : ℕ) (ds : DeviceTable A) → at n (ds ++ replicate count None) ≡ at n ds
-at-made n count ds = grind (arith, common_steps)

@@ -1,5 +1,5 @@
 -- Law: a queue has no packets unless its interrupt is raised, deferred or in progress.
-use Rattle.std.proofs.Common.{◌≡◌, ◌∙◌, ℕ, ◌+◌, ◌<◌, ◌≤◌, Bool, true, false, Option, Some, None, List, [], ◌∷◌, ◌++◌, length, refl, sym, ap}
+use Rattle.std.proofs.Common.{◌≡◌, ◌∙◌, ℕ, ◌+◌, ◌<◌, ◌≤◌, Bool, true, false, Option, Some, None, List, [], ◌∷◌, refl, sym, ap}
 use Rattle.std.proofs.Common.{arith}
 use Rattle.std.proofs.lemmas.{Bool.{and_left, and_right, eq-eqb, ltb-false}, Grind.common_steps}
 use Rattle.std.specs.Prelude.{◌==◌, ◌&&◌, if◌then◌else◌, nat_lt, not}
@@ -82,9 +82,6 @@ tend-life s n = record {
 
 lone-polling : (s : MachineSettings) (n : ℕ) (w : Work) → ((m : ℕ) → w ≡ Interrupt m → is_polling s ≡ true) → lone s n w ≡ false
 lone-polling s n w h1 = grind (arith, common_steps)
-
-no-packets : (taken ring : List ℕ) → taken ≡ [] → (length ring == 0) ≡ true → taken ++ ring ≡ []
-no-packets taken ring none empty = grind (arith, common_steps)
 
 -- without polling: an interrupt that is raised again has packets
 tend-again : (m n : ℕ) (ds : QueueViews) → taken_in (at n ds) ≡ [] → ((m == n) ≡ false → Tend (at n ds))

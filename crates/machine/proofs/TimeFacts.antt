@@ -204,9 +204,6 @@ timed-takes s t p goes r = walk-any (timed-walk s t) p (goes-unasked s p goes) r
 
 -- ---- when work ends
 
-same-came : (h g : InHand) → Packet h ≡ Packet g → h.came ≡ g.came
-same-came h g is = let same : h ≡ g = cc is in ap (λ (x : InHand). x.came) same
-
 -- the packet that a poll takes next has arrived
 looks-hand : (s : MachineSettings) (t now m given : ℕ) (ds : QueueViews) → (s.backlog ≡ false → taken_in (at m ds) ≡ [])
     → AllByRecursion (λ came. came ≤ t) (queued (at m ds))
@@ -269,9 +266,6 @@ served-fed : (s : MachineSettings) (t came : ℕ) (a : ApplicationView) → (IsF
     → Served s t a.socket.items
     → Served s t (fed t came s a).socket.items
 served-fed s t came a h1 h2 = grind (arith, common_steps, fed-here)
-
-same-delivery : (x y : ℕ × ℕ) → Some x ≡ Some y → x.1 ≡ y.1
-same-delivery x y is = let same : x ≡ y = cc is in ap (λ (z : ℕ × ℕ). z.1) same
 
 -- with polling, only the packet that a poll processes is delivered
 pub hand-delivery : (s : MachineSettings) (t : ℕ) (w : Work) (p : ProcessorView) (m came : ℕ) → is_polling p.settings ≡ true

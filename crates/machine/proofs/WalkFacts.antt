@@ -1,7 +1,7 @@
 -- Which work a processor begins, case by case, and a property that each case preserves; and the cases of an interruption and of
 -- the end of a poll.
 use Rattle.std.specs.Prelude.{◌==◌, ◌&&◌, if◌then◌else◌, is_some, not, nat_lt, position, slice_get}
-use Rattle.std.proofs.Common.{◌≡◌, ◌<◌, ℕ, ◌+◌, ◌-◌, arith, Bool, true, false, Option, Some, None, List, [], ◌∷◌, ◌++◌, length, refl}
+use Rattle.std.proofs.Common.{◌≡◌, ℕ, ◌+◌, ◌-◌, arith, Bool, true, false, Option, Some, None, List, [], ◌∷◌, ◌++◌, length, refl}
 use Rattle.std.{proofs.lemmas.{List.Quantifiers.position-Some, Grind.common_steps}, specs.Option.option_map_or}
 use Rattle.{device_places.{proofs.PlaceFacts.none-of, specs.Places.{at, changed}}}
 use Rattle.{machine_model.specs.declared.settings.MachineSettings.MachineSettings}
@@ -142,9 +142,6 @@ walk-asked : {P Q : ProcessorView → Type 0} → Walk P Q → (o : Option ℕ) 
     → P (nexted p)
     → (asked_in (run_next p.softirq).run ≡ None → Q other) → Q (polls_or other o (nexted p))
 walk-asked h1 o p other h2 h3 h4 = grind (arith, common_steps)
-
-positive : (k : ℕ) → not (k == 0) ≡ true → 0 < k
-positive k is = grind (arith, common_steps)
 
 -- a run that begins over a list that isn't empty asks for a poll
 begun-asks : (s : MachineSettings) (list : List ℕ) (began clock : ℕ) → is_polling s ≡ true → not (length list == 0) ≡ true

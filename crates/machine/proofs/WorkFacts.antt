@@ -3,7 +3,7 @@
 use Rattle.std.proofs.lemmas.{Bool.{and_left, and_right, ltb-true}, Grind.{common_steps}}
 use Rattle.std.specs.List.{AllByRecursion}
 use Rattle.std.specs.Prelude.{◌==◌, ◌&&◌, if◌then◌else◌, is_some, not, option_map}
-use Rattle.std.proofs.Common.{◌≡◌, ◌∙◌, ℕ, ◌+◌, ◌-◌, ◌<◌, ◌≤◌, Bool, true, false, Option, Some, None, List, [], ◌∷◌, ◌++◌, length, refl}
+use Rattle.std.proofs.Common.{◌≡◌, ◌∙◌, ℕ, ◌+◌, ◌-◌, ◌<◌, ◌≤◌, Bool, true, false, Option, Some, None, List, [], ◌∷◌, length, refl}
 use Rattle.std.proofs.Common.{sym, ap, arith}
 use Rattle.poll_runs.specs.declared.bench.Next.TheVariants.{Gone, Repoll}
 use Rattle.poll_runs.specs.declared.bench.Once.{Once}
@@ -97,9 +97,6 @@ told-asks run once = grind (arith, common_steps)
 
 pushed-run : (b : Bool) (n : ℕ) (q : SoftirqView) → (if b then pushed n q else q).run ≡ q.run
 pushed-run b n q = grind (arith, common_steps)
-
-all-append : (xs ys : List RunnableTask) → all_applications xs → all_applications ys → all_applications (xs ++ ys)
-all-append xs ys h1 h2 = grind (arith, common_steps)
 
 all-runnable : (idle : Bool) (tasks : List RunnableTask) → all_applications tasks → all_applications (runnable idle tasks)
 all-runnable idle tasks h1 = grind (arith, common_steps)
